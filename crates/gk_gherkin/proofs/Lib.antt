@@ -1,0 +1,10 @@
+pub mod Numbering
+pub mod Cuts
+pub mod Words
+pub mod Loop
+pub mod Sound
+pub mod Complete
+pub mod Stops
+pub mod Whole
+pub mod Fronts
+pub mod WorkedExamples
