@@ -1,0 +1,13 @@
+mod TextsLemmas
+mod MatchingLemmas
+mod FindingLemmas
+mod PartsLemmas
+mod EntriesLemmas
+mod RunningLemmas
+mod JudgedLemmas
+mod Nothing
+mod SourcesLemmas
+mod WritingLemmas
+mod ReadingLemmas
+mod SummaryLemmas
+mod OneList

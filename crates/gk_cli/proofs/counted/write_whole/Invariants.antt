@@ -1,0 +1,13 @@
+use Rattle.std.proofs.Common.{◌≡◌, ◌≤◌, ◌-◌, length, take}
+use Rattle.std.specs.Io.KnownBytes.{Appends}
+use Rattle.gk_cli.proofs.counted.write_whole.Given as goal
+
+abbrev pub invariant-loop-done : goal.invariant-loop-done
+invariant-loop-done g l = record {
+  within : l.done ≤ length l.bytes;
+  written : Appends (g.W.Write.contents l.fn.out.inner) (g.W.Write.contents l.out.inner) (take l.done l.bytes);
+  quiet : l.out.failures ≡ l.fn.out.failures;
+}
+
+abbrev pub decreases-loop-done : goal.decreases-loop-done
+decreases-loop-done g l = length l.bytes - l.done

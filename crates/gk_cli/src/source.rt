@@ -1,0 +1,65 @@
+//! The sources of a run, and reading one whole.
+ghost use Rattle.std.specs.Prelude.{◌≡◌, ◌≤◌, ◌<◌, ◌+◌, IfOk, IfSome, IsErrOf, vec_len, drop, length};
+
+ghost use Rattle.gk_cli.specs.Counting.{inner_of, failures_of, one_more};
+ghost use Rattle.gk_cli.specs.Reading.{StopsBehind};
+
+use crate::counted::Counted;
+use gk_gherkin::LIMIT;
+use std::alloc::Global;
+use std::io::Read;
+use thiserror::Error;
+
+/// A source: its name, and its bytes.
+#[derive(Debug, Drop)]
+pub struct Source {
+    pub name: String,
+    pub bytes: Vec<u8>,
+}
+
+/// Why a source could not be read whole.
+#[derive(Clone, Copy, Debug, PartialEq, Eq, Error)]
+pub enum SourceFault {
+    /// The reader failed in this call.
+    #[error("cannot read")]
+    Device,
+    /// The reader has more bytes than `gk_gherkin::LIMIT`.
+    #[error("longer than 16777216 bytes")]
+    TooLong,
+    /// A growth of memory was refused.
+    #[error("out of memory")]
+    Memory,
+}
+
+/// The bytes that one call of the reader is asked for.
+const PIECE: usize = 16_384;
+
+/// All the bytes of a reader. Each turn but the last has at least one byte, and the reader is asked for
+/// no byte behind number `gk_gherkin::LIMIT` + 1, so one that never ends is `TooLong`. (this project's
+/// profile)
+pub fn read_source<R: Read>(
+    alloc: Global,
+    reader: &mut Counted<R>,
+) -> Result<Vec<u8>, SourceFault>
+    ensures whole { IfOk result (λ v. IfSome (R.remaining (inner_of reader.old)) (λ xs. v.items ≡ xs)) }
+    ensures within { IfOk result (λ v. vec_len v ≤ LIMIT) }
+    ensures quiet { IfOk result (λ v. failures_of reader.new ≡ failures_of reader.old) }
+    ensures long { IsErrOf result SourceFault.TooLong → StopsBehind (LIMIT + 1) (R.remaining (inner_of reader.old)) (R.remaining (inner_of reader.new)) }
+    ensures device { IsErrOf result SourceFault.Device → failures_of reader.new ≡ one_more (failures_of reader.old) }
+{
+    let mut bytes = Vec::new(alloc);
+    let mut piece = [0u8; PIECE];
+    while bytes.len() <= LIMIT {
+        let room = (LIMIT + 1 - bytes.len()).min(PIECE);
+        match reader.read(&mut piece[..room]) {
+            Ok(0) => return Ok(bytes),
+            Ok(n) => {
+                if bytes.extend_from_slice(&piece[..n]).is_err() {
+                    return Err(SourceFault::Memory);
+                }
+            }
+            Err(_) => return Err(SourceFault::Device),
+        }
+    }
+    Err(SourceFault::TooLong)
+}
