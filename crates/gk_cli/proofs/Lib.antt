@@ -11,3 +11,4 @@ mod WritingLemmas
 mod ReadingLemmas
 mod SummaryLemmas
 mod OneList
+mod WorkedReports

@@ -8,3 +8,4 @@ pub mod Stops
 pub mod Whole
 pub mod Fronts
 pub mod WorkedExamples
+pub mod WorkedFiles
