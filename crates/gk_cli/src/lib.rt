@@ -17,3 +17,6 @@ pub use finding::finding_is_determined;
 pub use source::{Source, SourceFault, read_source};
 pub use suite::{RunFault, run_suite};
 pub use sandbox::{LONGEST_NAME, LONGEST_TEXT, Layer, Sandbox, WorldFault};
+
+#[cfg(test)]
+mod tests;
