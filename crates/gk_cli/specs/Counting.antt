@@ -7,6 +7,10 @@ use Rattle.gk_cli.specs.declared.counted.Counted.{Counted}
 abbrev pub inner_of : {T : Type 0} → Counted T → T
 inner_of c = c.inner
 
+-- The count of its calls.
+abbrev pub calls_of : {T : Type 0} → Counted T → ℕ
+calls_of c = c.calls
+
 -- The count of its failures.
 abbrev pub failures_of : {T : Type 0} → Counted T → ℕ
 failures_of c = c.failures

@@ -1,27 +1,41 @@
 //! A reader or a writer whose failures are counted, and writing a text whole.
-ghost use Rattle.std.specs.Prelude.{◌≡◌, OnOk, OnErr};
+ghost use Rattle.std.specs.Prelude.{◌≡◌, ◌≤◌, ◌+◌, length, OnOk, OnErr};
 ghost use Rattle.std.specs.Io.KnownBytes.{Appends};
-ghost use Rattle.gk_cli.specs.Counting.{inner_of, failures_of, one_more, IsFrontWritten};
+ghost use Rattle.gk_cli.specs.Counting.{inner_of, calls_of, failures_of, one_more, IsFrontWritten};
 
 use std::io;
 use std::io::{Read, Write};
 
-/// Passes the calls of a reader or a writer on, and counts those that failed.
+/// Passes the calls of a reader or a writer on, and counts them, and those that failed.
 #[derive(Debug, Drop)]
 pub struct Counted<T> {
     inner: T,
+    calls: u64,
     failures: u64,
 }
 
 impl<T> Counted<T> {
-    ghost use Rattle.gk_cli.specs.Counting.{inner_of, failures_of};
+    ghost use Rattle.gk_cli.specs.Counting.{inner_of, calls_of, failures_of};
 
-    /// Counts the failures of `inner` from 0 on. Takes no memory.
+    /// Counts the calls of `inner` from 0 on. Takes no memory.
     pub fn new(inner: T) -> Counted<T>
         ensures inner { inner_of result ≡ inner }
-        ensures none { failures_of result ≡ 0 }
+        ensures calls { calls_of result ≡ 0 }
+        ensures failures { failures_of result ≡ 0 }
     {
-        Counted { inner, failures: 0 }
+        Counted {
+            inner,
+            calls: 0,
+            failures: 0,
+        }
+    }
+
+    /// How many calls of `read` and `write` there were. The count stops rising at `u64::MAX`. Takes no
+    /// memory.
+    pub fn calls(&self) -> u64
+        ensures { result ≡ calls_of self.now }
+    {
+        self.calls
     }
 
     /// How many calls failed, among them each write that took no byte of a piece that isn't empty. The
@@ -44,15 +58,17 @@ impl<W: Write> Write for Counted<W> {
     ghost use Rattle.std.specs.Prelude.{◌≡◌};
     ghost use Rattle.std.specs.Io.{WritesAtMost};
     ghost use Rattle.std.specs.Io.KnownBytes.{Keeps, WriteAppends};
-    ghost use Rattle.gk_cli.specs.Counting.{inner_of, failures_of, counted_write};
+    ghost use Rattle.gk_cli.specs.Counting.{inner_of, calls_of, failures_of, one_more, counted_write};
 
     ghost contents = { λ c. W.contents (inner_of c) };
 
     fn write(&mut self, buf: &[u8]) -> io::Result<usize>
         ensures bound { WritesAtMost result buf.now }
         ensures bytes { WriteAppends (W.contents (inner_of self.old)) (W.contents (inner_of self.new)) result buf.now }
-        ensures counts { failures_of self.new ≡ counted_write result buf.now (failures_of self.old) }
+        ensures calls { calls_of self.new ≡ one_more (calls_of self.old) }
+        ensures failures { failures_of self.new ≡ counted_write result buf.now (failures_of self.old) }
     {
+        self.calls = self.calls.saturating_add(1);
         let taken = self.inner.write(buf);
         match &taken {
             Ok(0) => {
@@ -83,15 +99,17 @@ impl<R: Read> Read for Counted<R> {
     ghost use Rattle.std.specs.Prelude.{◌≡◌};
     ghost use Rattle.std.specs.Io.{ReadsAtMost};
     ghost use Rattle.std.specs.Io.KnownBytes.{ReadConsumes};
-    ghost use Rattle.gk_cli.specs.Counting.{inner_of, failures_of, counted_read};
+    ghost use Rattle.gk_cli.specs.Counting.{inner_of, calls_of, failures_of, one_more, counted_read};
 
     ghost remaining = { λ c. R.remaining (inner_of c) };
 
     fn read(&mut self, buf: &mut [u8]) -> io::Result<usize>
         ensures bound { ReadsAtMost result buf.new }
         ensures bytes { ReadConsumes (R.remaining (inner_of self.old)) (R.remaining (inner_of self.new)) result buf.new }
-        ensures counts { failures_of self.new ≡ counted_read result (failures_of self.old) }
+        ensures calls { calls_of self.new ≡ one_more (calls_of self.old) }
+        ensures failures { failures_of self.new ≡ counted_read result (failures_of self.old) }
     {
+        self.calls = self.calls.saturating_add(1);
         let taken = self.inner.read(buf);
         if taken.is_err() {
             self.failures = self.failures.saturating_add(1);
@@ -105,12 +123,14 @@ impl<R: Read> Read for Counted<R> {
 pub struct Refused;
 
 /// Writes all the bytes. Each turn has at least one byte taken, or ends with `Refused`; then a front of
-/// the bytes was written.
+/// the bytes was written. (this project's profile)
 pub fn write_whole<W: Write>(out: &mut Counted<W>, bytes: &[u8]) -> Result<(), Refused>
     ensures ok { OnOk result (Appends (W.contents (inner_of out.old)) (W.contents (inner_of out.new)) bytes.now) }
     ensures quiet { OnOk result (failures_of out.new ≡ failures_of out.old) }
     ensures cut { OnErr result (IsFrontWritten (W.contents (inner_of out.old)) (W.contents (inner_of out.new)) bytes.now) }
     ensures failed { OnErr result (failures_of out.new ≡ one_more (failures_of out.old)) }
+    // The writer is called no more often than there are bytes.
+    ensures turns { calls_of out.new ≤ calls_of out.old + length bytes.now }
 {
     let mut done = 0;
     while done < bytes.len() {

@@ -1,4 +1,6 @@
-//! The whole run.
+//! A whole run. Sources of feature files, a sandbox and a writer come in; the bytes of a report and a
+//! status go out. What `run_suite` promises: each scenario has the result that plain maps give it
+//! alone, and the sandbox is as it was, whatever stops the run.
 #![tactic(auto)]
 
 mod counted;
@@ -12,11 +14,11 @@ mod source;
 mod suite;
 mod summary;
 
-pub use counted::Counted;
+pub use counted::{Counted, Refused, write_whole};
 pub use finding::finding_is_determined;
+pub use sandbox::{LONGEST_NAME, LONGEST_TEXT, Layer, Sandbox, WorldFault};
 pub use source::{Source, SourceFault, read_source};
 pub use suite::{RunFault, run_suite};
-pub use sandbox::{LONGEST_NAME, LONGEST_TEXT, Layer, Sandbox, WorldFault};
 
 #[cfg(test)]
 mod tests;

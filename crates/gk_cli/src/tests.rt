@@ -155,6 +155,7 @@ fn writes_a_byte_a_call_and_stops_at_a_failure(rt: HostRuntime) {
     let mut out = Counted::new(Failing { calls_left: 5 });
     assert!(rt; write_whole(&mut out, b"12345").is_ok());
     assert_eq!(rt; out.inner().calls_left, 0);
+    assert_eq!(rt; out.calls(), 5);
     assert_eq!(rt; out.failures(), 0);
     assert!(rt; write_whole(&mut out, b"6").is_err());
     assert_eq!(rt; out.failures(), 1);

@@ -8,4 +8,5 @@ loop-done-preserved g c = record {
   within = search rules;
   written = Appends-front _ _ _ c.args.bytes.now c.loop-done.done c.in-Ok.n c.loop-done.invariant.written c.in-Ok.ensures.bytes;
   quiet = grind (arith, common_steps);
+  turns = search rules;
 }

@@ -1,4 +1,4 @@
-use Rattle.std.proofs.Common.{◌≡◌, ◌≤◌, ◌-◌, length, take}
+use Rattle.std.proofs.Common.{◌≡◌, ◌≤◌, ◌+◌, ◌-◌, length, take}
 use Rattle.std.specs.Io.KnownBytes.{Appends}
 use Rattle.gk_cli.proofs.counted.write_whole.Given as goal
 
@@ -7,6 +7,7 @@ invariant-loop-done g l = record {
   within : l.done ≤ length l.bytes;
   written : Appends (g.W.Write.contents l.fn.out.inner) (g.W.Write.contents l.out.inner) (take l.done l.bytes);
   quiet : l.out.failures ≡ l.fn.out.failures;
+  turns : l.out.calls ≤ l.fn.out.calls + l.done;
 }
 
 abbrev pub decreases-loop-done : goal.decreases-loop-done
