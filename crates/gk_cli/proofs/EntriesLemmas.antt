@@ -46,30 +46,30 @@ sets text fields h = record { entry = _; place = refl; fields = h; first = λ ea
 
 pub checks : (text : List ℕ) (fields : List (List ℕ)) → MatchesNot set_pattern text → IsMatchResult is_pattern text (Some fields) → IsFound default_entries text (Some (record { entry = 1; fields = fields }))
 checks text fields not_set h = record { entry = _; place = refl; fields = h; first = before } where
-    before : (earlier : ℕ) (other : EntryValue) → earlier < 1 → slice_get default_entries earlier ≡ Some other → MatchesNot other.pattern text
-    before zero other less is = not_this _ other text not_set is
-    before (suc k) other less is = absurd (omega arith)
+  before : (earlier : ℕ) (other : EntryValue) → earlier < 1 → slice_get default_entries earlier ≡ Some other → MatchesNot other.pattern text
+  before zero other less is = not_this _ other text not_set is
+  before (suc k) other less is = absurd (omega arith)
 
 pub passes : (text : List ℕ) → MatchesNot set_pattern text → MatchesNot is_pattern text → text ≡ codes "it passes" → IsFound default_entries text (Some (record { entry = 2; fields = [] }))
 passes text not_set not_is e = record { entry = _; place = refl; fields = word_found text (codes "it passes") e; first = before } where
-    before : (earlier : ℕ) (other : EntryValue) → earlier < 2 → slice_get default_entries earlier ≡ Some other → MatchesNot other.pattern text
-    before zero other less is = not_this _ other text not_set is
-    before (suc zero) other less is = not_this _ other text not_is is
-    before (suc (suc k)) other less is = absurd (omega arith)
+  before : (earlier : ℕ) (other : EntryValue) → earlier < 2 → slice_get default_entries earlier ≡ Some other → MatchesNot other.pattern text
+  before zero other less is = not_this _ other text not_set is
+  before (suc zero) other less is = not_this _ other text not_is is
+  before (suc (suc k)) other less is = absurd (omega arith)
 
 pub fails : (text : List ℕ) → MatchesNot set_pattern text → MatchesNot is_pattern text → (text ≡ codes "it passes" → ⊥) → text ≡ codes "it fails" → IsFound default_entries text (Some (record { entry = 3; fields = [] }))
 fails text not_set not_is not_pass e = record { entry = _; place = refl; fields = word_found text (codes "it fails") e; first = before } where
-    before : (earlier : ℕ) (other : EntryValue) → earlier < 3 → slice_get default_entries earlier ≡ Some other → MatchesNot other.pattern text
-    before zero other less is = not_this _ other text not_set is
-    before (suc zero) other less is = not_this _ other text not_is is
-    before (suc (suc zero)) other less is = not_this _ other text (word_not text (codes "it passes") not_pass) is
-    before (suc (suc (suc k))) other less is = absurd (omega arith)
+  before : (earlier : ℕ) (other : EntryValue) → earlier < 3 → slice_get default_entries earlier ≡ Some other → MatchesNot other.pattern text
+  before zero other less is = not_this _ other text not_set is
+  before (suc zero) other less is = not_this _ other text not_is is
+  before (suc (suc zero)) other less is = not_this _ other text (word_not text (codes "it passes") not_pass) is
+  before (suc (suc (suc k))) other less is = absurd (omega arith)
 
 pub none_found : (text : List ℕ) → MatchesNot set_pattern text → MatchesNot is_pattern text → (text ≡ codes "it passes" → ⊥) → (text ≡ codes "it fails" → ⊥) → IsFound default_entries text None
 none_found text not_set not_is not_pass not_fail = each where
-    each : NoneFound default_entries text
-    each zero other is = not_this _ other text not_set is
-    each (suc zero) other is = not_this _ other text not_is is
-    each (suc (suc zero)) other is = not_this _ other text (word_not text (codes "it passes") not_pass) is
-    each (suc (suc (suc zero))) other is = not_this _ other text (word_not text (codes "it fails") not_fail) is
-    each (suc (suc (suc (suc k)))) other is = no_option other is
+  each : NoneFound default_entries text
+  each zero other is = not_this _ other text not_set is
+  each (suc zero) other is = not_this _ other text not_is is
+  each (suc (suc zero)) other is = not_this _ other text (word_not text (codes "it passes") not_pass) is
+  each (suc (suc (suc zero))) other is = not_this _ other text (word_not text (codes "it fails") not_fail) is
+  each (suc (suc (suc (suc k)))) other is = no_option other is

@@ -36,9 +36,9 @@ not_both (FieldPiece name ∷ ps) (x ∷ xs) (y ∷ ys) (inr h) (inr k) = not_bo
 
 one_best : (ps : List PieceValue) (text : List ℕ) (a b : List (List ℕ)) → IsBestMatch ps text a → IsBestMatch ps text b → a ≡ b
 one_best ps text a b h k = elim (h.best b k.matches) [
-    inl e ↦ sym e
+  | inl e ↦ sym e
   | inr p ↦ elim (k.best a h.matches) [ inl e ↦ e | inr q ↦ absurd (not_both ps a b p q) ]
-  ]
+]
 
 -- what a pattern finds in a text is determined
 pub one_result : (ps : List PieceValue) (text : List ℕ) (a b : Option (List (List ℕ))) → IsMatchResult ps text a → IsMatchResult ps text b → a ≡ b
@@ -82,22 +82,22 @@ found_here name ps text taken left b ss e more h =
       matches = record { spans_fit = (omega arith, h.matches.spans_fit); whole = whole ∙ ap (λ r. (taken ++ b ∷ []) ++ r) h.matches.whole };
       best = λ others m. other name ps text taken left b ss whole more h others m;
     } where
-    other : (name : List ℕ) (ps : List PieceValue) (text taken left : List ℕ) (b : ℕ) (ss : List (List ℕ)) → text ≡ (taken ++ b ∷ []) ++ left → TakesMore name ps text taken → IsBestMatch ps left ss
-        → (others : List (List ℕ)) → Matches (FieldPiece name ∷ ps) text others → (others ≡ (taken ++ b ∷ []) ∷ ss) ⊎ IsPreferred (FieldPiece name ∷ ps) ((taken ++ b ∷ []) ∷ ss) others
-    other name ps text taken left b ss whole more h [] m = absurd m.spans_fit
-    other name ps text taken left b ss whole more h (x ∷ xs) m =
-        let size = longer taken b in
-        let least : length taken < length x = more x xs m in
-        elim (let most : length (taken ++ b ∷ []) ≤ length x = omega arith in eq-or-lt_of_le most) [
-          inr less ↦ inr (inl less)
-        | inl same ↦
-            let cut : (taken ++ b ∷ []) ++ left ≡ x ++ woven ps xs = sym whole ∙ m.whole in
-            let first : x ≡ taken ++ b ∷ [] = sym (same_front (taken ++ b ∷ []) x left (woven ps xs) cut same) in
-            elim (h.best xs (record { spans_fit = m.spans_fit.1; whole = same_back (taken ++ b ∷ []) x left (woven ps xs) cut same })) [
-              inl e ↦ inl (ap (λ (s : List ℕ). s ∷ xs) first ∙ ap (λ (s : List (List ℕ)). (taken ++ b ∷ []) ∷ s) e)
-            | inr p ↦ inr (inr (same, p))
-            ]
-        ]
+      other : (name : List ℕ) (ps : List PieceValue) (text taken left : List ℕ) (b : ℕ) (ss : List (List ℕ)) → text ≡ (taken ++ b ∷ []) ++ left → TakesMore name ps text taken → IsBestMatch ps left ss
+          → (others : List (List ℕ)) → Matches (FieldPiece name ∷ ps) text others → (others ≡ (taken ++ b ∷ []) ∷ ss) ⊎ IsPreferred (FieldPiece name ∷ ps) ((taken ++ b ∷ []) ∷ ss) others
+      other name ps text taken left b ss whole more h [] m = absurd m.spans_fit
+      other name ps text taken left b ss whole more h (x ∷ xs) m =
+          let size = longer taken b in
+          let least : length taken < length x = more x xs m in
+          elim (let most : length (taken ++ b ∷ []) ≤ length x = omega arith in eq-or-lt_of_le most) [
+            | inr less ↦ inr (inl less)
+            | inl same ↦
+                let cut : (taken ++ b ∷ []) ++ left ≡ x ++ woven ps xs = sym whole ∙ m.whole in
+                let first : x ≡ taken ++ b ∷ [] = sym (same_front (taken ++ b ∷ []) x left (woven ps xs) cut same) in
+                elim (h.best xs (record { spans_fit = m.spans_fit.1; whole = same_back (taken ++ b ∷ []) x left (woven ps xs) cut same })) [
+                  | inl e ↦ inl (ap (λ (s : List ℕ). s ∷ xs) first ∙ ap (λ (s : List (List ℕ)). (taken ++ b ∷ []) ∷ s) e)
+                  | inr p ↦ inr (inr (same, p))
+                ]
+          ]
 
 -- where it doesn't, every match takes one byte more
 none_here : (name : List ℕ) (ps : List PieceValue) (text taken left : List ℕ) (b : ℕ) → text ≡ taken ++ b ∷ left → TakesMore name ps text taken → MatchesNot ps left → TakesMore name ps text (taken ++ b ∷ [])
@@ -105,8 +105,8 @@ none_here name ps text taken left b e more h x xs m =
     let size = longer taken b in
     let least : length taken < length x = more x xs m in
     elim (let most : length (taken ++ b ∷ []) ≤ length x = omega arith in eq-or-lt_of_le most) [
-      inr less ↦ less
-    | inl same ↦ absurd (h xs (record { spans_fit = m.spans_fit.1; whole = same_back (taken ++ b ∷ []) x left (woven ps xs) (sym (one_more taken left b text e) ∙ m.whole) same }))
+      | inr less ↦ less
+      | inl same ↦ absurd (h xs (record { spans_fit = m.spans_fit.1; whole = same_back (taken ++ b ∷ []) x left (woven ps xs) (sym (one_more taken left b text e) ∙ m.whole) same }))
     ]
 
 choose : (name : List ℕ) (ps : List PieceValue) (text taken left : List ℕ) (b : ℕ) (o later : Option (List (List ℕ))) → text ≡ taken ++ b ∷ left → TakesMore name ps text taken → IsMatchResult ps left o
@@ -117,12 +117,12 @@ choose name ps text taken left b None later e more h next = next (none_here name
 shortest_is : (name : List ℕ) (ps : List PieceValue) (text taken left : List ℕ) → ((rest : List ℕ) → IsMatchResult ps rest (best_match ps rest)) → text ≡ taken ++ left → TakesMore name ps text taken
     → IsMatchResult (FieldPiece name ∷ ps) text (shortest_span (best_match ps) taken left)
 shortest_is name ps text taken [] each e more = λ spans m. nothing_left spans m where
-    nothing_left : (spans : List (List ℕ)) → Matches (FieldPiece name ∷ ps) text spans → ⊥
-    nothing_left [] m = m.spans_fit
-    nothing_left (x ∷ xs) m =
-        let least : length taken < length x = more x xs m in
-        let sizes : length x + length (woven ps xs) ≡ length taken = sym (length-append x (woven ps xs)) ∙ ap length (sym m.whole ∙ e ∙ append-nil taken) in
-        omega arith
+  nothing_left : (spans : List (List ℕ)) → Matches (FieldPiece name ∷ ps) text spans → ⊥
+  nothing_left [] m = m.spans_fit
+  nothing_left (x ∷ xs) m =
+      let least : length taken < length x = more x xs m in
+      let sizes : length x + length (woven ps xs) ≡ length taken = sym (length-append x (woven ps xs)) ∙ ap length (sym m.whole ∙ e ∙ append-nil taken) in
+      omega arith
 shortest_is name ps text taken (b ∷ left) each e more =
     choose name ps text taken left b (best_match ps left) (shortest_span (best_match ps) (taken ++ b ∷ []) left) e more (each left)
     (λ further. shortest_is name ps text (taken ++ b ∷ []) left each (one_more taken left b text e) further)
@@ -130,9 +130,9 @@ shortest_is name ps text taken (b ∷ left) each e more =
 -- the computed spans are those of the preferred match
 pub best_match_is : (ps : List PieceValue) (text : List ℕ) → IsMatchResult ps text (best_match ps text)
 best_match_is [] [] = record { matches = record { spans_fit = tt; whole = refl }; best = λ others m. only others m } where
-    only : (others : List (List ℕ)) → Matches [] [] others → (others ≡ []) ⊎ IsPreferred [] [] others
-    only [] m = inl refl
-    only (x ∷ xs) m = absurd m.spans_fit
+  only : (others : List (List ℕ)) → Matches [] [] others → (others ≡ []) ⊎ IsPreferred [] [] others
+  only [] m = inl refl
+  only (x ∷ xs) m = absurd m.spans_fit
 best_match_is [] (b ∷ text) = λ spans m. let bad : b ∷ text ≡ [] = m.whole in let no : ⊥ = cc in no
 best_match_is (Literal literal ∷ ps) text = literal_result literal ps text (starts_with nat_eq text literal) refl (best_match_is ps (drop (length literal) text))
 best_match_is (FieldPiece name ∷ ps) text = shortest_is name ps text [] text (best_match_is ps) refl (λ x xs m. m.spans_fit.0)

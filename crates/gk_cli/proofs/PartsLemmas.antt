@@ -47,7 +47,7 @@ word_ascii word k h less =
 pub stands_at : (word text : List ℕ) (place k : ℕ) → is_ascii_word word ≡ true → starts_with nat_eq (drop place text) word ≡ true → k < length word → get_or text (place + k) 0 < 128
 stands_at word text place k ascii h less =
     let there : get_or text (place + k) 0 ≡ get_or word k 0 =
-        sym (get_or-drop place text k 0) ∙ ap (λ t. get_or t k 0) (begins_so (drop place text) word h) ∙ get_or_append_left word (drop (length word) (drop place text)) 0 k less in
+    sym (get_or-drop place text k 0) ∙ ap (λ t. get_or t k 0) (begins_so (drop place text) word h) ∙ get_or_append_left word (drop (length word) (drop place text)) 0 k less in
     subst (λ (b : ℕ). b < 128) (sym there) (word_ascii word k ascii less)
 
 -- as the code has what stands behind a place
@@ -93,7 +93,7 @@ no_front front middle text none = λ spans m. let p = pair_of front middle text 
 inside : (front middle text body inner : List ℕ) (spans : List (List ℕ)) (p : Pair front middle text spans) → text ≡ front ++ body → body ≡ inner ++ 34 ∷ [] → inner ≡ p.name ++ middle ++ p.quoted
 inside front middle text body inner spans p e quote =
     let whole : inner ++ 34 ∷ [] ≡ (p.name ++ middle ++ p.quoted) ++ 34 ∷ [] =
-        sym quote ∙ same_back front front body (p.name ++ (middle ++ (p.quoted ++ 34 ∷ []))) (sym e ∙ p.whole) refl ∙ regrouped p.name middle p.quoted (34 ∷ []) in
+    sym quote ∙ same_back front front body (p.name ++ (middle ++ (p.quoted ++ 34 ∷ []))) (sym e ∙ p.whole) refl ∙ regrouped p.name middle p.quoted (34 ∷ []) in
     let one : length inner + 1 ≡ length (p.name ++ middle ++ p.quoted) + 1 = sym (length-append inner (34 ∷ [])) ∙ ap length whole ∙ length-append (p.name ++ middle ++ p.quoted) (34 ∷ []) in
     same_front inner (p.name ++ middle ++ p.quoted) (34 ∷ []) (34 ∷ []) whole (omega arith)
 
@@ -110,15 +110,15 @@ parts_match front middle text body inner e quote (Some p) found first = record {
     whole = e ∙ ap (λ b. front ++ b) (quote ∙ ap (λ t. t ++ 34 ∷ []) found.0 ∙ sym (regrouped p.0.now middle p.1.now (34 ∷ [])));
   };
   best = λ others m.
-    let q = pair_of front middle text others m in
-    let cut : inner ≡ q.name ++ middle ++ q.quoted = inside front middle text body inner others q e quote in
-    let most : length p.0.now ≤ length q.name = first q.name q.quoted cut q.some_name q.some_quoted in
-    elim (eq-or-lt_of_le most) [
-      inl same ↦
-        let joined : p.0.now ++ (middle ++ p.1.now) ≡ q.name ++ (middle ++ q.quoted) = sym (append_assoc p.0.now middle p.1.now) ∙ sym found.0 ∙ cut ∙ append_assoc q.name middle q.quoted in
-        let names : q.name ≡ p.0.now = sym (same_front p.0.now q.name (middle ++ p.1.now) (middle ++ q.quoted) joined same) in
-        let texts : q.quoted ≡ p.1.now = sym (same_back middle middle p.1.now q.quoted (same_back p.0.now q.name (middle ++ p.1.now) (middle ++ q.quoted) joined same) refl) in
-        inl (q.both_spans ∙ ap (λ (n : List ℕ). n ∷ q.quoted ∷ []) names ∙ ap (λ (t : List ℕ). p.0.now ∷ t ∷ []) texts)
-    | inr less ↦ inr (subst (IsPreferred (name_and_text front middle) (p.0.now ∷ p.1.now ∷ [])) (sym q.both_spans) (inl less))
-    ];
+      let q = pair_of front middle text others m in
+      let cut : inner ≡ q.name ++ middle ++ q.quoted = inside front middle text body inner others q e quote in
+      let most : length p.0.now ≤ length q.name = first q.name q.quoted cut q.some_name q.some_quoted in
+      elim (eq-or-lt_of_le most) [
+        | inl same ↦
+            let joined : p.0.now ++ (middle ++ p.1.now) ≡ q.name ++ (middle ++ q.quoted) = sym (append_assoc p.0.now middle p.1.now) ∙ sym found.0 ∙ cut ∙ append_assoc q.name middle q.quoted in
+            let names : q.name ≡ p.0.now = sym (same_front p.0.now q.name (middle ++ p.1.now) (middle ++ q.quoted) joined same) in
+            let texts : q.quoted ≡ p.1.now = sym (same_back middle middle p.1.now q.quoted (same_back p.0.now q.name (middle ++ p.1.now) (middle ++ q.quoted) joined same) refl) in
+            inl (q.both_spans ∙ ap (λ (n : List ℕ). n ∷ q.quoted ∷ []) names ∙ ap (λ (t : List ℕ). p.0.now ∷ t ∷ []) texts)
+        | inr less ↦ inr (subst (IsPreferred (name_and_text front middle) (p.0.now ∷ p.1.now ∷ [])) (sym q.both_spans) (inl less))
+      ];
 }

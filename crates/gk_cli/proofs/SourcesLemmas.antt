@@ -29,12 +29,13 @@ at_place f (y ∷ ys) (suc i) x less is = at_place f ys i x (omega arith) is
 
 pub take_one : {A : Type 0} (xs : List A) (i : ℕ) (x : A) → slice_get xs i ≡ Some x → take (i + 1) xs ≡ take i xs ++ x ∷ []
 take_one xs i x is = ap (λ n. take n xs) (add-one i) ∙ go xs i x is where
-    same : {A : Type 0} (x y : A) → ◌≡◌ {A = Option A} (Some x) (Some y) → x ≡ y
-    same x y e = cc
-    go : {A : Type 0} (xs : List A) (i : ℕ) (x : A) → slice_get xs i ≡ Some x → take (suc i) xs ≡ take i xs ++ x ∷ []
-    go [] i x is = let no : ⊥ = cc in absurd no
-    go (y ∷ ys) zero x is = ap (λ z. z ∷ []) (same y x is)
-    go (y ∷ ys) (suc i) x is = ap (λ t. y ∷ t) (go ys i x is)
+  same : {A : Type 0} (x y : A) → ◌≡◌ {A = Option A} (Some x) (Some y) → x ≡ y
+  same x y e = cc
+
+  go : {A : Type 0} (xs : List A) (i : ℕ) (x : A) → slice_get xs i ≡ Some x → take (suc i) xs ≡ take i xs ++ x ∷ []
+  go [] i x is = let no : ⊥ = cc in absurd no
+  go (y ∷ ys) zero x is = ap (λ z. z ∷ []) (same y x is)
+  go (y ∷ ys) (suc i) x is = ap (λ t. y ∷ t) (go ys i x is)
 
 -- the first source that doesn't read is told, or that memory ran out
 pub first_unread : (sources : List SourceValue) (features : List SourceFeatureValue) (input : ℕ) (source : SourceValue) (fault : ReadFault) → AreRead (take input sources) features → slice_get sources input ≡ Some source

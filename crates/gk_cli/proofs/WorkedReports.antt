@@ -1,17 +1,15 @@
 -- Worked suites with their whole report and status, by computation.
-use Rattle.std.specs.Prelude.{◌≡◌, ◌<◌, ◌+◌, ◌++◌, ℕ, List, [], ◌∷◌, Option, None, map, flat_map, codes, refl}
+use Rattle.std.specs.Prelude.{◌≡◌, ◌<◌, ◌+◌, ◌++◌, ℕ, List, [], ◌∷◌, None, map, flat_map, codes, refl}
 use native.Mathlib.Omega.{arith}
 use Rattle.std.specs.FinMap.{get-empty}
-use Rattle.std.specs.Fmt.{decimal}
 use Rattle.std.proofs.Common.{ap, ◌∙◌}
 use Rattle.std.proofs.Math.Path.{fun_ext}
-
 use Rattle.std.proofs.lemmas.Fmt.{decimal_digit}
 use Rattle.gk_gherkin.specs.Values.{FeatureValue}
 use Rattle.gk_cli.specs.Contents.{nothing_yet}
 use Rattle.gk_cli.specs.Finding.{default_entries, found}
 use Rattle.gk_cli.specs.Rows.{FeatureRow}
-use Rattle.gk_cli.specs.State.{State, state_of}
+use Rattle.gk_cli.specs.State.{State}
 use Rattle.gk_cli.specs.Judged.{SourceFeatureValue, features_of, plain_results}
 use Rattle.gk_cli.specs.declared.summary.Counts.{Counts}
 use Rattle.gk_cli.specs.declared.summary.Summary.{Summary}

@@ -27,7 +27,9 @@ pub enum Found<'a> {
 }
 
 const VARIABLE: &str = "the variable \"";
+
 const IS_SET_TO: &str = "\" is set to \"";
+
 const SHOULD_BE: &str = "\" should be \"";
 
 // The parts round the first `middle` that stands behind one byte or more and before one or more.
@@ -88,5 +90,4 @@ pub fn find(text: &str) -> Option<Found<'_>>
 /// that has one, and there is no other.
 pub fn finding_is_determined()
     ensures { FindsWhatIsFound default_entries }
-{
-}
+{}

@@ -211,19 +211,25 @@ pub fn run_case(
 fn any_memory(cases: &[CaseResult]) -> bool
     ensures { result ≡ list_any (λ c. is_memory c.status) cases.now }
 {
-    cases.iter().any(|case| matches!(case.status, Status::Memory))
+    cases
+        .iter()
+        .any(|case| matches!(case.status, Status::Memory))
 }
 
 fn any_failed(cases: &[CaseResult]) -> bool
     ensures { result ≡ list_any (λ c. is_failed c.status) cases.now }
 {
-    cases.iter().any(|case| matches!(case.status, Status::Failed))
+    cases
+        .iter()
+        .any(|case| matches!(case.status, Status::Failed))
 }
 
 fn any_passed(cases: &[CaseResult]) -> bool
     ensures { result ≡ list_any (λ c. is_passed c.status) cases.now }
 {
-    cases.iter().any(|case| matches!(case.status, Status::Passed))
+    cases
+        .iter()
+        .any(|case| matches!(case.status, Status::Passed))
 }
 
 fn feature_status(cases: &[CaseResult]) -> Status

@@ -54,9 +54,7 @@ pub struct Layer {
     pub number: usize,
 }
 
-fn copied(
-    variables: &BTreeMap<String, String>,
-) -> Result<BTreeMap<String, String>, AllocError>
+fn copied(variables: &BTreeMap<String, String>) -> Result<BTreeMap<String, String>, AllocError>
     ensures { IfOk result (λ copy. texts_of copy ≡ texts_of variables.now) }
 {
     variables.clone()
@@ -80,8 +78,8 @@ impl Model for Sandbox {
     ghost coded = { sandbox_code };
 
     ghost view = { λ s. record {
-        now = record { env = texts_of s.variables };
-        saved = map (λ m. record { env = texts_of m }) (reverse s.saved.items);
+      now = record { env = texts_of s.variables };
+      saved = map (λ m. record { env = texts_of m }) (reverse s.saved.items);
     } };
 }
 

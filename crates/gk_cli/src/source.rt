@@ -1,6 +1,5 @@
 //! The sources of a run, and reading one whole.
 ghost use Rattle.std.specs.Prelude.{◌≡◌, ◌≤◌, ◌<◌, ◌+◌, IfOk, IfSome, IsErrOf, vec_len, drop, length};
-
 ghost use Rattle.gk_cli.specs.Counting.{inner_of, calls_of, failures_of, one_more};
 ghost use Rattle.gk_cli.specs.Reading.{StopsBehind};
 
@@ -37,10 +36,7 @@ const PIECE: usize = 16_384;
 /// All the bytes of a reader. Each turn but the last has at least one byte, and the reader is asked for
 /// no byte behind number `gk_gherkin::LIMIT` + 1, so one that never ends is `TooLong`. (this project's
 /// profile)
-pub fn read_source<R: Read>(
-    alloc: Global,
-    reader: &mut Counted<R>,
-) -> Result<Vec<u8>, SourceFault>
+pub fn read_source<R: Read>(alloc: Global, reader: &mut Counted<R>) -> Result<Vec<u8>, SourceFault>
     ensures whole { IfOk result (λ v. IfSome (R.remaining (inner_of reader.old)) (λ xs. v.items ≡ xs)) }
     ensures within { IfOk result (λ v. vec_len v ≤ LIMIT) }
     ensures quiet { IfOk result (λ v. failures_of reader.new ≡ failures_of reader.old) }

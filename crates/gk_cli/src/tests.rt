@@ -40,12 +40,16 @@ fn reports_whole_runs(rt: HostRuntime) -> Result<(), Fail> {
         (&[""], 0, NO_FEATURE),
         (&["# nothing\n", ""], 0, NO_FEATURE),
         (
-            &["Feature: later steps\n  Scenario: s\n    Given it fails\n    When it passes\n    Then nothing knows this\n"],
+            &[
+                "Feature: later steps\n  Scenario: s\n    Given it fails\n    When it passes\n    Then nothing knows this\n",
+            ],
             1,
             "Feature: later steps ... failed\n  Scenario: s ... failed\n    Given it fails ... failed: fail step\n    When it passes ... skipped\n    Then nothing knows this ... undefined\n\n0 features passed, 1 failed, 0 skipped\n0 scenarios passed, 1 failed, 0 skipped\n0 steps passed, 1 failed, 1 skipped, 1 undefined\n",
         ),
         (
-            &["Feature: two\n  Scenario: A\n    When the variable \"X\" is set to \"1\"\n  Scenario: B\n    Then the variable \"X\" should be \"1\"\n"],
+            &[
+                "Feature: two\n  Scenario: A\n    When the variable \"X\" is set to \"1\"\n  Scenario: B\n    Then the variable \"X\" should be \"1\"\n",
+            ],
             1,
             "Feature: two ... failed\n  Scenario: A ... passed\n    When the variable \"X\" is set to \"1\" ... passed\n  Scenario: B ... failed\n    Then the variable \"X\" should be \"1\" ... failed: absent\n\n0 features passed, 1 failed, 0 skipped\n1 scenario passed, 1 failed, 0 skipped\n1 step passed, 1 failed, 0 skipped, 0 undefined\n",
         ),
@@ -113,7 +117,10 @@ fn stops_at_a_full_device(rt: HostRuntime) -> Result<(), Fail> {
     });
     let answer = run_suite(rt.alloc(), &mut sandbox, sources.as_slice(), &mut out);
     assert_eq!(rt; answer, Err(RunFault::Write));
-    assert_eq!(rt; out.inner().bytes.as_slice(), &FIRST_REPORT.as_bytes()[..100]);
+    assert_eq!(rt;
+        out.inner().bytes.as_slice(),
+        &FIRST_REPORT.as_bytes()[..100]
+    );
     assert!(rt; out.inner().bytes.as_slice().ends_with(b"1 feature passe"));
     assert_eq!(rt; out.failures(), 1);
     assert_eq!(rt; sandbox.depth(), 0);
@@ -192,7 +199,10 @@ fn reads_no_more_than_the_limit(rt: HostRuntime) -> Result<(), Fail> {
     assert_eq!(rt; bytes.len(), LIMIT);
     assert_eq!(rt; longest.failures(), 0);
     let mut endless = Counted::new(Supply { left: usize::MAX });
-    assert_eq!(rt; read_source(rt.alloc(), &mut endless).err(), Some(SourceFault::TooLong));
+    assert_eq!(rt;
+        read_source(rt.alloc(), &mut endless).err(),
+        Some(SourceFault::TooLong)
+    );
     assert_eq!(rt; endless.inner().left, usize::MAX - LIMIT - 1);
     Ok(())
 }
@@ -218,6 +228,9 @@ fn keeps_texts_up_to_the_limit(rt: HostRuntime) -> Result<(), Fail> {
     assert_eq!(rt; too_long, Err(WorldFault::TextTooLong));
     assert_eq!(rt; bad_name, Err(WorldFault::BadName));
     assert_eq!(rt; inside, Some(1));
-    assert_eq!(rt; sandbox.env("f").map(|found| found.len()), Some(LONGEST_TEXT));
+    assert_eq!(rt;
+        sandbox.env("f").map(|found| found.len()),
+        Some(LONGEST_TEXT)
+    );
     Ok(())
 }

@@ -34,10 +34,11 @@ returns-then-middle-rest-clause-found c =
     let stands = stands_from word text c.as_bytes-bytes.result.now c.as_bytes.result.now place c.starts_with.result true c.as_bytes-bytes.ensures.value c.as_bytes.ensures.value c.starts_with.ensures.value c.if-starts_with.true in
     let size : length word < length (drop place text) = omega (arith, size_from c.as_bytes-bytes.result.now text place c.as_bytes-bytes.ensures.value) in
     let zero_less : place - 0 ≡ place = omega arith in
-    let front : c.range.result.now ≡ take place text = c.range.ensures.value ∙ ap (λ n. take n text) zero_less in
-    (parts_whole word text place stands ∙ ap (λ f. f ++ word ++ drop (place + length word) text) (sym front) ∙ ap (λ b. c.range.result.now ++ word ++ b) (sym c.range_from.ensures.value),
-     omega arith,
-     omega (arith, length-drop place text))
+    let front : c.range.result.now ≡ take place text = c.range.ensures.value ∙ ap (λ n. take n text) zero_less in (
+      parts_whole word text place stands ∙ ap (λ f. f ++ word ++ drop (place + length word) text) (sym front) ∙ ap (λ b. c.range.result.now ++ word ++ b) (sym c.range_from.ensures.value),
+      omega arith,
+      omega (arith, length-drop place text),
+    )
 
 pub returns-then-middle-rest-clause-first : goal.returns-then-middle-rest-clause-first
 returns-then-middle-rest-clause-first c = λ x y e some more.
@@ -56,15 +57,15 @@ loop-place-preserved c = λ k some less parts.
     let text = c.args.body.now in
     let most : k ≤ place = omega arith in
     elim (eq-or-lt_of_le most) [
-      inr earlier ↦ c.loop-place.invariant k some earlier parts
-    | inl here ↦
-        let now : Parts word text place = subst (Parts word text) here parts in
-        let size = size_from c.as_bytes-bytes.result.now text place c.as_bytes-bytes.ensures.value in
-        let more : length word < length (drop place text) = now.more in
-        elim c.else-starts_with.either [
-          inl w ↦ let small : length (take (length c.as_bytes-bytes.result.now - place) (drop place c.as_bytes-bytes.result.now)) ≤ length word = w.1 in absurd (omega arith)
-        | inr w ↦
-            let stands = stands_from word text c.as_bytes-bytes.result.now c.as_bytes.result.now place c.starts_with.result false c.as_bytes-bytes.ensures.value c.as_bytes.ensures.value c.starts_with.ensures.value w in
-            absurd (true≢false (sym now.stands ∙ stands))
-        ]
+      | inr earlier ↦ c.loop-place.invariant k some earlier parts
+      | inl here ↦
+          let now : Parts word text place = subst (Parts word text) here parts in
+          let size = size_from c.as_bytes-bytes.result.now text place c.as_bytes-bytes.ensures.value in
+          let more : length word < length (drop place text) = now.more in
+          elim c.else-starts_with.either [
+            | inl w ↦ let small : length (take (length c.as_bytes-bytes.result.now - place) (drop place c.as_bytes-bytes.result.now)) ≤ length word = w.1 in absurd (omega arith)
+            | inr w ↦
+                let stands = stands_from word text c.as_bytes-bytes.result.now c.as_bytes.result.now place c.starts_with.result false c.as_bytes-bytes.ensures.value c.as_bytes.ensures.value c.starts_with.ensures.value w in
+                absurd (true≢false (sym now.stands ∙ stands))
+          ]
     ]

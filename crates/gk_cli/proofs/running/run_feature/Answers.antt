@@ -21,8 +21,8 @@ loop-scenario-init c =
     let none : c.in_ok-cases.cases.items ≡ [] = c.in_ok-cases.ensures.items in
     record {
       goes = λ cuts.
-        subst (λ (rows : List CaseRow). CasesGo section all rows (map scenario_value (into_iter_items c.into_iter-scenario-iterator.result)) cuts) (sym (ap (map case_row) none))
-        (subst (λ (left : List ScenarioValue). CasesGo section all [] left cuts) (sym (ap (map scenario_value) here)) (cases_first section all cuts));
+          subst (λ (rows : List CaseRow). CasesGo section all rows (map scenario_value (into_iter_items c.into_iter-scenario-iterator.result)) cuts) (sym (ap (map case_row) none))
+          (subst (λ (left : List ScenarioValue). CasesGo section all [] left cuts) (sym (ap (map scenario_value) here)) (cases_first section all cuts));
       same = refl;
       room = let e : length c.in_ok-cases.cases.items ≡ 0 = ap length none in let f = ap length here in let v = c.in_ok-cases.cases.ok.0 in let w = c.args.chosen.feature.scenarios.ok.0 in omega (arith, c.in_ok-cases.ensures.capacity, c.len.ensures);
       counted = let l = c.into_iter-scenario-iterator.ensures.into_iter_gives.1 in let v = c.args.chosen.feature.scenarios.ok.0 in let f = ap length here in omega arith;
@@ -41,7 +41,7 @@ loop-scenario-preserved c =
     let more : map case_row c.push_reserved.new.self.items ≡ rows ++ row ∷ [] = ap (map case_row) c.push_reserved.ensures.items ∙ map_push case_row c.loop-scenario.cases.items c.in_ok-run_case.field-0 in
     let reached : IsReached section this row = subst (λ x. IsReached (state_of x.now) this row) c.loop-scenario.invariant.same c.in_ok-run_case.ensures.row in
     let before : (cuts : List (Option ℕ)) → CasesGo section all rows (this ∷ left) cuts = λ cuts.
-        subst (λ (ls : List ScenarioValue). CasesGo section all rows ls cuts) (ap (map scenario_value) s.0) (c.loop-scenario.invariant.goes cuts) in
+    subst (λ (ls : List ScenarioValue). CasesGo section all rows ls cuts) (ap (map scenario_value) s.0) (c.loop-scenario.invariant.goes cuts) in
     record {
       goes = cases_one section all rows (map case_row c.push_reserved.new.self.items) row this left reached more before;
       same = c.in_ok-run_case.ensures.same ∙ c.loop-scenario.invariant.same;

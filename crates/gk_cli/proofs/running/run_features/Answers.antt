@@ -18,8 +18,8 @@ loop-feature-init c =
     let none : c.in_ok-results.results.items ≡ [] = c.in_ok-results.ensures.items in
     record {
       goes = λ cuts.
-        subst (λ (rows : List FeatureRow). FeaturesGo section all rows (map source_feature_value (into_iter_items c.into_iter-feature-iterator.result)) cuts) (sym (ap (map feature_row) none))
-        (subst (λ (left : List SourceFeatureValue). FeaturesGo section all [] left cuts) (sym (ap (map source_feature_value) here)) (features_first section all cuts));
+          subst (λ (rows : List FeatureRow). FeaturesGo section all rows (map source_feature_value (into_iter_items c.into_iter-feature-iterator.result)) cuts) (sym (ap (map feature_row) none))
+          (subst (λ (left : List SourceFeatureValue). FeaturesGo section all [] left cuts) (sym (ap (map source_feature_value) here)) (features_first section all cuts));
       same = refl;
       room = let e : length c.in_ok-results.results.items ≡ 0 = ap length none in let f = ap length here in let v = c.in_ok-results.results.ok.0 in let w = c.args.features.ok.0 in omega (arith, c.in_ok-results.ensures.capacity, c.len.ensures);
       counted = let l = c.into_iter-feature-iterator.ensures.into_iter_gives.1 in let v = c.args.features.ok.0 in let f = ap length here in omega arith;
@@ -38,7 +38,7 @@ loop-feature-preserved c =
     let more : map feature_row c.push_reserved.new.self.items ≡ rows ++ row ∷ [] = ap (map feature_row) c.push_reserved.ensures.items ∙ map_push feature_row c.loop-feature.results.items c.in_ok-run_feature.field-0 in
     let reached : IsFeatureResult section this row = subst (λ x. IsFeatureResult (state_of x.now) this row) c.loop-feature.invariant.same c.in_ok-run_feature.ensures.row in
     let before : (cuts : Cuts) → FeaturesGo section all rows (this ∷ left) cuts = λ cuts.
-        subst (λ (ls : List SourceFeatureValue). FeaturesGo section all rows ls cuts) (ap (map source_feature_value) s.0) (c.loop-feature.invariant.goes cuts) in
+    subst (λ (ls : List SourceFeatureValue). FeaturesGo section all rows ls cuts) (ap (map source_feature_value) s.0) (c.loop-feature.invariant.goes cuts) in
     record {
       goes = features_one section all rows (map feature_row c.push_reserved.new.self.items) row this left reached more before;
       same = c.in_ok-run_feature.ensures.same ∙ c.loop-feature.invariant.same;

@@ -19,8 +19,8 @@ loop-step-init c =
     let steps = map step_value c.args.steps.items in
     record {
       goes = λ cut.
-        subst (λ (rows : List StepRow). Goes section steps rows Running section (map step_value (into_iter_items c.into_iter-step-iterator.result)) cut) (sym (ap (map step_row) c.requires.empty))
-        (subst (λ (left : List StepValue). Goes section steps [] Running section left cut) (sym (ap (map step_value) here)) (goes_first section steps cut));
+          subst (λ (rows : List StepRow). Goes section steps rows Running section (map step_value (into_iter_items c.into_iter-step-iterator.result)) cut) (sym (ap (map step_row) c.requires.empty))
+          (subst (λ (left : List StepValue). Goes section steps [] Running section left cut) (sym (ap (map step_value) here)) (goes_first section steps cut));
       saved = refl;
       room = let e : length c.args.results.items ≡ 0 = ap length c.requires.empty in let f = ap length here in let v = c.args.results.ok.0 in omega arith;
       counted = let l = c.into_iter-step-iterator.ensures.into_iter_gives.1 in let v = c.args.steps.ok.0 in let f = ap length here in omega arith;
@@ -41,13 +41,13 @@ loop-step-preserved c =
     let new = state_of c.turn-mark.new.sandbox.now in
     let row : _ → _ → StepRow = λ status reason. record { keyword = step.keyword; text = step.text; line = step.line; status = status; reason = reason } in
     let more : map step_row c.push_reserved.new.self.items ≡ rows ++ row_of_step step mark ∷ [] =
-        ap (map step_row) c.push_reserved.ensures.items
-        ∙ map_push step_row c.loop-step.results.items _
-        ∙ ap (λ status. rows ++ row status c.reason_of.result ∷ []) c.status_of.ensures
-        ∙ ap (λ reason. rows ++ row (status_of_mark mark) reason ∷ []) c.reason_of.ensures in
+    ap (map step_row) c.push_reserved.ensures.items
+    ∙ map_push step_row c.loop-step.results.items _
+    ∙ ap (λ status. rows ++ row status c.reason_of.result ∷ []) c.status_of.ensures
+    ∙ ap (λ reason. rows ++ row (status_of_mark mark) reason ∷ []) c.reason_of.ensures in
     let turn : IsTurn progress now step.text mark new = subst (λ text. IsTurn progress now text mark new) c.as_str.ensures.value c.turn-mark.ensures.turn in
     let before : (cut : Option ℕ) → Goes section steps rows progress now (step ∷ left) cut = λ cut.
-        subst (λ (ls : List StepValue). Goes section steps rows progress now ls cut) (ap (map step_value) s.0) (c.loop-step.invariant.goes cut) in
+    subst (λ (ls : List StepValue). Goes section steps rows progress now ls cut) (ap (map step_value) s.0) (c.loop-step.invariant.goes cut) in
     record {
       goes = λ cut. subst (λ p. Goes section steps (map step_row c.push_reserved.new.self.items) p new left cut) (sym c.next_progress-progress.ensures)
           (goes_one section steps rows (map step_row c.push_reserved.new.self.items) progress now new step left mark turn more before cut);

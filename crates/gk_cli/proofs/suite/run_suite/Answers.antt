@@ -26,8 +26,8 @@ told g c =
     let summed = c.summarize-summary.ensures ∙ ap (λ rs. summary_of (map feature_row rs)) counted in
     let bytes : c.as_bytes.result.now ≡ string_bytes c.in-Ok-report_of.report = search rules in
     let whole : c.as_bytes.result.now ≡ report results =
-        bytes ∙ c.in-Ok-report_of.ensures ∙ ap (λ rs. flat_map plain_part (map feature_row rs) ++ closing_lines c.summarize-summary.result) told
-        ∙ ap (λ s. flat_map plain_part results ++ closing_lines s) summed in
+    bytes ∙ c.in-Ok-report_of.ensures ∙ ap (λ rs. flat_map plain_part (map feature_row rs) ++ closing_lines c.summarize-summary.result) told
+    ∙ ap (λ s. flat_map plain_part results ++ closing_lines s) summed in
     record {
       features = map source_feature_value c.in-Ok.features.items;
       read = c.in-Ok.ensures.read;

@@ -1,0 +1,55 @@
+#!/bin/sh
+# Runs each example and compares what it prints, and its status, with what is stored beside it:
+# tests/examples.sh [PROGRAM]
+#
+# PROGRAM is the built program; without it, the one that ./run builds.
+# Closes with one line 'N passed, M failed'.
+set -eu
+
+home=$(dirname -- "$(dirname -- "$(readlink -f -- "$0")")")
+program=${1:-$home/run}
+case $program in
+/*) ;;
+*) program=$PWD/$program ;;
+esac
+room=$(mktemp -d)
+trap 'rm -rf "$room"' EXIT
+trap 'exit 1' HUP INT TERM
+# A fault names the file by its word on the command line.
+cd "$home"
+passed=0
+failed=0
+
+# Tells which of the three things differs, or nothing.
+difference() {
+    name=$1
+    for kind in report fault; do
+        wanted=$room/nothing
+        [ -e "examples/$name.$kind" ] && wanted=examples/$name.$kind
+        if ! cmp -s "$wanted" "$room/$kind"; then
+            echo "its $kind"
+            return
+        fi
+    done
+    [ "$status" -eq "$(cat "examples/$name.status")" ] || echo "its status, which is $status"
+}
+
+: > "$room/nothing"
+# Built here, so that what a build says does not count as the first example's.
+"$program" examples/first.feature > "$room/report" 2> "$room/fault" || true
+for feature in examples/*.feature; do
+    name=$(basename "$feature" .feature)
+    status=0
+    "$program" "$feature" > "$room/report" 2> "$room/fault" || status=$?
+    what=$(difference "$name")
+    if [ -z "$what" ]; then
+        passed=$((passed + 1))
+    else
+        failed=$((failed + 1))
+        echo "$feature: $what differs from what is stored; this was printed:"
+        cat "$room/report" "$room/fault"
+    fi
+done
+
+echo "$passed passed, $failed failed"
+[ "$failed" -eq 0 ]
