@@ -7,7 +7,7 @@ use Rattle.gk_gherkin.specs.Faults.{FaultSays, FeatureFault}
 use Rattle.gk_cli.specs.Unread.{SaysUnread, unread_by}
 use Rattle.gk_gherkin.specs.Lines.{lines_of, IsText}
 use Rattle.gk_gherkin.specs.Values.{FeatureValue}
-use Rattle.gk_gherkin.specs.Grammar.{Reads}
+use Rattle.gk_gherkin.specs.Grammar.{Reads, HasOneReading}
 use Rattle.gk_cli.specs.Judged.{SourceFeatureValue}
 use Rattle.gk_cli.specs.Sources.{SourceValue, AreRead, with_reading}
 
@@ -44,3 +44,10 @@ first_unread sources features input source faults.Memory read place says = tt
 first_unread sources features input source faults.TooLong read place says = record { before = features; read = read; source = source; place = place; says = says; named = λ e. cc }
 first_unread sources features input source (faults.NotUtf8 n) read place says = record { before = features; read = read; source = source; place = place; says = says; named = λ e. cc }
 first_unread sources features input source (faults.Unexpected n) read place says = record { before = features; read = read; source = source; place = place; says = says; named = λ e. cc }
+
+-- The features of sources are determined where lines have one reading.
+pub same_features : HasOneReading → (ss : List SourceValue) (fs gs : List SourceFeatureValue) → AreRead ss fs → AreRead ss gs → fs ≡ gs
+same_features one [] fs gs f g = f ∙ sym g
+same_features one (s ∷ ss) fs gs (reading, others, text, reads, rest, is) (reading', others', text', reads', rest', is') =
+    is ∙ ap (λ r. with_reading s.name r others) (one (lines_of s.bytes) reading reading' reads reads')
+    ∙ ap (with_reading s.name reading') (same_features one ss others others' rest rest') ∙ sym is'

@@ -31,6 +31,11 @@ abbrev pub counted_read : {E : Type 0} → Result ℕ E → ℕ → ℕ
 counted_read (Ok k) n = n
 counted_read (Err e) n = one_more n
 
+-- The count behind a flush.
+abbrev pub counted_flush : {E : Type 0} → Result (Unit {0}) E → ℕ → ℕ
+counted_flush (Ok u) n = n
+counted_flush (Err e) n = one_more n
+
 -- A front of the bytes was written.
 abbrev pub IsFrontWritten : Option (List ℕ) → Option (List ℕ) → List ℕ → Type 0
 IsFrontWritten old new bytes = (n : ℕ) × (n ≤ length bytes) × Appends old new (take n bytes)

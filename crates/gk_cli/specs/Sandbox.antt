@@ -2,6 +2,7 @@
 use Rattle.std.specs.Prelude.{◌≡◌, ℕ, List, [], ◌∷◌, length, refl, Option, Some, None, Result, Ok, Err}
 use Rattle.std.specs.FinMap as finite
 use Rattle.std.specs.Coded.{Coded, code_by, coded×, coded_list}
+use Rattle.gk_cli.specs.declared.sandbox.Layer.{Layer}
 use Rattle.gk_cli.specs.declared.sandbox.WorldFault.{WorldFault}
 use Rattle.gk_cli.specs.declared.sandbox.WorldFault.TheVariants.{Memory}
 use Rattle.gk_cli.specs.Contents.{Contents, nothing_yet, contents_code}
@@ -18,6 +19,10 @@ new_sandbox = record { now = nothing_yet; saved = [] }
 -- How many layers are open.
 abbrev pub depth : SandboxValue → ℕ
 depth s = length s.saved
+
+-- Which layer this is, counted from 1 at the outermost.
+abbrev pub number_of : Layer → ℕ
+number_of layer = layer.number
 
 -- A layer begins: its end is to give the contents as they are.
 abbrev pub begun : SandboxValue → SandboxValue

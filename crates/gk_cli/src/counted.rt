@@ -58,7 +58,7 @@ impl<W: Write> Write for Counted<W> {
     ghost use Rattle.std.specs.Prelude.{◌≡◌};
     ghost use Rattle.std.specs.Io.{WritesAtMost};
     ghost use Rattle.std.specs.Io.KnownBytes.{Keeps, WriteAppends};
-    ghost use Rattle.gk_cli.specs.Counting.{inner_of, calls_of, failures_of, one_more, counted_write};
+    ghost use Rattle.gk_cli.specs.Counting.{inner_of, calls_of, failures_of, one_more, counted_write, counted_flush};
 
     ghost contents = { λ c. W.contents (inner_of c) };
 
@@ -86,6 +86,8 @@ impl<W: Write> Write for Counted<W> {
 
     fn flush(&mut self) -> io::Result<()>
         ensures bytes { Keeps (W.contents (inner_of self.old)) (W.contents (inner_of self.new)) }
+        ensures calls { calls_of self.new ≡ calls_of self.old }
+        ensures failures { failures_of self.new ≡ counted_flush result (failures_of self.old) }
     {
         let flushed = self.inner.flush();
         if flushed.is_err() {

@@ -2,7 +2,7 @@
 ghost use Rattle.std.specs.Prelude.{◌≡◌, ◌<◌, ◌∷◌, OnOk, OnErr, IfOk, IfErr, Ok, Err, Some, None, option_map, length, ◌↔◌};
 ghost use Rattle.std.specs.FinMap as finite;
 ghost use Rattle.gk_cli.specs.Contents.{texts_of};
-ghost use Rattle.gk_cli.specs.Sandbox.{new_sandbox, depth, begun, Ends, with_env, PutsOrLacksMemory};
+ghost use Rattle.gk_cli.specs.Sandbox.{new_sandbox, depth, number_of, begun, Ends, with_env, PutsOrLacksMemory};
 ghost use Rattle.gk_cli.specs.Refusals.{put_refusal};
 
 use std::alloc::{AllocError, AllocFailed, Global};
@@ -50,8 +50,8 @@ impl<T: Drop> From<AllocFailed<T>> for WorldFault {
 
 /// A layer that is open. It has to be spent: only `Sandbox::end` takes it.
 pub struct Layer {
-    /// Its place, counted from 1 at the outermost.
-    pub number: usize,
+    // Its place, counted from 1 at the outermost.
+    number: usize,
 }
 
 fn copied(variables: &BTreeMap<String, String>) -> Result<BTreeMap<String, String>, AllocError>
@@ -105,7 +105,7 @@ impl Sandbox {
     /// Begins a layer, by a copy. The layer's number is then the depth. A refusal changes nothing.
     pub fn begin(&mut self) -> Result<Layer, AllocError>
         ensures ok { OnOk result (self.new ≡ begun self.old) }
-        ensures number { IfOk result (λ layer. layer.number ≡ depth self.new) }
+        ensures number { IfOk result (λ layer. number_of layer ≡ depth self.new) }
         ensures err { OnErr result (self.new ≡ self.old) }
     {
         let copy = copied(&self.variables)?;
@@ -118,7 +118,7 @@ impl Sandbox {
     /// Ends the innermost layer: the contents are those at its beginning.
     pub fn end(&mut self, layer: Layer)
         requires open { 0 < depth self.old }
-        requires innermost { layer.number ≡ depth self.old }
+        requires innermost { number_of layer ≡ depth self.old }
         ensures { Ends self.old self.new }
     {
         let Layer { number: _ } = layer;

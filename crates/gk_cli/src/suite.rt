@@ -11,7 +11,7 @@ use crate::running::run_features;
 use crate::sandbox::Sandbox;
 use crate::source::Source;
 use crate::summary::summarize;
-use gk_gherkin::ReadFault;
+use gk_gherkin::{ReadFault, reading_is_unique};
 use std::alloc::{AllocError, Global};
 use std::io::Write;
 use thiserror::Error;
@@ -64,7 +64,7 @@ pub fn run_suite<W: Write>(
     // What was written and the status are the report and the status of one list, which is judged: each
     // scenario in it has the result that plain maps give it alone, rows marked memory excepted.
     ensures told { IfOk result (λ status. Told (map source_value sources.now) sandbox.old.now (W.contents (inner_of out.old)) (W.contents (inner_of out.new)) status) }
-    // At each status but 4 that list is the one that plain maps give.
+    // At each status but 4 that list is the one that plain maps give, and there is no other.
     ensures plain { IfOk result (λ status. Plain (map source_value sources.now) sandbox.old.now (W.contents (inner_of out.old)) (W.contents (inner_of out.new)) status) }
     // Whatever is answered, the sandbox is as it was.
     ensures same { sandbox.new ≡ sandbox.old }
@@ -79,6 +79,8 @@ pub fn run_suite<W: Write>(
     // A status comes only where the writer did not fail.
     ensures quiet { OnOk result (failures_of out.new ≡ failures_of out.old) }
 {
+    // No code runs here: the law says that the sources read as one list of features alone.
+    reading_is_unique();
     let features = match read_sources(alloc, sources) {
         Ok(features) => features,
         Err(Unread::Fault { input, fault }) => return Err(RunFault::Read { input, fault }),
