@@ -6,19 +6,9 @@
 # Closes with one line 'N passed, M failed'.
 set -eu
 
-home=$(dirname -- "$(dirname -- "$(readlink -f -- "$0")")")
-program=${1:-$home/run}
-case $program in
-/*) ;;
-*) program=$PWD/$program ;;
-esac
-room=$(mktemp -d)
-trap 'rm -rf "$room"' EXIT
-trap 'exit 1' HUP INT TERM
+. "$(dirname -- "$(readlink -f -- "$0")")/setup.sh"
 # A fault names the file by its word on the command line.
 cd "$home"
-passed=0
-failed=0
 
 # Tells which of the three things differs, or nothing.
 difference() {
@@ -35,8 +25,6 @@ difference() {
 }
 
 : > "$room/nothing"
-# Built here, so that what a build says does not count as the first example's.
-"$program" examples/first.feature > "$room/report" 2> "$room/fault" || true
 for feature in examples/*.feature; do
     name=$(basename "$feature" .feature)
     status=0

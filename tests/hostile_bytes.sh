@@ -10,28 +10,11 @@
 # the one that ./run builds. Closes with one line 'N passed, M failed'; a run is one test.
 set -eu
 
-home=$(dirname -- "$(dirname -- "$(readlink -f -- "$0")")")
-program=${1:-}
-if [ -z "$program" ]; then
-    "$home/run" --help > /dev/null
-    program=$home/crates/gherkin_run/out/gherkin_run
-fi
-case $program in
-/*) ;;
-*) program=$PWD/$program ;;
-esac
-room=$(mktemp -d)
-trap 'rm -rf "$room"' EXIT
-trap 'exit 1' HUP INT TERM
-# No run takes that long, and none may leave a file of its memory behind.
-ulimit -t 60
-ulimit -c 0
+. "$(dirname -- "$(readlink -f -- "$0")")/setup.sh"
 # So that a tool takes each byte for a character.
 LC_ALL=C
 export LC_ALL
 cd "$room"
-passed=0
-failed=0
 
 # Whether standard error has one line, which the program's name begins.
 has_one_fault_line() {

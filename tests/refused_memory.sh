@@ -15,33 +15,16 @@
 # run is one test.
 set -eu
 
-home=$(dirname -- "$(dirname -- "$(readlink -f -- "$0")")")
-program=${1:-}
-if [ -z "$program" ]; then
-    "$home/run" --help > /dev/null
-    program=$home/crates/gherkin_run/out/gherkin_run
-fi
-case $program in
-/*) ;;
-*) program=$PWD/$program ;;
-esac
+. "$(dirname -- "$(readlink -f -- "$0")")/setup.sh"
 if ! command -v cc > /dev/null; then
     echo "tests/refused_memory.sh needs a C compiler, cc, and there is none here"
     echo "0 passed, 1 failed"
     exit 1
 fi
-room=$(mktemp -d)
-trap 'rm -rf "$room"' EXIT
-trap 'exit 1' HUP INT TERM
-# No run takes that long, and none may leave a file of its memory behind.
-ulimit -t 60
-ulimit -c 0
 cd "$home"
 cc -shared -fPIC -O2 -o "$room/refuse.so" tests/refuse.c
 echo "gherkin_run: out of memory" > "$room/out_of_memory"
 : > "$room/nothing"
-passed=0
-failed=0
 # How many runs that met a refusal ended in each of the three ways.
 stopped=0
 marked=0

@@ -1,0 +1,21 @@
+# Read by the scripts of this folder with `.`, not run. Sets `home`, the repository's folder, `program`,
+# the built program (the script's first word, or the one that ./run builds), `room`, a folder that is
+# removed at the end, and the counts `passed` and `failed`.
+home=$(dirname -- "$(dirname -- "$(readlink -f -- "$0")")")
+program=${1:-}
+if [ -z "$program" ]; then
+    "$home/run" --help > /dev/null
+    program=$home/crates/gherkin_run/out/gherkin_run
+fi
+case $program in
+/*) ;;
+*) program=$PWD/$program ;;
+esac
+room=$(mktemp -d)
+trap 'rm -rf "$room"' EXIT
+trap 'exit 1' HUP INT TERM
+# No run takes that long, and none may leave a file of its memory behind.
+ulimit -t 60
+ulimit -c 0
+passed=0
+failed=0
