@@ -10,5 +10,6 @@ mod SourcesLemmas
 mod WritingLemmas
 mod ReadingLemmas
 mod SummaryLemmas
+mod CommandLemmas
 mod OneList
 mod WorkedReports

@@ -23,3 +23,4 @@ pub mod Plain
 pub mod Report
 pub mod Adding
 pub mod Headline
+pub mod CommandLine

@@ -13,12 +13,14 @@ mod sandbox;
 mod source;
 mod suite;
 mod summary;
+mod words;
 
 pub use counted::{Counted, Refused, write_whole};
 pub use finding::finding_is_determined;
 pub use sandbox::{LONGEST_NAME, LONGEST_TEXT, Layer, Sandbox, WorldFault};
 pub use source::{Source, SourceFault, read_source};
 pub use suite::{RunFault, run_suite};
+pub use words::{Words, WordsFault, read_words};
 
 #[cfg(test)]
 mod tests;

@@ -1,0 +1,2 @@
+mod SuiteLemmas
+mod FilesLemmas
