@@ -43,6 +43,7 @@ plain_kept sources contents a b c status plain k other =
       written = kept a b c _ p.written k;
       answered = p.answered;
       unmarked = p.unmarked;
+      only = p.only;
     }
 
 -- the whole report is a front of it

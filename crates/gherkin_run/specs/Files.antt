@@ -8,7 +8,7 @@ use Rattle.gherkin_run.specs.declared.fault.Fault.TheVariants.{NotUtf8, Usage, C
 abbrev pub name_of : Source → List ℕ
 name_of source = string_bytes source.name
 
--- The file of this name can't be read whole, or memory ran out.
+-- A fault of reading that names this file, or want of memory.
 abbrev pub IsFileFault : List ℕ → Fault → Type 0
 IsFileFault name (CannotRead other) = string_bytes other ≡ name
 IsFileFault name (TooLong other) = string_bytes other ≡ name

@@ -41,3 +41,13 @@ SaysFault sources before after NotUtf8 = ⊥
 SaysFault sources before after (Usage error) = ⊥
 SaysFault sources before after (CannotRead name) = ⊥
 SaysFault sources before after (TooLong name) = ⊥
+
+-- The writer failed in this call.
+abbrev pub SaysFailed : ℕ → ℕ → Fault → Type 0
+SaysFailed before after Write = before < after
+SaysFailed before after (Read name fault) = Unit {0}
+SaysFailed before after Memory = Unit {0}
+SaysFailed before after NotUtf8 = Unit {0}
+SaysFailed before after (Usage error) = Unit {0}
+SaysFailed before after (CannotRead name) = Unit {0}
+SaysFailed before after (TooLong name) = Unit {0}

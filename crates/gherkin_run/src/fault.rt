@@ -17,7 +17,7 @@ pub enum Fault {
     CannotRead { name: String },
     /// The file is longer than a source may be.
     TooLong { name: String },
-    /// The file doesn't spell a feature.
+    /// The file is no feature file: a line can't stand where it stands, or the bytes aren't UTF-8.
     Read { name: String, fault: ReadFault },
     /// Standard output took no more.
     Write,

@@ -6,16 +6,20 @@ ghost use Rattle.gherkin_run.specs.Files.{IsFileFault, name_of};
 use crate::fault::Fault;
 use gk_cli::{Counted, Source, SourceFault, read_source};
 use gk_gherkin::LIMIT;
-use std::fs;
 use std::rt::Files;
+use std::{fs, io};
 
 fn read_file<R: Files + AllocGlobal>(rt: &R, name: String) -> Result<Source, Fault>
     ensures named { IfOk result (λ source. name_of source ≡ string_bytes name) }
     ensures within { IfOk result (λ source. vec_len source.bytes ≤ LIMIT) }
     ensures fault { IfErr result (IsFileFault (string_bytes name)) }
 {
-    let Ok(file) = fs::open(rt, name.as_str()) else {
-        return Err(Fault::CannotRead { name });
+    let file = match fs::open(rt, name.as_str()) {
+        Ok(file) => file,
+        Err(error) => match error.kind() {
+            io::ErrorKind::OutOfMemory => return Err(Fault::Memory),
+            _ => return Err(Fault::CannotRead { name }),
+        },
     };
     match read_source(rt.alloc(), &mut Counted::new(file)) {
         Ok(bytes) => Ok(Source { name, bytes }),

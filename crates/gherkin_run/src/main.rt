@@ -29,7 +29,10 @@ fn run<R: Env + Files + AllocGlobal, W: Write + Drop>(rt: &R, out: W) -> Result<
 // The text for `--help`, which ends well.
 fn show_help<W: Write + Drop>(mut out: W, text: &clap::Error) -> Result<u8, Fault> {
     match write!(out, "{text}") {
-        Ok(()) => Ok(0),
+        Ok(()) => match out.flush() {
+            Ok(()) => Ok(0),
+            Err(_) => Err(Fault::Write),
+        },
         Err(_) => Err(Fault::Write),
     }
 }

@@ -1,9 +1,9 @@
 //! Running the features of the sources.
-ghost use Rattle.std.specs.Prelude.{◌<◌, ◌-◌, ◌^◌, map, IfOk, IfErr};
+ghost use Rattle.std.specs.Prelude.{◌≡◌, ◌<◌, ◌-◌, ◌^◌, map, IfOk, IfErr, OnOk};
 ghost use Rattle.gk_cli.specs.Counting.{inner_of, failures_of};
 ghost use Rattle.gk_cli.specs.Headline.{Told, Plain};
 ghost use Rattle.gk_cli.specs.Sources.{source_value};
-ghost use Rattle.gherkin_run.specs.Suite.{IsFaultOfRun, IsWithin, SaysFault, nothing};
+ghost use Rattle.gherkin_run.specs.Suite.{IsFaultOfRun, IsWithin, SaysFault, SaysFailed, nothing};
 
 use crate::fault::Fault;
 use gk_cli::{Counted, RunFault, Sandbox, Source, run_suite};
@@ -29,6 +29,8 @@ fn fault_of_run(fault: RunFault, mut sources: Vec<Source>) -> Fault
 }
 
 /// Runs the features of the sources in an empty sandbox, and writes the report to its last byte.
+/// `Read` names the first source that doesn't read; then, and at `Memory`, nothing was written. `Write`
+/// comes where a write or the flush failed; a front of the report, or all of it, was written.
 pub fn run_sources<W: Write>(
     alloc: Global,
     sources: Vec<Source>,
@@ -38,10 +40,14 @@ pub fn run_sources<W: Write>(
 
     // What was written and the status are the report and the status of one judged list.
     ensures told { IfOk result (λ status. Told (map source_value sources.items) nothing (W.contents (inner_of out.old)) (W.contents (inner_of out.new)) status) }
-    // At each status but 4 that list is the one that plain maps give.
+    // At each status but 4 that list is the one that plain maps give, and there is no other.
     ensures plain { IfOk result (λ status. Plain (map source_value sources.items) nothing (W.contents (inner_of out.old)) (W.contents (inner_of out.new)) status) }
-    // A fault names the first source that doesn't read; what was written is a front of the report.
+    // What a fault says of the sources and of what was written.
     ensures fault { IfErr result (λ fault. SaysFault (map source_value sources.items) (W.contents (inner_of out.old)) (W.contents (inner_of out.new)) fault) }
+    // `Write` comes only where the writer failed in this call.
+    ensures failed { IfErr result (λ fault. SaysFailed (failures_of out.old) (failures_of out.new) fault) }
+    // A status comes only where the writer did not fail.
+    ensures quiet { OnOk result (failures_of out.new ≡ failures_of out.old) }
 {
     let mut sandbox = Sandbox::new(alloc);
     match run_suite(alloc, &mut sandbox, sources.as_slice(), out) {

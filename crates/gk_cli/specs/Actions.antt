@@ -2,15 +2,13 @@
 use Rattle.std.specs.Prelude.{ℕ, Bool, true, not, List, [], ◌∷◌, Option, Some, None, bytes_eq, is_none, unwrap_or}
 use Rattle.gk_cli.specs.declared.sandbox.WorldFault.{WorldFault}
 use Rattle.gk_cli.specs.declared.sandbox.WorldFault.TheVariants as faults
-use Rattle.gk_cli.specs.declared.finding.Action.{Action}
-use Rattle.gk_cli.specs.declared.finding.Action.TheVariants as actions
 use Rattle.gk_cli.specs.declared.results.Reason.{Reason}
 use Rattle.gk_cli.specs.declared.results.Reason.TheVariants as reasons
 use Rattle.gk_cli.specs.declared.results.Outcome.{Outcome}
 use Rattle.gk_cli.specs.declared.results.Outcome.TheVariants as outcomes
 use Rattle.gk_cli.specs.State.{State, with_text}
 use Rattle.gk_cli.specs.Refusals.{first_true, put_refusal}
-use Rattle.gk_cli.specs.Finding.{EntryValue, FoundValue, action_of, field_of, name_field, text_field}
+use Rattle.gk_cli.specs.Finding.{Action, SetEnv, EnvIs, Pass, Fail, EntryValue, FoundValue, action_of, field_of, name_field, text_field}
 
 -- What an action leaves: the state and its outcome.
 pub record Done : Type 0 where
@@ -60,12 +58,12 @@ env_is s name text = checks s (
     (is_none (s.env name), reasons.Absent) ∷
     (is_other (s.env name) text, reasons.Differs) ∷ [])
 
--- The table of actions. (this project's profile)
+-- The table of  (this project's profile)
 abbrev pub act_as : Action → State → List ℕ → List ℕ → Done
-act_as actions.SetEnv s name text = set_env s name text
-act_as actions.EnvIs s name text = env_is s name text
-act_as actions.Pass s name text = passes s
-act_as actions.Fail s name text = fails s reasons.Asked
+act_as SetEnv s name text = set_env s name text
+act_as EnvIs s name text = env_is s name text
+act_as Pass s name text = passes s
+act_as Fail s name text = fails s reasons.Asked
 
 -- What was found, acted out on the plain state.
 abbrev pub act : List EntryValue → State → FoundValue → Done

@@ -3,11 +3,16 @@ use Rattle.std.specs.Prelude.{◌≡◌, ◌<◌, ℕ, suc, List, [], ◌∷◌,
 use Rattle.std.specs.Option.{option_or, option_map_or}
 use Rattle.std.specs.List.{starts_with}
 use Rattle.std.specs.Str.{bytes_eq}
-use Rattle.gk_cli.specs.declared.finding.Action.{Action}
-use Rattle.gk_cli.specs.declared.finding.Action.TheVariants as actions
 use Rattle.gk_cli.specs.declared.finding.Found.{Found}
 use Rattle.gk_cli.specs.declared.finding.Found.TheVariants as found_in_code
 use Rattle.gk_cli.specs.Patterns.{PieceValue, Literal, FieldPiece, MatchesNot, IsMatchResult}
+
+-- What a step does: it sets a variable, checks one, passes, fails. (this project's profile)
+pub data Action : Type 0 where
+  SetEnv : Action
+  EnvIs : Action
+  Pass : Action
+  Fail : Action
 
 -- An entry of the library: a pattern and the action of the steps that it matches. (behave's documentation: step implementations; this project's profile)
 pub record EntryValue : Type 0 where
@@ -29,10 +34,10 @@ name_and_text front middle = Literal front ∷ FieldPiece name_field ∷ Literal
 -- The library's entries, in their order. (this project's profile)
 abbrev pub default_entries : List EntryValue
 default_entries =
-    record { pattern = name_and_text (codes "the variable \"") (codes "\" is set to \""); action = actions.SetEnv }
-    ∷ record { pattern = name_and_text (codes "the variable \"") (codes "\" should be \""); action = actions.EnvIs }
-    ∷ record { pattern = Literal (codes "it passes") ∷ []; action = actions.Pass }
-    ∷ record { pattern = Literal (codes "it fails") ∷ []; action = actions.Fail }
+    record { pattern = name_and_text (codes "the variable \"") (codes "\" is set to \""); action = SetEnv }
+    ∷ record { pattern = name_and_text (codes "the variable \"") (codes "\" should be \""); action = EnvIs }
+    ∷ record { pattern = Literal (codes "it passes") ∷ []; action = Pass }
+    ∷ record { pattern = Literal (codes "it fails") ∷ []; action = Fail }
     ∷ []
 
 -- What is found: the place of an entry in the library, from 0, and what its fields took, in the pattern's order.
@@ -85,7 +90,7 @@ pub record FindsWhatIsFound (entries : List EntryValue) : Type 0 where
 
 -- The action of what was found; what is found has one.
 abbrev pub action_of : List EntryValue → FoundValue → Action
-action_of entries f = option_map_or (λ e. e.action) (slice_get entries f.entry) actions.Pass
+action_of entries f = option_map_or (λ e. e.action) (slice_get entries f.entry) Pass
 
 -- What the field of a name took; none where the pattern has no such field.
 abbrev pub field_named : List ℕ → List PieceValue → List (List ℕ) → Option (List ℕ)

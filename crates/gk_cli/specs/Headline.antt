@@ -21,18 +21,18 @@ pub record IsTold (sources : List SourceValue) (contents : Contents) (before aft
   pub written : Appends before after (report results)
   pub answered : answer ≡ status_of results
 
--- There is one list of results whose report was written and whose status is answered.
+-- There is a list of results whose report was written and whose status is answered.
 abbrev pub Told : List SourceValue → Contents → Option (List ℕ) → Option (List ℕ) → ℕ → Type 0
 Told sources contents before after answer = (results : List FeatureRow) × IsTold sources contents before after answer results
 
--- That list is the one that plain maps give, there is no other, and nothing in it is marked memory.
+-- That list is the one that plain maps give, there is no other, and no scenario in it is marked memory.
 pub record IsPlain (sources : List SourceValue) (contents : Contents) (before after : Option (List ℕ)) (answer : ℕ) : Type 0 where
   pub features : List SourceFeatureValue
   pub read : AreRead sources features
   pub written : Appends before after (report (plain_results default_entries contents features))
   pub answered : answer ≡ status_of (plain_results default_entries contents features)
   pub unmarked : has_memory (plain_results default_entries contents features) ≡ false
-  pub only : (results : List FeatureRow) → IsTold sources contents before after answer results → results ≡ plain_results default_entries contents features
+  pub only : (others : List SourceFeatureValue) (results : List FeatureRow) → AreRead sources others → Judged default_entries contents others results → answer ≡ status_of results → results ≡ plain_results default_entries contents features
 
 -- So it is at each status other than 4.
 abbrev pub Plain : List SourceValue → Contents → Option (List ℕ) → Option (List ℕ) → ℕ → Type 0

@@ -76,6 +76,6 @@ plain_results library contents features = results_of library contents uncut feat
 abbrev pub is_memory_case : CaseRow → Bool
 is_memory_case row = is_memory row.status
 
--- Memory was refused somewhere in the run.
+-- A scenario of the list is marked memory.
 abbrev pub has_memory : List FeatureRow → Bool
 has_memory results = list_any (λ (f : FeatureRow). list_any is_memory_case f.cases) results

@@ -6,7 +6,7 @@ pub data PieceValue : Type 0 where
   Literal : List ℕ → PieceValue
   FieldPiece : List ℕ → PieceValue
 
--- The spans of a pattern: one for each field, in the pattern's order, each of one character or more. (behave's documentation: step parameters; this project's profile)
+-- The spans of a pattern: one for each field, in the pattern's order, each of one byte or more. (behave's documentation: step parameters; this project's profile)
 abbrev pub AreSpans : List PieceValue → List (List ℕ) → Type 0
 AreSpans [] [] = Unit {0}
 AreSpans [] (span ∷ spans) = ⊥

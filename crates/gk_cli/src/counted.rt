@@ -120,13 +120,13 @@ impl<R: Read> Read for Counted<R> {
     }
 }
 
-/// The writer took no more: its count of failures rose.
+/// The writer failed, or took no byte of a piece: a failure was counted.
 #[derive(Debug, Drop)]
-pub struct Refused;
+pub struct NotWritten;
 
-/// Writes all the bytes. Each turn has at least one byte taken, or ends with `Refused`; then a front of
+/// Writes all the bytes. Each turn has at least one byte taken, or ends with `NotWritten`; then a front of
 /// the bytes was written. (this project's profile)
-pub fn write_whole<W: Write>(out: &mut Counted<W>, bytes: &[u8]) -> Result<(), Refused>
+pub fn write_whole<W: Write>(out: &mut Counted<W>, bytes: &[u8]) -> Result<(), NotWritten>
     ensures ok { OnOk result (Appends (W.contents (inner_of out.old)) (W.contents (inner_of out.new)) bytes.now) }
     ensures quiet { OnOk result (failures_of out.new ≡ failures_of out.old) }
     ensures cut { OnErr result (IsFrontWritten (W.contents (inner_of out.old)) (W.contents (inner_of out.new)) bytes.now) }
@@ -137,9 +137,9 @@ pub fn write_whole<W: Write>(out: &mut Counted<W>, bytes: &[u8]) -> Result<(), R
     let mut done = 0;
     while done < bytes.len() {
         match out.write(&bytes[done..]) {
-            Ok(0) => return Err(Refused),
+            Ok(0) => return Err(NotWritten),
             Ok(n) => done += n,
-            Err(_) => return Err(Refused),
+            Err(_) => return Err(NotWritten),
         }
     }
     Ok(())

@@ -4,19 +4,6 @@ ghost use Rattle.gk_cli.specs.Patterns.{IsMatchResult};
 ghost use Rattle.gk_cli.specs.Finding.{name_and_text, default_entries, IsFound, found_value, FindsWhatIsFound, found as finds};
 ghost use Rattle.gk_cli.specs.Parting.{is_ascii_word};
 
-/// What a step does.
-#[derive(Clone, Copy, Debug, PartialEq, Eq)]
-pub enum Action {
-    /// A variable is given a text.
-    SetEnv,
-    /// A variable has a text.
-    EnvIs,
-    /// Nothing, and it passes.
-    Pass,
-    /// Nothing, and it fails.
-    Fail,
-}
-
 /// The entry that a step's text finds, with what its fields took.
 #[derive(Clone, Copy, Debug)]
 pub enum Found<'a> {

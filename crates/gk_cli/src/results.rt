@@ -4,21 +4,32 @@
 /// never undefined.
 #[derive(Clone, Copy, Debug, PartialEq, Eq)]
 pub enum Status {
+    /// A step was carried out well; a scenario's steps all were, or a feature's scenarios.
     Passed,
+    /// A step's action failed; a scenario has a step that failed or is undefined.
     Failed,
+    /// A step stands behind the one that ended its scenario; a feature has no scenario.
     Skipped,
+    /// A step finds no entry of the library.
     Undefined,
+    /// A step stands behind one in which memory was refused.
     Untested,
+    /// Memory was refused.
     Memory,
 }
 
 /// Why an action fails.
 #[derive(Clone, Copy, Debug, PartialEq, Eq)]
 pub enum Reason {
+    /// There is no such variable.
     Absent,
+    /// The variable has another text.
     Differs,
+    /// The text has more bytes than `LONGEST_TEXT`.
     TextTooLong,
+    /// The name has more bytes than `LONGEST_NAME`, or none.
     BadName,
+    /// The step is `it fails`.
     Asked,
 }
 
@@ -30,13 +41,16 @@ pub enum Outcome {
     Memory,
 }
 
-/// What became of a step: it was acted on, the library has no match for it, or it is only told that it
-/// is skipped or untested.
+/// What became of a step.
 #[derive(Clone, Copy, Debug, PartialEq, Eq)]
 pub enum Mark {
+    /// It was carried out.
     Acted(Outcome),
+    /// It finds no entry of the library.
     Undefined,
+    /// It finds one, and stands behind the step that ended the scenario.
     Skipped,
+    /// It stands behind a step in which memory was refused.
     Untested,
 }
 

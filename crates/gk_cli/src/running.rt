@@ -18,11 +18,14 @@ use crate::sandbox::{Sandbox, WorldFault};
 use gk_gherkin::{Feature, Scenario, Step};
 use std::alloc::{AllocError, Global};
 
-/// How far a scenario has come: its steps are acted on, or only told.
+/// How far a scenario has come.
 #[derive(Clone, Copy)]
 pub enum Progress {
+    /// All steps so far passed; the next is carried out.
     Running,
+    /// A step failed or is undefined; those behind it are looked up, not carried out.
     Stopped,
+    /// Memory was refused in a step; those behind it are untested.
     Spoilt,
 }
 

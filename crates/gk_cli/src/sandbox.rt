@@ -115,13 +115,16 @@ impl Sandbox {
         })
     }
 
-    /// Ends the innermost layer: the contents are those at its beginning.
+    /// Ends the innermost layer, which `layer` has to be: the contents are those at its beginning.
+    /// Takes no memory.
     pub fn end(&mut self, layer: Layer)
         requires open { 0 < depth self.old }
         requires innermost { number_of layer ≡ depth self.old }
         ensures { Ends self.old self.new }
     {
+        // A layer can't be dropped; taking it apart spends it.
         let Layer { number: _ } = layer;
+        // There is one, since a layer is open.
         if let Some(copy) = self.saved.pop() {
             self.variables = copy;
         }

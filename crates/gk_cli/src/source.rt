@@ -1,6 +1,7 @@
 //! The sources of a run, and reading one whole.
 ghost use Rattle.std.specs.Prelude.{◌≡◌, ◌≤◌, ◌<◌, ◌+◌, IfOk, IfSome, IsErrOf, vec_len, drop, length};
 ghost use Rattle.gk_cli.specs.Counting.{inner_of, calls_of, failures_of, one_more};
+ghost use Rattle.gk_gherkin.specs.Lines.{limit};
 ghost use Rattle.gk_cli.specs.Reading.{StopsBehind};
 
 use crate::counted::Counted;
@@ -38,12 +39,12 @@ const PIECE: usize = 16_384;
 /// profile)
 pub fn read_source<R: Read>(alloc: Global, reader: &mut Counted<R>) -> Result<Vec<u8>, SourceFault>
     ensures whole { IfOk result (λ v. IfSome (R.remaining (inner_of reader.old)) (λ xs. v.items ≡ xs)) }
-    ensures within { IfOk result (λ v. vec_len v ≤ LIMIT) }
+    ensures within { IfOk result (λ v. vec_len v ≤ limit) }
     ensures quiet { IfOk result (λ v. failures_of reader.new ≡ failures_of reader.old) }
-    ensures long { IsErrOf result SourceFault.TooLong → StopsBehind (LIMIT + 1) (R.remaining (inner_of reader.old)) (R.remaining (inner_of reader.new)) }
+    ensures long { IsErrOf result SourceFault.TooLong → StopsBehind (limit + 1) (R.remaining (inner_of reader.old)) (R.remaining (inner_of reader.new)) }
     // Each turn but the last gives a byte, and none is asked for behind number LIMIT + 1.
     ensures turns { IfOk result (λ v. calls_of reader.new ≤ calls_of reader.old + vec_len v + 1) }
-    ensures bounded { calls_of reader.new ≤ calls_of reader.old + (LIMIT + 1) }
+    ensures bounded { calls_of reader.new ≤ calls_of reader.old + (limit + 1) }
     ensures device { IsErrOf result SourceFault.Device → failures_of reader.new ≡ one_more (failures_of reader.old) }
 {
     let mut bytes = Vec::new(alloc);

@@ -47,18 +47,17 @@ impl RunFault {
 }
 
 /// Reads the features of the sources, runs their scenarios in order, and writes the report. The answer
-/// is the status of the run: 0 where everything passed, 1 where a scenario failed or a step is
+/// is the status of the run: 0 where nothing failed, 1 where a scenario failed or a step is
 /// undefined, 4 where memory was refused while a scenario ran. (this project's profile)
 ///
-/// The sandbox has no layer begun, and the writer's count of failures is below the greatest `u64`.
-/// Whatever is answered, the sandbox is as it was.
+/// The writer's count of failures is below the greatest `u64`. Whatever is answered, the sandbox is as
+/// it was.
 pub fn run_suite<W: Write>(
     alloc: Global,
     sandbox: &mut Sandbox,
     sources: &[Source],
     out: &mut Counted<W>,
 ) -> Result<u8, RunFault>
-    requires depth { sandbox.old.saved ≡ [] }
     requires room { failures_of out.old < 2 ^ 64 - 1 }
 
     // What was written and the status are the report and the status of one list, which is judged: each

@@ -86,7 +86,7 @@ fn copied(alloc: Global, texts: &[&str]) -> Result<Vec<String>, AllocError>
 }
 
 /// Reads the words of the command line, of which the first is the program's name: every other word
-/// that begins with no `-`, and every word behind a `--`, is a feature file. There has to be one.
+/// that isn't `-` with more behind it, and every word behind a `--`, is a feature file. There has to be one.
 /// `--help` and `-h` ask for help, and answer `Usage` with the exit code 0. (this project's profile)
 pub fn read_words(alloc: Global, words: &[String]) -> Result<Words, WordsFault>
     ensures { SaysWords (map string_bytes words.now) result }

@@ -1,5 +1,5 @@
 -- The grammar of a feature file. Each part is a relation between the lines from its beginning on, what the part says, and the lines behind it.
--- Blank lines and comments stand freely before, between and behind the pieces of a part.
+-- Blank lines and comments stand freely before and between the pieces of a part, and behind the last part of a file.
 use Rattle.std.specs.Prelude.{◌≡◌, ◌↔◌, List, [], ◌∷◌, ◌++◌, Option, Some, None}
 use Rattle.gk_gherkin.specs.declared.class.Class.{Class}
 use Rattle.gk_gherkin.specs.declared.class.Class.TheVariants.{Blank, Comment, FeatureHeading, ScenarioHeading, StepLine}
@@ -45,7 +45,7 @@ pub record IsStep (ls : Lines) (step : StepValue) (rest : Lines) : Type 0 where
   pub text : step.text ≡ step_text line
   pub number : step.line ≡ line.line
 
--- Scen = Scenario step*. (Cucumber's Gherkin reference: example)
+-- Scenario = scenario heading, step*. (Cucumber's Gherkin reference: example)
 pub record IsScenario (ls : Lines) (scenario : ScenarioValue) (rest : Lines) : Type 0 where
   pub line : LineValue
   pub behind_heading : Lines
@@ -55,7 +55,7 @@ pub record IsScenario (ls : Lines) (scenario : ScenarioValue) (rest : Lines) : T
   pub number : scenario.line ≡ line.line
   pub steps : Many IsStep behind_heading scenario.steps rest
 
--- Feature Scen*. (Cucumber's Gherkin reference: feature)
+-- Feature = feature heading, Scenario*. (Cucumber's Gherkin reference: feature)
 pub record IsFeature (ls : Lines) (feature : FeatureValue) (rest : Lines) : Type 0 where
   pub line : LineValue
   pub behind_heading : Lines

@@ -1,5 +1,4 @@
 //! Why a file could not be read.
-
 ghost use Rattle.std.specs.Prelude.{◌≡◌, Some};
 ghost use Rattle.gk_gherkin.specs.Faults.{line_of_fault, text_of_fault};
 ghost use Rattle.gk_gherkin.specs.declared.fault.ReadFault.TheVariants.{Memory};
@@ -8,7 +7,7 @@ use std::alloc::{AllocError, AllocFailed};
 use std::fmt;
 
 /// Why a file could not be read. Lines are counted from 1. Of more faults than one, the first of
-/// `TooLong`, `NotUtf8` and `Unexpected` comes. (This project's profile)
+/// `TooLong`, `NotUtf8` and `Unexpected` comes. (this project's profile)
 #[derive(Clone, Copy, Debug, PartialEq, Eq)]
 pub enum ReadFault {
     /// The bytes aren't UTF-8. The line is that of the first byte behind the longest front that is.

@@ -1,5 +1,5 @@
 //! Gherkin: the lines of a text, and what a feature file says. Bytes come in; a `Document` or a
-//! `Feature` goes out, exactly where the bytes spell one.
+//! `Feature` goes out exactly where the bytes spell one, unless memory is refused.
 #![tactic(auto)]
 
 mod class;

@@ -1,5 +1,4 @@
 //! The lines of a text.
-
 ghost use Rattle.std.specs.Prelude.{◌≡◌, ◌≤◌, ◌==◌, map, length, count_by, IfOk, IfErr};
 ghost use Rattle.std.specs.List.{prefix_len};
 ghost use Rattle.std.specs.Str.Lines.{lines};
@@ -12,10 +11,10 @@ use crate::fault::ReadFault;
 use std::alloc::Global;
 use std::str;
 
-/// How many bytes a file may have. (This project's profile)
+/// How many bytes a file may have. (this project's profile)
 pub const LIMIT: usize = 16_777_216;
 
-/// Where a line's text begins: lines and columns are counted from 1, columns in bytes. (This
+/// Where a line's text begins: lines and columns are counted from 1, columns in bytes. (this
 /// project's profile)
 #[derive(Clone, Copy, Debug, PartialEq, Eq)]
 pub struct Place {
@@ -24,7 +23,7 @@ pub struct Place {
 }
 
 /// A line with its whole text, without the LF or CRLF that ends it. Its column is that of the first
-/// byte which is neither a space nor a tab, or behind the last byte where there is none. (This
+/// byte which is neither a space nor a tab, or behind the last byte where there is none. (this
 /// project's profile)
 #[derive(Debug, Drop)]
 pub struct Line {
@@ -38,12 +37,14 @@ pub struct Document {
     pub lines: Vec<Line>,
 }
 
+/// Whether a byte is a space or a tab.
 pub fn is_blank(byte: u8) -> bool
     ensures { result ≡ spec.is_blank byte }
 {
     byte == b' ' || byte == b'\t'
 }
 
+/// How many blanks a text begins with.
 pub fn leading_blanks(text: &[u8]) -> usize
     ensures value { result ≡ prefix_len is_blank text.now }
     ensures within { result ≤ length text.now }
@@ -104,7 +105,7 @@ fn lines_from(alloc: Global, text: &str) -> Result<Document, ReadFault>
 ///
 /// More than `LIMIT` bytes are `TooLong`, whatever they spell. Others that aren't UTF-8 are
 /// `NotUtf8`, with the line of the first byte behind the longest front that is. `Memory` comes only
-/// where a growth was refused. A refusal answers no line. (This project's profile)
+/// where a growth was refused. A refusal answers no line. (this project's profile)
 pub fn read_lines(alloc: Global, bytes: &[u8]) -> Result<Document, ReadFault>
     // What is answered is the text's lines.
     ensures ok { IfOk result (λ d. IsText bytes.now × (map line_value d.lines.items ≡ lines_of bytes.now)) }

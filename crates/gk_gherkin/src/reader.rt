@@ -1,5 +1,4 @@
 //! Reading a feature file line by line.
-
 ghost use Rattle.std.specs.Prelude.{Option, option_map, map, Ok, IfOk, IfErr, ◌≡◌};
 ghost use Rattle.gk_gherkin.specs.Lines.{line_value, lines_of, IsText};
 ghost use Rattle.gk_gherkin.specs.Values.{FeatureValue, step_value, scenario_value, feature_value};
@@ -134,7 +133,7 @@ fn in_scenario(
 }
 
 #[tactic(auto, unfolding(crate::specs::Machine::step))]
-fn step(alloc: Global, state: State, line: &Line) -> Result<State, ReadFault>
+fn next_state(alloc: Global, state: State, line: &Line) -> Result<State, ReadFault>
     ensures { Gives state_value result (spec.step (state_value state) (line_value line.now)) }
 {
     match state {
@@ -151,7 +150,7 @@ fn run(alloc: Global, lines: &[Line]) -> Result<State, ReadFault>
 {
     let mut state = State::BeforeFeature;
     for line in lines {
-        state = step(alloc, state, line)?;
+        state = next_state(alloc, state, line)?;
     }
     Ok(state)
 }

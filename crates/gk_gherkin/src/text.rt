@@ -1,5 +1,4 @@
 //! The parts of a line's text.
-
 ghost use Rattle.std.specs.Prelude.{◌≡◌, ◌≤◌, ◌&&◌, length, slice_index};
 ghost use Rattle.std.specs.List.{position_or_len};
 ghost use Rattle.gk_gherkin.specs.Lines as lines;
@@ -100,6 +99,7 @@ fn class_of(text: &str) -> Class
     }
 }
 
+/// The class of a line.
 #[tactic(auto, unfolding(crate::specs::Class::class))]
 pub fn class(line: &Line) -> Class
     ensures { result ≡ spec.class (line_value line.now) }
@@ -107,6 +107,7 @@ pub fn class(line: &Line) -> Class
     class_of(trim(line.text.as_str()))
 }
 
+/// The keyword of a heading, without its colon.
 pub fn heading_keyword(line: &Line) -> &str
     ensures { result.now ≡ spec.heading_keyword (line_value line.now) }
 {
@@ -117,6 +118,7 @@ pub fn heading_keyword(line: &Line) -> &str
     }
 }
 
+/// The name of a heading: what stands behind its first colon, trimmed.
 pub fn heading_name(line: &Line) -> &str
     ensures { result.now ≡ spec.heading_name (line_value line.now) }
 {
@@ -139,6 +141,7 @@ fn first_blank(text: &[u8]) -> usize
     text.len()
 }
 
+/// The keyword of a step.
 pub fn step_keyword(line: &Line) -> &str
     ensures { result.now ≡ spec.step_keyword (line_value line.now) }
 {
@@ -147,6 +150,7 @@ pub fn step_keyword(line: &Line) -> &str
     &text[..end]
 }
 
+/// The text of a step: what stands behind its keyword, trimmed.
 pub fn step_text(line: &Line) -> &str
     ensures { result.now ≡ spec.step_text (line_value line.now) }
 {

@@ -27,7 +27,7 @@ fn files_in_order(rt: HostRuntime) -> Result<(), Fail> {
                 let wanted = texts(alloc, wanted)?;
                 assert!(rt; read.files == wanted);
             }
-            Err(fault) => assert!(rt; matches!(fault, WordsFault::Memory)),
+            Err(_) => assert!(rt; false),
         }
     }
     Ok(())
@@ -56,7 +56,7 @@ fn faults_of_words(rt: HostRuntime) -> Result<(), Fail> {
                     assert!(rt; error.kind() == kind);
                     assert!(rt; error.exit_code() == status);
                 }
-                WordsFault::Memory => {}
+                WordsFault::Memory => assert!(rt; false),
             },
         }
     }

@@ -1,10 +1,10 @@
-use Rattle.std.proofs.Common.{◌≡◌, ◌≢◌, ◌++◌, ℕ, List, Option, flat_map, map, string_bytes, ap, sym, subst, rules, ◌∙◌}
+use Rattle.std.proofs.Common.{◌≡◌, ◌≢◌, ◌++◌, ℕ, List, flat_map, map, string_bytes, ap, sym, subst, rules, ◌∙◌}
 use Rattle.std.specs.Io.KnownBytes.{Appends}
 use Rattle.gk_gherkin.specs.Grammar.{HasOneReading}
 use Rattle.gk_cli.specs.Contents.{Contents}
 use Rattle.gk_cli.specs.Rows.{FeatureRow, feature_row}
 use Rattle.gk_cli.specs.Finding.{default_entries}
-use Rattle.gk_cli.specs.Judged.{SourceFeatureValue, plain_results, has_memory}
+use Rattle.gk_cli.specs.Judged.{SourceFeatureValue, Judged, plain_results, has_memory}
 use Rattle.gk_cli.specs.Sources.{SourceValue, AreRead, source_value, source_feature_value}
 use Rattle.gk_cli.specs.Counting.{inner_of}
 use Rattle.gk_cli.specs.Plain.{plain_part, closing_lines}
@@ -19,12 +19,12 @@ use Rattle.gk_cli.proofs.SummaryLemmas.{status_counted}
 use Rattle.gk_cli.proofs.suite.run_suite.Given as given
 use Rattle.gk_cli.proofs.suite.run_suite.Goals as goal
 
--- Where a run is told with a status other than 4, its list is the plain one.
-only_list : (sources : List SourceValue) (contents : Contents) (before after : Option (List ℕ)) (answer : ℕ) → answer ≢ 4 → HasOneReading →
-    (features : List SourceFeatureValue) → AreRead sources features → (rows : List FeatureRow) → IsTold sources contents before after answer rows → rows ≡ plain_results default_entries contents features
-only_list sources contents before after answer other one features read rows known =
-    one_list default_entries contents known.features rows known.judged (no_memory rows (λ four. other (known.answered ∙ four)))
-    ∙ ap (plain_results default_entries contents) (same_features one sources known.features features known.read read)
+-- Of the judged lists of some sources, the plain one alone has a status other than 4.
+only_list : (sources : List SourceValue) (contents : Contents) (answer : ℕ) → answer ≢ 4 → HasOneReading → (features : List SourceFeatureValue) → AreRead sources features →
+    (others : List SourceFeatureValue) (rows : List FeatureRow) → AreRead sources others → Judged default_entries contents others rows → answer ≡ status_of rows → rows ≡ plain_results default_entries contents features
+only_list sources contents answer other one features read others rows also judged answered =
+    one_list default_entries contents others rows judged (no_memory rows (λ four. other (answered ∙ four)))
+    ∙ ap (plain_results default_entries contents) (same_features one sources others features also read)
 
 told : (g : given.Over) (c : goal.After-drop-results-in-Ok-write_whole g) →
     IsTold (map source_value c.args.sources.now) c.args.sandbox.now.now (g.W.Write.contents (inner_of c.args.out.now)) (g.W.Write.contents (inner_of c.write_whole.new.out))
@@ -61,5 +61,5 @@ returns-in-Ok-write_whole-clause-plain g c = λ other.
       written = subst (λ rows. Appends (g.W.Write.contents (inner_of c.args.out.now)) (g.W.Write.contents (inner_of c.write_whole.new.out)) (report rows)) same known.written;
       answered = known.answered ∙ ap status_of same;
       unmarked = ap has_memory (sym same) ∙ unmarked;
-      only = λ rows other_told. only_list _ _ _ _ _ other c.reading_is_unique.ensures known.features known.read rows other_told;
+      only = only_list _ _ _ other c.reading_is_unique.ensures known.features known.read;
     }
