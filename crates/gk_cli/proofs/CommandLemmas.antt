@@ -216,8 +216,7 @@ says_files words old new m files reads whole after from parsed matches kinds are
     let entry : option_map raw_values (matched_of (found_of m) (codes "files")) ≡ Some (raw_values some.0) = ap (option_map raw_values) some.1 in
     let copied : files ≡ raw_values some.0 = are ∙ ap (λ o. unwrap_or o []) entry in
     let rows : rows_of (found_of m) ≡ matches_of command words =
-    (matches (ap is_simple reads.app ∙ simple)).0 ∙ ap (λ a. matches_of a words) reads.app in
-    (
+    (matches (ap is_simple reads.app ∙ simple)).0 ∙ ap (λ a. matches_of a words) reads.app in (
       ap (λ a. fault_of a words) (sym reads.app) ∙ kinds (ap is_simple_and_free reads.app ∙ simple_and_free),
       ap (all_of (codes "files")) (sym rows) ∙ all_rows (found_of m).entries.items (codes "files") ∙ entry ∙ ap Some (sym copied),
       λ none. no_text some.0.vals.items some.2 (sym copied ∙ none),

@@ -143,8 +143,8 @@ turned_by now new step left mark cut before after whole is first rest verdict =
     }
 
 turned : (progress : Progress) (now new : State) (step : StepValue) (left : List StepValue) (mark : Mark) → IsTurn progress now step.text mark new → (cut : Option ℕ) → Turned progress now new step left mark cut
-turned Stopped now new step left mark t cut = record { before = cut; told = ap (λ m. row_of_step step m ∷ rows_of_steps left (map (mark_behind default_entries) left)) t; verdict = refl }
-turned Spoilt now new step left mark t cut = record { before = cut; told = ap (λ m. row_of_step step m ∷ rows_of_steps left []) t; verdict = refl }
+turned Stopped now new step left mark t cut = record { before = cut; told = ap (λ m. row_of_step step m ∷ rows_of_steps left (map (mark_behind default_entries) left)) t.0; verdict = refl }
+turned Spoilt now new step left mark t cut = record { before = cut; told = ap (λ m. row_of_step step m ∷ rows_of_steps left []) t.0; verdict = refl }
 turned Running now new step left (Acted outcomes.Memory) t cut =
     let this = one_step default_entries now step in
     turned_by now new step left (Acted outcomes.Memory) cut (Some 0) [] (alone default_entries now (step ∷ left)) refl (cut_first_of (is_passed_mark this.mark) this.mark left (walk default_entries this.state left)) refl refl

@@ -69,6 +69,12 @@ SaysFailed before after (Read input fault) = Unit {0}
 SaysFailed before after Write = before < after
 SaysFailed before after Memory = Unit {0}
 
+-- Where a source does not read, or memory was refused before the report stood, the writer was not called.
+abbrev pub SaysUncalled : ℕ → ℕ → RunFault → Type 0
+SaysUncalled before after (Read input fault) = after ≡ before
+SaysUncalled before after Write = Unit {0}
+SaysUncalled before after Memory = after ≡ before
+
 -- The status of a run that ended with a fault. (this project's profile)
 abbrev pub status_of_fault : RunFault → ℕ
 status_of_fault (Read input fault) = 3

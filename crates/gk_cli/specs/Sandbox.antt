@@ -36,10 +36,10 @@ Ends old new = old.saved ≡ new.now ∷ new.saved
 abbrev pub with_env : SandboxValue → List ℕ → List ℕ → SandboxValue
 with_env s name text = record s { now = record { env = finite.insert s.now.env name text } }
 
--- A change is carried out where nothing refuses it, and else refused for that reason; or memory ran out.
+-- A change is carried out where nothing refuses it, unless memory runs out; else it is refused for that reason.
 abbrev pub PutsOrLacksMemory : {A : Type 0} → Result A WorldFault → Option WorldFault → Type 0
 PutsOrLacksMemory (Ok x) refusal = refusal ≡ None
-PutsOrLacksMemory (Err Memory) refusal = Unit {0}
+PutsOrLacksMemory (Err Memory) refusal = refusal ≡ None
 PutsOrLacksMemory (Err fault) refusal = refusal ≡ Some fault
 
 -- How a program's value keeps a sandbox.

@@ -34,8 +34,8 @@ mark_of_text text = cond (is_some (found default_entries text)) Skipped Undefine
 -- One turn of the code: this mark is right, and this is the state behind it.
 abbrev pub IsTurn : Progress → State → List ℕ → Mark → State → Type 0
 IsTurn Running s text mark new = IsFirstMark s text mark new
-IsTurn Stopped s text mark new = mark ≡ mark_of_text text
-IsTurn Spoilt s text mark new = mark ≡ Untested
+IsTurn Stopped s text mark new = (mark ≡ mark_of_text text) × (new ≡ s)
+IsTurn Spoilt s text mark new = (mark ≡ Untested) × (new ≡ s)
 
 -- How far a scenario has come behind a step that was acted on.
 abbrev pub stopped_by : Mark → Progress

@@ -42,6 +42,7 @@ pub fn read_source<R: Read>(alloc: Global, reader: &mut Counted<R>) -> Result<Ve
     ensures within { IfOk result (λ v. vec_len v ≤ limit) }
     ensures quiet { IfOk result (λ v. failures_of reader.new ≡ failures_of reader.old) }
     ensures long { IsErrOf result SourceFault.TooLong → StopsBehind (limit + 1) (R.remaining (inner_of reader.old)) (R.remaining (inner_of reader.new)) }
+    ensures spare { IsErrOf result SourceFault.Memory → failures_of reader.new ≡ failures_of reader.old }
     // Each turn but the last gives a byte, and none is asked for behind number LIMIT + 1.
     ensures turns { IfOk result (λ v. calls_of reader.new ≤ calls_of reader.old + vec_len v + 1) }
     ensures bounded { calls_of reader.new ≤ calls_of reader.old + (limit + 1) }

@@ -1,8 +1,8 @@
 //! The whole run.
 ghost use Rattle.std.specs.Prelude.{◌≡◌, ◌-◌, ◌^◌, ◌<◌, [], map, IfOk, IfErr, OnOk};
 ghost use Rattle.gk_cli.specs.Sources.{source_value};
-ghost use Rattle.gk_cli.specs.Counting.{inner_of, failures_of};
-ghost use Rattle.gk_cli.specs.Headline.{Told, Plain, SaysUnreadSource, SaysCutShort, SaysNothingWritten, SaysFailed, status_of_fault};
+ghost use Rattle.gk_cli.specs.Counting.{inner_of, calls_of, failures_of};
+ghost use Rattle.gk_cli.specs.Headline.{Told, Plain, SaysUnreadSource, SaysCutShort, SaysNothingWritten, SaysFailed, SaysUncalled, status_of_fault};
 
 use crate::counted::{Counted, write_whole};
 use crate::reading::{Unread, read_sources};
@@ -75,6 +75,8 @@ pub fn run_suite<W: Write>(
     ensures memory { IfErr result (λ fault. SaysNothingWritten (W.contents (inner_of out.old)) (W.contents (inner_of out.new)) fault) }
     // `Write` comes only where the writer failed in this call.
     ensures failed { IfErr result (λ fault. SaysFailed (failures_of out.old) (failures_of out.new) fault) }
+    // At `Read` and `Memory` the writer was not called.
+    ensures uncalled { IfErr result (λ fault. SaysUncalled (calls_of out.old) (calls_of out.new) fault) }
     // A status comes only where the writer did not fail.
     ensures quiet { OnOk result (failures_of out.new ≡ failures_of out.old) }
 {

@@ -4,7 +4,9 @@ use crate::source::{Source, SourceFault, read_source};
 use crate::suite::{RunFault, run_suite};
 use gk_gherkin::{LIMIT, ReadFault};
 use std::alloc::{AllocError, Global};
+use std::fmt::Write as _;
 use std::io;
+use std::io::Write as _;
 use std::test::Fail;
 
 fn source(alloc: Global, name: &str, text: &str) -> Result<Source, AllocError> {
@@ -155,6 +157,57 @@ impl io::Read for Failing {
         self.calls_left -= 1;
         Ok(buf.len().min(1))
     }
+}
+
+/// Counts its flushes, each of which fails.
+#[derive(Drop)]
+struct Clogged {
+    flushes: usize,
+}
+
+impl io::Write for Clogged {
+    fn write(&mut self, buf: &[u8]) -> io::Result<usize> {
+        Ok(buf.len())
+    }
+
+    fn flush(&mut self) -> io::Result<()> {
+        self.flushes = 1;
+        Err(io::ErrorKind::Other.into())
+    }
+}
+
+#[test]
+fn passes_a_flush_on(rt: HostRuntime) {
+    let mut out = Counted::new(Clogged { flushes: 0 });
+    assert!(rt; out.flush().is_err());
+    assert_eq!(rt; out.inner().flushes, 1);
+    assert_eq!(rt; out.failures(), 1);
+}
+
+#[test]
+fn tells_faults(rt: HostRuntime) -> Result<(), Fail> {
+    let fault = ReadFault::Unexpected { line: 2 };
+    let faults = [
+        (RunFault::Read { input: 1, fault }, "unexpected line"),
+        (RunFault::Write, "cannot write"),
+        (RunFault::Memory, "out of memory"),
+    ];
+    for (fault, wanted) in faults {
+        let mut text = String::new(rt.alloc());
+        write!(text, "{fault}")?;
+        assert_eq!(rt; text.as_str(), wanted);
+    }
+    let faults = [
+        (SourceFault::Device, "cannot read"),
+        (SourceFault::TooLong, "longer than 16777216 bytes"),
+        (SourceFault::Memory, "out of memory"),
+    ];
+    for (fault, wanted) in faults {
+        let mut text = String::new(rt.alloc());
+        write!(text, "{fault}")?;
+        assert_eq!(rt; text.as_str(), wanted);
+    }
+    Ok(())
 }
 
 #[test]

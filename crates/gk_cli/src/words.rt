@@ -86,8 +86,9 @@ fn copied(alloc: Global, texts: &[&str]) -> Result<Vec<String>, AllocError>
 }
 
 /// Reads the words of the command line, of which the first is the program's name: every other word
-/// that isn't `-` with more behind it, and every word behind a `--`, is a feature file. There has to be one.
-/// `--help` and `-h` ask for help, and answer `Usage` with the exit code 0. (this project's profile)
+/// that begins with no `-` or is `-` alone, and every word behind the first `--`, is a feature file.
+/// There has to be one. `--help` and `-h` ask for help, and answer `Usage` with the exit code 0.
+/// (this project's profile)
 pub fn read_words(alloc: Global, words: &[String]) -> Result<Words, WordsFault>
     ensures { SaysWords (map string_bytes words.now) result }
 {

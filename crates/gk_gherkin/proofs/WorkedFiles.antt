@@ -1,5 +1,5 @@
 -- Worked feature files and what they read as, by computation.
-use Rattle.std.specs.Prelude.{[], ◌∷◌, codes, Option, Some, None, Ok, refl}
+use Rattle.std.specs.Prelude.{[], ◌∷◌, codes, Some, None, refl}
 use Rattle.gk_gherkin.specs.Lines.{lines_of}
 use Rattle.gk_gherkin.specs.Values.{FeatureValue}
 use Rattle.gk_gherkin.specs.Class.{class, class_of, class_of_words, heading_keyword, heading_name, step_keyword, step_text}

@@ -54,7 +54,12 @@ fn reads_a_feature(rt: HostRuntime) -> Result<(), Fail> {
 
 #[test]
 fn refuses(rt: HostRuntime) -> Result<(), Fail> {
-    let cases: [(&[u8], ReadFault); 3] = [
+    let cases: [(&[u8], ReadFault); 5] = [
+        (b"stray", ReadFault::Unexpected { line: 1 }),
+        (
+            b"Feature: a\nGiven it passes",
+            ReadFault::Unexpected { line: 2 },
+        ),
         (
             b"Feature: a\nScenario: s\nGiven it passes\nstray",
             ReadFault::Unexpected { line: 4 },
