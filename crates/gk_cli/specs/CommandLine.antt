@@ -1,5 +1,5 @@
 -- What the words of the command line name.
-use Rattle.std.specs.Prelude.{◌≡◌, ◌≢◌, ℕ, List, [], ◌∷◌, true, false, Option, Some, Result, Ok, Err, codes, string_bytes, map}
+use Rattle.std.specs.Prelude.{◌≡◌, ◌≢◌, List, [], true, false, Option, Some, Result, Ok, Err, codes, string_bytes, map}
 use Rattle.clap.specs.Lexer.{usize_max}
 use Rattle.clap.specs.Words.{Kinds, IsAmong, App, IsPlain, Rule, Text, all_of, app_of, fault_of, kind_of, matches_of, new_app, new_rule, with_rule}
 use Rattle.clap.specs.declared.builder.action.ArgAction.TheVariants.{Append}

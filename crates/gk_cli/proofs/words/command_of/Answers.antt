@@ -2,7 +2,7 @@ use Rattle.std.proofs.Common.{rules, ◌≡◌, Some}
 use Rattle.std.proofs.lemmas.Result.{IfOk-weaker}
 use Rattle.clap.specs.Words.{rule_of}
 use Rattle.clap.specs.Lexer.{usize_max}
-use Rattle.gk_cli.specs.CommandLine.{ReadsFiles, files_rule}
+use Rattle.gk_cli.specs.CommandLine.{files_rule}
 use Rattle.gk_cli.proofs.CommandLemmas.{adds_files, some_is}
 use Rattle.gk_cli.proofs.words.command_of.Goals as goal
 
