@@ -1,15 +1,22 @@
--- The class of a line, and the parts of headings and steps.
+-- The class of a line.
 use Rattle.std.specs.Prelude.{codes, ℕ, Bool, ◌==◌, ◌&&◌, nat_eq, List, [], ◌∷◌, length, slice_index, if◌then◌else◌}
 use Rattle.std.specs.List.{starts_with, list_any, before_first, after_first}
 use Rattle.gk_gherkin.specs.declared.class.Class.{Class}
-use Rattle.gk_gherkin.specs.declared.class.Class.TheVariants.{Blank, Comment, TagLine, FeatureHeading, RuleHeading, BackgroundHeading, ScenarioHeading, OutlineHeading, ExamplesHeading, StepLine, RowLine, FenceLine, Other}
+use Rattle.gk_gherkin.specs.declared.class.Class.TheVariants.{Blank, Comment, TagLine, FeatureHeading, RuleHeading, BackgroundHeading, ScenarioHeading, ExamplesHeading, StepLine, RowLine, FenceLine, Other}
+use Rattle.gk_gherkin.specs.declared.class.Fence.{Fence}
+use Rattle.gk_gherkin.specs.declared.class.Fence.TheVariants.{Quotes, Backticks}
 use Rattle.gk_gherkin.specs.Lines.{LineValue, is_blank, trim}
 
--- Whether a text begins with a word.
+-- The three characters of a fence. (this project's profile)
+abbrev pub fence_text : Fence → List ℕ
+fence_text Quotes = codes "\"\"\""
+fence_text Backticks = codes "```"
+
+-- Whether a text begins with a word. (this project's profile)
 abbrev pub begins : List ℕ → List ℕ → Bool
 begins text word = starts_with nat_eq text word
 
--- Whether a text begins with one of some words.
+-- Whether a text begins with one of some words. (this project's profile)
 abbrev pub begins_with_one : List ℕ → List (List ℕ) → Bool
 begins_with_one text words = list_any (begins text) words
 
@@ -25,13 +32,9 @@ rule_keywords = codes "Rule:" ∷ []
 abbrev pub background_keywords : List (List ℕ)
 background_keywords = codes "Background:" ∷ []
 
--- The keywords of a scenario. (Cucumber's Gherkin reference: keywords)
+-- The keywords of a scenario and of an outline. (Cucumber's Gherkin reference: keywords)
 abbrev pub scenario_keywords : List (List ℕ)
-scenario_keywords = codes "Scenario:" ∷ codes "Example:" ∷ []
-
--- The keywords of an outline. (Cucumber's Gherkin reference: keywords)
-abbrev pub outline_keywords : List (List ℕ)
-outline_keywords = codes "Scenario Outline:" ∷ codes "Scenario Template:" ∷ []
+scenario_keywords = codes "Scenario:" ∷ codes "Example:" ∷ codes "Scenario Outline:" ∷ codes "Scenario Template:" ∷ []
 
 -- The keywords of examples. (Cucumber's Gherkin reference: keywords)
 abbrev pub examples_keywords : List (List ℕ)
@@ -40,10 +43,6 @@ examples_keywords = codes "Examples:" ∷ codes "Scenarios:" ∷ []
 -- The keywords of steps. (Cucumber's Gherkin reference: keywords)
 abbrev pub step_keywords : List (List ℕ)
 step_keywords = codes "Given" ∷ codes "When" ∷ codes "Then" ∷ codes "And" ∷ codes "But" ∷ codes "*" ∷ []
-
--- The fences of doc strings. (Cucumber's Gherkin reference: doc strings)
-abbrev pub fences : List (List ℕ)
-fences = codes "\"\"\"" ∷ codes "```" ∷ []
 
 -- Whether a text begins with a step keyword that a blank follows. (this project's profile)
 abbrev pub begins_as_step : List ℕ → Bool
@@ -56,11 +55,11 @@ class_of_words text =
     (if begins_with_one text rule_keywords then RuleHeading else
     (if begins_with_one text background_keywords then BackgroundHeading else
     (if begins_with_one text scenario_keywords then ScenarioHeading else
-    (if begins_with_one text outline_keywords then OutlineHeading else
     (if begins_with_one text examples_keywords then ExamplesHeading else
     (if begins_as_step text then StepLine else
     (if begins text (codes "|") then RowLine else
-    (if begins_with_one text fences then FenceLine else Other))))))))
+    (if begins text (fence_text Quotes) then FenceLine Quotes else
+    (if begins text (fence_text Backticks) then FenceLine Backticks else Other))))))))
 
 -- The class of a trimmed text, the first that fits. (this project's profile)
 unfoldable pub class_of : List ℕ → Class
@@ -73,7 +72,7 @@ class_of text =
 unfoldable pub class : LineValue → Class
 class line = class_of (trim line.text)
 
--- A colon.
+-- A colon. (this project's profile)
 abbrev pub is_colon : ℕ → Bool
 is_colon b = b == 58
 
@@ -81,7 +80,7 @@ is_colon b = b == 58
 unfoldable pub heading_keyword : LineValue → List ℕ
 heading_keyword line = before_first is_colon (trim line.text)
 
--- A heading's name: the trimmed rest behind the first colon. (Cucumber's Gherkin reference: keywords)
+-- A heading's name: the trimmed rest after the first colon. (Cucumber's Gherkin reference: keywords)
 unfoldable pub heading_name : LineValue → List ℕ
 heading_name line = trim (after_first is_colon (trim line.text))
 
@@ -89,6 +88,6 @@ heading_name line = trim (after_first is_colon (trim line.text))
 unfoldable pub step_keyword : LineValue → List ℕ
 step_keyword line = before_first is_blank (trim line.text)
 
--- A step's text: the trimmed rest behind the first blank. (Cucumber's Gherkin reference: steps)
+-- A step's text: the trimmed rest after the first blank. (Cucumber's Gherkin reference: steps)
 unfoldable pub step_text : LineValue → List ℕ
 step_text line = trim (after_first is_blank (trim line.text))

@@ -1,11 +1,18 @@
--- The grammar of a feature file. Each part is a relation between the lines from its beginning on, what the part says, and the lines behind it.
--- Blank lines and comments stand freely before and between the pieces of a part, and behind the last part of a file.
-use Rattle.std.specs.Prelude.{◌≡◌, ◌↔◌, List, [], ◌∷◌, ◌++◌, Option, Some, None}
-use Rattle.gk_gherkin.specs.declared.class.Class.{Class}
-use Rattle.gk_gherkin.specs.declared.class.Class.TheVariants.{Blank, Comment, FeatureHeading, ScenarioHeading, StepLine}
+-- The grammar of a feature file. Each part is a relation between the lines from its beginning on, what the part says, and the lines after it.
+-- Blank lines and comments stand freely before, between and after the pieces of a part, but not in a doc string, where every line is content.
+use Rattle.std.specs.Prelude.{◌≡◌, ◌↔◌, ◌⊎◌, ℕ, true, false, List, [], ◌∷◌, ◌++◌, length, map, Option, Some, None}
+use Rattle.std.specs.List.{AllByRecursion}
 use Rattle.gk_gherkin.specs.Lines.{LineValue, Lines}
+use Rattle.gk_gherkin.specs.declared.class.Class.{Class}
+use Rattle.gk_gherkin.specs.declared.class.Class.TheVariants.{Blank, Comment, TagLine, FeatureHeading, RuleHeading, BackgroundHeading, ScenarioHeading, ExamplesHeading, StepLine, RowLine, FenceLine, Other}
+use Rattle.gk_gherkin.specs.declared.class.Fence.{Fence}
 use Rattle.gk_gherkin.specs.Class.{class, heading_keyword, heading_name, step_keyword, step_text}
-use Rattle.gk_gherkin.specs.Values.{StepValue, ScenarioValue, FeatureValue}
+use Rattle.gk_gherkin.specs.Tags.{tags_of}
+use Rattle.gk_gherkin.specs.Rows.{cells_of}
+use Rattle.gk_gherkin.specs.DocStrings.{closes, doc_string}
+use Rattle.gk_gherkin.specs.Language.{language_of, IsEnglishOrNone}
+use Rattle.gk_gherkin.specs.StepTypes.{AreTyped}
+use Rattle.gk_gherkin.specs.Feature.{BlockValue, Empty, Text, Table, StepValue, RowValue, ExamplesValue, BackgroundValue, ScenarioValue, RuleValue, FeatureValue}
 
 -- The classes of lines that say nothing: blank lines and comments. (Cucumber's Gherkin reference: comments)
 abbrev pub IsIgnoredClass : Class → Type 0
@@ -17,27 +24,117 @@ IsIgnoredClass _ = ⊥
 abbrev pub IsIgnored : LineValue → Type 0
 IsIgnored line = IsIgnoredClass (class line)
 
--- Any number of ignored lines.
+-- Above the Feature line a comment names no language other than English. (Cucumber's Gherkin reference: spoken languages; this project's profile)
+abbrev pub IsIgnoredAbove : LineValue → Type 0
+IsIgnoredAbove line = IsIgnored line × IsEnglishOrNone (language_of line)
+
+-- Any number of ignored lines. (this project's profile)
 pub data Skips (Ignored : LineValue → Type 0) : Lines → Lines → Type 0 where
   skip_none : {ls : Lines} → Skips Ignored ls ls
   skip : {l : LineValue} {ls rest : Lines} → Ignored l → Skips Ignored ls rest → Skips Ignored (l ∷ ls) rest
 
--- One line, behind any number of ignored ones.
+-- One line, after any number of ignored ones. (this project's profile)
 abbrev pub Next : (LineValue → Type 0) → Lines → LineValue → Lines → Type 0
 Next Ignored ls line rest = Skips Ignored ls (line ∷ rest)
 
--- X*: parts of one shape, one behind the other.
+-- X*: parts of one shape, one after the other. (this project's profile)
 pub data Many {A : Type 0} (Part : Lines → A → Lines → Type 0) : Lines → List A → Lines → Type 0 where
   none : {ls : Lines} → Many Part ls [] ls
   more : {ls mid rest : Lines} {x : A} {xs : List A} → Part ls x mid → Many Part mid xs rest → Many Part ls (x ∷ xs) rest
+
+-- A part, or nothing: [X]. (this project's profile)
+abbrev pub Perhaps : {A : Type 0} → (Lines → A → Lines → Type 0) → Lines → Option A → Lines → Type 0
+Perhaps Part ls None rest = ls ≡ rest
+Perhaps Part ls (Some x) rest = Part ls x rest
+
+-- A tag line, each word of which is a tag. (Cucumber's Gherkin reference: tags)
+pub record IsTagLine (Ignored : LineValue → Type 0) (ls : Lines) (tags : List (List ℕ)) (rest : Lines) : Type 0 where
+  pub line : LineValue
+  pub next : Next Ignored ls line rest
+  pub is : class line ≡ TagLine
+  pub words : tags_of line ≡ Some tags
+
+-- Tags = tags*: any number of tag lines, whose tags are joined. (Cucumber's Gherkin reference: tags)
+pub data AreTags (Ignored : LineValue → Type 0) : Lines → List (List ℕ) → Lines → Type 0 where
+  untagged : {ls : Lines} → AreTags Ignored ls [] ls
+  tagged : {ls mid rest : Lines} {some others : List (List ℕ)} → IsTagLine Ignored ls some mid → AreTags Ignored mid others rest → AreTags Ignored ls (some ++ others) rest
 
 -- A heading of a class. (Cucumber's Gherkin reference: keywords)
 pub record IsHeading (Ignored : LineValue → Type 0) (kind : Class) (ls : Lines) (line : LineValue) (rest : Lines) : Type 0 where
   pub next : Next Ignored ls line rest
   pub is : class line ≡ kind
 
--- A step. (Cucumber's Gherkin reference: steps)
-pub record IsStep (ls : Lines) (step : StepValue) (rest : Lines) : Type 0 where
+-- A heading of a class, with the tags that stand above it. (Cucumber's Gherkin reference: tags)
+pub record IsTaggedHeading (Ignored : LineValue → Type 0) (kind : Class) (ls : Lines) (tags : List (List ℕ)) (line : LineValue) (rest : Lines) : Type 0 where
+  pub after_tags : Lines
+  pub above : AreTags Ignored ls tags after_tags
+  pub heading : IsHeading Ignored kind after_tags line rest
+
+-- DescA: what may stand in the description of a feature or a rule. (Cucumber's Gherkin reference: descriptions)
+abbrev pub MayDescribeFeature : Class → Type 0
+MayDescribeFeature StepLine = Unit {0}
+MayDescribeFeature RowLine = Unit {0}
+MayDescribeFeature (FenceLine fence) = Unit {0}
+MayDescribeFeature Other = Unit {0}
+MayDescribeFeature _ = ⊥
+
+-- DescB: what may stand in the description of a background or a scenario. (Cucumber's Gherkin reference: descriptions)
+abbrev pub MayDescribeScenario : Class → Type 0
+MayDescribeScenario RowLine = Unit {0}
+MayDescribeScenario (FenceLine fence) = Unit {0}
+MayDescribeScenario Other = Unit {0}
+MayDescribeScenario _ = ⊥
+
+-- DescC: what may stand in the description of examples. (Cucumber's Gherkin reference: descriptions)
+abbrev pub MayDescribeExamples : Class → Type 0
+MayDescribeExamples StepLine = Unit {0}
+MayDescribeExamples (FenceLine fence) = Unit {0}
+MayDescribeExamples Other = Unit {0}
+MayDescribeExamples _ = ⊥
+
+-- A description: any number of lines of classes that may stand in it, which aren't kept. A fence opens nothing here. (Cucumber's Gherkin reference: descriptions)
+pub data Describes (May : Class → Type 0) : Lines → Lines → Type 0 where
+  described : {ls : Lines} → Describes May ls ls
+  describe : {l : LineValue} {ls mid rest : Lines} → Next IsIgnored ls l mid → May (class l) → Describes May mid rest → Describes May ls rest
+
+-- A row. (Cucumber's Gherkin reference: data tables)
+pub record IsRow (ls : Lines) (row : RowValue) (rest : Lines) : Type 0 where
+  pub line : LineValue
+  pub next : Next IsIgnored ls line rest
+  pub is : class line ≡ RowLine
+  pub number : row.line ≡ line.line
+  pub cells : cells_of line ≡ Some row.cells
+
+-- All rows have as many cells as the first, and there is a first. (this project's profile)
+abbrev pub AreOfOneWidth : List RowValue → Type 0
+AreOfOneWidth [] = ⊥
+AreOfOneWidth (first ∷ others) = AllByRecursion (λ (row : RowValue). length row.cells ≡ length first.cells) others
+
+-- A table: row+. (Cucumber's Gherkin reference: data tables)
+pub record IsTable (ls : Lines) (rows : List RowValue) (rest : Lines) : Type 0 where
+  pub lines : Many IsRow ls rows rest
+  pub width : AreOfOneWidth rows
+
+-- A doc string: fence content* fence. From its opening fence to the first line that closes it, every line is content. (Cucumber's Gherkin reference: doc strings)
+pub record IsDocString (ls : Lines) (text : List ℕ) (rest : Lines) : Type 0 where
+  pub fence : Fence
+  pub opening : LineValue
+  pub content : Lines
+  pub closing : LineValue
+  pub next : Next IsIgnored ls opening (content ++ closing ∷ rest)
+  pub is : class opening ≡ FenceLine fence
+  pub inside : AllByRecursion (λ line. closes fence line ≡ false) content
+  pub closed : closes fence closing ≡ true
+  pub says : text ≡ doc_string fence opening content
+
+-- What may stand under a step: nothing, a table or a doc string. (Cucumber's Gherkin reference: step arguments)
+abbrev pub IsBlock : Lines → BlockValue → Lines → Type 0
+IsBlock ls Empty rest = ls ≡ rest
+IsBlock ls (Text text) rest = IsDocString ls text rest
+IsBlock ls (Table cells) rest = (rows : List RowValue) × IsTable ls rows rest × (cells ≡ map (λ row. row.cells) rows)
+
+-- A step's line, but for the type that it has among other steps. (Cucumber's Gherkin reference: steps)
+pub record IsStepLine (ls : Lines) (step : StepValue) (rest : Lines) : Type 0 where
   pub line : LineValue
   pub next : Next IsIgnored ls line rest
   pub is : class line ≡ StepLine
@@ -45,38 +142,99 @@ pub record IsStep (ls : Lines) (step : StepValue) (rest : Lines) : Type 0 where
   pub text : step.text ≡ step_text line
   pub number : step.line ≡ line.line
 
--- Scenario = scenario heading, step*. (Cucumber's Gherkin reference: example)
+-- StepPart = step, or step row+, or step fence content* fence. (Cucumber's Gherkin reference: steps)
+pub record IsStep (ls : Lines) (step : StepValue) (rest : Lines) : Type 0 where
+  pub after_line : Lines
+  pub line : IsStepLine ls step after_line
+  pub block : IsBlock after_line step.block rest
+
+-- StepPart*: steps in a row, each with its type. (Cucumber's Gherkin reference: steps)
+pub record AreSteps (ls : Lines) (steps : List StepValue) (rest : Lines) : Type 0 where
+  pub parts : Many IsStep ls steps rest
+  pub types : AreTyped steps
+
+-- Back = Background DescB StepPart*. (Cucumber's Gherkin reference: background)
+pub record IsBackground (ls : Lines) (background : BackgroundValue) (rest : Lines) : Type 0 where
+  pub line : LineValue
+  pub after_heading : Lines
+  pub after_description : Lines
+  pub heading : IsHeading IsIgnored BackgroundHeading ls line after_heading
+  pub number : background.line ≡ line.line
+  pub description : Describes MayDescribeScenario after_heading after_description
+  pub steps : AreSteps after_description background.steps rest
+
+-- What stands under an Examples heading, [row+]: the first row is the header. (Cucumber's Gherkin reference: examples)
+abbrev pub HasTable : Lines → List (List ℕ) → List RowValue → Lines → Type 0
+HasTable ls header rows rest =
+    ((header ≡ []) × (rows ≡ []) × (ls ≡ rest))
+    ⊎ ((first : RowValue) × (header ≡ first.cells) × IsTable ls (first ∷ rows) rest)
+
+-- ExPart = Tags Examples DescC [row+]. (Cucumber's Gherkin reference: examples)
+pub record AreExamples (ls : Lines) (examples : ExamplesValue) (rest : Lines) : Type 0 where
+  pub line : LineValue
+  pub after_heading : Lines
+  pub after_description : Lines
+  pub heading : IsTaggedHeading IsIgnored ExamplesHeading ls examples.tags line after_heading
+  pub name : examples.name ≡ heading_name line
+  pub number : examples.line ≡ line.line
+  pub description : Describes MayDescribeExamples after_heading after_description
+  pub table : HasTable after_description examples.header examples.rows rest
+
+-- Scen = Tags ScenarioOrOutline DescB StepPart* ExPart*. (Cucumber's Gherkin reference: example, scenario outline)
 pub record IsScenario (ls : Lines) (scenario : ScenarioValue) (rest : Lines) : Type 0 where
   pub line : LineValue
-  pub behind_heading : Lines
-  pub heading : IsHeading IsIgnored ScenarioHeading ls line behind_heading
+  pub after_heading : Lines
+  pub after_description : Lines
+  pub after_steps : Lines
+  pub heading : IsTaggedHeading IsIgnored ScenarioHeading ls scenario.tags line after_heading
   pub keyword : scenario.keyword ≡ heading_keyword line
   pub name : scenario.name ≡ heading_name line
   pub number : scenario.line ≡ line.line
-  pub steps : Many IsStep behind_heading scenario.steps rest
+  pub description : Describes MayDescribeScenario after_heading after_description
+  pub steps : AreSteps after_description scenario.steps after_steps
+  pub examples : Many AreExamples after_steps scenario.examples rest
 
--- Feature = feature heading, Scenario*. (Cucumber's Gherkin reference: feature)
+-- RulePart = Tags Rule DescA [Back] Scen*. (Cucumber's Gherkin reference: rule)
+pub record IsRule (ls : Lines) (rule : RuleValue) (rest : Lines) : Type 0 where
+  pub line : LineValue
+  pub after_heading : Lines
+  pub after_description : Lines
+  pub after_background : Lines
+  pub heading : IsTaggedHeading IsIgnored RuleHeading ls rule.tags line after_heading
+  pub name : rule.name ≡ heading_name line
+  pub number : rule.line ≡ line.line
+  pub description : Describes MayDescribeFeature after_heading after_description
+  pub background : Perhaps IsBackground after_description rule.background after_background
+  pub scenarios : Many IsScenario after_background rule.scenarios rest
+
+-- Tags Feature DescA [Back] Scen* RulePart*. (Cucumber's Gherkin reference: feature)
 pub record IsFeature (ls : Lines) (feature : FeatureValue) (rest : Lines) : Type 0 where
   pub line : LineValue
-  pub behind_heading : Lines
-  pub heading : IsHeading IsIgnored FeatureHeading ls line behind_heading
+  pub after_heading : Lines
+  pub after_description : Lines
+  pub after_background : Lines
+  pub after_scenarios : Lines
+  pub heading : IsTaggedHeading IsIgnoredAbove FeatureHeading ls feature.tags line after_heading
   pub name : feature.name ≡ heading_name line
   pub number : feature.line ≡ line.line
-  pub scenarios : Many IsScenario behind_heading feature.scenarios rest
+  pub description : Describes MayDescribeFeature after_heading after_description
+  pub background : Perhaps IsBackground after_description feature.background after_background
+  pub scenarios : Many IsScenario after_background feature.scenarios after_scenarios
+  pub rules : Many IsRule after_scenarios feature.rules rest
 
 -- File = nothing, or one feature. (Cucumber's Gherkin reference: feature)
 abbrev pub Reads : Lines → Option FeatureValue → Type 0
-Reads ls None = Skips IsIgnored ls []
+Reads ls None = Skips IsIgnoredAbove ls []
 Reads ls (Some feature) = (tail : Lines) × IsFeature ls feature tail × Skips IsIgnored tail []
 
--- A list of lines is readable where it has a reading.
+-- A list of lines is readable where it has a reading. (this project's profile)
 abbrev pub IsReadable : Lines → Type 0
 IsReadable ls = (feature : Option FeatureValue) × Reads ls feature
 
--- The relations say concatenation: a part leads from some lines to a rest exactly where the lines are a front and that rest, and the part leads from the front to nothing.
+-- The relations say concatenation: a part leads from some lines to a rest exactly where the lines are some lines of its own and then that rest, and the part leads from its own lines to nothing. (this project's profile)
 abbrev pub IsConcatenation : {A : Type 0} → (Lines → A → Lines → Type 0) → Type 0
-IsConcatenation {A} Part = (ls rest : Lines) (x : A) → Part ls x rest ↔ ((front : Lines) × (ls ≡ front ++ rest) × Part front x [])
+IsConcatenation {A} Part = (ls rest : Lines) (x : A) → Part ls x rest ↔ ((own : Lines) × (ls ≡ own ++ rest) × Part own x [])
 
--- No list of lines has two readings.
+-- No list of lines has two readings. (this project's profile)
 abbrev pub HasOneReading : Type 0
 HasOneReading = (ls : Lines) (one other : Option FeatureValue) → Reads ls one → Reads ls other → one ≡ other

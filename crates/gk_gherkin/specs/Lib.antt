@@ -1,7 +1,12 @@
--- What feature files are, in reading order. A definition whose comment names no source is this project's profile, or a word that the others use.
+-- What feature files are, in reading order. Each names its source.
 pub mod Lines
 pub mod Class
-pub mod Values
+pub mod Tags
+pub mod Rows
+pub mod DocStrings
+pub mod Language
+pub mod StepTypes
+pub mod Feature
 pub mod Grammar
-pub mod Faults
+pub mod ReadFault
 pub mod Machine

@@ -1,29 +1,93 @@
-//! What a feature file says. Keywords stand without their colon.
+//! What a feature file says. Tags stand with their `@`, keywords without their colon. Lines are
+//! counted from 1.
 
-/// A step: its keyword as written, its text behind that, and its line. (Cucumber's Gherkin
-/// reference: steps)
+/// The type of a step: that of its keyword, or for `And`, `But` and `*` that of the step before it
+/// among the same steps, and `Given` where none is before it. (Cucumber's Gherkin reference: steps)
+#[derive(Clone, Copy, Debug, PartialEq, Eq)]
+pub enum StepType {
+    Given,
+    When,
+    Then,
+}
+
+/// What stands under a step: nothing, a doc string's text, or a table's cells, row by row.
+/// (Cucumber's Gherkin reference: step arguments)
+#[derive(Debug, Drop)]
+pub enum Block {
+    Empty,
+    Text(String),
+    Table(Vec<Vec<String>>),
+}
+
+/// A step: its keyword as written, its type, its text after the keyword, what stands under it, and
+/// its line. (Cucumber's Gherkin reference: steps)
 #[derive(Debug, Drop)]
 pub struct Step {
     pub keyword: String,
+    pub step_type: StepType,
     pub text: String,
+    pub block: Block,
     pub line: u32,
 }
 
-/// A scenario: its keyword as written, its name, the line of its heading, and its steps in order.
-/// (Cucumber's Gherkin reference: example)
+/// A row under the header of examples. (Cucumber's Gherkin reference: examples)
+#[derive(Debug, Drop)]
+pub struct Row {
+    pub line: u32,
+    pub cells: Vec<String>,
+}
+
+/// Examples: a header and the rows under it. Where no table stands there, the header has no cells
+/// and there are no rows. (Cucumber's Gherkin reference: examples)
+#[derive(Debug, Drop)]
+pub struct Examples {
+    pub name: String,
+    pub line: u32,
+    pub tags: Vec<String>,
+    pub header: Vec<String>,
+    pub rows: Vec<Row>,
+}
+
+/// A background: the line of its heading, and its steps in order. (Cucumber's Gherkin reference:
+/// background)
+#[derive(Debug, Drop)]
+pub struct Background {
+    pub line: u32,
+    pub steps: Vec<Step>,
+}
+
+/// A scenario or an outline: its keyword as written, its name, the line of its heading, its own
+/// tags, its steps and its examples in order. (Cucumber's Gherkin reference: example, scenario
+/// outline)
 #[derive(Debug, Drop)]
 pub struct Scenario {
     pub keyword: String,
     pub name: String,
     pub line: u32,
+    pub tags: Vec<String>,
     pub steps: Vec<Step>,
+    pub examples: Vec<Examples>,
 }
 
-/// A feature: its name, the line of its heading, and its scenarios in order. (Cucumber's Gherkin
-/// reference: feature)
+/// A rule: its name, the line of its heading, its own tags, its background and its scenarios.
+/// (Cucumber's Gherkin reference: rule)
+#[derive(Debug, Drop)]
+pub struct Rule {
+    pub name: String,
+    pub line: u32,
+    pub tags: Vec<String>,
+    pub background: Option<Background>,
+    pub scenarios: Vec<Scenario>,
+}
+
+/// A feature: its name, the line of its heading, its own tags, its background, the scenarios before
+/// its first rule, and its rules. (Cucumber's Gherkin reference: feature)
 #[derive(Debug, Drop)]
 pub struct Feature {
     pub name: String,
     pub line: u32,
+    pub tags: Vec<String>,
+    pub background: Option<Background>,
     pub scenarios: Vec<Scenario>,
+    pub rules: Vec<Rule>,
 }

@@ -3,19 +3,22 @@
 #![tactic(auto)]
 
 mod class;
-mod fault;
+mod doc_strings;
 mod feature;
-mod laws;
-mod line;
+mod grammar;
+mod language;
+mod lines;
+mod machine;
+mod read_fault;
 mod reader;
-mod state;
-mod text;
+mod rows;
+mod step_types;
+mod tags;
 
-pub use class::Class;
-pub use fault::ReadFault;
-pub use feature::{Feature, Scenario, Step};
-pub use laws::{parts_are_concatenations, reading_is_unique};
-pub use line::{Document, LIMIT, Line, Place, read_lines};
+pub use feature::{Background, Block, Examples, Feature, Row, Rule, Scenario, Step, StepType};
+pub use grammar::{parts_are_concatenations, reading_is_unique};
+pub use lines::{Document, LIMIT, Line, Place, read_lines, trim_back};
+pub use read_fault::ReadFault;
 pub use reader::read_feature;
 
 #[cfg(test)]

@@ -1,19 +1,37 @@
-use Rattle.std.proofs.Common.{map}
+use Rattle.std.proofs.Common.{◌≡◌, ◌+◌, ℕ, length, drop, ap, sym, ◌∙◌, subst, arith}
+use Rattle.std.proofs.lemmas.Iterator.Splits.{YieldsList-from_lines}
+use Rattle.std.proofs.lemmas.Iterator.Consumers.{YieldsList-turn, YieldsList-end}
+use Rattle.std.proofs.lemmas.List.{length_push}
 use Rattle.std.proofs.lemmas.Result.{err_from_is_err_and}
-use Rattle.gk_gherkin.specs.Lines.{line_value}
-use Rattle.gk_gherkin.specs.Machine.{state_value}
+use Rattle.std.specs.Str.Lines.{lines}
+use Rattle.gk_gherkin.specs.Lines.{numbered_from}
+use Rattle.gk_gherkin.specs.Machine.Views.{state_value}
 use Rattle.gk_gherkin.specs.Machine as spec
-use Rattle.gk_gherkin.proofs.Loop.{goes_on, ends, is_done}
+use Rattle.gk_gherkin.proofs.ReaderLoop.{goes_on, ends, is_done}
 use Rattle.gk_gherkin.proofs.reader.run.Goals as goal
 
 pub returns-in_err-state : goal.returns-in_err-state
 returns-in_err-state c =
     let p = err_from_is_err_and c.from_residual.result c.from_residual.ensures.1 in
-    rw (p.1, p.2) (ends c.in_err-state.field-0.0 (state_value c.loop-line.state) c.args.lines.now c.loop-line.line-index c.line-item.result (spec.run spec.BeforeFeature (map line_value c.args.lines.now)) c.loop-line-test.true c.line-item.is c.in_err-state.ensures c.loop-line.invariant)
+    let all = lines c.args.text.now in
+    let turn = YieldsList-turn (YieldsList-from_lines c.args.text.now cc) c.loop-part.yielded _ c.loop-part.yielded_by _ _ _ c.in-Some.is c.next.ensures.steps in
+    let fails = subst (λ l. spec.Fails c.in_err-state.field-0.0 (spec.step (state_value c.loop-part.state) l)) c.piece_from.ensures c.in_err-state.ensures in
+    rw (p.1, p.2) (ends (state_value c.loop-part.state) all (length c.loop-part.yielded) c.loop-part.number c.in-Some.part.now (spec.run (spec.At spec.Above) (numbered_from 1 all)) turn.0 turn.1 c.in_err-state.field-0.0 fails c.loop-part.invariant.so_far)
 
-pub loop-line-preserved : goal.loop-line-preserved
-loop-line-preserved c =
-    goes_on (state_value c.loop-line.state) (state_value c.in_ok-state.state) c.args.lines.now c.loop-line.line-index c.line-item.result (spec.run spec.BeforeFeature (map line_value c.args.lines.now)) c.loop-line-test.true c.line-item.is c.in_ok-state.ensures c.loop-line.invariant
+pub loop-part-preserved : goal.loop-part-preserved
+loop-part-preserved c =
+    let all = lines c.args.text.now in
+    let turn = YieldsList-turn (YieldsList-from_lines c.args.text.now cc) c.loop-part.yielded _ c.loop-part.yielded_by _ _ _ c.in-Some.is c.next.ensures.steps in
+    let taken = ap (spec.step (state_value c.loop-part.state)) (sym c.piece_from.ensures) ∙ c.in_ok-state.ensures in
+    let goes = goes_on (state_value c.loop-part.state) all (length c.loop-part.yielded) c.loop-part.number c.in-Some.part.now (spec.run (spec.At spec.Above) (numbered_from 1 all)) turn.0 turn.1 (state_value c.in_ok-state.state) taken c.loop-part.invariant.so_far in
+    let longer = length_push c.loop-part.yielded c.in-Some.part in
+    record {
+      so_far = subst (λ (i : ℕ). spec.run (state_value c.in_ok-state.state) (numbered_from (c.loop-part.number + 1) (drop i all)) ≡ spec.run (spec.At spec.Above) (numbered_from 1 all)) (sym longer) goes;
+      counted = omega (arith, longer);
+    }
 
 pub returns : goal.returns
-returns c = is_done (state_value c.loop-line.state) c.args.lines.now c.loop-line.line-index (spec.run spec.BeforeFeature (map line_value c.args.lines.now)) c.loop-line-test.false c.loop-line.invariant
+returns c =
+    let all = lines c.args.text.now in
+    let t = YieldsList-end (YieldsList-from_lines c.args.text.now cc) c.loop-part.yielded _ c.loop-part.yielded_by _ _ c.in-None.is c.next.ensures.steps in
+    is_done (state_value c.loop-part.state) all (length c.loop-part.yielded) c.loop-part.number (spec.run (spec.At spec.Above) (numbered_from 1 all)) (omega (arith, t.1)) c.loop-part.invariant.so_far

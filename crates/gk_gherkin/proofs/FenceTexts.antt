@@ -1,0 +1,55 @@
+-- The text of a content line, from one escaped fence to the next.
+use Rattle.std.proofs.Common.{◌≡◌, ◌≢◌, ℕ, zero, suc, ◌+◌, ◌<◌, ◌≤◌, Bool, true, false, cond, List, [], ◌∷◌, ◌++◌, length, drop, take, Option, Some, None, Bor, refl, sym, ap, ◌∙◌, append_assoc, subst, arith}
+use Rattle.std.specs.Prelude.{MatchOption}
+use Rattle.std.proofs.lemmas.List.{append-nil, length-append}
+use Rattle.std.proofs.lemmas.Str.Pattern.{starts_text, split_text_parts}
+use Rattle.std.specs.Str.Pattern.{FindsText}
+use Rattle.gk_gherkin.specs.declared.class.Fence.{Fence}
+use Rattle.gk_gherkin.specs.declared.class.Fence.TheVariants.{Quotes, Backticks}
+use Rattle.gk_gherkin.specs.Class.{fence_text, begins}
+use Rattle.gk_gherkin.specs.DocStrings.{escaped_fence, fences_read}
+
+escaped_here : (fence : Fence) (after : List ℕ) → fences_read fence 0 (escaped_fence fence ++ after) ≡ fence_text fence ++ fences_read fence 0 after
+escaped_here Quotes after = refl
+escaped_here Backticks after = refl
+
+not_here : (fence : Fence) (b : ℕ) (bs : List ℕ) → begins (b ∷ bs) (escaped_fence fence) ≡ false → fences_read fence 0 (b ∷ bs) ≡ b ∷ fences_read fence 0 bs
+not_here fence b bs e = ap (λ (t : Bool). cond t (fence_text fence ++ fences_read fence 5 bs) (b ∷ fences_read fence 0 bs)) e
+
+pub before_fence : (fence : Fence) (xs ys : List ℕ) → ((i : ℕ) → i < length xs → begins (drop i (xs ++ ys)) (escaped_fence fence) ≡ false) → fences_read fence 0 (xs ++ ys) ≡ xs ++ fences_read fence 0 ys
+before_fence fence [] ys h = refl
+before_fence fence (x ∷ xs) ys h =
+    not_here fence x (xs ++ ys) (h 0 (omega arith)) ∙ ap (λ (t : List ℕ). x ∷ t) (before_fence fence xs ys (λ i below. h (suc i) (omega arith)))
+
+lacks : (fence : Fence) (text : List ℕ) (i : ℕ) → ((rest : List ℕ) → drop i text ≢ escaped_fence fence ++ rest) → begins (drop i text) (escaped_fence fence) ≡ false
+lacks fence text i h = sym (starts_text false (escaped_fence fence) (drop i text) h)
+
+pub at_fence : (fence : Fence) (text xs after : List ℕ) → text ≡ xs ++ (escaped_fence fence ++ after) → ((i : ℕ) → i < length xs → (rest : List ℕ) → drop i text ≢ escaped_fence fence ++ rest) → fences_read fence 0 text ≡ xs ++ (fence_text fence ++ fences_read fence 0 after)
+at_fence fence text xs after e h =
+    ap (fences_read fence 0) e
+    ∙ before_fence fence xs (escaped_fence fence ++ after) (λ i below. ap (λ (t : List ℕ). begins (drop i t) (escaped_fence fence)) (sym e) ∙ lacks fence text i (h i below))
+    ∙ ap (λ (t : List ℕ). xs ++ t) (escaped_here fence after)
+
+pub no_fence : (fence : Fence) (text : List ℕ) → ((i : ℕ) → i ≤ length text → (rest : List ℕ) → drop i text ≢ escaped_fence fence ++ rest) → fences_read fence 0 text ≡ text
+no_fence fence text h =
+    let whole : text ++ [] ≡ text = append-nil text in
+    ap (fences_read fence 0) (sym whole)
+    ∙ before_fence fence text [] (λ i below. ap (λ (t : List ℕ). begins (drop i t) (escaped_fence fence)) whole ∙ lacks fence text i (h i (omega arith)))
+    ∙ whole
+
+abbrev IsTextSplit : List ℕ → List ℕ → Option (Bor (List ℕ) × Bor (List ℕ)) → Type 0
+IsTextSplit p bs r = MatchOption r (FindsText p bs None) (λ x. (i : ℕ) × (j : ℕ) × FindsText p bs (Some (i, j)) × (x.0.now ≡ take i bs) × (x.1.now ≡ drop j bs) × (i ≤ j) × (length x.0.now ≡ i) × (length x.1.now + j ≡ length bs))
+
+-- A text that is cut at its first escaped fence.
+module _ (fence : Fence) (text mark : List ℕ) (r : Option (Bor (List ℕ) × Bor (List ℕ))) (e : mark ≡ escaped_fence fence) (split : IsTextSplit mark text r) where
+  pub found_fence : (x : Bor (List ℕ) × Bor (List ℕ)) → r ≡ Some x → fences_read fence 0 text ≡ x.0.now ++ (fence_text fence ++ fences_read fence 0 x.1.now)
+  found_fence x is =
+      let cut : IsTextSplit (escaped_fence fence) text r = subst (λ (p : List ℕ). IsTextSplit p text r) e split in
+      let parts : text ≡ x.0.now ++ (escaped_fence fence ++ x.1.now) = rw is at (split_text_parts (escaped_fence fence) text r cut) in
+      let found = rw is at cut in
+      at_fence fence text x.0.now x.1.now parts (λ i below. found.2.0 i (omega (arith, found.6)))
+
+  pub missed_fence : r ≡ None → fences_read fence 0 text ≡ text
+  missed_fence is =
+      let cut : IsTextSplit (escaped_fence fence) text r = subst (λ (p : List ℕ). IsTextSplit p text r) e split in
+      no_fence fence text (rw is at cut)

@@ -1,0 +1,38 @@
+-- Where blanks end, a text may be cut.
+use Rattle.std.proofs.Common.{◌≡◌, ℕ, zero, suc, ◌+◌, ◌<◌, ◌≤◌, true, not, List, length, get_or, subst, sym, arith}
+use Rattle.std.proofs.lemmas.Bool.Decides.{nat_tests}
+use Rattle.std.proofs.lemmas.List.Sums.{prefix_len_passes, prefix_len-le-length, passes_at_first}
+use Rattle.std.proofs.lemmas.Str.{IsCharBoundary-start, IsCharBoundary-after_ascii, IsCharBoundary-before_ascii}
+use Rattle.std.specs.Str.{IsUtf8, IsCharBoundary}
+use Rattle.std.specs.List.{prefix_len, position_or_len}
+use Rattle.gk_gherkin.specs.Lines.{is_blank}
+
+pub blank_ascii : (b : ℕ) → is_blank b ≡ true → b < 128
+blank_ascii b h = grind (arith, nat_tests)
+
+pub boundary_at : (bs : List ℕ) (n : ℕ) → IsUtf8 bs → n ≤ prefix_len is_blank bs → IsCharBoundary bs n
+boundary_at bs zero u le = IsCharBoundary-start bs u
+boundary_at bs (suc k) u le =
+    let within : k < length bs = omega (arith, prefix_len-le-length is_blank bs) in
+    let at : get_or bs k 0 < 128 = blank_ascii (get_or bs k 0) (prefix_len_passes is_blank bs k 0 (omega arith)) in
+    let e : k + 1 ≡ suc k = omega arith in
+    subst (IsCharBoundary bs) e (IsCharBoundary-after_ascii bs k u within at)
+
+first_within : (bs : List ℕ) → position_or_len is_blank bs ≤ length bs
+first_within bs = prefix_len-le-length (λ b. not (is_blank b)) bs
+
+pub before_first_blank : (bs : List ℕ) (n : ℕ) → n ≡ position_or_len is_blank bs → n < length bs → IsCharBoundary bs n
+before_first_blank bs n e h =
+    let at : get_or bs n 0 < 128 = subst (λ n. get_or bs n 0 < 128) (sym e) (blank_ascii (get_or bs (position_or_len is_blank bs) 0) (passes_at_first is_blank bs 0 (omega arith))) in
+    IsCharBoundary-before_ascii bs n h at
+
+pub after_first_blank : (bs : List ℕ) (n : ℕ) → IsUtf8 bs → n ≡ position_or_len is_blank bs → n < length bs → IsCharBoundary bs (n + 1)
+after_first_blank bs n u e h =
+    let at : get_or bs n 0 < 128 = subst (λ n. get_or bs n 0 < 128) (sym e) (blank_ascii (get_or bs (position_or_len is_blank bs) 0) (passes_at_first is_blank bs 0 (omega arith))) in
+    IsCharBoundary-after_ascii bs n u h at
+
+pub before_bar : (bs : List ℕ) (n : ℕ) → n < length bs → get_or bs n 0 ≡ 124 → IsCharBoundary bs n
+before_bar bs n h e = IsCharBoundary-before_ascii bs n h (omega arith)
+
+pub after_bar : (bs : List ℕ) (n : ℕ) → IsUtf8 bs → n < length bs → get_or bs n 0 ≡ 124 → IsCharBoundary bs (n + 1)
+after_bar bs n u h e = IsCharBoundary-after_ascii bs n u h (omega arith)

@@ -1,0 +1,477 @@
+-- What has a reading is read so, and so no lines have two.
+use Rattle.std.proofs.Common.{◌≡◌, ℕ, ◌-◌, Bool, true, false, cond, ◌==◌, List, [], ◌∷◌, ◌++◌, length, map, Option, Some, None, Result, Ok, Err, refl, ap, sym, subst, ◌∙◌, append_assoc, arith, inl, inr}
+use Rattle.std.proofs.lemmas.List.{append-nil}
+use Rattle.std.proofs.lemmas.Bool.Decides.{nat_tests}
+use Rattle.std.specs.List.{AllByRecursion}
+use Rattle.gk_gherkin.specs.declared.class.Fence.{Fence}
+use Rattle.gk_gherkin.specs.DocStrings.{closes, content_of, doc_string}
+use Rattle.gk_gherkin.specs.Language.{language_of, IsEnglishOrNone}
+use Rattle.gk_gherkin.specs.Rows.{cells_of}
+use Rattle.gk_gherkin.specs.declared.class.Class.{Class}
+use Rattle.gk_gherkin.specs.declared.class.Class.TheVariants.{Blank, Comment, TagLine, FeatureHeading, RuleHeading, BackgroundHeading, ScenarioHeading, ExamplesHeading, StepLine, RowLine, FenceLine, Other}
+use Rattle.gk_gherkin.specs.declared.read_fault.ReadFault.{ReadFault}
+use Rattle.gk_gherkin.specs.declared.read_fault.ReadFault.TheVariants.{CellCount}
+use Rattle.gk_gherkin.specs.declared.feature.StepType.{StepType}
+use Rattle.gk_gherkin.specs.declared.feature.StepType.TheVariants.{Given}
+use Rattle.gk_gherkin.specs.Lines.{LineValue, Lines}
+use Rattle.gk_gherkin.specs.Class.{class, heading_name, step_keyword, step_text}
+use Rattle.gk_gherkin.specs.Tags.{tags_of}
+use Rattle.gk_gherkin.specs.StepTypes.{type_after, AreTypedAfter}
+use Rattle.gk_gherkin.specs.Feature.{BlockValue, Empty, Text, Table, StepValue, RowValue, ExamplesValue, BackgroundValue, ScenarioValue, RuleValue, FeatureValue}
+use Rattle.gk_gherkin.specs.Grammar.{IsIgnoredClass, IsIgnored, Skips, skip_none, skip, Next, Many, none, more, Perhaps, AreTags, untagged, tagged, IsTaggedHeading, MayDescribeFeature, MayDescribeScenario, MayDescribeExamples, IsRow, AreOfOneWidth, IsDocString, IsBlock, HasTable, AreExamples, Describes, described, describe, IsStep, AreSteps, IsBackground, IsScenario, IsRule, IsFeature, Reads, HasOneReading}
+use Rattle.gk_gherkin.specs.Machine.{HeadValue, SectionValue, Top, OfFeature, OfRule, Body, Describing, Stepped, Owner, OfBackground, OfScenario, Grid, NoRows, Rows, OutlineValue, Open, Headed, Bodied, Exampled, Place, Above, Inside, QuoteValue, State, At, Tagged, Quoted, quote_of, on_fence, after_quote, in_quote, by_language, on_comment, Read, ◌>>=◌, head_from, step_from, steps_of, scenario_of, with_scenario, background_section, header_of, rows_of, examples_of, with_examples, outline_of, examples_after, section_of, row_of, on_row, with_block, on_block, row_from, on_grid, rule_of, with_rule, feature_of, tag_line, on_heading, on_body, on_open, on_place, placed, on, step, run, answer, finish, reading}
+use Rattle.gk_gherkin.proofs.ReaderSound.{IgnoredAt, Fits, joined, joined_text, joined_push}
+
+-- ignored lines are passed over
+abbrev Free : State → Type 0
+Free (Quoted quote fence column n texts) = ⊥
+Free _ = Unit {0}
+
+abbrev PlaceOf : State → Place
+PlaceOf (At place) = place
+PlaceOf (Tagged place tags last) = place
+PlaceOf (Quoted quote fence column n texts) = Above
+
+ignored_class : (place : Place) (l : LineValue) → IgnoredAt place l → IsIgnoredClass (class l)
+ignored_class Above l i = i.0
+ignored_class (Inside top part) l i = i
+
+english_quiet : (r : Option (List ℕ)) (s : State) (l : LineValue) → IsEnglishOrNone r → by_language r s l ≡ Ok s
+english_quiet None s l i = refl
+english_quiet (Some word) s l i = ap (λ (word : List ℕ). by_language (Some word) s l) i
+
+comment_quiet : (place : Place) (s : State) (l : LineValue) → IgnoredAt place l → on_comment place s l ≡ Ok s
+comment_quiet Above s l i = english_quiet (language_of l) s l i.1
+comment_quiet (Inside top part) s l i = refl
+
+quiet_class : (s : State) (l : LineValue) (c : Class) → Free s → IgnoredAt (PlaceOf s) l → IsIgnoredClass c → on s l c ≡ Ok s
+unfolding on
+quiet_class (At place) l Blank f i n = refl
+quiet_class (At place) l Comment f i n = comment_quiet place (At place) l i
+quiet_class (Tagged place tags last) l Blank f i n = refl
+quiet_class (Tagged place tags last) l Comment f i n = comment_quiet place (Tagged place tags last) l i
+quiet_class (Quoted quote fence column n texts) l k f i m = absurd f
+quiet_class s l _ f i n = absurd n
+
+quiet : (s : State) (l : LineValue) → Free s → IgnoredAt (PlaceOf s) l → on s l (class l) ≡ Ok s
+quiet s l f i = quiet_class s l (class l) f i (ignored_class (PlaceOf s) l i)
+
+-- a line that is taken
+run_over : (s t : State) (l : LineValue) (rest : Lines) → on s l (class l) ≡ Ok t → run s (l ∷ rest) ≡ run t rest
+unfolding run step
+run_over s t l rest e = ap (λ (r : Read). r >>= λ t. run t rest) e
+
+run_skips : (s : State) {ls rest : Lines} → Free s → Skips (IgnoredAt (PlaceOf s)) ls rest → run s ls ≡ run s rest
+run_skips s f skip_none = refl
+run_skips s f (skip {l = l} {ls = ls} n sk) = run_over s s l ls (quiet s l f n) ∙ run_skips s f sk
+
+run_next : {ls rest : Lines} (s t : State) (l : LineValue) (c : Class) → Free s → Next (IgnoredAt (PlaceOf s)) ls l rest → class l ≡ c → on s l c ≡ Ok t → run s ls ≡ run t rest
+run_next {ls} {rest} s t l c f n i e = run_skips s f n ∙ run_over s t l rest (ap (on s l) i ∙ e)
+
+-- tags
+data Waits (place : Place) : State → List (List ℕ) → Type 0 where
+  bare : Waits place (At place) []
+  behind : {tags : List (List ℕ)} {last : ℕ} → Waits place (Tagged place tags last) tags
+
+waits_place : {place : Place} {s : State} {tags : List (List ℕ)} → Waits place s tags → PlaceOf s ≡ place
+waits_place bare = refl
+waits_place behind = refl
+
+waits_free : {place : Place} {s : State} {tags : List (List ℕ)} → Waits place s tags → Free s
+waits_free bare = tt
+waits_free behind = tt
+
+takes_tags : {place : Place} {s : State} {tags some : List (List ℕ)} (l : LineValue) → Waits place s tags → tags_of l ≡ Some some → on s l TagLine ≡ Ok (Tagged place (tags ++ some) l.line)
+unfolding on
+takes_tags {place} l bare e = ap (λ (r : Option (List (List ℕ))). tag_line r place [] l) e
+takes_tags {place} {s} {tags} l behind e = ap (λ (r : Option (List (List ℕ))). tag_line r place tags l) e
+
+at_place : {place : Place} {s : State} {tags : List (List ℕ)} {ls rest : Lines} → Waits place s tags → Skips (IgnoredAt place) ls rest → Skips (IgnoredAt (PlaceOf s)) ls rest
+at_place bare n = n
+at_place behind n = n
+
+run_tags : {place : Place} {ls rest : Lines} {tags others : List (List ℕ)} (s : State) → Waits place s tags → AreTags (IgnoredAt place) ls others rest → (t : State) × (run s ls ≡ run t rest) × Waits place t (tags ++ others)
+run_tags {tags = tags} s w untagged = (s, refl, subst (Waits _ s) (sym (append-nil tags)) w)
+run_tags {place} {ls} {rest} {tags} s w (tagged {some = some} {others = others} first after_first) =
+    let l = first.line in
+    let t : State = Tagged place (tags ++ some) l.line in
+    let r = run_tags t behind after_first in
+    (r.0, run_next s t l TagLine (waits_free w) (at_place w first.next) first.is (takes_tags l w first.words) ∙ r.1, subst (Waits place r.0) (append_assoc tags some others) r.2)
+
+-- headings that take tags
+abbrev IsTaggedClass : Class → Type 0
+IsTaggedClass FeatureHeading = Unit {0}
+IsTaggedClass RuleHeading = Unit {0}
+IsTaggedClass ScenarioHeading = Unit {0}
+IsTaggedClass ExamplesHeading = Unit {0}
+IsTaggedClass _ = ⊥
+
+takes_heading : {place : Place} {s : State} {tags : List (List ℕ)} (l : LineValue) (c : Class) → IsTaggedClass c → Waits place s tags → on s l c ≡ placed (on_heading place tags l c)
+unfolding on
+takes_heading l FeatureHeading i bare = refl
+takes_heading l RuleHeading i bare = refl
+takes_heading l ScenarioHeading i bare = refl
+takes_heading l ExamplesHeading i bare = refl
+takes_heading l FeatureHeading i behind = refl
+takes_heading l RuleHeading i behind = refl
+takes_heading l ScenarioHeading i behind = refl
+takes_heading l ExamplesHeading i behind = refl
+takes_heading l _ i w = absurd i
+
+run_heading : {ls rest : Lines} {tags : List (List ℕ)} (place next : Place) (c : Class) (l : LineValue) → IsTaggedClass c → IsTaggedHeading (IgnoredAt place) c ls tags l rest → on_heading place tags l c ≡ Ok next → run (At place) ls ≡ run (At next) rest
+run_heading place next c l i h e =
+    let r = run_tags (At place) bare h.above in
+    r.1 ∙ run_next r.0 (At next) l c (waits_free r.2) (at_place r.2 h.heading.next) h.heading.is (takes_heading l c i r.2 ∙ ap placed e)
+
+-- lines that take no tags
+abbrev IsPlainClass : Class → Type 0
+IsPlainClass BackgroundHeading = Unit {0}
+IsPlainClass StepLine = Unit {0}
+IsPlainClass RowLine = Unit {0}
+IsPlainClass (FenceLine fence) = Unit {0}
+IsPlainClass Other = Unit {0}
+IsPlainClass _ = ⊥
+
+no_ok : {A : Type 0} {x : A} {e : ReadFault} {P : Type 0} → ◌≡◌ {A = Result A ReadFault} (Err e) (Ok x) → P
+no_ok e = cc
+
+no_quote : (top : Top) (part next : Open) (l : LineValue) (fence : Fence) → on_open part l (FenceLine fence) ≡ Ok next → quote_of (Inside top part) ≡ None
+unfolding on_open on_body
+no_quote top Headed next l fence e = refl
+no_quote top (Bodied owner Describing) next l fence e = refl
+no_quote top (Bodied owner (Stepped steps st)) next l fence e = no_ok e
+no_quote top (Exampled section scenario head grid) next l fence e = refl
+
+takes_plain : (top : Top) (part next : Open) (l : LineValue) (c : Class) → IsPlainClass c → on_open part l c ≡ Ok next → on (At (Inside top part)) l c ≡ Ok (At (Inside top next))
+unfolding on on_place
+takes_plain top part next l BackgroundHeading i e = ap (λ (r : Result Open ReadFault). placed (r >>= λ next. Ok (Inside top next))) e
+takes_plain top part next l StepLine i e = ap (λ (r : Result Open ReadFault). placed (r >>= λ next. Ok (Inside top next))) e
+takes_plain top part next l RowLine i e = ap (λ (r : Result Open ReadFault). placed (r >>= λ next. Ok (Inside top next))) e
+takes_plain top part next l (FenceLine fence) i e =
+    ap (λ (q : Option QuoteValue). on_fence q (Inside top part) l fence) (no_quote top part next l fence e) ∙ ap (λ (r : Result Open ReadFault). placed (r >>= λ next. Ok (Inside top next))) e
+takes_plain top part next l Other i e = ap (λ (r : Result Open ReadFault). placed (r >>= λ next. Ok (Inside top next))) e
+takes_plain top part next l _ i e = absurd i
+
+run_plain : {ls rest : Lines} (top : Top) (part next : Open) (l : LineValue) (c : Class) → Next IsIgnored ls l rest → class l ≡ c → IsPlainClass c → on_open part l c ≡ Ok next → run (At (Inside top part)) ls ≡ run (At (Inside top next)) rest
+run_plain top part next l c n is i e = run_next (At (Inside top part)) (At (Inside top next)) l c tt n is (takes_plain top part next l c i e)
+
+-- descriptions
+run_describes : {May : Class → Type 0} (top : Top) (part : Open) → ((l : LineValue) (c : Class) → May c → IsPlainClass c × (on_open part l c ≡ Ok part)) → {ls rest : Lines} → Describes May ls rest → run (At (Inside top part)) ls ≡ run (At (Inside top part)) rest
+run_describes top part stays described = refl
+run_describes top part stays (describe {l = l} n may d) =
+    let k = stays l (class l) may in
+    run_plain top part part l (class l) n refl k.0 k.1 ∙ run_describes top part stays d
+
+stays_headed : (l : LineValue) (c : Class) → MayDescribeFeature c → IsPlainClass c × (on_open Headed l c ≡ Ok Headed)
+unfolding on_open
+stays_headed l StepLine m = (tt, refl)
+stays_headed l RowLine m = (tt, refl)
+stays_headed l (FenceLine fence) m = (tt, refl)
+stays_headed l Other m = (tt, refl)
+stays_headed l _ m = absurd m
+
+stays_bodied : (owner : Owner) (l : LineValue) (c : Class) → MayDescribeScenario c → IsPlainClass c × (on_open (Bodied owner Describing) l c ≡ Ok (Bodied owner Describing))
+unfolding on_open on_body
+stays_bodied owner l RowLine m = (tt, refl)
+stays_bodied owner l (FenceLine fence) m = (tt, refl)
+stays_bodied owner l Other m = (tt, refl)
+stays_bodied owner l _ m = absurd m
+
+-- steps
+same_step : (st : StepValue) (before : StepType) (l : LineValue) → st.keyword ≡ step_keyword l → st.step_type ≡ type_after before st.keyword → st.text ≡ step_text l → st.line ≡ l.line → step_from before l ≡ with_block st Empty
+same_step st before l k ty t n = rw (← k, ← ty, ← t, ← n) refl
+
+-- rows
+same_eqb : (m n : ℕ) → m ≡ n → (m == n) ≡ true
+same_eqb m n h = grind (arith, nat_tests)
+
+row_takes : (width : Option ℕ) (l : LineValue) (cells : List (List ℕ)) → cells_of l ≡ Some cells → Fits width cells → on_row width l ≡ Ok cells
+unfolding on_row
+row_takes None l cells w f = ap (row_of None l) w
+row_takes (Some width) l cells w f = ap (row_of (Some width) l) w ∙ ap (λ (b : Bool). let r : Result (List (List ℕ)) ReadFault = cond b (Ok cells) (Err (CellCount l.line)) in r) (same_eqb (length cells) width f)
+
+abbrev cells_in : List RowValue → List (List (List ℕ))
+cells_in rows = map (λ (row : RowValue). row.cells) rows
+
+AllAre : ℕ → List RowValue → Type 0
+AllAre width rows = AllByRecursion (λ (row : RowValue). length row.cells ≡ width) rows
+
+abbrev Behind : Top → Owner → List StepValue → StepValue → BlockValue → State
+Behind top owner steps st block = At (Inside top (Bodied owner (Stepped steps (with_block st block))))
+
+run_row : {ls rest : Lines} (top : Top) (owner : Owner) (steps : List StepValue) (st : StepValue) (block next : BlockValue) (row : RowValue) → (i : IsRow ls row rest) → on_block block i.line ≡ Ok next → run (Behind top owner steps st block) ls ≡ run (Behind top owner steps st next) rest
+unfolding on_open on_body
+run_row top owner steps st block next row i e =
+    run_plain top (Bodied owner (Stepped steps (with_block st block))) (Bodied owner (Stepped steps (with_block st next))) i.line RowLine i.next i.is tt
+    (ap (λ (r : Result BlockValue ReadFault). let r : Result Body ReadFault = r >>= λ block. Ok (Stepped steps (with_block st block)) in r >>= λ next. Ok (Bodied owner next)) e)
+
+run_rows : {ls rest : Lines} {rows : List RowValue} (top : Top) (owner : Owner) (steps : List StepValue) (st : StepValue) (first : List (List ℕ)) (others : List (List (List ℕ))) → Many IsRow ls rows rest → AllAre (length first) rows
+    → run (Behind top owner steps st (Table (first ∷ others))) ls ≡ run (Behind top owner steps st (Table (first ∷ others ++ cells_in rows))) rest
+unfolding AllAre on_block
+run_rows {rest = rest} top owner steps st first others none w = ap (λ (cells : List (List (List ℕ))). run (Behind top owner steps st (Table (first ∷ cells))) rest) (sym (append-nil others))
+run_rows {rest = rest} top owner steps st first others (more {x = x} {xs = xs} p many) w =
+    run_row top owner steps st (Table (first ∷ others)) (Table (first ∷ others ++ x.cells ∷ [])) x p (ap (λ (r : Result (List (List ℕ)) ReadFault). r >>= λ cells. let b : Result BlockValue ReadFault = Ok (Table (first ∷ others ++ cells ∷ [])) in b) (row_takes (Some (length first)) p.line x.cells p.cells w.0))
+    ∙ run_rows top owner steps st first (others ++ x.cells ∷ []) many w.1
+    ∙ ap (λ (cells : List (List (List ℕ))). run (Behind top owner steps st (Table (first ∷ cells))) rest) (append_assoc others (x.cells ∷ []) (cells_in xs))
+
+run_table : {ls rest : Lines} {rows : List RowValue} (top : Top) (owner : Owner) (steps : List StepValue) (st : StepValue) → Many IsRow ls rows rest → AreOfOneWidth rows
+    → run (Behind top owner steps st Empty) ls ≡ run (Behind top owner steps st (Table (cells_in rows))) rest
+unfolding AllAre on_block
+run_table top owner steps st none w = absurd w
+run_table top owner steps st (more {x = x} {xs = xs} p many) w =
+    run_row top owner steps st Empty (Table (x.cells ∷ [])) x p (ap (λ (r : Result (List (List ℕ)) ReadFault). r >>= λ cells. let b : Result BlockValue ReadFault = Ok (Table (cells ∷ [])) in b) (row_takes None p.line x.cells p.cells tt))
+    ∙ run_rows top owner steps st x.cells [] many w
+
+-- doc strings
+quote_for : Top → Owner → List StepValue → StepValue → QuoteValue
+quote_for top owner steps st = record { top = top; owner = owner; steps = steps; step = with_block st Empty }
+
+quote_line : (quote : QuoteValue) (fence : Fence) (column n : ℕ) (texts : Option (List ℕ)) (l : LineValue) (rest : Lines) (b : Bool) → closes fence l ≡ b → run (Quoted quote fence column n texts) (l ∷ rest) ≡ run (in_quote b quote fence column n texts l) rest
+unfolding on
+quote_line quote fence column n texts l rest b e = run_over (Quoted quote fence column n texts) (in_quote b quote fence column n texts l) l rest (ap (λ (b : Bool). let r : Read = Ok (in_quote b quote fence column n texts l) in r) e)
+
+run_quote : (quote : QuoteValue) (fence : Fence) (column n : ℕ) (texts : List (List ℕ)) (content : Lines) (closing : LineValue) (rest : Lines) → AllByRecursion (λ line. closes fence line ≡ false) content → closes fence closing ≡ true
+    → run (Quoted quote fence column n (joined texts)) (content ++ closing ∷ rest) ≡ run (At (after_quote quote (joined (texts ++ map (content_of fence (column - 1)) content)))) rest
+run_quote quote fence column n texts [] closing rest a c =
+    quote_line quote fence column n (joined texts) closing rest true c ∙ ap (λ (texts : List (List ℕ)). run (At (after_quote quote (joined texts))) rest) (sym (append-nil texts))
+run_quote quote fence column n texts (l ∷ content) closing rest a c =
+    let text = content_of fence (column - 1) l in
+    quote_line quote fence column n (joined texts) l (content ++ closing ∷ rest) false a.0
+    ∙ ap (λ (texts : Option (List ℕ)). run (Quoted quote fence column n texts) (content ++ closing ∷ rest)) (joined_push texts text)
+    ∙ run_quote quote fence column n (texts ++ text ∷ []) content closing rest a.1 c
+    ∙ ap (λ (texts : List (List ℕ)). run (At (after_quote quote (joined texts))) rest) (append_assoc texts (text ∷ []) (map (content_of fence (column - 1)) content))
+
+run_doc_string : {ls rest : Lines} {text : List ℕ} (top : Top) (owner : Owner) (steps : List StepValue) (st : StepValue) → IsDocString ls text rest → run (Behind top owner steps st Empty) ls ≡ run (Behind top owner steps st (Text text)) rest
+unfolding on quote_for doc_string
+run_doc_string {rest = rest} top owner steps st i =
+    let quote = quote_for top owner steps st in
+    let o = i.opening in
+    run_next (Behind top owner steps st Empty) (Quoted quote i.fence o.column o.line None) o (FenceLine i.fence) tt i.next i.is refl
+    ∙ run_quote quote i.fence o.column o.line [] i.content i.closing rest i.inside i.closed
+    ∙ ap (λ (text : List ℕ). run (Behind top owner steps st (Text text)) rest) (joined_text (map (content_of i.fence (o.column - 1)) i.content) ∙ sym i.says)
+
+run_block : (ls rest : Lines) (top : Top) (owner : Owner) (steps : List StepValue) (st : StepValue) (block : BlockValue) → IsBlock ls block rest → run (Behind top owner steps st Empty) ls ≡ run (Behind top owner steps st block) rest
+run_block ls rest top owner steps st Empty i = ap (run (Behind top owner steps st Empty)) i
+run_block ls rest top owner steps st (Text text) i = run_doc_string top owner steps st i
+run_block ls rest top owner steps st (Table cells) i = run_table top owner steps st i.1.lines i.1.width ∙ ap (λ (cells : List (List (List ℕ))). run (Behind top owner steps st (Table cells)) rest) (sym i.2)
+
+type_before : Body → StepType
+type_before Describing = Given
+type_before (Stepped steps st) = st.step_type
+
+takes_step : (body : Body) (l : LineValue) → on_body body l StepLine ≡ Ok (Stepped (steps_of body) (step_from (type_before body) l))
+unfolding on_body type_before
+takes_step Describing l = refl
+takes_step (Stepped steps st) l = refl
+
+run_step : {ls rest : Lines} (top : Top) (owner : Owner) (body : Body) (st : StepValue) → IsStep ls st rest → st.step_type ≡ type_after (type_before body) st.keyword
+    → run (At (Inside top (Bodied owner body))) ls ≡ run (At (Inside top (Bodied owner (Stepped (steps_of body) st)))) rest
+unfolding on_open
+run_step {ls} {rest} top owner body st i ty =
+    let l = i.line.line in
+    let taken : on_body body l StepLine ≡ Ok (Stepped (steps_of body) (with_block st Empty)) = takes_step body l ∙ ap (λ (st : StepValue). let r : Result Body ReadFault = Ok (Stepped (steps_of body) st) in r) (same_step st (type_before body) l i.line.keyword ty i.line.text i.line.number) in
+    run_plain top (Bodied owner body) (Bodied owner (Stepped (steps_of body) (with_block st Empty))) l StepLine i.line.next i.line.is tt (ap (λ (r : Result Body ReadFault). r >>= λ next. Ok (Bodied owner next)) taken)
+    ∙ run_block i.after_line rest top owner (steps_of body) st st.block i.block
+
+run_steps : {ls rest : Lines} {sts : List StepValue} (top : Top) (owner : Owner) (body : Body) → Many IsStep ls sts rest → AreTypedAfter (type_before body) sts
+    → (next : Body) × (run (At (Inside top (Bodied owner body))) ls ≡ run (At (Inside top (Bodied owner next))) rest) × (steps_of next ≡ steps_of body ++ sts)
+unfolding type_before
+run_steps top owner body none ty = (body, refl, sym (append-nil (steps_of body)))
+run_steps top owner body (more {x = st} {xs = sts} p many) ty =
+    let r = run_steps top owner (Stepped (steps_of body) st) many ty.1 in
+    (r.0, run_step top owner body st p ty.0 ∙ r.1, r.2 ∙ append_assoc (steps_of body) (st ∷ []) sts)
+
+run_body : {ls mid rest : Lines} {sts : List StepValue} (top : Top) (owner : Owner) → Describes MayDescribeScenario ls mid → AreSteps mid sts rest
+    → (body : Body) × (run (At (Inside top (Bodied owner Describing))) ls ≡ run (At (Inside top (Bodied owner body))) rest) × (steps_of body ≡ sts)
+unfolding type_before
+run_body top owner d s =
+    let r = run_steps top owner Describing s.parts s.types in
+    (r.0, run_describes top (Bodied owner Describing) (stays_bodied owner) d ∙ r.1, r.2)
+
+-- what a heading says
+same_head : (head : HeadValue) (l : LineValue) → head.name ≡ heading_name l → head.line ≡ l.line → head_from head.tags l ≡ head
+same_head head l e n = rw (← e, ← n) refl
+
+-- scenarios
+-- examples
+stays_exampled : (section : SectionValue) (s : ScenarioValue) (head : HeadValue) (l : LineValue) (c : Class) → MayDescribeExamples c → IsPlainClass c × (on_open (Exampled section s head NoRows) l c ≡ Ok (Exampled section s head NoRows))
+unfolding on_open on_grid
+stays_exampled section s head l StepLine m = (tt, refl)
+stays_exampled section s head l (FenceLine fence) m = (tt, refl)
+stays_exampled section s head l Other m = (tt, refl)
+stays_exampled section s head l _ m = absurd m
+
+run_grid_row : {ls rest : Lines} (top : Top) (section : SectionValue) (s : ScenarioValue) (head : HeadValue) (grid next : Grid) (row : RowValue) → (i : IsRow ls row rest) → on_grid grid i.line RowLine ≡ Ok next
+    → run (At (Inside top (Exampled section s head grid))) ls ≡ run (At (Inside top (Exampled section s head next))) rest
+unfolding on_open
+run_grid_row top section s head grid next row i e =
+    run_plain top (Exampled section s head grid) (Exampled section s head next) i.line RowLine i.next i.is tt (ap (λ (r : Result Grid ReadFault). r >>= λ next. Ok (Exampled section s head next)) e)
+
+same_row : (row : RowValue) (l : LineValue) → row.line ≡ l.line → row_from l row.cells ≡ row
+same_row row l n = rw (← n) refl
+
+run_grid : {ls rest : Lines} {more_rows : List RowValue} (top : Top) (section : SectionValue) (s : ScenarioValue) (head : HeadValue) (header : List (List ℕ)) (rows : List RowValue) → Many IsRow ls more_rows rest → AllAre (length header) more_rows
+    → run (At (Inside top (Exampled section s head (Rows header rows)))) ls ≡ run (At (Inside top (Exampled section s head (Rows header (rows ++ more_rows))))) rest
+unfolding AllAre on_grid
+run_grid {rest = rest} top section s head header rows none w = ap (λ (rows : List RowValue). run (At (Inside top (Exampled section s head (Rows header rows)))) rest) (sym (append-nil rows))
+run_grid {rest = rest} top section s head header rows (more {x = x} {xs = xs} p many) w =
+    let taken : on_grid (Rows header rows) p.line RowLine ≡ Ok (Rows header (rows ++ x ∷ [])) =
+    ap (λ (r : Result (List (List ℕ)) ReadFault). r >>= λ cells. let g : Result Grid ReadFault = Ok (Rows header (rows ++ row_from p.line cells ∷ [])) in g) (row_takes (Some (length header)) p.line x.cells p.cells w.0)
+    ∙ ap (λ (row : RowValue). let g : Result Grid ReadFault = Ok (Rows header (rows ++ row ∷ [])) in g) (same_row x p.line p.number) in
+    run_grid_row top section s head (Rows header rows) (Rows header (rows ++ x ∷ [])) x p taken
+    ∙ run_grid top section s head header (rows ++ x ∷ []) many w.1
+    ∙ ap (λ (rows : List RowValue). run (At (Inside top (Exampled section s head (Rows header rows)))) rest) (append_assoc rows (x ∷ []) xs)
+
+run_table_of : {ls rest : Lines} (top : Top) (section : SectionValue) (s : ScenarioValue) (head : HeadValue) (first : RowValue) (rows : List RowValue) → Many IsRow ls (first ∷ rows) rest → AllAre (length first.cells) rows
+    → run (At (Inside top (Exampled section s head NoRows))) ls ≡ run (At (Inside top (Exampled section s head (Rows first.cells rows)))) rest
+unfolding on_grid
+run_table_of top section s head first rows (more p many) w =
+    run_grid_row top section s head NoRows (Rows first.cells []) first p (ap (λ (r : Result (List (List ℕ)) ReadFault). r >>= λ cells. let g : Result Grid ReadFault = Ok (Rows cells []) in g) (row_takes None p.line first.cells p.cells tt))
+    ∙ run_grid top section s head first.cells [] many w
+
+run_has_table : (ls rest : Lines) (top : Top) (section : SectionValue) (s : ScenarioValue) (head : HeadValue) (header : List (List ℕ)) (rows : List RowValue) → HasTable ls header rows rest
+    → (grid : Grid) × (run (At (Inside top (Exampled section s head NoRows))) ls ≡ run (At (Inside top (Exampled section s head grid))) rest) × (header_of grid ≡ header) × (rows_of grid ≡ rows)
+unfolding AllAre
+run_has_table ls rest top section s head header rows (inl e) = (NoRows, ap (run (At (Inside top (Exampled section s head NoRows)))) e.2, sym e.0, sym e.1)
+run_has_table ls rest top section s head header rows (inr t) = (Rows t.0.cells rows, run_table_of top section s head t.0 rows t.2.lines t.2.width, sym t.1, refl)
+
+abbrev outline : SectionValue → ScenarioValue → Option OutlineValue
+outline section s = Some (record { section = section; scenario = s })
+
+run_example : {ls rest : Lines} (top : Top) (part : Open) (section : SectionValue) (s : ScenarioValue) (x : ExamplesValue) → outline_of part ≡ outline section s → AreExamples ls x rest
+    → (next : Open) × (run (At (Inside top part)) ls ≡ run (At (Inside top next)) rest) × (outline_of next ≡ outline section (with_examples s x))
+unfolding on_heading
+run_example top part section s x same i =
+    let head : HeadValue = record { tags = x.tags; name = x.name; line = x.line } in
+    let start : Open = Exampled section s head NoRows in
+    let made : on_heading (Inside top part) x.tags i.line ExamplesHeading ≡ Ok (Inside top start) = ap (λ (o : Option OutlineValue). examples_after o top x.tags i.line) same ∙ rw (← i.name, ← i.number) refl in
+    let t = run_has_table i.after_description _ top section s head x.header x.rows i.table in
+    let whole : examples_of head t.0 ≡ x = ap (λ (header : List (List ℕ)). let e : ExamplesValue = record { name = x.name; line = x.line; tags = x.tags; header = header; rows = rows_of t.0 } in e) t.2 ∙ ap (λ (rows : List RowValue). let e : ExamplesValue = record { name = x.name; line = x.line; tags = x.tags; header = x.header; rows = rows } in e) t.3 in (
+      Exampled section s head t.0,
+      run_heading (Inside top part) (Inside top start) ExamplesHeading i.line tt i.heading made ∙ run_describes top start (stays_exampled section s head) i.description ∙ t.1,
+      ap (λ (x : ExamplesValue). outline section (with_examples s x)) whole,
+    )
+
+more_examples : ScenarioValue → List ExamplesValue → ScenarioValue
+more_examples s xs = record { keyword = s.keyword; name = s.name; line = s.line; tags = s.tags; steps = s.steps; examples = s.examples ++ xs }
+
+run_examples : {ls rest : Lines} {xs : List ExamplesValue} (top : Top) (part : Open) (section : SectionValue) (s : ScenarioValue) → outline_of part ≡ outline section s → Many AreExamples ls xs rest
+    → (next : Open) × (run (At (Inside top part)) ls ≡ run (At (Inside top next)) rest) × (outline_of next ≡ outline section (more_examples s xs))
+unfolding more_examples
+run_examples top part section s same none = (part, refl, same ∙ ap (λ (xs : List ExamplesValue). outline section (record { keyword = s.keyword; name = s.name; line = s.line; tags = s.tags; steps = s.steps; examples = xs })) (sym (append-nil s.examples)))
+run_examples top part section s same (more {x = x} {xs = xs} p many) =
+    let one = run_example top part section s x same p in
+    let r = run_examples top one.0 section (with_examples s x) one.2 many in
+    (r.0, one.1 ∙ r.1, r.2 ∙ ap (λ (xs : List ExamplesValue). outline section (record { keyword = s.keyword; name = s.name; line = s.line; tags = s.tags; steps = s.steps; examples = xs })) (append_assoc s.examples (x ∷ []) xs))
+
+some_same : {A : Type 0} {x y : A} → ◌≡◌ {A = Option A} (Some x) (Some y) → x ≡ y
+some_same e = cc
+
+outline_section : (part : Open) (section : SectionValue) (s : ScenarioValue) → outline_of part ≡ outline section s → section_of part ≡ with_scenario section s
+outline_section Headed section s e = let no : ⊥ = cc in absurd no
+outline_section (Bodied (OfBackground n) body) section s e = let no : ⊥ = cc in absurd no
+outline_section (Bodied (OfScenario before keyword head) body) section s e = ap (λ (o : OutlineValue). with_scenario o.section o.scenario) (some_same e)
+outline_section (Exampled before scenario head grid) section s e = ap (λ (o : OutlineValue). with_scenario o.section o.scenario) (some_same e)
+
+run_scenario : {ls rest : Lines} (top : Top) (part : Open) (section : SectionValue) (s : ScenarioValue) → section_of part ≡ section → IsScenario ls s rest
+    → (next : Open) × (run (At (Inside top part)) ls ≡ run (At (Inside top next)) rest) × (section_of next ≡ with_scenario section s)
+unfolding on_heading more_examples
+run_scenario {ls} {rest} top part section s same i =
+    let head : HeadValue = record { tags = s.tags; name = s.name; line = s.line } in
+    let owner : Owner = OfScenario section s.keyword head in
+    let made : on_heading (Inside top part) s.tags i.line ScenarioHeading ≡ Ok (Inside top (Bodied owner Describing)) = rw (same, ← i.keyword, ← i.name, ← i.number) refl in
+    let r = run_body top owner i.description i.steps in
+    let e = run_examples top (Bodied owner r.0) section (scenario_of s.keyword head s.steps) (ap (λ (steps : List StepValue). outline section (scenario_of s.keyword head steps)) r.2) i.examples in (
+      e.0,
+      run_heading (Inside top part) (Inside top (Bodied owner Describing)) ScenarioHeading i.line tt i.heading made ∙ r.1 ∙ e.1,
+      outline_section e.0 section s e.2,
+    )
+
+with_scenarios : SectionValue → List ScenarioValue → SectionValue
+with_scenarios section ss = record { background = section.background; scenarios = section.scenarios ++ ss }
+
+run_scenarios : {ls rest : Lines} {ss : List ScenarioValue} (top : Top) (part : Open) (section : SectionValue) → section_of part ≡ section → Many IsScenario ls ss rest
+    → (next : Open) × (run (At (Inside top part)) ls ≡ run (At (Inside top next)) rest) × (section_of next ≡ with_scenarios section ss)
+unfolding with_scenarios
+run_scenarios top part section same none = (part, refl, same ∙ ap (λ (ss : List ScenarioValue). let s : SectionValue = record { background = section.background; scenarios = ss } in s) (sym (append-nil section.scenarios)))
+run_scenarios top part section same (more {x = x} {xs = xs} p many) =
+    let one = run_scenario top part section x same p in
+    let r = run_scenarios top one.0 (with_scenario section x) one.2 many in
+    (r.0, one.1 ∙ r.1, r.2 ∙ ap (λ (ss : List ScenarioValue). let s : SectionValue = record { background = section.background; scenarios = ss } in s) (append_assoc section.scenarios (x ∷ []) xs))
+
+-- backgrounds
+run_background : (ls rest : Lines) (top : Top) (background : Option BackgroundValue) → Perhaps IsBackground ls background rest
+    → (next : Open) × (run (At (Inside top Headed)) ls ≡ run (At (Inside top next)) rest) × (section_of next ≡ record { background = background; scenarios = [] })
+unfolding on_open
+run_background ls rest top None p = (Headed, ap (run (At (Inside top Headed))) p, refl)
+run_background ls rest top (Some b) i =
+    let r = run_body top (OfBackground i.line.line) i.description i.steps in (
+      Bodied (OfBackground i.line.line) r.0,
+      run_plain top Headed (Bodied (OfBackground i.line.line) Describing) i.line BackgroundHeading i.heading.next i.heading.is tt refl ∙ r.1,
+      ap (background_section i.line.line) r.2 ∙ ap (λ (n : ℕ). background_section n b.steps) (sym i.number),
+    )
+
+run_section : {ls a b rest : Lines} (top : Top) (background : Option BackgroundValue) (ss : List ScenarioValue) → Describes MayDescribeFeature ls a → Perhaps IsBackground a background b → Many IsScenario b ss rest
+    → (next : Open) × (run (At (Inside top Headed)) ls ≡ run (At (Inside top next)) rest) × (section_of next ≡ record { background = background; scenarios = ss })
+unfolding with_scenarios
+run_section top background ss d p many =
+    let one = run_background _ _ top background p in
+    let r = run_scenarios top one.0 (record { background = background; scenarios = [] }) one.2 many in
+    (r.0, run_describes top Headed stays_headed d ∙ one.1 ∙ r.1, r.2)
+
+-- rules
+record Reached (s : State) (ls : Lines) (f : FeatureValue) (rest : Lines) : Type 0 where
+  top : Top
+  part : Open
+  runs_to : run s ls ≡ run (At (Inside top part)) rest
+  says : feature_of top (section_of part) ≡ f
+
+run_rule : {ls rest : Lines} (top : Top) (part : Open) (f : FeatureValue) (r : RuleValue) → feature_of top (section_of part) ≡ f → IsRule ls r rest → Reached (At (Inside top part)) ls (with_rule f r) rest
+unfolding on_heading
+run_rule top part f r same i =
+    let head : HeadValue = record { tags = r.tags; name = r.name; line = r.line } in
+    let made : on_heading (Inside top part) r.tags i.line RuleHeading ≡ Ok (Inside (OfRule f head) Headed) = rw (same, ← i.name, ← i.number) refl in
+    let s = run_section (OfRule f head) r.background r.scenarios i.description i.background i.scenarios in
+    record { top = OfRule f head; part = s.0; runs_to = run_heading (Inside top part) (Inside (OfRule f head) Headed) RuleHeading i.line tt i.heading made ∙ s.1; says = ap (λ (s : SectionValue). with_rule f (rule_of head s)) s.2 }
+
+with_rules : FeatureValue → List RuleValue → FeatureValue
+with_rules f rules = record { name = f.name; line = f.line; tags = f.tags; background = f.background; scenarios = f.scenarios; rules = f.rules ++ rules }
+
+run_rules : {ls rest : Lines} {rules : List RuleValue} (top : Top) (part : Open) (f : FeatureValue) → feature_of top (section_of part) ≡ f → Many IsRule ls rules rest → Reached (At (Inside top part)) ls (with_rules f rules) rest
+unfolding with_rules
+run_rules top part f same none = record { top = top; part = part; runs_to = refl; says = same ∙ ap (λ (rules : List RuleValue). let f : FeatureValue = record { name = f.name; line = f.line; tags = f.tags; background = f.background; scenarios = f.scenarios; rules = rules } in f) (sym (append-nil f.rules)) }
+run_rules top part f same (more {x = x} {xs = xs} p many) =
+    let one = run_rule top part f x same p in
+    let r = run_rules one.top one.part (with_rule f x) one.says many in
+    record { top = r.top; part = r.part; runs_to = one.runs_to ∙ r.runs_to; says = r.says ∙ ap (λ (rules : List RuleValue). let f : FeatureValue = record { name = f.name; line = f.line; tags = f.tags; background = f.background; scenarios = f.scenarios; rules = rules } in f) (append_assoc f.rules (x ∷ []) xs) }
+
+run_feature : {ls rest : Lines} (f : FeatureValue) → IsFeature ls f rest → Reached (At Above) ls f rest
+unfolding on_heading with_rules
+run_feature f i =
+    let head : HeadValue = record { tags = f.tags; name = f.name; line = f.line } in
+    let made : on_heading Above f.tags i.line FeatureHeading ≡ Ok (Inside (OfFeature head) Headed) = rw (← i.name, ← i.number) refl in
+    let s = run_section (OfFeature head) f.background f.scenarios i.description i.background i.scenarios in
+    let r = run_rules (OfFeature head) s.0 (feature_of (OfFeature head) (record { background = f.background; scenarios = f.scenarios })) (ap (feature_of (OfFeature head)) s.2) i.rules in
+    record { top = r.top; part = r.part; runs_to = run_heading Above (Inside (OfFeature head) Headed) FeatureHeading i.line tt i.heading made ∙ s.1 ∙ r.runs_to; says = r.says }
+
+run_nil : (s : State) → run s [] ≡ Ok s
+unfolding run
+run_nil s = refl
+
+-- What has a reading is run over, up to a place that says it.
+pub runs : (ls : Lines) (g : Option FeatureValue) → Reads ls g → (place : Place) × (run (At Above) ls ≡ Ok (At place)) × (answer place ≡ g)
+runs ls None r = (Above, run_skips (At Above) tt r ∙ run_nil (At Above), refl)
+runs ls (Some f) r =
+    let a = run_feature f r.1 in
+    let t : State = At (Inside a.top a.part) in
+    (Inside a.top a.part, a.runs_to ∙ run_skips t tt r.2 ∙ run_nil t, ap Some a.says)
+
+pub complete : (ls : Lines) (g : Option FeatureValue) → Reads ls g → reading ls ≡ Ok g
+unfolding reading finish
+complete ls g r = let a = runs ls g r in ap (λ (r : Read). r >>= finish) a.1 ∙ ap Ok a.2
+
+same_answer : {f g : Option FeatureValue} → ◌≡◌ {A = Result (Option FeatureValue) ReadFault} (Ok f) (Ok g) → f ≡ g
+same_answer e = cc
+
+pub one_reading : HasOneReading
+one_reading ls one other r s = same_answer (sym (complete ls one r) ∙ complete ls other s)

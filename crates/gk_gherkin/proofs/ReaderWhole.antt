@@ -1,0 +1,63 @@
+-- What a reading's result says of the bytes.
+use Rattle.std.proofs.Common.{◌≡◌, ℕ, List, Option, Result, Ok, Err, IfOk, IfErr, refl, sym, ◌∙◌, subst}
+use Rattle.std.specs.Prelude.{option_map}
+use Rattle.gk_gherkin.specs.declared.feature.Feature.{Feature}
+use Rattle.gk_gherkin.specs.declared.read_fault.ReadFault.{ReadFault}
+use Rattle.gk_gherkin.specs.declared.read_fault.ReadFault.TheVariants as faults
+use Rattle.gk_gherkin.specs.Lines.{Lines, lines_of, IsText}
+use Rattle.gk_gherkin.specs.Feature.{FeatureValue, feature_value}
+use Rattle.gk_gherkin.specs.Grammar.{Reads}
+use Rattle.gk_gherkin.specs.ReadFault.{FaultSays, FeatureFault, LinesFaultSays, AnswersOrLacksMemory}
+use Rattle.gk_gherkin.specs.Machine.{Gives, reading}
+use Rattle.gk_gherkin.proofs.ReaderSound.{sound}
+use Rattle.gk_gherkin.proofs.ReaderComplete.{complete}
+use Rattle.gk_gherkin.proofs.ReaderStops.{faulty}
+
+pub lines_fault : (e : ReadFault) (bytes : List ℕ) → LinesFaultSays e bytes → FaultSays FeatureFault e bytes
+lines_fault faults.Memory bytes h = h
+lines_fault faults.TooLong bytes h = h
+lines_fault (faults.NotUtf8 n) bytes h = h
+lines_fault (faults.Unexpected n) bytes h = absurd h.1
+lines_fault (faults.BadTag n) bytes h = absurd h.1
+lines_fault (faults.CellCount n) bytes h = absurd h.1
+lines_fault (faults.UnclosedText n) bytes h = absurd h.1
+lines_fault (faults.TagsAtEnd n) bytes h = absurd h.1
+lines_fault (faults.Language n) bytes h = absurd h.1
+lines_fault (faults.BadRow n) bytes h = absurd h.1
+
+same_answer : {f g : Option FeatureValue} → ◌≡◌ {A = Result (Option FeatureValue) ReadFault} (Ok f) (Ok g) → f ≡ g
+same_answer e = cc
+
+not_both : {g : Option FeatureValue} {e : ReadFault} {P : Type 0} → ◌≡◌ {A = Result (Option FeatureValue) ReadFault} (Err e) (Ok g) → P
+not_both e = cc
+
+module _ (bytes : List ℕ) (ls : Lines) (same : ls ≡ lines_of bytes) where
+  pub found : (r : Result (Option Feature) ReadFault) → IsText bytes → Gives (λ f. option_map feature_value f) r (reading ls) → IfOk r (λ f. IsText bytes × Reads (lines_of bytes) (option_map feature_value f))
+  found (Ok x) t g = (t, subst (λ ls. Reads ls (option_map feature_value x)) same (sound ls (option_map feature_value x) g))
+  found (Err e) t g = tt
+
+  pub only : (r : Result (Option Feature) ReadFault) (f : Option FeatureValue) → Gives (λ f. option_map feature_value f) r (reading ls) → Reads (lines_of bytes) f → AnswersOrLacksMemory r f
+  only (Ok x) f g h = same_answer (sym g ∙ complete ls f (subst (λ ls. Reads ls f) (sym same) h))
+  only (Err faults.Memory) f g h = refl
+  only (Err faults.TooLong) f g h = not_both (sym g ∙ complete ls f (subst (λ ls. Reads ls f) (sym same) h))
+  only (Err (faults.NotUtf8 n)) f g h = not_both (sym g ∙ complete ls f (subst (λ ls. Reads ls f) (sym same) h))
+  only (Err (faults.Unexpected n)) f g h = not_both (sym g ∙ complete ls f (subst (λ ls. Reads ls f) (sym same) h))
+  only (Err (faults.BadTag n)) f g h = not_both (sym g ∙ complete ls f (subst (λ ls. Reads ls f) (sym same) h))
+  only (Err (faults.CellCount n)) f g h = not_both (sym g ∙ complete ls f (subst (λ ls. Reads ls f) (sym same) h))
+  only (Err (faults.UnclosedText n)) f g h = not_both (sym g ∙ complete ls f (subst (λ ls. Reads ls f) (sym same) h))
+  only (Err (faults.TagsAtEnd n)) f g h = not_both (sym g ∙ complete ls f (subst (λ ls. Reads ls f) (sym same) h))
+  only (Err (faults.Language n)) f g h = not_both (sym g ∙ complete ls f (subst (λ ls. Reads ls f) (sym same) h))
+  only (Err (faults.BadRow n)) f g h = not_both (sym g ∙ complete ls f (subst (λ ls. Reads ls f) (sym same) h))
+
+  pub fault : (r : Result (Option Feature) ReadFault) → IsText bytes → Gives (λ f. option_map feature_value f) r (reading ls) → IfErr r (λ e. FaultSays FeatureFault e bytes)
+  fault (Ok x) t g = tt
+  fault (Err faults.Memory) t g = t
+  fault (Err (faults.Unexpected n)) t g = (t, subst (FeatureFault (faults.Unexpected n)) same (faulty ls (faults.Unexpected n) g))
+  fault (Err (faults.BadTag n)) t g = (t, subst (FeatureFault (faults.BadTag n)) same (faulty ls (faults.BadTag n) g))
+  fault (Err (faults.CellCount n)) t g = (t, subst (FeatureFault (faults.CellCount n)) same (faulty ls (faults.CellCount n) g))
+  fault (Err (faults.UnclosedText n)) t g = (t, subst (FeatureFault (faults.UnclosedText n)) same (faulty ls (faults.UnclosedText n) g))
+  fault (Err (faults.TagsAtEnd n)) t g = (t, subst (FeatureFault (faults.TagsAtEnd n)) same (faulty ls (faults.TagsAtEnd n) g))
+  fault (Err (faults.Language n)) t g = (t, subst (FeatureFault (faults.Language n)) same (faulty ls (faults.Language n) g))
+  fault (Err (faults.BadRow n)) t g = (t, subst (FeatureFault (faults.BadRow n)) same (faulty ls (faults.BadRow n) g))
+  fault (Err faults.TooLong) t g = absurd (faulty ls faults.TooLong g)
+  fault (Err (faults.NotUtf8 n)) t g = absurd (faulty ls (faults.NotUtf8 n) g)

@@ -1,0 +1,205 @@
+-- The parts of a row, byte by byte and part by part, and what escapes mean.
+use Rattle.std.proofs.Common.{◌≡◌, ◌≢◌, ℕ, zero, suc, ◌+◌, ◌<◌, ◌≤◌, Bool, true, false, cond, ◌==◌, ◌||◌, List, [], ◌∷◌, ◌++◌, length, map, take, drop, get_or, Option, Some, None, Bor, refl, sym, ap, ◌∙◌, subst, append_assoc, arith}
+use Rattle.std.specs.Prelude.{option_map, codes}
+use Rattle.std.proofs.lemmas.Str.Pattern.{IsSplitOnceResult, split_parts}
+use Rattle.std.proofs.lemmas.Bool.Decides.{nat_tests}
+use Rattle.std.proofs.lemmas.List.{append-nil, drop_more, take_more, drop_all, take_all}
+use Rattle.gk_gherkin.specs.Lines.{LineValue, trim}
+use Rattle.gk_gherkin.specs.Class.{begins}
+use Rattle.gk_gherkin.specs.Rows.{cells_of, part_before, into_first, parts_of, parts_after, no_bar, unescaped, cell_of, cells_of_parts}
+
+-- The parts of the rest of a text, after a backslash or not.
+abbrev pub parts_in : Bool → List ℕ → Option (List (List ℕ))
+parts_in false text = parts_of text
+parts_in true [] = Some []
+parts_in true (b ∷ rest) = into_first b (parts_of rest)
+
+-- Bytes put into the first part, before what it has.
+abbrev pub into_all : List ℕ → Option (List (List ℕ)) → Option (List (List ℕ))
+into_all [] o = o
+into_all (b ∷ bs) o = into_first b (into_all bs o)
+
+into_all-push : (bs : List ℕ) (b : ℕ) (o : Option (List (List ℕ))) → into_all (bs ++ b ∷ []) o ≡ into_all bs (into_first b o)
+into_all-push [] b o = refl
+into_all-push (x ∷ bs) b o = ap (into_first x) (into_all-push bs b o)
+
+pub escaped_byte : (b : ℕ) (rest : List ℕ) → parts_in true (b ∷ rest) ≡ into_first b (parts_in false rest)
+escaped_byte b rest = refl
+
+bar_byte : (rest : List ℕ) → parts_of (124 ∷ rest) ≡ part_before (parts_of rest)
+unfolding parts_of
+bar_byte [] = refl
+bar_byte (c ∷ rest) = refl
+
+pub other_byte : (b : ℕ) (t : Bool) (rest : List ℕ) → (b == 92) ≡ t → (b == 124) ≡ false → parts_in false (b ∷ rest) ≡ into_first b (parts_in t rest)
+unfolding parts_of
+other_byte b false [] e n = rw n refl
+other_byte b true [] e n = rw n refl
+other_byte b false (c ∷ rest) e n = rw (n, e) refl
+other_byte b true (c ∷ rest) e n = rw (n, e) refl
+
+pub next_byte : (text : List ℕ) (i : ℕ) (esc after : Bool) → i < length text → ((rest : List ℕ) → parts_in esc (get_or text i 0 ∷ rest) ≡ into_first (get_or text i 0) (parts_in after rest)) → parts_of text ≡ into_all (take i text) (parts_in esc (drop i text)) → parts_of text ≡ into_all (take (i + 1) text) (parts_in after (drop (i + 1) text))
+next_byte text i esc after below byte so_far =
+    so_far ∙ ap (λ (rest : List ℕ). into_all (take i text) (parts_in esc rest)) (drop_more text i 0 below)
+    ∙ ap (into_all (take i text)) (byte (drop (i + 1) text))
+    ∙ sym (into_all-push (take i text) (get_or text i 0) (parts_in after (drop (i + 1) text)))
+    ∙ ap (λ (part : List ℕ). into_all part (parts_in after (drop (i + 1) text))) (sym (take_more text i 0 below))
+
+onto_first : (b : ℕ) (bs : List ℕ) (o : Option (List (List ℕ))) → into_first b (option_map (λ parts. bs ∷ parts) o) ≡ option_map (λ parts. (b ∷ bs) ∷ parts) o
+onto_first b bs None = refl
+onto_first b bs (Some parts) = refl
+
+into_all-bar : (part : List ℕ) (o : Option (List (List ℕ))) → into_all part (part_before o) ≡ option_map (λ parts. part ∷ parts) o
+into_all-bar [] None = refl
+into_all-bar [] (Some parts) = refl
+into_all-bar (b ∷ bs) o = ap (into_first b) (into_all-bar bs o) ∙ onto_first b bs o
+
+pub at_bar : (text : List ℕ) (i : ℕ) → i < length text → get_or text i 0 ≡ 124 → parts_of text ≡ into_all (take i text) (parts_in false (drop i text)) → parts_of text ≡ parts_after (take i text) (drop i text)
+at_bar text i below bar so_far =
+    let cut : drop i text ≡ 124 ∷ drop (i + 1) text = drop_more text i 0 below ∙ ap (λ (b : ℕ). b ∷ drop (i + 1) text) bar in
+    so_far ∙ ap (λ (rest : List ℕ). into_all (take i text) (parts_of rest)) cut
+    ∙ ap (into_all (take i text)) (bar_byte (drop (i + 1) text))
+    ∙ into_all-bar (take i text) (parts_of (drop (i + 1) text))
+    ∙ ap (parts_after (take i text)) (sym cut)
+
+into_none : (part : List ℕ) → into_all part (Some []) ≡ no_bar part
+into_none [] = refl
+into_none (b ∷ []) = refl
+into_none (b ∷ c ∷ bs) = ap (into_first b) (into_none (c ∷ bs))
+
+no_more : (esc : Bool) → parts_in esc [] ≡ Some []
+unfolding parts_of
+no_more false = refl
+no_more true = refl
+
+pub at_end : (text : List ℕ) (i : ℕ) (esc : Bool) → length text ≤ i → parts_of text ≡ into_all (take i text) (parts_in esc (drop i text)) → parts_of text ≡ parts_after (take i text) (drop i text)
+at_end text i esc over so_far =
+    let none : drop i text ≡ [] = drop_all i text over in
+    so_far ∙ ap (λ (rest : List ℕ). into_all (take i text) (parts_in esc rest)) none ∙ ap (into_all (take i text)) (no_more esc)
+    ∙ into_none (take i text) ∙ ap (parts_after (take i text)) (sym none)
+
+-- The cells of the parts, where no parts aren't left out.
+abbrev pub cells_all : Option (List (List ℕ)) → Option (List (List ℕ))
+cells_all o = option_map (map cell_of) o
+
+abbrev pub some_cells : Option (List (List ℕ)) → Option (List (List ℕ))
+some_cells None = None
+some_cells (Some []) = None
+some_cells (Some (cell ∷ cells)) = Some (cell ∷ cells)
+
+abbrev pub onto : List (List ℕ) → Option (List (List ℕ)) → Option (List (List ℕ))
+onto xs o = option_map (λ more. xs ++ more) o
+
+pub cells_split : (o : Option (List (List ℕ))) → cells_of_parts o ≡ some_cells (cells_all o)
+cells_split None = refl
+cells_split (Some []) = refl
+cells_split (Some (part ∷ parts)) = refl
+
+onto_cell : (xs : List (List ℕ)) (part : List ℕ) (o : Option (List (List ℕ))) → onto xs (cells_all (option_map (λ parts. part ∷ parts) o)) ≡ onto (xs ++ cell_of part ∷ []) (cells_all o)
+onto_cell xs part None = refl
+onto_cell xs part (Some parts) = ap Some (sym (append_assoc xs (cell_of part ∷ []) (map cell_of parts)))
+
+pub next_cell : (text rest : List ℕ) (n : ℕ) (xs : List (List ℕ)) → n < length rest → get_or rest n 0 ≡ 124 → parts_of rest ≡ parts_after (take n rest) (drop n rest) → cells_all (parts_of text) ≡ onto xs (cells_all (parts_of rest)) → cells_all (parts_of text) ≡ onto (xs ++ cell_of (take n rest) ∷ []) (cells_all (parts_of (drop (n + 1) rest)))
+next_cell text rest n xs below bar parts so_far =
+    so_far ∙ ap (λ (o : Option (List (List ℕ))). onto xs (cells_all o)) (parts ∙ ap (parts_after (take n rest)) (drop_more rest n 0 below))
+    ∙ onto_cell xs (take n rest) (parts_of (drop (n + 1) rest))
+
+no_bar_none : (rest : List ℕ) → 0 < length rest → no_bar rest ≡ None
+no_bar_none [] h = absurd (omega arith)
+no_bar_none (b ∷ bs) h = refl
+
+pub no_cells : (text rest : List ℕ) (n : ℕ) (xs : List (List ℕ)) → 0 < length rest → n ≡ length rest → parts_of rest ≡ parts_after (take n rest) (drop n rest) → cells_all (parts_of text) ≡ onto xs (cells_all (parts_of rest)) → cells_of_parts (parts_of text) ≡ None
+no_cells text rest n xs some all parts so_far =
+    let none : drop n rest ≡ [] = drop_all n rest (omega arith) in
+    let whole : take n rest ≡ rest = take_all n rest (omega arith) in
+    let gone : parts_of rest ≡ None = parts ∙ ap (parts_after (take n rest)) none ∙ ap no_bar whole ∙ no_bar_none rest some in
+    cells_split (parts_of text) ∙ ap some_cells (so_far ∙ ap (λ (o : Option (List (List ℕ))). onto xs (cells_all o)) gone)
+
+empty_list : {A : Type 0} (xs : List A) → length xs ≤ 0 → xs ≡ []
+empty_list [] h = refl
+empty_list (x ∷ xs) h = absurd (omega arith)
+
+pub all_cells : (text rest : List ℕ) (xs : List (List ℕ)) → length rest ≤ 0 → cells_all (parts_of text) ≡ onto xs (cells_all (parts_of rest)) → cells_of_parts (parts_of text) ≡ some_cells (Some xs)
+unfolding parts_of
+all_cells text rest xs h so_far =
+    cells_split (parts_of text) ∙ ap some_cells (so_far ∙ ap (λ (t : List ℕ). onto xs (cells_all (parts_of t))) (empty_list rest h) ∙ ap Some (append-nil xs))
+
+pub some_are_some : (xs : List (List ℕ)) → 0 < length xs → some_cells (Some xs) ≡ Some xs
+some_are_some [] h = absurd (omega arith)
+some_are_some (x ∷ xs) h = refl
+
+pub none_are_none : (xs : List (List ℕ)) → length xs ≤ 0 → some_cells (Some xs) ≡ None
+none_are_none [] h = refl
+none_are_none (x ∷ xs) h = absurd (omega arith)
+
+-- escapes
+plain_byte : (b : ℕ) (rest : List ℕ) → (b == 92) ≡ false → unescaped (b ∷ rest) ≡ b ∷ unescaped rest
+unfolding unescaped
+plain_byte b [] e = refl
+plain_byte b (c ∷ rest) e = rw e refl
+
+same_eqb : (m n : ℕ) → m ≢ n → (m == n) ≡ false
+same_eqb m n h = grind (arith, nat_tests)
+
+pub plain_bytes : (xs ys : List ℕ) → ((i : ℕ) → i < length xs → get_or xs i 0 ≢ 92) → unescaped (xs ++ ys) ≡ xs ++ unescaped ys
+plain_bytes [] ys h = refl
+plain_bytes (x ∷ xs) ys h =
+    let first : x ≢ 92 = h 0 (omega arith) in
+    plain_byte x (xs ++ ys) (same_eqb x 92 first) ∙ ap (λ (t : List ℕ). x ∷ t) (plain_bytes xs ys (λ i below. h (suc i) (omega arith)))
+
+pub no_escape : (xs : List ℕ) → ((i : ℕ) → i < length xs → get_or xs i 0 ≢ 92) → unescaped xs ≡ xs
+unfolding unescaped
+no_escape xs h = ap unescaped (sym (append-nil xs)) ∙ plain_bytes xs [] h ∙ append-nil xs
+
+pub newline : (after rest : List ℕ) → after ≡ 110 ∷ rest → unescaped (92 ∷ after) ≡ 10 ∷ unescaped rest
+unfolding unescaped
+newline after rest e = ap (λ (t : List ℕ). unescaped (92 ∷ t)) e
+
+pub bar : (after rest : List ℕ) → after ≡ 124 ∷ rest → unescaped (92 ∷ after) ≡ 124 ∷ unescaped rest
+unfolding unescaped
+bar after rest e = ap (λ (t : List ℕ). unescaped (92 ∷ t)) e
+
+pub backslash : (after rest : List ℕ) → after ≡ 92 ∷ rest → unescaped (92 ∷ after) ≡ 92 ∷ unescaped rest
+unfolding unescaped
+backslash after rest e = ap (λ (t : List ℕ). unescaped (92 ∷ t)) e
+
+other_escape : (c : ℕ) (rest : List ℕ) → (c == 110) ≡ false → (c == 124) ≡ false → (c == 92) ≡ false → unescaped (92 ∷ c ∷ rest) ≡ 92 ∷ c ∷ unescaped rest
+unfolding unescaped
+other_escape c rest n b s = rw (n, b, s) refl
+
+pub no_meaning : (after : List ℕ) → ((rest : List ℕ) → after ≢ 110 ∷ rest) → ((rest : List ℕ) → after ≢ 124 ∷ rest) → ((rest : List ℕ) → after ≢ 92 ∷ rest) → unescaped (92 ∷ after) ≡ 92 ∷ unescaped after
+unfolding unescaped
+no_meaning [] n b s = refl
+no_meaning (c ∷ rest) n b s =
+    let nn : c ≢ 110 = λ e. n rest (ap (λ (d : ℕ). d ∷ rest) e) in
+    let nb : c ≢ 124 = λ e. b rest (ap (λ (d : ℕ). d ∷ rest) e) in
+    let ns : c ≢ 92 = λ e. s rest (ap (λ (d : ℕ). d ∷ rest) e) in
+    other_escape c rest (same_eqb c 110 nn) (same_eqb c 124 nb) (same_eqb c 92 ns) ∙ ap (λ (t : List ℕ). 92 ∷ t) (sym (plain_byte c rest (same_eqb c 92 ns)))
+
+-- A text that is cut at its first backslash.
+module _ (text : List ℕ) (r : Option (Bor (List ℕ) × Bor (List ℕ))) (split : IsSplitOnceResult 92 text r) where
+  pub to_escape : (x : Bor (List ℕ) × Bor (List ℕ)) → r ≡ Some x → unescaped text ≡ x.0.now ++ unescaped (92 ∷ x.1.now)
+  to_escape x is =
+      let parts = rw is at (split_parts 92 text r split (omega arith)) in
+      ap unescaped parts.0 ∙ plain_bytes x.0.now (92 ∷ x.1.now) parts.1
+
+  pub no_escape_left : r ≡ None → unescaped text ≡ text
+  no_escape_left is = no_escape text (rw is at (split_parts 92 text r split (omega arith)))
+
+-- A row begins with a bar.
+pub row_cells : (line : LineValue) (rest : List ℕ) → trim line.text ≡ 124 ∷ rest → cells_of line ≡ cells_of_parts (parts_of rest)
+unfolding cells_of
+row_cells line rest e = ap (λ (t : List ℕ). cond (begins t (codes "|")) (cells_of_parts (parts_of (drop 1 t))) None) e
+
+not_begun : (b : ℕ) (bs : List ℕ) → b ≢ 124 → begins (b ∷ bs) (codes "|") ≡ false
+not_begun b bs h = grind (arith, nat_tests)
+
+no_bar_first : (t : List ℕ) → ((rest : List ℕ) → t ≢ 124 ∷ rest) → begins t (codes "|") ≡ false
+no_bar_first [] h = refl
+no_bar_first (b ∷ bs) h =
+    let other : b ≢ 124 = λ e. h bs (ap (λ (d : ℕ). d ∷ bs) e) in
+    not_begun b bs other
+
+pub no_row : (line : LineValue) → ((rest : List ℕ) → trim line.text ≢ 124 ∷ rest) → cells_of line ≡ None
+unfolding cells_of
+no_row line h = ap (λ (t : Bool). cond t (cells_of_parts (parts_of (drop 1 (trim line.text)))) None) (no_bar_first (trim line.text) h)

@@ -1,0 +1,85 @@
+-- Which fault an input has is forced by what the faults say: no line has two of them, no input has two faulty lines, and none that ends in a doc string or after tags has one.
+use Rattle.std.specs.Prelude.{◌≡◌, ℕ, true, ◌⊎◌, [], ◌∷◌, ◌++◌}
+use Rattle.std.proofs.lemmas.Option.{none-some}
+use Rattle.std.proofs.Common.{◌∙◌, sym, inl, inr, refl, subst, append_assoc, ap}
+use Rattle.gk_gherkin.specs.Lines.{LineValue, Lines, line_at}
+use Rattle.gk_gherkin.specs.DocStrings.{closes}
+use Rattle.gk_gherkin.specs.declared.class.Fence.{Fence}
+use Rattle.gk_gherkin.specs.declared.class.Fence.TheVariants.{Quotes, Backticks}
+use Rattle.gk_gherkin.specs.Class.{class, fence_text}
+use Rattle.gk_gherkin.specs.Grammar.{IsReadable}
+use Rattle.gk_gherkin.specs.ReadFault.{SomeLikeIt, NoneLikeIt, IsBadRow, IsOtherWidth, IsBadTag, StopsAt, EndsInDocString, EndsInTags}
+
+-- Where a list is cut at two places: these are the same, or one lies after the other.
+data Cuts (a b : Lines) (x y : LineValue) : Type 0 where
+  same : x ≡ y → Cuts a b x y
+  first : (mid : Lines) → b ≡ a ++ x ∷ mid → Cuts a b x y
+  second : (mid : Lines) → a ≡ b ++ y ∷ mid → Cuts a b x y
+
+further : (l : LineValue) (a b : Lines) (x y : LineValue) → Cuts a b x y → Cuts (l ∷ a) (l ∷ b) x y
+further l a b x y (same e) = same e
+further l a b x y (first mid e) = first mid (ap (λ t. l ∷ t) e)
+further l a b x y (second mid e) = second mid (ap (λ t. l ∷ t) e)
+
+head_same : (l k : LineValue) (ls ks : Lines) → l ∷ ls ≡ k ∷ ks → l ≡ k
+head_same l k ls ks e = cc
+
+cuts : (a b more others : Lines) (x y : LineValue) → a ++ x ∷ more ≡ b ++ y ∷ others → Cuts a b x y
+cuts [] [] more others x y e = same cc
+cuts [] (l ∷ b) more others x y e = first b cc
+cuts (l ∷ a) [] more others x y e = second a cc
+cuts (l ∷ a) (k ∷ b) more others x y e = subst (λ k. Cuts (l ∷ a) (k ∷ b) x y) (head_same l k (a ++ x ∷ more) (b ++ y ∷ others) e) (further l a b x y (cuts a b more others x y cc))
+
+module _ (Readable : Lines → Type 0) {C : Type 0} (kind : LineValue → C) where
+  some_or_none : (before : Lines) (line : LineValue) → NoneLikeIt Readable kind before line → SomeLikeIt Readable kind before line → ⊥
+  some_or_none before line none (other, alike, (more, readable)) = none other alike more readable
+
+  -- a line of a class that can't stand there is neither a bad row nor a row of another width
+  unexpected_before_bad_row : (before : Lines) (line : LineValue) → NoneLikeIt Readable kind before line → IsBadRow Readable kind before line → ⊥
+  unexpected_before_bad_row before line none bad = some_or_none before line none bad.fits
+
+  unexpected_before_width : (before : Lines) (line : LineValue) → NoneLikeIt Readable kind before line → IsOtherWidth Readable kind before line → ⊥
+  unexpected_before_width before line none bad = some_or_none before line none bad.fits
+
+  -- a bad row has no cells to count
+  bad_row_before_width : (before : Lines) (line : LineValue) → IsBadRow Readable kind before line → IsOtherWidth Readable kind before line → ⊥
+  bad_row_before_width before line bad wide = none-some wide.cells (sym bad.bad ∙ wide.good)
+
+  -- lines after which nothing readable begins stand in no readable list
+  not_in_readable : (before mid : Lines) (line : LineValue) → ((more : Lines) → Readable ((before ++ line ∷ []) ++ more) → ⊥) → Readable (before ++ line ∷ mid) → ⊥
+  not_in_readable before mid line stops readable = stops mid (subst Readable (sym (append_assoc before (line ∷ []) mid)) readable)
+
+  not_before : (before mid : Lines) (line : LineValue) → ((more : Lines) → Readable ((before ++ line ∷ []) ++ more) → ⊥)
+      → Readable (before ++ line ∷ mid) ⊎ ((extra : LineValue) × Readable ((before ++ line ∷ mid) ++ extra ∷ [])) → ⊥
+  not_before before mid line stops (inl readable) = not_in_readable before mid line stops readable
+  not_before before mid line stops (inr (extra, readable)) = not_in_readable before (mid ++ extra ∷ []) line stops (subst Readable (append_assoc before (line ∷ mid) (extra ∷ [])) readable)
+
+  -- two faults on lines are on one line
+  one_line_of : (ls : Lines) (n m : ℕ) (F G : Lines → LineValue → Type 0) (f : StopsAt Readable kind ls n F) (g : StopsAt Readable kind ls m G) → Cuts f.before g.before f.line g.line → n ≡ m
+  one_line_of ls n m F G f g (same e) = sym f.number ∙ (ap (λ (l : LineValue). l.line) e ∙ g.number)
+  one_line_of ls n m F G f g (first mid e) = absurd (not_before f.before mid f.line f.stops (subst (λ t. Readable t ⊎ ((extra : LineValue) × Readable (t ++ extra ∷ []))) e g.fits))
+  one_line_of ls n m F G f g (second mid e) = absurd (not_before g.before mid g.line g.stops (subst (λ t. Readable t ⊎ ((extra : LineValue) × Readable (t ++ extra ∷ []))) e f.fits))
+
+  one_line : (ls : Lines) (n m : ℕ) (F G : Lines → LineValue → Type 0) → StopsAt Readable kind ls n F → StopsAt Readable kind ls m G → n ≡ m
+  one_line ls n m F G f g = one_line_of ls n m F G f g (cuts f.before g.before f.after g.after f.line g.line (sym f.whole ∙ g.whole))
+
+  -- where a line more makes lines readable, none of them is faulty
+  no_fault : (ls : Lines) (n : ℕ) (F : Lines → LineValue → Type 0) (extra : LineValue) → StopsAt Readable kind ls n F → Readable (ls ++ extra ∷ []) → ⊥
+  no_fault ls n F extra f readable = not_before f.before f.after f.line f.stops (inr (extra, subst (λ t. Readable (t ++ extra ∷ [])) f.whole readable))
+
+-- a tag line that can't stand there is no bad tag
+unexpected_before_bad_tag : (before : Lines) (line : LineValue) → NoneLikeIt IsReadable class before line → IsBadTag before line → ⊥
+unexpected_before_bad_tag before line none bad = some_or_none IsReadable class before line none bad.fits
+
+-- lines that end after tags have no faulty line
+no_fault_before_end : (ls : Lines) (n m : ℕ) (F : Lines → LineValue → Type 0) → StopsAt IsReadable class ls n F → EndsInTags ls m → ⊥
+no_fault_before_end ls n m F f ends = no_fault IsReadable class ls n F ends.fits.0 f ends.fits.2
+
+-- lines that end in a doc string have no faulty line
+closing_line : (fence : Fence) → closes fence (line_at 1 (fence_text fence)) ≡ true
+unfolding closes
+closing_line Quotes = refl
+closing_line Backticks = refl
+
+no_fault_in_doc_string : (ls : Lines) (n m : ℕ) (F : Lines → LineValue → Type 0) → StopsAt IsReadable class ls n F → EndsInDocString IsReadable class ls m → ⊥
+no_fault_in_doc_string ls n m F f ends = no_fault IsReadable class ls n F (line_at 1 (fence_text ends.fence)) f (ends.closed (line_at 1 (fence_text ends.fence)) (closing_line ends.fence))

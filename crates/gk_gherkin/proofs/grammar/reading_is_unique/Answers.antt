@@ -1,0 +1,5 @@
+use Rattle.gk_gherkin.proofs.ReaderComplete.{one_reading}
+use Rattle.gk_gherkin.proofs.grammar.reading_is_unique.Goals as goal
+
+pub returns : goal.returns
+returns c = one_reading

@@ -1,0 +1,6 @@
+use Rattle.std.proofs.Common.{◌≡◌, ◌+◌, map, length}
+use Rattle.gk_gherkin.specs.Lines.{line_value, numbered_from}
+use Rattle.gk_gherkin.proofs.lines.lines_from.Given as goal
+
+abbrev pub invariant-loop-part : goal.invariant-loop-part
+invariant-loop-part l = (map line_value l.lines.items ≡ numbered_from 1 (map (λ x. x.now) l.yielded)) × (l.number ≡ 1 + length l.yielded)

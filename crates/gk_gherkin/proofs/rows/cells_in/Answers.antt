@@ -1,0 +1,29 @@
+use Rattle.std.proofs.Common.{rules, ◌≡◌, ◌<◌, ◌≤◌, ◌+◌, ◌∙◌, ℕ, List, length, get_or, vec_len, ap, Ok, arith}
+use Rattle.std.proofs.lemmas.Bool.Decides.{nat_tests}
+use Rattle.std.proofs.lemmas.List.{length-map}
+use Rattle.std.specs.String.{string_bytes}
+use Rattle.gk_gherkin.specs.Feature.{texts}
+use Rattle.gk_gherkin.proofs.LineCuts.{after_bar}
+use Rattle.gk_gherkin.proofs.TagWords.{none_left, some_left}
+use Rattle.gk_gherkin.proofs.RowParts.{all_cells, some_are_some, none_are_none}
+use Rattle.gk_gherkin.proofs.rows.cells_in.Goals as goal
+
+pub range_from-rest-requires : goal.range_from-rest-requires
+range_from-rest-requires c =
+    let below : c.part_len-end.result < length c.parts.rest.now = omega (arith, ap length c.as_bytes.ensures.value) in
+    let bar : get_or c.parts.rest.now c.part_len-end.result 0 ≡ 124 = rw c.as_bytes.ensures.value at c.part_len-end.ensures.bar below in
+    λ _. after_bar c.parts.rest.now c.part_len-end.result c.parts.invariant.0 below bar
+
+pub returns-then-is_empty : goal.returns-then-is_empty
+returns-then-is_empty c =
+    let over : length c.parts.rest.now ≤ 0 = grind (arith, nat_tests) in
+    let none : vec_len c.parts.cells ≤ 0 = none_left (vec_len c.parts.cells) c.is_empty-2.result c.is_empty-2.ensures c.if-is_empty.true in
+    let few : length (texts c.parts.cells.items) ≤ 0 = omega (arith, length-map c.parts.cells.items (λ s. string_bytes s), c.parts.cells.ok) in
+    ap Ok (all_cells c.args.text.now c.parts.rest.now (texts c.parts.cells.items) over c.parts.invariant.1 ∙ none_are_none (texts c.parts.cells.items) few)
+
+pub returns-else-is_empty : goal.returns-else-is_empty
+returns-else-is_empty c =
+    let over : length c.parts.rest.now ≤ 0 = grind (arith, nat_tests) in
+    let one : 0 < vec_len c.parts.cells = some_left (vec_len c.parts.cells) c.is_empty-2.result c.is_empty-2.ensures c.if-is_empty.false in
+    let some : 0 < length (texts c.parts.cells.items) = omega (arith, length-map c.parts.cells.items (λ s. string_bytes s), c.parts.cells.ok) in
+    ap Ok (all_cells c.args.text.now c.parts.rest.now (texts c.parts.cells.items) over c.parts.invariant.1 ∙ some_are_some (texts c.parts.cells.items) some)

@@ -1,0 +1,22 @@
+use Rattle.std.proofs.Common.{rules, ◌≡◌, ◌++◌, ◌∷◌, ◌∙◌, ℕ, List, ap, sym, Ok, arith}
+use Rattle.std.specs.String.{string_bytes}
+use Rattle.gk_gherkin.specs.Rows.{unescaped}
+use Rattle.gk_gherkin.proofs.RowParts.{to_escape, no_escape_left}
+use Rattle.gk_gherkin.proofs.TextEnds.{two_more, last_piece}
+use Rattle.gk_gherkin.proofs.rows.unescaped.Goals as goal
+
+pub escapes-preserved : goal.escapes-preserved
+escapes-preserved c =
+    let one : string_bytes c.push_str.new.self ≡ string_bytes c.escapes.cell ++ c.in-Some.before.now = search rules in
+    let two : string_bytes c.push_str-in-Some.new.self ≡ string_bytes c.push_str.new.self ++ c.escape.result.0.now = search rules in (
+      search rules,
+      two_more (string_bytes c.escapes.cell) (string_bytes c.push_str.new.self) (string_bytes c.push_str-in-Some.new.self) c.in-Some.before.now c.escape.result.0.now (unescaped c.escapes.rest.now) (unescaped c.escape.result.1.now) _ one two
+          (to_escape c.escapes.rest.now _ c.split_once.ensures.cases _ c.in-Some.is ∙ ap (λ (t : List ℕ). c.in-Some.before.now ++ t) c.escape.ensures.means)
+          c.escapes.invariant.1,
+    )
+
+pub returns-in-None : goal.returns-in-None
+returns-in-None c =
+    let whole : string_bytes c.push_str-in-None.new.self ≡ string_bytes c.escapes.cell ++ c.escapes.rest.now = search rules in
+    ap Ok (last_piece (string_bytes c.escapes.cell) (string_bytes c.push_str-in-None.new.self) c.escapes.rest.now _ whole
+    (ap (λ (t : List ℕ). string_bytes c.escapes.cell ++ t) (sym (no_escape_left c.escapes.rest.now _ c.split_once.ensures.cases c.in-None.is)) ∙ c.escapes.invariant.1))

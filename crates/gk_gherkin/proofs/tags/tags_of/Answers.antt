@@ -1,0 +1,58 @@
+use Rattle.std.proofs.Common.{rules, ◌≡◌, ◌≤◌, ◌<◌, ◌-◌, ◌∙◌, ◌++◌, ◌∷◌, [], ◌+◌, ℕ, List, length, take, drop, ap, sym, Ok, arith}
+use Rattle.std.specs.List.{position_or_len, prefix_len}
+use Rattle.std.specs.String.{string_bytes}
+use Rattle.gk_gherkin.specs.Lines.{is_blank, trim_front, piece_value}
+use Rattle.gk_gherkin.specs.Feature.{texts}
+use Rattle.gk_gherkin.specs.Tags.{tags_of, words_of, is_tag}
+use Rattle.gk_gherkin.proofs.LineCuts.{before_first_blank}
+use Rattle.gk_gherkin.proofs.TagWords.{onto_tags, tags_by, starts, no_blank_left, takes_tag, refuses_word, text_more, some_left}
+use Rattle.gk_gherkin.proofs.tags.tags_of.Goals as goal
+
+pub words-init : goal.words-init
+words-init c = (
+  c.trim_front-rest.utf8,
+  starts (piece_value c.args.line.now) c.trim_front-rest.result.now (texts c.new-tags.result.items) c.trim_front-rest.ensures (ap texts c.new-tags.ensures.items),
+  ap (prefix_len is_blank) c.trim_front-rest.ensures ∙ no_blank_left c.args.line.now.text.now,
+)
+
+pub range-word-requires-clause-end_boundary : goal.range-word-requires-clause-end_boundary
+range-word-requires-clause-end_boundary c =
+    let place = c.first_blank-end.ensures.value ∙ ap (position_or_len is_blank) c.as_bytes.ensures.value in
+    let within : c.first_blank-end.result ≤ length c.words.rest.now = omega (arith, ap length c.as_bytes.ensures.value) in
+    (within, λ below. (before_first_blank c.words.rest.now c.first_blank-end.result place below).1 below)
+
+pub range_from-requires : goal.range_from-requires
+range_from-requires c =
+    let place = c.first_blank-end.ensures.value ∙ ap (position_or_len is_blank) c.as_bytes.ensures.value in
+    let within : c.first_blank-end.result ≤ length c.words.rest.now = omega (arith, ap length c.as_bytes.ensures.value) in
+    λ _. (within, λ below. (before_first_blank c.words.rest.now c.first_blank-end.result place below).1 below)
+
+pub returns-then-not-is_tag : goal.returns-then-not-is_tag
+returns-then-not-is_tag c =
+    let t = c.words.rest.now in
+    let n = c.first_blank-end.result in
+    let place = c.first_blank-end.ensures.value ∙ ap (position_or_len is_blank) c.as_bytes.ensures.value in
+    let some : 0 < length t = some_left (length t) c.is_empty.result c.is_empty.ensures c.words-test.true in
+    let whole : n - 0 ≡ n = omega arith in
+    let word : c.range-word.result.now ≡ take n t = c.range-word.ensures.value ∙ ap (λ (k : ℕ). take k t) whole in
+    ap Ok (refuses_word (tags_of (piece_value c.args.line.now)) t n (texts c.words.tags.items) some c.words.invariant.2 place (sym c.begins.ensures ∙ c.if-not-begins.true) c.words.invariant.1
+    (ap is_tag (sym word) ∙ sym c.is_tag.ensures ∙ c.if-not-is_tag.true))
+
+pub words-preserved : goal.words-preserved
+words-preserved c =
+    let t = c.words.rest.now in
+    let n = c.first_blank-end.result in
+    let place = c.first_blank-end.ensures.value ∙ ap (position_or_len is_blank) c.as_bytes.ensures.value in
+    let some : 0 < length t = some_left (length t) c.is_empty.result c.is_empty.ensures c.words-test.true in
+    let whole : n - 0 ≡ n = omega arith in
+    let word : c.range-word.result.now ≡ take n t = c.range-word.ensures.value ∙ ap (λ (k : ℕ). take k t) whole in
+    let next : c.trim_front-rest-in-words.result.now ≡ trim_front (drop n t) = c.trim_front-rest-in-words.ensures ∙ ap trim_front c.range_from.ensures.value in
+    let pushed : c.push.new.self.items ≡ c.words.tags.items ++ c.in_ok-from_str.field-0 ∷ [] = search rules in
+    let made : string_bytes c.in_ok-from_str.field-0 ≡ c.range-word.result.now = search rules in (
+      c.trim_front-rest-in-words.utf8,
+      takes_tag (tags_of (piece_value c.args.line.now)) t n (texts c.words.tags.items) some c.words.invariant.2 place (sym c.begins.ensures ∙ c.if-not-begins.true) c.words.invariant.1
+          (ap is_tag (sym word) ∙ sym c.is_tag.ensures ∙ c.if-not-is_tag.false)
+          ∙ ap (λ (xs : List (List ℕ)). onto_tags xs (tags_by (words_of (trim_front (drop n t))))) (sym (text_more c.words.tags.items c.push.new.self.items c.in_ok-from_str.field-0 (take n t) pushed (made ∙ word)))
+          ∙ ap (λ (r : List ℕ). onto_tags (texts c.push.new.self.items) (tags_by (words_of r))) (sym next),
+      ap (prefix_len is_blank) next ∙ no_blank_left (drop n t),
+    )

@@ -1,0 +1,109 @@
+-- What a feature file says, without where it lies in memory. Texts are lists of bytes, tags stand with their `@`, keywords without their colon.
+use Rattle.std.specs.Prelude.{ℕ, List, map, Option, option_map, String}
+use Rattle.std.specs.String.{string_bytes}
+use Rattle.gk_gherkin.specs.declared.feature.StepType.{StepType}
+use Rattle.gk_gherkin.specs.declared.feature.Block.{Block}
+use Rattle.gk_gherkin.specs.declared.feature.Block.TheVariants as blocks
+use Rattle.gk_gherkin.specs.declared.feature.Step.{Step}
+use Rattle.gk_gherkin.specs.declared.feature.Row.{Row}
+use Rattle.gk_gherkin.specs.declared.feature.Examples.{Examples}
+use Rattle.gk_gherkin.specs.declared.feature.Background.{Background}
+use Rattle.gk_gherkin.specs.declared.feature.Scenario.{Scenario}
+use Rattle.gk_gherkin.specs.declared.feature.Rule.{Rule}
+use Rattle.gk_gherkin.specs.declared.feature.Feature.{Feature}
+
+-- What stands under a step: nothing, the text of a doc string, or the cells of a table. (Cucumber's Gherkin reference: step arguments)
+pub data BlockValue : Type 0 where
+  Empty : BlockValue
+  Text : List ℕ → BlockValue
+  Table : List (List (List ℕ)) → BlockValue
+
+-- A step. (Cucumber's Gherkin reference: steps)
+pub record StepValue : Type 0 where
+  pub keyword : List ℕ
+  pub step_type : StepType
+  pub text : List ℕ
+  pub block : BlockValue
+  pub line : ℕ
+
+-- A row of a table. (Cucumber's Gherkin reference: data tables)
+pub record RowValue : Type 0 where
+  pub line : ℕ
+  pub cells : List (List ℕ)
+
+-- Examples: a header and the rows under it. Where no table stands there, the header has no cells and there are no rows. (Cucumber's Gherkin reference: examples)
+pub record ExamplesValue : Type 0 where
+  pub name : List ℕ
+  pub line : ℕ
+  pub tags : List (List ℕ)
+  pub header : List (List ℕ)
+  pub rows : List RowValue
+
+-- A background. (Cucumber's Gherkin reference: background)
+pub record BackgroundValue : Type 0 where
+  pub line : ℕ
+  pub steps : List StepValue
+
+-- A scenario or an outline. (Cucumber's Gherkin reference: example, scenario outline)
+pub record ScenarioValue : Type 0 where
+  pub keyword : List ℕ
+  pub name : List ℕ
+  pub line : ℕ
+  pub tags : List (List ℕ)
+  pub steps : List StepValue
+  pub examples : List ExamplesValue
+
+-- A rule. (Cucumber's Gherkin reference: rule)
+pub record RuleValue : Type 0 where
+  pub name : List ℕ
+  pub line : ℕ
+  pub tags : List (List ℕ)
+  pub background : Option BackgroundValue
+  pub scenarios : List ScenarioValue
+
+-- A feature. (Cucumber's Gherkin reference: feature)
+pub record FeatureValue : Type 0 where
+  pub name : List ℕ
+  pub line : ℕ
+  pub tags : List (List ℕ)
+  pub background : Option BackgroundValue
+  pub scenarios : List ScenarioValue
+  pub rules : List RuleValue
+
+-- The texts of a list of strings. (this project's profile)
+abbrev pub texts : {Z : Type 0} → List (String Z) → List (List ℕ)
+texts strings = map string_bytes strings
+
+-- What a `Block` says. (this project's profile)
+abbrev pub block_value : Block → BlockValue
+block_value blocks.Empty = Empty
+block_value (blocks.Text text) = Text (string_bytes text)
+block_value (blocks.Table rows) = Table (map (λ row. texts row.items) rows.items)
+
+-- What a `Step` says. (this project's profile)
+abbrev pub step_value : Step → StepValue
+step_value s = record { keyword = string_bytes s.keyword; step_type = s.step_type; text = string_bytes s.text; block = block_value s.block; line = s.line }
+
+-- What a `Row` says. (this project's profile)
+abbrev pub row_value : Row → RowValue
+row_value r = record { line = r.line; cells = texts r.cells.items }
+
+-- What an `Examples` says. (this project's profile)
+abbrev pub examples_value : Examples → ExamplesValue
+examples_value e = record { name = string_bytes e.name; line = e.line; tags = texts e.tags.items; header = texts e.header.items; rows = map row_value e.rows.items }
+
+-- What a `Background` says. (this project's profile)
+abbrev pub background_value : Background → BackgroundValue
+background_value b = record { line = b.line; steps = map step_value b.steps.items }
+
+-- What a `Scenario` says. (this project's profile)
+abbrev pub scenario_value : Scenario → ScenarioValue
+scenario_value s = record { keyword = string_bytes s.keyword; name = string_bytes s.name; line = s.line; tags = texts s.tags.items; steps = map step_value s.steps.items; examples = map examples_value s.examples.items }
+
+-- What a `Rule` says. (this project's profile)
+abbrev pub rule_value : Rule → RuleValue
+rule_value r = record { name = string_bytes r.name; line = r.line; tags = texts r.tags.items; background = option_map background_value r.background; scenarios = map scenario_value r.scenarios.items }
+
+-- What a `Feature` says. (this project's profile)
+abbrev pub feature_value : Feature → FeatureValue
+feature_value f = record { name = string_bytes f.name; line = f.line; tags = texts f.tags.items; background = option_map background_value f.background; scenarios = map scenario_value f.scenarios.items; rules = map rule_value f.rules.items }

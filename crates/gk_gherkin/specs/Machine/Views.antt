@@ -1,0 +1,76 @@
+-- Proof machinery: what the code's state says. No public contract cites it.
+use Rattle.std.specs.Prelude.{map, option_map}
+use Rattle.std.specs.String.{string_bytes}
+use Rattle.gk_gherkin.specs.declared.machine.Head.{Head}
+use Rattle.gk_gherkin.specs.declared.machine.Section.{Section}
+use Rattle.gk_gherkin.specs.declared.machine.Top.{Top}
+use Rattle.gk_gherkin.specs.declared.machine.Top.TheVariants as tops
+use Rattle.gk_gherkin.specs.declared.machine.Body.{Body}
+use Rattle.gk_gherkin.specs.declared.machine.Body.TheVariants as bodies
+use Rattle.gk_gherkin.specs.declared.machine.Owner.{Owner}
+use Rattle.gk_gherkin.specs.declared.machine.Owner.TheVariants as owners
+use Rattle.gk_gherkin.specs.declared.machine.Grid.{Grid}
+use Rattle.gk_gherkin.specs.declared.machine.Grid.TheVariants as grids
+use Rattle.gk_gherkin.specs.declared.machine.Outline.{Outline}
+use Rattle.gk_gherkin.specs.declared.machine.Open.{Open}
+use Rattle.gk_gherkin.specs.declared.machine.Open.TheVariants as opens
+use Rattle.gk_gherkin.specs.declared.machine.Place.{Place}
+use Rattle.gk_gherkin.specs.declared.machine.Place.TheVariants as places
+use Rattle.gk_gherkin.specs.declared.machine.Quote.{Quote}
+use Rattle.gk_gherkin.specs.declared.machine.State.{State}
+use Rattle.gk_gherkin.specs.declared.machine.State.TheVariants as states
+use Rattle.gk_gherkin.specs.Feature.{texts, step_value, row_value, background_value, scenario_value, feature_value}
+use Rattle.gk_gherkin.specs.Machine as spec
+
+-- What a `Head` says. (proof machinery)
+abbrev pub head_value : Head → spec.HeadValue
+head_value h = record { tags = texts h.tags.items; name = string_bytes h.name; line = h.line }
+
+-- What a `Section` says. (proof machinery)
+abbrev pub section_value : Section → spec.SectionValue
+section_value s = record { background = option_map background_value s.background; scenarios = map scenario_value s.scenarios.items }
+
+-- What a `Top` says. (proof machinery)
+abbrev pub top_value : Top → spec.Top
+top_value (tops.OfFeature head) = spec.OfFeature (head_value head)
+top_value (tops.OfRule feature head) = spec.OfRule (feature_value feature) (head_value head)
+
+-- What a `Body` says. (proof machinery)
+abbrev pub body_value : Body → spec.Body
+body_value bodies.Describing = spec.Describing
+body_value (bodies.Stepped steps step) = spec.Stepped (map step_value steps.items) (step_value step)
+
+-- What an `Owner` says. (proof machinery)
+abbrev pub owner_value : Owner → spec.Owner
+owner_value (owners.OfBackground line) = spec.OfBackground line
+owner_value (owners.OfScenario section keyword head) = spec.OfScenario (section_value section) (string_bytes keyword) (head_value head)
+
+-- What a `Grid` says. (proof machinery)
+abbrev pub grid_value : Grid → spec.Grid
+grid_value grids.NoRows = spec.NoRows
+grid_value (grids.Rows header rows) = spec.Rows (texts header.items) (map row_value rows.items)
+
+-- What an `Outline` says. (proof machinery)
+abbrev pub outline_value : Outline → spec.OutlineValue
+outline_value o = record { section = section_value o.section; scenario = scenario_value o.scenario }
+
+-- What an `Open` says. (proof machinery)
+abbrev pub open_value : Open → spec.Open
+open_value opens.Headed = spec.Headed
+open_value (opens.Bodied owner body) = spec.Bodied (owner_value owner) (body_value body)
+open_value (opens.Exampled section scenario head grid) = spec.Exampled (section_value section) (scenario_value scenario) (head_value head) (grid_value grid)
+
+-- What a `Place` says. (proof machinery)
+abbrev pub place_value : Place → spec.Place
+place_value places.Above = spec.Above
+place_value (places.Inside top part) = spec.Inside (top_value top) (open_value part)
+
+-- What a `Quote` says. (proof machinery)
+abbrev pub quote_value : Quote → spec.QuoteValue
+quote_value q = record { top = top_value q.top; owner = owner_value q.owner; steps = map step_value q.steps.items; step = step_value q.step }
+
+-- What a `State` says. (proof machinery)
+abbrev pub state_value : State → spec.State
+state_value (states.At place) = spec.At (place_value place)
+state_value (states.Tagged place tags last) = spec.Tagged (place_value place) (texts tags.items) last
+state_value (states.Quoted quote fence column line content) = spec.Quoted (quote_value quote) fence column line (option_map string_bytes content)

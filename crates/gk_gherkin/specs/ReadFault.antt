@@ -1,0 +1,161 @@
+-- What each fault of a feature file says.
+use Rattle.std.specs.Prelude.{codes, ◌≡◌, ◌≢◌, ℕ, true, false, ◌⊎◌, List, [], ◌∷◌, ◌++◌, length, Option, Some, None, IfSome, Result, Ok, Err, option_map}
+use Rattle.std.specs.List.{AllByRecursion}
+use Rattle.gk_gherkin.specs.declared.read_fault.ReadFault.{ReadFault}
+use Rattle.gk_gherkin.specs.declared.read_fault.ReadFault.TheVariants.{NotUtf8, Unexpected, BadTag, CellCount, UnclosedText, TagsAtEnd, Language, TooLong, Memory, BadRow}
+use Rattle.gk_gherkin.specs.Lines.{LineValue, Lines, lines_of, IsText, IsTooLong, IsNotUtf8At}
+use Rattle.gk_gherkin.specs.declared.class.Class.{Class}
+use Rattle.gk_gherkin.specs.declared.class.Class.TheVariants.{Comment, TagLine, FeatureHeading, RuleHeading, ScenarioHeading, ExamplesHeading, RowLine, FenceLine}
+use Rattle.gk_gherkin.specs.declared.class.Fence.{Fence}
+use Rattle.gk_gherkin.specs.Class.{class}
+use Rattle.gk_gherkin.specs.Tags.{tags_of}
+use Rattle.gk_gherkin.specs.Rows.{cells_of}
+use Rattle.gk_gherkin.specs.DocStrings.{closes}
+use Rattle.gk_gherkin.specs.Language.{NamesOtherLanguage}
+use Rattle.gk_gherkin.specs.declared.feature.Feature.{Feature}
+use Rattle.gk_gherkin.specs.Feature.{FeatureValue, feature_value}
+use Rattle.gk_gherkin.specs.Grammar.{IsIgnored, Skips, IsReadable}
+
+-- The same is said of both grammars: Readable says which lists of lines have a reading, kind gives the class of a line there.
+module _ (Readable : Lines → Type 0) {C : Type 0} (kind : LineValue → C) where
+  -- Some readable list begins with these lines. (this project's profile)
+  abbrev pub BeginsSome : Lines → Type 0
+  BeginsSome ls = (more : Lines) × Readable (ls ++ more)
+
+  -- No readable list begins with these lines. (this project's profile)
+  abbrev pub BeginsNone : Lines → Type 0
+  BeginsNone ls = (more : Lines) → Readable (ls ++ more) → ⊥
+
+  -- Some line of the class of this one can stand after the lines before. (this project's profile)
+  abbrev pub SomeLikeIt : Lines → LineValue → Type 0
+  SomeLikeIt before line = (other : LineValue) × (kind other ≡ kind line) × BeginsSome (before ++ other ∷ [])
+
+  -- No line of the class of this one can stand after the lines before. (this project's profile)
+  abbrev pub NoneLikeIt : Lines → LineValue → Type 0
+  NoneLikeIt before line = (other : LineValue) → kind other ≡ kind line → BeginsNone (before ++ other ∷ [])
+
+  -- A fault on line n: the lines before it are readable, alone or with one line more after them; those up to and with it begin no readable list; and the fault's own fact holds of it. (this project's profile)
+  pub record StopsAt (ls : Lines) (n : ℕ) (Fault : Lines → LineValue → Type 0) : Type 0 where
+    pub before : Lines
+    pub line : LineValue
+    pub after : Lines
+    pub whole : ls ≡ before ++ line ∷ after
+    pub number : line.line ≡ n
+    pub fits : Readable before ⊎ ((extra : LineValue) × Readable (before ++ extra ∷ []))
+    pub stops : BeginsNone (before ++ line ∷ [])
+    pub fault : Fault before line
+
+  -- A row, where a row can stand, that isn't between two bars. (this project's profile)
+  pub record IsBadRow (before : Lines) (line : LineValue) : Type 0 where
+    pub is : class line ≡ RowLine
+    pub fits : SomeLikeIt before line
+    pub bad : cells_of line ≡ None
+
+  -- A row, where a row can stand, with another number of cells than each row that can stand there. (this project's profile)
+  pub record IsOtherWidth (before : Lines) (line : LineValue) : Type 0 where
+    pub is : class line ≡ RowLine
+    pub fits : SomeLikeIt before line
+    pub cells : List (List ℕ)
+    pub good : cells_of line ≡ Some cells
+    pub width : ℕ
+    pub wanted : (other : LineValue) → class other ≡ RowLine → BeginsSome (before ++ other ∷ []) → IfSome (cells_of other) (λ wanted. length wanted ≡ width)
+    pub differs : length cells ≢ width
+
+  -- The lines end in a doc string that line n opened: any line that closes it would make them readable, and none stands there. (this project's profile)
+  pub record EndsInDocString (ls : Lines) (n : ℕ) : Type 0 where
+    pub before : Lines
+    pub fence : Fence
+    pub opening : LineValue
+    pub content : Lines
+    pub whole : ls ≡ before ++ opening ∷ content
+    pub number : opening.line ≡ n
+    pub is : class opening ≡ FenceLine fence
+    pub inside : AllByRecursion (λ line. closes fence line ≡ false) content
+    pub fits : Readable before
+    pub unread : Readable ls → ⊥
+    pub closed : (closing : LineValue) → closes fence closing ≡ true → Readable (ls ++ closing ∷ [])
+
+-- A tag line, where one can stand, with a word that is no tag. (this project's profile)
+pub record IsBadTag (before : Lines) (line : LineValue) : Type 0 where
+  pub is : class line ≡ TagLine
+  pub fits : SomeLikeIt IsReadable class before line
+  pub bad : tags_of line ≡ None
+
+-- A comment without a Feature line above it that names another language than English. (this project's profile)
+pub record IsOtherLanguage (before : Lines) (line : LineValue) : Type 0 where
+  pub is : class line ≡ Comment
+  pub above : AllByRecursion (λ other. class other ≢ FeatureHeading) before
+  pub names : NamesOtherLanguage line
+
+-- A heading that takes tags. (this project's profile)
+abbrev pub TakesTags : Class → Type 0
+TakesTags FeatureHeading = Unit {0}
+TakesTags RuleHeading = Unit {0}
+TakesTags ScenarioHeading = Unit {0}
+TakesTags ExamplesHeading = Unit {0}
+TakesTags _ = ⊥
+
+-- The lines end after tag line n: a heading that takes tags would make them readable, and none stands there. (this project's profile)
+pub record EndsInTags (ls : Lines) (n : ℕ) : Type 0 where
+  pub before : Lines
+  pub line : LineValue
+  pub ignored : Lines
+  pub whole : ls ≡ before ++ line ∷ ignored
+  pub number : line.line ≡ n
+  pub is : class line ≡ TagLine
+  pub skipped : Skips IsIgnored ignored []
+  pub unread : IsReadable ls → ⊥
+  pub fits : (heading : LineValue) × TakesTags (class heading) × IsReadable (ls ++ heading ∷ [])
+
+-- What a fault says of the lines of a feature file. (this project's profile)
+abbrev pub FeatureFault : ReadFault → Lines → Type 0
+FeatureFault (Unexpected n) ls = StopsAt IsReadable class ls n (NoneLikeIt IsReadable class)
+FeatureFault (BadTag n) ls = StopsAt IsReadable class ls n IsBadTag
+FeatureFault (BadRow n) ls = StopsAt IsReadable class ls n (IsBadRow IsReadable class)
+FeatureFault (CellCount n) ls = StopsAt IsReadable class ls n (IsOtherWidth IsReadable class)
+FeatureFault (Language n) ls = StopsAt IsReadable class ls n IsOtherLanguage
+FeatureFault (UnclosedText n) ls = EndsInDocString IsReadable class ls n
+FeatureFault (TagsAtEnd n) ls = EndsInTags ls n
+FeatureFault _ ls = ⊥
+
+-- What a fault says of the bytes: too many before no UTF-8, and both before any fault of the lines. (this project's profile)
+abbrev pub FaultSays : (ReadFault → Lines → Type 0) → ReadFault → List ℕ → Type 0
+FaultSays OfLines Memory bytes = IsText bytes
+FaultSays OfLines TooLong bytes = IsTooLong bytes
+FaultSays OfLines (NotUtf8 n) bytes = IsNotUtf8At bytes n
+FaultSays OfLines fault bytes = IsText bytes × OfLines fault (lines_of bytes)
+
+-- What a fault says where the lines alone are read. (this project's profile)
+abbrev pub LinesFaultSays : ReadFault → List ℕ → Type 0
+LinesFaultSays fault bytes = FaultSays (λ other ls. ⊥) fault bytes
+
+-- What was answered has this reading, or memory ran out. (this project's profile)
+abbrev pub AnswersOrLacksMemory : Result (Option Feature) ReadFault → Option FeatureValue → Type 0
+AnswersOrLacksMemory (Ok answer) reading = option_map feature_value answer ≡ reading
+AnswersOrLacksMemory (Err fault) reading = fault ≡ Memory
+
+-- The line that a fault names. (this project's profile)
+abbrev pub line_of_fault : ReadFault → Option ℕ
+line_of_fault (NotUtf8 n) = Some n
+line_of_fault (Unexpected n) = Some n
+line_of_fault (BadTag n) = Some n
+line_of_fault (CellCount n) = Some n
+line_of_fault (UnclosedText n) = Some n
+line_of_fault (TagsAtEnd n) = Some n
+line_of_fault (Language n) = Some n
+line_of_fault (BadRow n) = Some n
+line_of_fault TooLong = None
+line_of_fault Memory = None
+
+-- What a fault is called, without its line. (this project's profile)
+abbrev pub text_of_fault : ReadFault → List ℕ
+text_of_fault (NotUtf8 n) = codes "not UTF-8"
+text_of_fault (Unexpected n) = codes "unexpected line"
+text_of_fault (BadTag n) = codes "bad tag"
+text_of_fault (CellCount n) = codes "row with another number of cells"
+text_of_fault (UnclosedText n) = codes "doc string without end"
+text_of_fault (TagsAtEnd n) = codes "tags before nothing"
+text_of_fault (Language n) = codes "language not known"
+text_of_fault (BadRow n) = codes "row without closing bar"
+text_of_fault TooLong = codes "longer than 16777216 bytes"
+text_of_fault Memory = codes "out of memory"

@@ -1,0 +1,105 @@
+//! The text of a doc string.
+ghost use Rattle.std.specs.Prelude.{option_map, Ok, ◌≡◌, ◌-◌, ◌++◌, ◌&&◌, drop, min};
+ghost use Rattle.std.specs.List.{prefix_len};
+ghost use Rattle.std.specs.String.{string_bytes};
+ghost use Rattle.gk_gherkin.specs.Lines.{is_blank, piece_value};
+ghost use Rattle.gk_gherkin.specs.Class as class;
+ghost use Rattle.gk_gherkin.specs.Machine.{Gives};
+ghost use Rattle.gk_gherkin.specs.Machine as machine;
+ghost use Rattle.gk_gherkin.specs.DocStrings as spec;
+
+use crate::class::{Fence, begins};
+use crate::lines::{Piece, leading_blanks, trim};
+use crate::read_fault::ReadFault;
+use std::alloc::Global;
+
+/// Whether a line closes the doc string that a fence opened.
+#[tactic(auto, unfolding(crate::specs::DocStrings::closes))]
+pub fn closes(fence: Fence, line: &Piece<'_>) -> bool
+    ensures { result ≡ spec.closes fence (piece_value line.now) }
+{
+    let text = trim(line.text);
+    begins(text, fence_text(fence)) && text.len() == 3
+}
+
+// A text without as many leading blanks as the margin has, or as there are.
+fn without_margin(margin: usize, text: &str) -> &str
+    ensures { result.now ≡ drop (min margin (prefix_len is_blank text.now)) text.now }
+{
+    let blanks = leading_blanks(text.as_bytes());
+    &text[margin.min(blanks)..]
+}
+
+fn fence_text(fence: Fence) -> &'static str
+    ensures { result.now ≡ class.fence_text fence }
+{
+    match fence {
+        Fence::Quotes => "\"\"\"",
+        Fence::Backticks => "```",
+    }
+}
+
+fn escaped_fence(fence: Fence) -> &'static str
+    ensures { result.now ≡ spec.escaped_fence fence }
+{
+    match fence {
+        Fence::Quotes => "\\\"\\\"\\\"",
+        Fence::Backticks => "\\`\\`\\`",
+    }
+}
+
+// A text with the text of a content line after it.
+fn with_content(
+    text: String,
+    fence: Fence,
+    column: u32,
+    line: &Piece<'_>,
+) -> Result<String, ReadFault>
+    ensures { Gives string_bytes result (Ok (string_bytes text ++ spec.content_of fence (column - 1) (piece_value line.now))) }
+{
+    let mut text = text;
+    let mut rest = without_margin(column.saturating_sub(1) as usize, line.text);
+    'fences: loop {
+        match rest.split_once(escaped_fence(fence)) {
+            Some((before, after)) => {
+                text.push_str(before)?;
+                text.push_str(fence_text(fence))?;
+                rest = after;
+            }
+            None => {
+                text.push_str(rest)?;
+                return Ok(text);
+            }
+        }
+    }
+}
+
+#[tactic(auto, using(crate::proofs::TextEnds::after_end))]
+pub fn with_line(
+    alloc: Global,
+    content: Option<String>,
+    fence: Fence,
+    column: u32,
+    line: &Piece<'_>,
+) -> Result<String, ReadFault>
+    ensures { Gives string_bytes result (Ok (machine.with_line (option_map string_bytes content) (spec.content_of fence (column - 1) (piece_value line.now)))) }
+{
+    match content {
+        Some(text) => {
+            let mut text = text;
+            text.push_str("\n")?;
+            with_content(text, fence, column, line)
+        }
+        None => with_content(String::new(alloc), fence, column, line),
+    }
+}
+
+/// The whole text of a doc string.
+pub fn whole_text(alloc: Global, content: Option<String>) -> String
+    ensures { string_bytes result ≡ machine.whole_text (option_map string_bytes content) }
+{
+    match content {
+        Some(text) => text,
+        None => String::new(alloc),
+    }
+}

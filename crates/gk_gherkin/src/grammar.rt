@@ -1,0 +1,21 @@
+//! Laws of the grammar: what its relations say of whole lists of lines.
+ghost use Rattle.gk_gherkin.specs.Grammar.{HasOneReading, IsConcatenation, IsFeature, IsRule, IsScenario, IsBackground, IsStep, AreExamples, IsTable, IsDocString};
+
+/// A step, a table, a doc string, a background, examples, a scenario, a rule or a feature leads from
+/// some lines to a rest exactly where these are the part's own lines and then that rest. (the grammar
+/// of this project's profile)
+pub fn parts_are_concatenations()
+    ensures steps { IsConcatenation IsStep }
+    ensures backgrounds { IsConcatenation IsBackground }
+    ensures scenarios { IsConcatenation IsScenario }
+    ensures examples { IsConcatenation AreExamples }
+    ensures tables { IsConcatenation IsTable }
+    ensures doc_strings { IsConcatenation IsDocString }
+    ensures rules { IsConcatenation IsRule }
+    ensures features { IsConcatenation IsFeature }
+{}
+
+/// No list of lines says two different things. (the grammar of this project's profile)
+pub fn reading_is_unique()
+    ensures { HasOneReading }
+{}

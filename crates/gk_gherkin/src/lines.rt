@@ -1,0 +1,182 @@
+//! The lines of a text.
+ghost use Rattle.std.specs.Prelude.{◌≡◌, ◌≤◌, ◌==◌, map, length, count_by, IfOk, IfErr};
+ghost use Rattle.std.specs.List.{prefix_len};
+ghost use Rattle.std.specs.Str.Lines.{lines};
+ghost use Rattle.gk_gherkin.specs.Lines as spec;
+ghost use Rattle.gk_gherkin.specs.Lines.{is_blank, line_value, piece_value, line_at, numbered_from, lines_of, IsText};
+ghost use Rattle.gk_gherkin.specs.ReadFault.{LinesFaultSays};
+ghost use Rattle.gk_gherkin.specs.declared.read_fault.ReadFault.TheVariants.{Memory};
+
+use crate::read_fault::ReadFault;
+use std::alloc::Global;
+use std::str;
+
+/// How many bytes a file may have. (this project's profile)
+pub const LIMIT: usize = 16_777_216;
+
+/// Where a line's text begins: lines and columns are counted from 1, columns in bytes. (this
+/// project's profile)
+#[derive(Clone, Copy, Debug, PartialEq, Eq)]
+pub struct Place {
+    pub line: u32,
+    pub column: u32,
+}
+
+/// A line with its whole text, without the LF or CRLF that ends it. Its column is that of the first
+/// byte which is neither a space nor a tab, or after the last byte where there is none. (this
+/// project's profile)
+#[derive(Debug, Drop)]
+pub struct Line {
+    pub place: Place,
+    pub text: String,
+}
+
+/// A line whose text is borrowed.
+#[derive(Clone, Copy)]
+pub struct Piece<'a> {
+    pub place: Place,
+    pub text: &'a str,
+}
+
+/// The lines of a text in order.
+#[derive(Debug, Drop)]
+pub struct Document {
+    pub lines: Vec<Line>,
+}
+
+/// Whether a byte is a space or a tab.
+pub fn is_blank(byte: u8) -> bool
+    ensures { result ≡ spec.is_blank byte }
+{
+    byte == b' ' || byte == b'\t'
+}
+
+/// How many blanks a text begins with.
+pub fn leading_blanks(text: &[u8]) -> usize
+    ensures value { result ≡ prefix_len is_blank text.now }
+    ensures within { result ≤ length text.now }
+{
+    for (i, byte) in text.iter().enumerate() {
+        if !is_blank(*byte) {
+            return i;
+        }
+    }
+    text.len()
+}
+
+/// A text without its leading blanks.
+pub fn trim_front(text: &str) -> &str
+    ensures { result.now ≡ spec.trim_front text.now }
+{
+    let blanks = leading_blanks(text.as_bytes());
+    &text[blanks..]
+}
+
+/// A text without its trailing blanks, which are spaces and tabs alone. (this project's profile)
+pub fn trim_back(text: &str) -> &str
+    ensures { result.now ≡ spec.trim_back text.now }
+{
+    let bytes = text.as_bytes();
+    let mut end = bytes.len();
+    while end > 0 && is_blank(bytes[end - 1]) {
+        end -= 1;
+    }
+    &text[..end]
+}
+
+/// A text without its leading and trailing blanks.
+pub fn trim(text: &str) -> &str
+    ensures { result.now ≡ spec.trim text.now }
+{
+    trim_back(trim_front(text))
+}
+
+fn count_ends(bytes: &[u8]) -> usize
+    ensures value { result ≡ count_by (λ b. b == 10) bytes.now }
+    ensures within { result ≤ length bytes.now }
+{
+    bytes.iter().filter(|byte| **byte == b'\n').count()
+}
+
+/// A text without the byte-order mark that it may begin with.
+pub fn without_mark(text: &str) -> &str
+    ensures { result.now ≡ spec.without_mark text.now }
+{
+    if text.starts_with("\u{feff}") {
+        &text[3..]
+    } else {
+        text
+    }
+}
+
+fn line_from(alloc: Global, line: u32, text: &str) -> Result<Line, ReadFault>
+    requires { length text.now ≤ LIMIT }
+    ensures ok { IfOk result (λ l. line_value l ≡ line_at line text.now) }
+    ensures fault { IfErr result (λ e. e ≡ Memory) }
+{
+    let column = 1 + leading_blanks(text.as_bytes()) as u32;
+    Ok(Line {
+        place: Place { line, column },
+        text: String::from_str(alloc, text)?,
+    })
+}
+
+/// The line of this number and text.
+pub fn piece_from<'a>(line: u32, text: &'a str) -> Piece<'a>
+    requires { length text.now ≤ LIMIT }
+    ensures { piece_value result ≡ line_at line text.now }
+{
+    let column = 1 + leading_blanks(text.as_bytes()) as u32;
+    Piece {
+        place: Place { line, column },
+        text,
+    }
+}
+
+fn lines_from(alloc: Global, text: &str) -> Result<Document, ReadFault>
+    requires { length text.now ≤ LIMIT }
+    ensures ok { IfOk result (λ d. map line_value d.lines.items ≡ numbered_from 1 (lines text.now)) }
+    ensures fault { IfErr result (λ e. e ≡ Memory) }
+{
+    let mut lines = Vec::new(alloc);
+    let mut number: u32 = 1;
+    for part in text.lines() {
+        lines.push(line_from(alloc, number, part)?)?;
+        number += 1;
+    }
+    Ok(Document { lines })
+}
+
+/// The text of some bytes, without the byte-order mark that it may begin with.
+pub fn text_of(bytes: &[u8]) -> Result<&str, ReadFault>
+    ensures ok { IfOk result (λ t. IsText bytes.now × (t.now ≡ spec.without_mark bytes.now)) }
+    ensures within { IfOk result (λ t. length t.now ≤ LIMIT) }
+    ensures fault { IfErr result (λ e. LinesFaultSays e bytes.now) }
+{
+    if bytes.len() > LIMIT {
+        return Err(ReadFault::TooLong);
+    }
+    match str::from_utf8(bytes) {
+        Ok(text) => Ok(without_mark(text)),
+        Err(e) => {
+            let line = 1 + count_ends(&bytes[..e.valid_up_to()]) as u32;
+            Err(ReadFault::NotUtf8 { line })
+        }
+    }
+}
+
+/// The lines of a text, numbered from 1, without the byte-order mark that it may begin with. LF or
+/// CRLF ends a line; a CR alone stays; after the last end there is no further line.
+///
+/// More than `LIMIT` bytes are `TooLong`, whatever they spell. Others that aren't UTF-8 are
+/// `NotUtf8`, with the line of the first byte after the longest prefix that is. `Memory` comes only
+/// where a growth was refused. A refusal answers no line. (this project's profile)
+pub fn read_lines(alloc: Global, bytes: &[u8]) -> Result<Document, ReadFault>
+    // What is answered is the text's lines.
+    ensures ok { IfOk result (λ d. IsText bytes.now × (map line_value d.lines.items ≡ lines_of bytes.now)) }
+    // Which fault it is.
+    ensures fault { IfErr result (λ e. LinesFaultSays e bytes.now) }
+{
+    let text = text_of(bytes)?;
+    lines_from(alloc, text)
+}

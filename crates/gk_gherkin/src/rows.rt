@@ -1,0 +1,97 @@
+//! The cells of a row.
+ghost use Rattle.std.specs.Prelude.{option_map, Ok, ◌≡◌, ◌≤◌, ◌<◌, ◌++◌, ◌∷◌, length, take, drop, slice_index};
+ghost use Rattle.std.specs.String.{string_bytes};
+ghost use Rattle.gk_gherkin.specs.Lines.{piece_value};
+ghost use Rattle.gk_gherkin.specs.Feature.{texts};
+ghost use Rattle.gk_gherkin.specs.Machine.{Gives};
+ghost use Rattle.gk_gherkin.specs.Rows as spec;
+
+use crate::lines::{Piece, trim};
+use crate::read_fault::ReadFault;
+use std::alloc::Global;
+
+// How far it is to the first bar that no backslash escapes, or to the end.
+fn part_len(text: &[u8]) -> usize
+    ensures parts { spec.parts_of text.now ≡ spec.parts_after (take result text.now) (drop result text.now) }
+    ensures within { result ≤ length text.now }
+    ensures bar { result < length text.now → slice_index text.now result ≡ 124 }
+{
+    let mut escaped = false;
+    for (i, byte) in text.iter().enumerate() {
+        if escaped {
+            escaped = false;
+        } else if *byte == b'|' {
+            return i;
+        } else {
+            escaped = *byte == b'\\';
+        }
+    }
+    text.len()
+}
+
+// What a backslash before this text means, and what comes after that.
+fn escape(after: &str) -> (&str, &str)
+    ensures means { spec.unescaped (92 ∷ after.now) ≡ result.0.now ++ spec.unescaped result.1.now }
+    ensures within { length result.1.now ≤ length after.now }
+{
+    if let Some(rest) = after.strip_prefix('n') {
+        ("\n", rest)
+    } else if let Some(rest) = after.strip_prefix('|') {
+        ("|", rest)
+    } else if let Some(rest) = after.strip_prefix('\\') {
+        ("\\", rest)
+    } else {
+        ("\\", after)
+    }
+}
+
+fn unescaped(alloc: Global, part: &str) -> Result<String, ReadFault>
+    ensures { Gives string_bytes result (Ok (spec.unescaped part.now)) }
+{
+    let mut cell = String::new(alloc);
+    let mut rest = part;
+    'escapes: loop {
+        match rest.split_once('\\') {
+            Some((before, after)) => {
+                let (character, next) = escape(after);
+                cell.push_str(before)?;
+                cell.push_str(character)?;
+                rest = next;
+            }
+            None => {
+                cell.push_str(rest)?;
+                return Ok(cell);
+            }
+        }
+    }
+}
+
+fn cells_in(alloc: Global, text: &str) -> Result<Option<Vec<String>>, ReadFault>
+    ensures { Gives (λ o. option_map (λ v. texts v.items) o) result (Ok (spec.cells_of_parts (spec.parts_of text.now))) }
+{
+    let mut cells = Vec::new(alloc);
+    let mut rest = text;
+    'parts: while !rest.is_empty() {
+        let end = part_len(rest.as_bytes());
+        if end == rest.len() {
+            return Ok(None);
+        }
+        cells.push(unescaped(alloc, trim(&rest[..end]))?)?;
+        rest = &rest[end + 1..];
+    }
+    if cells.is_empty() {
+        Ok(None)
+    } else {
+        Ok(Some(cells))
+    }
+}
+
+/// The cells of a row; none where the row isn't between two bars.
+pub fn cells_of(alloc: Global, line: &Piece<'_>) -> Result<Option<Vec<String>>, ReadFault>
+    ensures { Gives (λ o. option_map (λ v. texts v.items) o) result (Ok (spec.cells_of (piece_value line.now))) }
+{
+    match trim(line.text).strip_prefix('|') {
+        Some(text) => cells_in(alloc, text),
+        None => Ok(None),
+    }
+}

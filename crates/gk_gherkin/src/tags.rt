@@ -1,0 +1,35 @@
+//! The tags of a line.
+ghost use Rattle.std.specs.Prelude.{option_map, Ok, ◌≡◌};
+ghost use Rattle.gk_gherkin.specs.Lines.{piece_value};
+ghost use Rattle.gk_gherkin.specs.Feature.{texts};
+ghost use Rattle.gk_gherkin.specs.Machine.{Gives};
+ghost use Rattle.gk_gherkin.specs.Tags as spec;
+
+use crate::class::{begins, first_blank};
+use crate::lines::{Piece, trim_front};
+use crate::read_fault::ReadFault;
+use std::alloc::Global;
+
+fn is_tag(word: &str) -> bool
+    ensures { result ≡ spec.is_tag word.now }
+{
+    begins(word, "@") && 2 <= word.len()
+}
+
+/// The tags of a tag line, each with its `@`; none where a word before any comment is no tag.
+pub fn tags_of(alloc: Global, line: &Piece<'_>) -> Result<Option<Vec<String>>, ReadFault>
+    ensures { Gives (λ o. option_map (λ v. texts v.items) o) result (Ok (spec.tags_of (piece_value line.now))) }
+{
+    let mut tags = Vec::new(alloc);
+    let mut rest = trim_front(line.text);
+    'words: while !rest.is_empty() && !begins(rest, "#") {
+        let end = first_blank(rest.as_bytes());
+        let word = &rest[..end];
+        if !is_tag(word) {
+            return Ok(None);
+        }
+        tags.push(String::from_str(alloc, word)?)?;
+        rest = trim_front(&rest[end..]);
+    }
+    Ok(Some(tags))
+}
