@@ -1,0 +1,51 @@
+-- The cases of features without outlines, and how many cases a feature has.
+use Rattle.std.proofs.Common.{◌≡◌, ℕ, ◌+◌, List, [], ◌∷◌, length, map, flat_map, refl, sym, ap, ◌∙◌, arith, inl, inr}
+use Rattle.std.proofs.lemmas.Bool.{cases_Bool}
+use Rattle.std.proofs.lemmas.List.{length-append}
+use Rattle.std.proofs.lemmas.List.Sums.{sum_by-cons}
+use Rattle.std.specs.List.{AllByRecursion, sum_by, enumerate_from}
+use Rattle.gk_gherkin.specs.Feature.{RowValue, ExamplesValue, ScenarioValue, RuleValue, FeatureValue}
+use Rattle.gk_select.specs.Inherited.{InheritedValue, inherited_in_feature, inherited_in_rule}
+use Rattle.gk_select.specs.Outline.{is_outline}
+use Rattle.gk_select.specs.Expansion.{plain_case, row_case, examples_cases, scenario_cases, rule_cases, cases, ArePlain, HasNoOutline, plain_cases, case_count_of, case_count}
+
+plain_scenarios : (i : InheritedValue) (scenarios : List ScenarioValue) → ArePlain scenarios → flat_map (scenario_cases i) scenarios ≡ map (plain_case i) scenarios
+plain_scenarios i [] plain = refl
+plain_scenarios i (s ∷ scenarios) plain = rw (plain.0, plain_scenarios i scenarios plain.1) refl
+
+plain_rules : (f : FeatureValue) (rules : List RuleValue) → AllByRecursion (λ (r : RuleValue). ArePlain r.scenarios) rules
+    → flat_map (rule_cases f) rules ≡ flat_map (λ (r : RuleValue). map (plain_case (inherited_in_rule f r)) r.scenarios) rules
+plain_rules f [] plain = refl
+plain_rules f (r ∷ rules) plain = rw (plain_scenarios (inherited_in_rule f r) r.scenarios plain.0, plain_rules f rules plain.1) refl
+
+pub without_outlines : (f : FeatureValue) → HasNoOutline f → cases f ≡ plain_cases f
+unfolding cases
+without_outlines f plain = rw (plain_scenarios (inherited_in_feature f) f.scenarios plain.0, plain_rules f f.rules plain.1) refl
+
+-- The length of a list that is made part by part.
+length-flat_map : {A B : Type 0} (F : A → List B) (G : A → ℕ) → ((x : A) → length (F x) ≡ G x) → (xs : List A) → length (flat_map F xs) ≡ sum_by G xs
+length-flat_map F G e [] = refl
+length-flat_map F G e (x ∷ xs) = length-append (F x) (flat_map F xs) ∙ rw (e x, length-flat_map F G e xs) (sym (sum_by-cons G x xs))
+
+length-enumerate : {A B : Type 0} (F : ℕ × A → B) (n : ℕ) (xs : List A) → length (map F (enumerate_from n xs)) ≡ length xs
+length-enumerate F n [] = refl
+length-enumerate F n (x ∷ xs) = let ih = length-enumerate F (n + 1) xs in omega (arith, ih)
+
+sum_enumerate : {A : Type 0} (G : A → ℕ) (n : ℕ) (xs : List A) → sum_by (λ (p : ℕ × A). G p.1) (enumerate_from n xs) ≡ sum_by G xs
+sum_enumerate G n [] = refl
+sum_enumerate {A} G n (x ∷ xs) = sum_by-cons (λ (p : ℕ × A). G p.1) (n, x) (enumerate_from (n + 1) xs) ∙ ap (λ (m : ℕ). G x + m) (sum_enumerate G (n + 1) xs) ∙ sym (sum_by-cons G x xs)
+
+scenario_counted : (i : InheritedValue) (s : ScenarioValue) → length (scenario_cases i s) ≡ case_count_of s
+scenario_counted i s = elim (cases_Bool (is_outline s)) [
+  | inl t ↦ rw t (length-flat_map (examples_cases i s) (λ (e : ℕ × ExamplesValue). length e.1.rows) (λ e. length-enumerate (λ (r : ℕ × RowValue). row_case i s e.0 e.1 r.0 r.1) 1 e.1.rows) (enumerate_from 1 s.examples)
+      ∙ sum_enumerate (λ (e : ExamplesValue). length e.rows) 1 s.examples)
+  | inr f ↦ rw f refl
+]
+
+pub cases_counted : (f : FeatureValue) → length (cases f) ≡ case_count f
+unfolding cases
+cases_counted f = length-append (flat_map (scenario_cases (inherited_in_feature f)) f.scenarios) (flat_map (rule_cases f) f.rules)
+    ∙ rw (
+      length-flat_map (scenario_cases (inherited_in_feature f)) case_count_of (scenario_counted (inherited_in_feature f)) f.scenarios,
+      length-flat_map (rule_cases f) (λ (r : RuleValue). sum_by case_count_of r.scenarios) (λ (r : RuleValue). length-flat_map (scenario_cases (inherited_in_rule f r)) case_count_of (scenario_counted (inherited_in_rule f r)) r.scenarios) f.rules,
+    ) refl

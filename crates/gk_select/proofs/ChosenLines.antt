@@ -1,0 +1,48 @@
+-- Whether a line is among lines in rising order.
+use Rattle.std.proofs.Common.{◌≡◌, ◌<◌, ◌≤◌, ℕ, Bool, true, false, ◌==◌, ◌&&◌, List, [], ◌∷◌, length, map, get_or, Result, Ok, Err, is_ok, refl, sym, ap, arith, inl, inr}
+use Rattle.std.proofs.lemmas.Bool.{cases_lt}
+use Rattle.std.proofs.lemmas.Bool.Decides.{nat_tests}
+use Rattle.std.proofs.lemmas.Grind.{get_or_default_zero}
+use Rattle.std.proofs.lemmas.List.Folds.{list_any_at, list_any_none}
+use Rattle.std.proofs.lemmas.List.Sorted.{searched, list_any-IsPermutation, length_permutation}
+use Rattle.std.specs.List.{list_all, list_any}
+use Rattle.std.specs.List.Sorted.{IsBinarySearchResult, IsNonDecreasing, IsPermutation}
+use Rattle.std.specs.Ordering.{nat_cmp}
+use Rattle.std.specs.Result.{MatchResult}
+use Rattle.gk_select.specs.Case.{CaseValue}
+use Rattle.gk_select.specs.Choice.{is_chosen}
+use Rattle.gk_select.specs.TagRules.{AlternativeValue}
+
+same_number : (a b : ℕ) → a ≡ b → (a == b) ≡ true
+same_number a b e = grind (arith, nat_tests)
+
+below : (a b : ℕ) → a < b → (a == b) ≡ false
+below a b l = grind (arith, nat_tests)
+
+above : (a b : ℕ) → b < a → (a == b) ≡ false
+above a b l = grind (arith, nat_tests)
+
+-- What a search says of the whole list.
+from_searched : (xs : List ℕ) (x : ℕ) (r : Result ℕ ℕ)
+    → MatchResult r (λ i. (i < length xs) × (get_or xs i 0 ≡ x)) (λ i. (i ≤ length xs) × ((k : ℕ) → k < i → get_or xs k 0 < x) × ((k : ℕ) → i ≤ k → k < length xs → x < get_or xs k 0))
+    → is_ok r ≡ list_any (λ y. y == x) xs
+from_searched xs x (Ok i) f = sym (list_any_at (λ y. y == x) xs i 0 f.0 (same_number (get_or xs i 0) x f.1))
+from_searched xs x (Err i) f = sym (list_any_none (λ y. y == x) xs (λ k d within. rw (get_or_default_zero xs k d within) (elim (cases_lt k i) [
+  | inl l ↦ below (get_or xs k 0) x (f.1 k l)
+  | inr l ↦ above (get_or xs k 0) x (f.2 k l within)
+])))
+
+pub is_among : (xs : List ℕ) (x : ℕ) (r : Result ℕ ℕ) → IsBinarySearchResult (λ y. nat_cmp y x) xs r → IsNonDecreasing xs → is_ok r ≡ list_any (λ y. y == x) xs
+is_among xs x r s up = from_searched xs x r (searched xs x r s (λ i j. up i j 0))
+
+pub list_all-map : {X Y : Type 0} (test : Y → Bool) (f : X → Y) (xs : List X) → list_all (λ (x : X). test (f x)) xs ≡ list_all test (map f xs)
+list_all-map test f [] = refl
+list_all-map test f (x ∷ xs) = ap (λ (b : Bool). test (f x) && b) (list_all-map test f xs)
+
+same_function : (f g : CaseValue → Bool) → ((case : CaseValue) → f case ≡ g case) → f ≡ g
+same_function f g same = λ i case. same case i
+
+-- In any order, lines choose the same cases.
+pub same_choice : (rules : List (List AlternativeValue)) (xs ys : List ℕ) → IsPermutation xs ys → is_chosen rules ys ≡ is_chosen rules xs
+unfolding is_chosen
+same_choice rules xs ys p = same_function (is_chosen rules ys) (is_chosen rules xs) (λ case. rw (list_any-IsPermutation (λ line. line == case.line) xs ys p, length_permutation xs ys p) refl)

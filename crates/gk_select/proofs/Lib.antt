@@ -1,0 +1,11 @@
+pub mod FilledPieces
+pub mod OneCut
+pub mod FillingTurns
+pub mod Rooms
+pub mod Unfilled
+pub mod TagAlternatives
+pub mod ReadableRows
+pub mod CaseCounts
+pub mod ChosenLines
+pub mod WorkedOutlines
+pub mod WorkedChoices

@@ -1,0 +1,7 @@
+use Rattle.std.proofs.Common.{◌≡◌, map, take}
+use Rattle.gk_gherkin.specs.Feature.{texts}
+use Rattle.gk_select.specs.Filling.{filled}
+use Rattle.gk_select.proofs.copies.fill_texts.Given as goal
+
+abbrev pub invariant-loop-text : goal.invariant-loop-text
+invariant-loop-text l = texts l.filled.items ≡ map (filled (texts l.header) (texts l.row)) (texts (take l.text-index l.from))

@@ -1,0 +1,10 @@
+use Rattle.std.proofs.Common.{◌≡◌, map, drop}
+use Rattle.std.specs.List.{sum_by}
+use Rattle.gk_gherkin.specs.Feature.{rule_value}
+use Rattle.gk_select.specs.Counting.{left, rule_steps}
+use Rattle.gk_select.proofs.counting.room_after_rules.Given as goal
+
+abbrev pub invariant-loop-rule : goal.invariant-loop-rule
+invariant-loop-rule l =
+    left l.room (sum_by (rule_steps l.inherited) (map rule_value (drop l.rule-index l.rules)))
+    ≡ left l.fn.room (sum_by (rule_steps l.inherited) (map rule_value l.rules))

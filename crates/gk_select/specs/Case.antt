@@ -1,0 +1,17 @@
+-- A scenario as it is run.
+use Rattle.std.specs.Prelude.{ℕ, List, map, string_bytes}
+use Rattle.gk_gherkin.specs.Feature.{texts, StepValue, step_value}
+use Rattle.gk_select.specs.declared.case.Case.{Case}
+
+-- A case: a plain scenario, or an outline filled from one row. (this project's profile)
+pub record CaseValue : Type 0 where
+  pub name : List ℕ
+  pub keyword : List ℕ
+  pub line : ℕ
+  pub tags : List (List ℕ)
+  pub own_tags : List (List ℕ)
+  pub steps : List StepValue
+
+-- What a `Case` says. (this project's profile)
+abbrev pub case_value : Case → CaseValue
+case_value c = record { name = string_bytes c.name; keyword = string_bytes c.keyword; line = c.line; tags = texts c.tags.items; own_tags = texts c.own_tags.items; steps = map step_value c.steps.items }

@@ -1,0 +1,26 @@
+-- What the scenarios of a feature or of a rule have in common.
+use Rattle.std.specs.Prelude.{ℕ, List, [], ◌++◌, map, Option, Some, None}
+use Rattle.gk_gherkin.specs.Feature.{texts, StepValue, BackgroundValue, RuleValue, FeatureValue, step_value}
+use Rattle.gk_select.specs.declared.inherited.Inherited.{Inherited}
+
+-- What scenarios inherit: tags, and the steps of Backgrounds. (Cucumber's Gherkin reference: background, tag inheritance)
+pub record InheritedValue : Type 0 where
+  pub tags : List (List ℕ)
+  pub steps : List StepValue
+
+-- What an `Inherited` says. (this project's profile)
+abbrev pub inherited_value : Inherited → InheritedValue
+inherited_value i = record { tags = texts i.feature_tags.now ++ texts i.rule_tags.now; steps = map step_value i.feature_steps.now ++ map step_value i.rule_steps.now }
+
+-- The steps of a Background, and none where there is none. (Cucumber's Gherkin reference: background)
+abbrev pub background_steps : Option BackgroundValue → List StepValue
+background_steps None = []
+background_steps (Some background) = background.steps
+
+-- What a feature's own scenarios inherit. (Cucumber's Gherkin reference: background, tag inheritance)
+abbrev pub inherited_in_feature : FeatureValue → InheritedValue
+inherited_in_feature f = record { tags = f.tags; steps = background_steps f.background }
+
+-- What a rule's scenarios inherit: the tags and the Background of the feature, and then those of the rule. (Cucumber's Gherkin reference: rule, background, tag inheritance)
+abbrev pub inherited_in_rule : FeatureValue → RuleValue → InheritedValue
+inherited_in_rule f r = record { tags = f.tags ++ r.tags; steps = background_steps f.background ++ background_steps r.background }

@@ -1,0 +1,20 @@
+//! A scenario as it is run.
+
+use gk_gherkin::Step;
+
+/// A plain scenario, or an outline filled from one row. (this project's profile)
+#[derive(Debug, Drop)]
+pub struct Case {
+    /// The scenario's name; of a row `NAME -- @E.R EXAMPLESNAME`, without blanks at its end.
+    pub name: String,
+    /// The scenario's keyword, without its colon.
+    pub keyword: String,
+    /// The line of the scenario's heading, or of the row, counted from 1.
+    pub line: u32,
+    /// The tags of the feature, the rule, the scenario and the Examples, in that order, each with its `@`.
+    pub tags: Vec<String>,
+    /// The tags of the scenario and the Examples alone.
+    pub own_tags: Vec<String>,
+    /// The steps of the feature's Background, of the rule's Background, and then the scenario's own.
+    pub steps: Vec<Step>,
+}

@@ -1,0 +1,52 @@
+//! The choice of cases by tags and lines.
+ghost use Rattle.std.specs.Prelude.{◌≡◌, ◌==◌, ◌||◌, length, map};
+ghost use Rattle.std.specs.List.{list_all, list_any};
+ghost use Rattle.std.specs.List.Sorted.{IsNonDecreasing};
+ghost use Rattle.gk_gherkin.specs.Feature.{texts};
+ghost use Rattle.gk_select.specs.Case.{case_value};
+ghost use Rattle.gk_select.specs.TagRules.{holds, tag_rule_value};
+
+use crate::case::Case;
+use crate::tag_rules::TagRule;
+
+/// Which cases are chosen: those of whose tags every rule holds, and whose line is among the lines where
+/// there are any. (behave's documentation: tag expressions; this project's profile)
+#[derive(Debug, Drop)]
+pub struct Choice {
+    rules: Vec<TagRule>,
+    lines: Vec<u32>,
+    ghost sorted: { IsNonDecreasing lines.items },
+}
+
+impl Choice {
+    ghost use Rattle.gk_select.specs.Choice.{chosen_by, is_chosen};
+
+    /// The choice by these rules and lines, in any order. Takes no memory.
+    pub fn new(rules: Vec<TagRule>, lines: Vec<u32>) -> Choice
+        ensures { chosen_by result ≡ is_chosen (map tag_rule_value rules.items) lines.items }
+    {
+        let mut lines = lines;
+        lines.sort_unstable();
+        Choice { rules, lines }
+    }
+
+    /// Whether a case is chosen. Takes no memory.
+    pub fn chooses(&self, case: &Case) -> bool
+        ensures { result ≡ chosen_by self.now (case_value case.now) }
+    {
+        self.rules_hold(&case.tags) && self.has_line(case.line)
+    }
+
+    fn rules_hold(&self, tags: &[String]) -> bool
+        ensures { result ≡ list_all (λ rule. holds rule (texts tags.now)) (map tag_rule_value self.now.rules.items) }
+    {
+        self.rules.iter().all(|rule| rule.selects(tags))
+    }
+
+    fn has_line(&self, line: u32) -> bool
+        ensures { result ≡ ((length self.now.lines.items == 0) || list_any (λ other. other == line) self.now.lines.items) }
+    {
+        let lines = self.lines.as_slice();
+        lines.is_empty() || lines.binary_search(&line).is_ok()
+    }
+}

@@ -1,0 +1,113 @@
+//! Steps and texts copied, filled from a row or as they are.
+ghost use Rattle.std.specs.Prelude.{◌≡◌, length, map, IfOk};
+ghost use Rattle.std.specs.String.{string_bytes};
+ghost use Rattle.gk_gherkin.specs.Feature.{texts, block_value, step_value};
+ghost use Rattle.gk_select.specs.Copies.{Appends, filled_by};
+ghost use Rattle.gk_select.specs.Filling.{filled_block, filled_step};
+
+use crate::filling::fill;
+use gk_gherkin::{Block, Step};
+use std::alloc::{AllocError, Global};
+
+/// Pushes copies of texts.
+pub fn push_texts(alloc: Global, into: &mut Vec<String>, from: &[String]) -> Result<(), AllocError>
+    ensures { Appends string_bytes result into.old.items into.new.items (texts from.now) }
+{
+    for text in from {
+        into.push(String::from_str(alloc, text.as_str())?)?;
+    }
+    Ok(())
+}
+
+fn fill_texts(
+    alloc: Global,
+    from: &[String],
+    header: &[String],
+    row: &[String],
+) -> Result<Vec<String>, AllocError>
+    requires { length row.now ≡ length header.now }
+    ensures { IfOk result (λ v. texts v.items ≡ map (filled_by header.now row.now) (texts from.now)) }
+{
+    let mut filled = Vec::new(alloc);
+    for text in from {
+        filled.push(fill(alloc, text.as_str(), header, row)?)?;
+    }
+    Ok(filled)
+}
+
+fn fill_table(
+    alloc: Global,
+    from: &[Vec<String>],
+    header: &[String],
+    row: &[String],
+) -> Result<Vec<Vec<String>>, AllocError>
+    requires { length row.now ≡ length header.now }
+    ensures { let cells = map (λ row. texts row.items) in IfOk result (λ v. cells v.items ≡ map (map (filled_by header.now row.now)) (cells from.now)) }
+{
+    let mut filled = Vec::new(alloc);
+    for cells in from {
+        filled.push(fill_texts(alloc, cells.as_slice(), header, row)?)?;
+    }
+    Ok(filled)
+}
+
+fn fill_block(
+    alloc: Global,
+    block: &Block,
+    header: &[String],
+    row: &[String],
+) -> Result<Block, AllocError>
+    requires { length row.now ≡ length header.now }
+    ensures { IfOk result (λ b. block_value b ≡ filled_block (filled_by header.now row.now) (block_value block.now)) }
+{
+    match block {
+        Block::Empty => Ok(Block::Empty),
+        Block::Text(text) => Ok(Block::Text(fill(alloc, text.as_str(), header, row)?)),
+        Block::Table(rows) => Ok(Block::Table(fill_table(alloc, rows.as_slice(), header, row)?)),
+    }
+}
+
+fn fill_step(
+    alloc: Global,
+    step: &Step,
+    header: &[String],
+    row: &[String],
+) -> Result<Step, AllocError>
+    requires { length row.now ≡ length header.now }
+    ensures { IfOk result (λ s. step_value s ≡ filled_step (filled_by header.now row.now) (step_value step.now)) }
+{
+    let keyword = String::from_str(alloc, step.keyword.as_str())?;
+    let text = fill(alloc, step.text.as_str(), header, row)?;
+    let block = fill_block(alloc, &step.block, header, row)?;
+    Ok(Step {
+        keyword,
+        step_type: step.step_type,
+        text,
+        block,
+        line: step.line,
+    })
+}
+
+/// Pushes steps filled from a row.
+pub fn push_filled_steps(
+    alloc: Global,
+    into: &mut Vec<Step>,
+    from: &[Step],
+    header: &[String],
+    row: &[String],
+) -> Result<(), AllocError>
+    requires { length row.now ≡ length header.now }
+    ensures { Appends step_value result into.old.items into.new.items (map (filled_step (filled_by header.now row.now)) (map step_value from.now)) }
+{
+    for step in from {
+        into.push(fill_step(alloc, step, header, row)?)?;
+    }
+    Ok(())
+}
+
+/// Pushes copies of steps: filled under no header, they stay as they are.
+pub fn push_steps(alloc: Global, into: &mut Vec<Step>, from: &[Step]) -> Result<(), AllocError>
+    ensures { Appends step_value result into.old.items into.new.items (map step_value from.now) }
+{
+    push_filled_steps(alloc, into, from, &[], &[])
+}

@@ -1,0 +1,250 @@
+//! The cases of a feature.
+ghost use Rattle.std.specs.Prelude.{◌≡◌, length, map, nat_lt, MatchBool, IfOk, IfErr, Some, Err};
+ghost use Rattle.std.specs.List.{AllByRecursion};
+ghost use Rattle.gk_gherkin.specs.Lines.{Lines};
+ghost use Rattle.gk_gherkin.specs.Grammar.{Reads};
+ghost use Rattle.gk_gherkin.specs.Feature.{FeatureValue, row_value, examples_value, scenario_value, rule_value, feature_value};
+ghost use Rattle.gk_select.specs.Case.{case_value};
+ghost use Rattle.gk_select.specs.Copies.{Appends};
+ghost use Rattle.gk_select.specs.Expansion as spec;
+ghost use Rattle.gk_select.specs.Expansion.{cases, step_count, step_limit, HasTooManySteps, IsExpandable, RowsFit};
+ghost use Rattle.gk_select.specs.Expansion.{HasNoOutline, plain_cases, case_count};
+ghost use Rattle.gk_select.specs.Expansion.{case_of_row, cases_of_rows, cases_of_parts, cases_of_scenarios, cases_of_rules};
+ghost use Rattle.gk_select.specs.Inherited.{inherited_value};
+ghost use Rattle.gk_select.specs.Outline.{FitsHeader, AllFit};
+ghost use Rattle.gk_select.specs.declared.select_fault.SelectFault.TheVariants.{TooMany, Memory};
+
+use crate::case::Case;
+use crate::copies::{push_filled_steps, push_steps, push_texts};
+use crate::counting::has_room;
+use crate::filling::fill;
+use crate::inherited::{
+    Inherited, inherited_in_feature, inherited_in_rule, push_inherited_steps, push_inherited_tags,
+};
+use crate::outline::{case_name, is_outline};
+use crate::select_fault::SelectFault;
+use gk_gherkin::{Examples, Feature, Row, Rule, Scenario};
+use std::alloc::{AllocError, Global};
+
+fn plain_case(
+    alloc: Global,
+    inherited: &Inherited<'_>,
+    scenario: &Scenario,
+) -> Result<Case, AllocError>
+    ensures { IfOk result (λ c. case_value c ≡ spec.plain_case (inherited_value inherited.now) (scenario_value scenario.now)) }
+{
+    let mut tags = Vec::new(alloc);
+    push_inherited_tags(alloc, &mut tags, inherited)?;
+    push_texts(alloc, &mut tags, &scenario.tags)?;
+    let mut own_tags = Vec::new(alloc);
+    push_texts(alloc, &mut own_tags, &scenario.tags)?;
+    let mut steps = Vec::new(alloc);
+    push_inherited_steps(alloc, &mut steps, inherited)?;
+    push_steps(alloc, &mut steps, &scenario.steps)?;
+    Ok(Case {
+        name: String::from_str(alloc, scenario.name.as_str())?,
+        keyword: String::from_str(alloc, scenario.keyword.as_str())?,
+        line: scenario.line,
+        tags,
+        own_tags,
+        steps,
+    })
+}
+
+fn row_case(
+    alloc: Global,
+    inherited: &Inherited<'_>,
+    scenario: &Scenario,
+    examples_number: usize,
+    examples: &Examples,
+    row_number: usize,
+    row: &Row,
+) -> Result<Case, AllocError>
+    requires { FitsHeader (examples_value examples.now) (row_value row.now) }
+    ensures { IfOk result (λ c. case_value c ≡ case_of_row inherited.now scenario.now examples_number examples.now row_number row.now) }
+{
+    let header = examples.header.as_slice();
+    let cells = row.cells.as_slice();
+    let mut tags = Vec::new(alloc);
+    push_inherited_tags(alloc, &mut tags, inherited)?;
+    push_texts(alloc, &mut tags, &scenario.tags)?;
+    push_texts(alloc, &mut tags, &examples.tags)?;
+    let mut own_tags = Vec::new(alloc);
+    push_texts(alloc, &mut own_tags, &scenario.tags)?;
+    push_texts(alloc, &mut own_tags, &examples.tags)?;
+    let mut steps = Vec::new(alloc);
+    push_inherited_steps(alloc, &mut steps, inherited)?;
+    push_filled_steps(alloc, &mut steps, &scenario.steps, header, cells)?;
+    let name = fill(alloc, scenario.name.as_str(), header, cells)?;
+    Ok(Case {
+        name: case_name(
+            alloc,
+            name.as_str(),
+            examples_number,
+            row_number,
+            examples.name.as_str(),
+        )?,
+        keyword: String::from_str(alloc, scenario.keyword.as_str())?,
+        line: row.line,
+        tags,
+        own_tags,
+        steps,
+    })
+}
+
+fn push_row_cases(
+    alloc: Global,
+    cases: &mut Vec<Case>,
+    inherited: &Inherited<'_>,
+    scenario: &Scenario,
+    number: usize,
+    examples: &Examples,
+    rows: &[Row],
+) -> Result<(), AllocError>
+    requires { AllByRecursion (FitsHeader (examples_value examples.now)) (map row_value rows.now) }
+    ensures { Appends case_value result cases.old.items cases.new.items (cases_of_rows inherited.now scenario.now number examples.now rows.now) }
+{
+    for (i, row) in rows.iter().enumerate() {
+        cases.push(row_case(alloc, inherited, scenario, number, examples, i + 1, row)?)?;
+    }
+    Ok(())
+}
+
+fn push_outline_cases(
+    alloc: Global,
+    cases: &mut Vec<Case>,
+    inherited: &Inherited<'_>,
+    scenario: &Scenario,
+    parts: &[Examples],
+) -> Result<(), AllocError>
+    requires { AllByRecursion AllFit (map examples_value parts.now) }
+    ensures { Appends case_value result cases.old.items cases.new.items (cases_of_parts inherited.now scenario.now parts.now) }
+{
+    for (i, examples) in parts.iter().enumerate() {
+        push_row_cases(
+            alloc,
+            cases,
+            inherited,
+            scenario,
+            i + 1,
+            examples,
+            &examples.rows,
+        )?;
+    }
+    Ok(())
+}
+
+fn push_scenario_cases(
+    alloc: Global,
+    cases: &mut Vec<Case>,
+    inherited: &Inherited<'_>,
+    scenario: &Scenario,
+) -> Result<(), AllocError>
+    requires { AllByRecursion AllFit (map examples_value scenario.now.examples.items) }
+    ensures { Appends case_value result cases.old.items cases.new.items (spec.scenario_cases (inherited_value inherited.now) (scenario_value scenario.now)) }
+{
+    if is_outline(scenario) {
+        push_outline_cases(alloc, cases, inherited, scenario, &scenario.examples)
+    } else {
+        cases.push(plain_case(alloc, inherited, scenario)?)?;
+        Ok(())
+    }
+}
+
+fn push_scenarios_cases(
+    alloc: Global,
+    cases: &mut Vec<Case>,
+    inherited: &Inherited<'_>,
+    scenarios: &[Scenario],
+) -> Result<(), AllocError>
+    requires { RowsFit (map scenario_value scenarios.now) }
+    ensures { Appends case_value result cases.old.items cases.new.items (cases_of_scenarios inherited.now scenarios.now) }
+{
+    for scenario in scenarios {
+        push_scenario_cases(alloc, cases, inherited, scenario)?;
+    }
+    Ok(())
+}
+
+fn push_rule_cases(
+    alloc: Global,
+    cases: &mut Vec<Case>,
+    feature: &Feature,
+    rule: &Rule,
+) -> Result<(), AllocError>
+    requires { RowsFit (map scenario_value rule.now.scenarios.items) }
+    ensures { Appends case_value result cases.old.items cases.new.items (spec.rule_cases (feature_value feature.now) (rule_value rule.now)) }
+{
+    let inherited = inherited_in_rule(feature, rule);
+    push_scenarios_cases(alloc, cases, &inherited, &rule.scenarios)
+}
+
+fn push_rules_cases(
+    alloc: Global,
+    cases: &mut Vec<Case>,
+    feature: &Feature,
+    rules: &[Rule],
+) -> Result<(), AllocError>
+    requires { AllByRecursion (λ r. RowsFit r.scenarios) (map rule_value rules.now) }
+    ensures { Appends case_value result cases.old.items cases.new.items (cases_of_rules feature.now rules.now) }
+{
+    for rule in rules {
+        push_rule_cases(alloc, cases, feature, rule)?;
+    }
+    Ok(())
+}
+
+#[tactic(auto, unfolding(crate::specs::Expansion::cases))]
+fn all_cases(alloc: Global, feature: &Feature) -> Result<Vec<Case>, AllocError>
+    requires { IsExpandable (feature_value feature.now) }
+    ensures { IfOk result (λ v. map case_value v.items ≡ cases (feature_value feature.now)) }
+{
+    let mut cases = Vec::new(alloc);
+    let inherited = inherited_in_feature(feature);
+    push_scenarios_cases(alloc, &mut cases, &inherited, &feature.scenarios)?;
+    push_rules_cases(alloc, &mut cases, feature, &feature.rules)?;
+    Ok(cases)
+}
+
+/// The cases of a feature in file order: each plain scenario once, and each row of an outline once.
+///
+/// A scenario is an outline by its keyword, `Scenario Outline` or `Scenario Template`, or where it has
+/// Examples; it has one case for each row of its tables, and none where there is no row. Name, step
+/// texts, doc strings and table cells are filled from the row; tags and the steps of a Background are not.
+///
+/// `TooMany` comes exactly where the cases have more steps than `STEP_LIMIT`; they are counted before
+/// anything is built. `Memory` comes only where a growth was refused, and never in place of `TooMany`.
+/// A refusal answers no cases, and leaves the feature as it was. (Cucumber's Gherkin reference:
+/// scenario outline, background, tag inheritance; this project's profile)
+pub fn expand(alloc: Global, feature: &Feature) -> Result<Vec<Case>, SelectFault>
+    requires { IsExpandable (feature_value feature.now) }
+    // What is answered is the feature's cases.
+    ensures ok { IfOk result (λ v. map case_value v.items ≡ cases (feature_value feature.now)) }
+    // More steps than the limit are refused.
+    ensures too_many { HasTooManySteps (feature_value feature.now) → result ≡ Err TooMany }
+    // Which fault it is.
+    ensures fault { IfErr result (λ e. MatchBool (nat_lt step_limit (step_count (feature_value feature.now))) (e ≡ TooMany) (e ≡ Memory)) }
+{
+    if !has_room(feature) {
+        return Err(SelectFault::TooMany);
+    }
+    Ok(all_cases(alloc, feature)?)
+}
+
+/// Features that `read_feature` answers meet the condition of `expand`: in what the grammar reads each
+/// row of Examples has as many cells as its header. (Cucumber's Gherkin reference: examples)
+pub fn read_features_are_expandable()
+    ensures { (lines : Lines) (f : FeatureValue) → Reads lines (Some f) → IsExpandable f }
+{}
+
+/// Where no scenario is an outline, the cases are the scenarios, each with the tags and steps that it
+/// inherits before its own. (Cucumber's Gherkin reference: example, background, tag inheritance)
+pub fn plain_scenarios_are_cases()
+    ensures { (f : FeatureValue) → HasNoOutline f → cases f ≡ plain_cases f }
+{}
+
+/// An outline has as many cases as its tables have rows under their headers, and any other scenario one.
+/// (Cucumber's Gherkin reference: scenario outline)
+pub fn rows_are_cases()
+    ensures { (f : FeatureValue) → length (cases f) ≡ case_count f }
+{}

@@ -1,0 +1,75 @@
+//! An outline's texts, filled from a row.
+ghost use Rattle.std.specs.Prelude.{◌≡◌, ◌++◌, ℕ, List, length, option_map, IfOk};
+ghost use Rattle.std.specs.String.{string_bytes};
+ghost use Rattle.gk_gherkin.specs.Feature.{texts};
+ghost use Rattle.gk_select.specs.Filling as spec;
+ghost use Rattle.gk_select.specs.Filling.{filled, FillsByCut};
+
+use std::alloc::{AllocError, Global};
+
+/// The cell under the first header that is `name`.
+fn cell_under<'a>(header: &[String], row: &'a [String], name: &str) -> Option<&'a str>
+    requires { length row.now ≡ length header.now }
+    ensures { option_map (λ cell. cell.now) result ≡ spec.cell_of (texts header.now) (texts row.now) name.now }
+{
+    for (i, column) in header.iter().enumerate() {
+        if column.as_str() == name {
+            return Some(row[i].as_str());
+        }
+    }
+    None
+}
+
+/// Pushes what a text that ends in a `>` is filled with; `piece` is the text before that `>`, and has none itself.
+fn push_piece(
+    filled: &mut String,
+    piece: &str,
+    header: &[String],
+    row: &[String],
+) -> Result<(), AllocError>
+    requires { length row.now ≡ length header.now }
+    ensures { IfOk result (λ _. string_bytes filled.new ≡ string_bytes filled.old ++ spec.filled_piece (texts header.now) (texts row.now) piece.now) }
+{
+    let mut rest = piece;
+    while let Some((before, name)) = rest.split_once('<') {
+        filled.push_str(before)?;
+        if let Some(cell) = cell_under(header, row, name) {
+            return filled.push_str(cell);
+        }
+        filled.push('<')?;
+        rest = name;
+    }
+    filled.push_str(rest)?;
+    filled.push('>')
+}
+
+/// A text with the row's cell in place of each `<h>` with h a header, from left to right.
+///
+/// A cell isn't looked at again, and of two equal headers the first counts. A `<` that begins no
+/// placeholder stays. The row has as many cells as the header. An error comes only where a growth was
+/// refused. (Cucumber's Gherkin reference: scenario outline; this project's profile)
+pub fn fill(
+    alloc: Global,
+    text: &str,
+    header: &[String],
+    row: &[String],
+) -> Result<String, AllocError>
+    requires { length row.now ≡ length header.now }
+    ensures { IfOk result (λ s. string_bytes s ≡ filled (texts header.now) (texts row.now) text.now) }
+{
+    // A placeholder ends at the first `>` after its `<`, so only what stands before a `>` is looked up.
+    let mut filled = String::new(alloc);
+    let mut rest = text;
+    while let Some((piece, after)) = rest.split_once('>') {
+        push_piece(&mut filled, piece, header, row)?;
+        rest = after;
+    }
+    filled.push_str(rest)?;
+    Ok(filled)
+}
+
+/// Each text has one cut for a header row, and the filled text is that of its parts. (Cucumber's
+/// Gherkin reference: scenario outline; this project's profile)
+pub fn texts_have_one_cut()
+    ensures { (headers cells : List (List ℕ)) (text : List ℕ) → FillsByCut headers cells text }
+{}

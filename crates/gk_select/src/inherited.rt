@@ -1,0 +1,77 @@
+//! What the scenarios of a feature or of a rule have in common.
+ghost use Rattle.std.specs.Prelude.{◌≡◌, map, option_map};
+ghost use Rattle.std.specs.String.{string_bytes};
+ghost use Rattle.gk_gherkin.specs.Feature.{background_value, step_value, feature_value, rule_value};
+ghost use Rattle.gk_select.specs.Copies.{Appends};
+ghost use Rattle.gk_select.specs.Inherited as spec;
+ghost use Rattle.gk_select.specs.Inherited.{background_steps, inherited_value};
+
+use crate::copies::{push_steps, push_texts};
+use gk_gherkin::{Background, Feature, Rule, Step};
+use std::alloc::{AllocError, Global};
+
+/// Tags and steps of Backgrounds that scenarios inherit: those of the feature, and then those of the rule.
+#[derive(Clone, Copy, Debug)]
+pub struct Inherited<'a> {
+    pub feature_tags: &'a [String],
+    pub rule_tags: &'a [String],
+    pub feature_steps: &'a [Step],
+    pub rule_steps: &'a [Step],
+}
+
+fn steps_of<'a>(background: &'a Option<Background>) -> &'a [Step]
+    ensures { map step_value result.now ≡ background_steps (option_map background_value background.now) }
+{
+    match background {
+        Some(background) => &background.steps,
+        None => &[],
+    }
+}
+
+/// What a feature's own scenarios inherit.
+pub fn inherited_in_feature<'a>(feature: &'a Feature) -> Inherited<'a>
+    ensures { inherited_value result ≡ spec.inherited_in_feature (feature_value feature.now) }
+{
+    Inherited {
+        feature_tags: &feature.tags,
+        rule_tags: &[],
+        feature_steps: steps_of(&feature.background),
+        rule_steps: &[],
+    }
+}
+
+/// What a rule's scenarios inherit.
+pub fn inherited_in_rule<'a>(feature: &'a Feature, rule: &'a Rule) -> Inherited<'a>
+    ensures { inherited_value result ≡ spec.inherited_in_rule (feature_value feature.now) (rule_value rule.now) }
+{
+    Inherited {
+        feature_tags: &feature.tags,
+        rule_tags: &rule.tags,
+        feature_steps: steps_of(&feature.background),
+        rule_steps: steps_of(&rule.background),
+    }
+}
+
+/// Pushes copies of the inherited tags.
+pub fn push_inherited_tags(
+    alloc: Global,
+    tags: &mut Vec<String>,
+    inherited: &Inherited<'_>,
+) -> Result<(), AllocError>
+    ensures { Appends string_bytes result tags.old.items tags.new.items (inherited_value inherited.now).tags }
+{
+    push_texts(alloc, tags, inherited.feature_tags)?;
+    push_texts(alloc, tags, inherited.rule_tags)
+}
+
+/// Pushes copies of the inherited steps.
+pub fn push_inherited_steps(
+    alloc: Global,
+    steps: &mut Vec<Step>,
+    inherited: &Inherited<'_>,
+) -> Result<(), AllocError>
+    ensures { Appends step_value result steps.old.items steps.new.items (inherited_value inherited.now).steps }
+{
+    push_steps(alloc, steps, inherited.feature_steps)?;
+    push_steps(alloc, steps, inherited.rule_steps)
+}

@@ -1,0 +1,27 @@
+//! From features to cases: outlines expanded, and the choice of cases by tags and lines. A feature or a `--tags`
+//! text comes in; the cases in file order, or a rule of tags, go out.
+#![tactic(auto)]
+
+mod case;
+mod choice;
+mod copies;
+mod counting;
+mod expansion;
+mod filling;
+mod inherited;
+mod outline;
+mod select_fault;
+mod tag_rules;
+
+pub use case::Case;
+pub use choice::Choice;
+pub use counting::STEP_LIMIT;
+pub use expansion::{
+    expand, plain_scenarios_are_cases, read_features_are_expandable, rows_are_cases,
+};
+pub use filling::texts_have_one_cut;
+pub use select_fault::SelectFault;
+pub use tag_rules::{TagRule, read_tags, texts_have_one_rule};
+
+#[cfg(test)]
+mod tests;

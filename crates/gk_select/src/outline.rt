@@ -1,0 +1,32 @@
+//! Which scenarios are outlines, and what the cases of their rows are called.
+ghost use Rattle.std.specs.Prelude.{◌≡◌, IfOk};
+ghost use Rattle.std.specs.String.{string_bytes};
+ghost use Rattle.gk_gherkin.specs.Feature.{scenario_value};
+ghost use Rattle.gk_select.specs.Outline as spec;
+ghost use Rattle.gk_select.specs.Outline.{outline_name};
+
+use gk_gherkin::{Scenario, trim_back};
+use std::alloc::{AllocError, Global};
+
+/// Whether a scenario is an outline: by its keyword, or as it has Examples.
+pub fn is_outline(scenario: &Scenario) -> bool
+    ensures { result ≡ spec.is_outline (scenario_value scenario.now) }
+{
+    scenario.keyword.as_str() == "Scenario Outline"
+        || scenario.keyword.as_str() == "Scenario Template"
+        || !scenario.examples.is_empty()
+}
+
+/// The name of the case of a row, counted from 1, under Examples, counted from 1.
+pub fn case_name(
+    alloc: Global,
+    name: &str,
+    examples_number: usize,
+    row_number: usize,
+    examples_name: &str,
+) -> Result<String, AllocError>
+    ensures { IfOk result (λ s. string_bytes s ≡ outline_name name.now examples_number row_number examples_name.now) }
+{
+    let whole = format!(in alloc; "{name} -- @{examples_number}.{row_number} {examples_name}")?;
+    String::from_str(alloc, trim_back(whole.as_str()))
+}

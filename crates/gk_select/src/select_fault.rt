@@ -1,0 +1,50 @@
+//! Why a feature is not expanded, or a text of tags is refused.
+ghost use Rattle.std.specs.Prelude.{◌≡◌, Some};
+ghost use Rattle.gk_select.specs.SelectFault.{text_of_select_fault};
+ghost use Rattle.gk_select.specs.declared.select_fault.SelectFault.TheVariants.{Memory};
+
+use std::alloc::{AllocError, AllocFailed};
+use std::fmt;
+
+/// Why a feature is not expanded, or a text of tags is refused. (this project's profile)
+#[derive(Clone, Copy, Debug, PartialEq, Eq)]
+pub enum SelectFault {
+    /// The cases of a feature have more than `LIMIT` steps.
+    TooMany,
+    /// The text spells no rule of tags.
+    BadTagText,
+    /// A growth of memory was refused.
+    Memory,
+}
+
+impl From<AllocError> for SelectFault {
+    ghost from_gives = { λ _ e. e ≡ Memory };
+
+    fn from(_e: AllocError) -> SelectFault {
+        SelectFault::Memory
+    }
+}
+
+impl<T: Drop> From<AllocFailed<T>> for SelectFault {
+    ghost from_gives = { λ _ e. e ≡ Memory };
+
+    fn from(_e: AllocFailed<T>) -> SelectFault {
+        SelectFault::Memory
+    }
+}
+
+// Writes what the fault is called.
+impl fmt::Display for SelectFault {
+    ghost output = { λ e. Some (text_of_select_fault e) };
+
+    fn fmt<W: fmt::Write>(&self, f: &mut fmt::Formatter<W>) -> fmt::Result {
+        let text = match self {
+            SelectFault::TooMany => "more than 1000000 steps",
+            SelectFault::BadTagText => "bad tag expression",
+            SelectFault::Memory => "out of memory",
+        };
+        f.write_str(text)
+    }
+}
+
+impl std::error::Error for SelectFault {}
