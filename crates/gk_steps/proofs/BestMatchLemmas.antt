@@ -1,0 +1,263 @@
+-- The computed match of a pattern is the preferred one.
+use Rattle.std.proofs.Common.{◌≡◌, ℕ, ℤ, pos, negsuc, ◌+◌, ◌<◌, ◌≤◌, ◌⊎◌, inl, inr, Bool, true, false, ◌&&◌, nat_lt, List, [], ◌∷◌, ◌++◌, length, take, drop, nat_eq, Option, Some, None, option_map, refl, ap, sym, subst, ◌∙◌, arith, append_assoc, length-append}
+use Rattle.std.specs.List.{starts_with, list_all}
+use Rattle.std.specs.Char.{is_digit}
+use Rattle.std.specs.Str.{is_utf8}
+use Rattle.std.specs.Prelude.{FitsSigned}
+use Rattle.std.specs.Int.{w64}
+use Rattle.std.specs.Str.Parse.{IsNumeral, AllDigits, without_leading_sign, signed_digits_value}
+use Rattle.std.proofs.lemmas.Str.{IsUtf8-from_is_utf8, is_utf8-from_IsUtf8}
+use Rattle.std.proofs.lemmas.Bool.Decides.{nat_tests}
+use Rattle.std.proofs.lemmas.List.{append-nil, take-append-drop}
+use Rattle.std.proofs.Math.Nat.{eq-or-lt_of_le}
+use Rattle.std.proofs.Math.Seq.{take-append_seam}
+use Rattle.std.proofs.lemmas.Slice.Eq.{bytes_eq-Decides}
+use Rattle.gk_steps.specs.declared.pattern.FieldKind.{FieldKind}
+use Rattle.gk_steps.specs.declared.pattern.FieldKind.TheVariants.{Plain, Decimal}
+use Rattle.gk_steps.specs.Pattern.{PieceValue, Literal, FieldPiece}
+use Rattle.gk_steps.specs.Matching.{IsSpan, woven, Matches, MatchesNot, IsPreferred, IsBestMatch, IsMatchResult, span_values, is_numeral, is_i64, is_span, rest_where, spans_with, shortest_match, longest_match, field_match, best_match, match_of}
+use Rattle.gk_steps.proofs.MatchingLemmas.{same_prefix, same_back}
+
+-- tests
+and_left : (a b : Bool) → (a && b) ≡ true → a ≡ true
+and_left true b e = refl
+and_left false b e = let bad : ⊥ = cc in absurd bad
+
+and_right : (a b : Bool) → (a && b) ≡ true → b ≡ true
+and_right true b e = e
+and_right false b e = let bad : ⊥ = cc in absurd bad
+
+both : (a b : Bool) → a ≡ true → b ≡ true → (a && b) ≡ true
+both true b e f = f
+both false b e f = let bad : ⊥ = cc in absurd bad
+
+less_so : (a b : ℕ) → nat_lt a b ≡ true → a < b
+less_so a b e = grind (arith, nat_tests)
+
+less_test : (a b : ℕ) → a < b → nat_lt a b ≡ true
+less_test a b e = grind (arith, nat_tests)
+
+digits_so : (ds : List ℕ) → list_all (λ c. is_digit c 10) ds ≡ true → AllDigits 10 ds
+digits_so [] e = tt
+digits_so (c ∷ cs) e = (less_so _ 10 (and_left (is_digit c 10) (list_all (λ d. is_digit d 10) cs) e), digits_so cs (and_right (is_digit c 10) (list_all (λ d. is_digit d 10) cs) e))
+
+digits_test : (ds : List ℕ) → AllDigits 10 ds → list_all (λ c. is_digit c 10) ds ≡ true
+digits_test [] h = refl
+digits_test (c ∷ cs) h = both (is_digit c 10) (list_all (λ d. is_digit d 10) cs) (less_test _ 10 h.0) (digits_test cs h.1)
+
+numeral_so : (ds : List ℕ) → is_numeral ds ≡ true → IsNumeral 10 ds
+numeral_so ds e = (less_so 0 (length ds) (and_left (nat_lt 0 (length ds)) (list_all (λ c. is_digit c 10) ds) e), digits_so ds (and_right (nat_lt 0 (length ds)) (list_all (λ c. is_digit c 10) ds) e))
+
+numeral_test : (ds : List ℕ) → IsNumeral 10 ds → is_numeral ds ≡ true
+numeral_test ds h = both (nat_lt 0 (length ds)) (list_all (λ c. is_digit c 10) ds) (less_test 0 (length ds) h.0) (digits_test ds h.1)
+
+fits_so : (z : ℤ) → is_i64 z ≡ true → FitsSigned w64 z
+fits_so (pos n) e = record { sfits = less_so n 9223372036854775808 e }
+fits_so (negsuc n) e = record { sfits = less_so n 9223372036854775808 e }
+
+fits_test : (z : ℤ) → FitsSigned w64 z → is_i64 z ≡ true
+fits_test (pos n) h = less_test n 9223372036854775808 h.sfits
+fits_test (negsuc n) h = less_test n 9223372036854775808 h.sfits
+
+pub span_so : (kind : FieldKind) (x : List ℕ) → is_span kind x ≡ true → IsSpan kind x
+span_so Plain x e = (IsUtf8-from_is_utf8 x (and_left (is_utf8 x) (nat_lt 0 (length x)) e), less_so 0 (length x) (and_right (is_utf8 x) (nat_lt 0 (length x)) e))
+span_so Decimal x e =
+    let a = is_numeral (without_leading_sign x) in
+    let b = is_i64 (signed_digits_value 10 x) in
+    (numeral_so (without_leading_sign x) (and_left a b e), fits_so (signed_digits_value 10 x) (and_right a b e))
+
+pub span_test : (kind : FieldKind) (x : List ℕ) → IsSpan kind x → is_span kind x ≡ true
+span_test Plain x h = both (is_utf8 x) (nat_lt 0 (length x)) (is_utf8-from_IsUtf8 x h.0) (less_test 0 (length x) h.1)
+span_test Decimal x h = both (is_numeral (without_leading_sign x)) (is_i64 (signed_digits_value 10 x)) (numeral_test (without_leading_sign x) h.0) (fits_test (signed_digits_value 10 x) h.1)
+
+not_empty : (kind : FieldKind) (x : List ℕ) → IsSpan kind x → 0 < length x
+not_empty Plain x h = h.1
+not_empty Decimal [] h = h.0.0
+not_empty Decimal (c ∷ cs) h = omega arith
+
+-- the spans of the preferred match, or that there is no match
+abbrev pub IsBestResult : List PieceValue → List ℕ → Option (List (List ℕ)) → Type 0
+IsBestResult ps text None = MatchesNot ps text
+IsBestResult ps text (Some spans) = IsBestMatch ps text spans
+
+as_result : (ps : List PieceValue) (text : List ℕ) (o : Option (List (List ℕ))) → IsBestResult ps text o → IsMatchResult ps text (option_map (span_values ps) o)
+as_result ps text None h = h
+as_result ps text (Some spans) h = (spans, h, refl)
+
+-- a text that begins with a literal is the literal and the rest
+begins_so : (text word : List ℕ) → starts_with nat_eq text word ≡ true → text ≡ word ++ drop (length word) text
+begins_so text word h = sym (take-append-drop (length word) text) ∙ ap (λ prefix. prefix ++ drop (length word) text) (sym ((bytes_eq-Decides word (take (length word) text)).0 h))
+
+begins_with_itself : (word rest : List ℕ) → starts_with nat_eq (word ++ rest) word ≡ true
+begins_with_itself word rest = (bytes_eq-Decides word (take (length word) (word ++ rest))).1 (sym (take-append_seam word rest))
+
+after_literal : (literal : List ℕ) (ps : List PieceValue) (text rest : List ℕ) (o : Option (List (List ℕ))) → text ≡ literal ++ rest → IsBestResult ps rest o → IsBestResult (Literal literal ∷ ps) text o
+after_literal literal ps text rest None e h = λ spans m. h spans (record { spans_fit = m.spans_fit; whole = same_back literal literal rest (woven ps spans) (sym e ∙ m.whole) refl })
+after_literal literal ps text rest (Some found) e h = record {
+  matches = record { spans_fit = h.matches.spans_fit; whole = e ∙ ap (λ r. literal ++ r) h.matches.whole };
+  best = λ others m. h.best others (record { spans_fit = m.spans_fit; whole = same_back literal literal rest (woven ps others) (sym e ∙ m.whole) refl });
+}
+
+literal_result : (literal : List ℕ) (ps : List PieceValue) (text : List ℕ) (rest_match : List ℕ → Option (List (List ℕ))) (b : Bool) → starts_with nat_eq text literal ≡ b → IsBestResult ps (drop (length literal) text) (rest_match (drop (length literal) text))
+    → IsBestResult (Literal literal ∷ ps) text (rest_where b rest_match (drop (length literal) text))
+literal_result literal ps text rest_match true e h = after_literal literal ps text (drop (length literal) text) (rest_match (drop (length literal) text)) (begins_so text literal e) h
+literal_result literal ps text rest_match false e h = λ spans m.
+    let no : true ≡ false = sym (begins_with_itself literal (woven ps spans)) ∙ ap (λ t. starts_with nat_eq t literal) (sym m.whole) ∙ e in
+    let bad : ⊥ = cc in bad
+
+-- a match whose first span is longer than `taken`, preferred to each other such
+pub record IsBestAbove (name : List ℕ) (kind : FieldKind) (ps : List PieceValue) (text : List ℕ) (taken : List ℕ) (y : List ℕ) (ys : List (List ℕ)) : Type 0 where
+  pub above : length taken < length y
+  pub matches : Matches (FieldPiece name kind ∷ ps) text (y ∷ ys)
+  pub best : (x : List ℕ) (xs : List (List ℕ)) → Matches (FieldPiece name kind ∷ ps) text (x ∷ xs) → length taken < length x → (x ∷ xs ≡ y ∷ ys) ⊎ IsPreferred (FieldPiece name kind ∷ ps) (y ∷ ys) (x ∷ xs)
+
+abbrev IsResultAbove : List ℕ → FieldKind → List PieceValue → List ℕ → List ℕ → Option (List (List ℕ)) → Type 0
+IsResultAbove name kind ps text taken None = (x : List ℕ) (xs : List (List ℕ)) → Matches (FieldPiece name kind ∷ ps) text (x ∷ xs) → length taken < length x → ⊥
+IsResultAbove name kind ps text taken (Some []) = ⊥
+IsResultAbove name kind ps text taken (Some (y ∷ ys)) = IsBestAbove name kind ps text taken y ys
+
+-- the same of the matches whose first span is as long as this one
+pub record IsBestWith (name : List ℕ) (kind : FieldKind) (ps : List PieceValue) (text : List ℕ) (span : List ℕ) (y : List ℕ) (ys : List (List ℕ)) : Type 0 where
+  pub size : length y ≡ length span
+  pub matches : Matches (FieldPiece name kind ∷ ps) text (y ∷ ys)
+  pub best : (x : List ℕ) (xs : List (List ℕ)) → Matches (FieldPiece name kind ∷ ps) text (x ∷ xs) → length x ≡ length span → (x ∷ xs ≡ y ∷ ys) ⊎ IsPreferred (FieldPiece name kind ∷ ps) (y ∷ ys) (x ∷ xs)
+
+abbrev IsResultWith : List ℕ → FieldKind → List PieceValue → List ℕ → List ℕ → Option (List (List ℕ)) → Type 0
+IsResultWith name kind ps text span None = (x : List ℕ) (xs : List (List ℕ)) → Matches (FieldPiece name kind ∷ ps) text (x ∷ xs) → length x ≡ length span → ⊥
+IsResultWith name kind ps text span (Some []) = ⊥
+IsResultWith name kind ps text span (Some (y ∷ ys)) = IsBestWith name kind ps text span y ys
+
+with_rest : (name : List ℕ) (kind : FieldKind) (ps : List PieceValue) (text span rest : List ℕ) (o : Option (List (List ℕ))) → text ≡ span ++ rest → IsSpan kind span → IsBestResult ps rest o
+    → IsResultWith name kind ps text span (option_map (λ spans. span ∷ spans) o)
+with_rest name kind ps text span rest None e fit h = λ x xs m size.
+    h xs (record { spans_fit = m.spans_fit.1; whole = same_back span x rest (woven ps xs) (sym e ∙ m.whole) (sym size) })
+with_rest name kind ps text span rest (Some ss) e fit h = record {
+  size = refl;
+  matches = record { spans_fit = (fit, h.matches.spans_fit); whole = e ∙ ap (λ r. span ++ r) h.matches.whole };
+  best = λ x xs m size.
+      let cut : span ++ rest ≡ x ++ woven ps xs = sym e ∙ m.whole in
+      let first : x ≡ span = sym (same_prefix span x rest (woven ps xs) cut (sym size)) in
+      elim (h.best xs (record { spans_fit = m.spans_fit.1; whole = same_back span x rest (woven ps xs) cut (sym size) })) [
+        | inl same ↦ inl (ap (λ (s : List ℕ). s ∷ xs) first ∙ ap (λ (s : List (List ℕ)). span ∷ s) same)
+        | inr p ↦ inr (inr (sym size, p))
+      ];
+}
+
+one_span : (name : List ℕ) (kind : FieldKind) (ps : List PieceValue) (text span rest : List ℕ) (rest_match : List ℕ → Option (List (List ℕ))) (b : Bool) → is_span kind span ≡ b → text ≡ span ++ rest → IsBestResult ps rest (rest_match rest)
+    → IsResultWith name kind ps text span (option_map (λ spans. span ∷ spans) (rest_where b rest_match rest))
+one_span name kind ps text span rest rest_match true is e h = with_rest name kind ps text span rest (rest_match rest) e (span_so kind span is) h
+one_span name kind ps text span rest rest_match false is e h = λ x xs m size.
+    let first : x ≡ span = sym (same_prefix span x rest (woven ps xs) (sym e ∙ m.whole) (sym size)) in
+    let no : true ≡ false = sym (span_test kind span (subst (IsSpan kind) first m.spans_fit.0)) ∙ is in
+    let bad : ⊥ = cc in bad
+
+more_by_one : (taken : List ℕ) (b : ℕ) → length (taken ++ b ∷ []) ≡ length taken + 1
+more_by_one taken b = length-append taken (b ∷ [])
+
+one_more : (taken rest : List ℕ) (b : ℕ) (text : List ℕ) → text ≡ taken ++ b ∷ rest → text ≡ (taken ++ b ∷ []) ++ rest
+one_more taken rest b text e = e ∙ sym (append_assoc taken (b ∷ []) rest)
+
+-- the shorter span first
+shorter : (name : List ℕ) (ps : List PieceValue) (text taken span : List ℕ) (o later : Option (List (List ℕ))) → length span ≡ length taken + 1 → IsResultWith name Plain ps text span o → IsResultAbove name Plain ps text span later
+    → IsResultAbove name Plain ps text taken (elim o [ Some spans ↦ Some spans | None ↦ later ])
+shorter name ps text taken span (Some []) later size h more = absurd h
+shorter name ps text taken span (Some (y ∷ ys)) later size h more = record {
+  above = omega (arith, h.size);
+  matches = h.matches;
+  best = λ x xs m less. elim (let most : length span ≤ length x = omega arith in eq-or-lt_of_le most) [
+    | inl same ↦ h.best x xs m (sym same)
+    | inr longer ↦ inr (inl (omega (arith, h.size)))
+  ];
+}
+shorter name ps text taken span None None size h more = λ x xs m less. elim (let most : length span ≤ length x = omega arith in eq-or-lt_of_le most) [
+  | inl same ↦ h x xs m (sym same)
+  | inr longer ↦ more x xs m longer
+]
+shorter name ps text taken span None (Some []) size h more = absurd more
+shorter name ps text taken span None (Some (y ∷ ys)) size h more = record {
+  above = omega (arith, more.above);
+  matches = more.matches;
+  best = λ x xs m less. elim (let most : length span ≤ length x = omega arith in eq-or-lt_of_le most) [
+    | inl same ↦ absurd (h x xs m (sym same))
+    | inr longer ↦ more.best x xs m longer
+  ];
+}
+
+-- the longer span first
+longer : (name : List ℕ) (ps : List PieceValue) (text taken span : List ℕ) (o later : Option (List (List ℕ))) → length span ≡ length taken + 1 → IsResultWith name Decimal ps text span o → IsResultAbove name Decimal ps text span later
+    → IsResultAbove name Decimal ps text taken (elim later [ Some spans ↦ Some spans | None ↦ o ])
+longer name ps text taken span o (Some []) size h more = absurd more
+longer name ps text taken span o (Some (y ∷ ys)) size h more = record {
+  above = omega (arith, more.above);
+  matches = more.matches;
+  best = λ x xs m less. elim (let most : length span ≤ length x = omega arith in eq-or-lt_of_le most) [
+    | inl same ↦ inr (inl (omega (arith, more.above)))
+    | inr further ↦ more.best x xs m further
+  ];
+}
+longer name ps text taken span None None size h more = λ x xs m less. elim (let most : length span ≤ length x = omega arith in eq-or-lt_of_le most) [
+  | inl same ↦ h x xs m (sym same)
+  | inr further ↦ more x xs m further
+]
+longer name ps text taken span (Some []) None size h more = absurd h
+longer name ps text taken span (Some (y ∷ ys)) None size h more = record {
+  above = omega (arith, h.size);
+  matches = h.matches;
+  best = λ x xs m less. elim (let most : length span ≤ length x = omega arith in eq-or-lt_of_le most) [
+    | inl same ↦ h.best x xs m (sym same)
+    | inr further ↦ absurd (more x xs m further)
+  ];
+}
+
+nothing_left : (name : List ℕ) (kind : FieldKind) (ps : List PieceValue) (text taken : List ℕ) → text ≡ taken ++ [] → (x : List ℕ) (xs : List (List ℕ)) → Matches (FieldPiece name kind ∷ ps) text (x ∷ xs) → length taken < length x → ⊥
+nothing_left name kind ps text taken e x xs m less =
+    let sizes : length x + length (woven ps xs) ≡ length taken = sym (length-append x (woven ps xs)) ∙ ap length (sym m.whole ∙ e ∙ append-nil taken) in
+    omega arith
+
+shortest_is : (name : List ℕ) (ps : List PieceValue) (rest_match : List ℕ → Option (List (List ℕ))) (text taken rest : List ℕ) → ((t : List ℕ) → IsBestResult ps t (rest_match t)) → text ≡ taken ++ rest
+    → IsResultAbove name Plain ps text taken (shortest_match rest_match Plain taken rest)
+shortest_is name ps rest_match text taken [] each e = nothing_left name Plain ps text taken e
+shortest_is name ps rest_match text taken (b ∷ rest) each e =
+    let span : List ℕ = taken ++ b ∷ [] in
+    shorter name ps text taken span (spans_with rest_match Plain span rest) (shortest_match rest_match Plain span rest) (more_by_one taken b)
+    (one_span name Plain ps text span rest rest_match (is_span Plain span) refl (one_more taken rest b text e) (each rest))
+    (shortest_is name ps rest_match text span rest each (one_more taken rest b text e))
+
+longest_is : (name : List ℕ) (ps : List PieceValue) (rest_match : List ℕ → Option (List (List ℕ))) (text taken rest : List ℕ) → ((t : List ℕ) → IsBestResult ps t (rest_match t)) → text ≡ taken ++ rest
+    → IsResultAbove name Decimal ps text taken (longest_match rest_match Decimal taken rest)
+longest_is name ps rest_match text taken [] each e = nothing_left name Decimal ps text taken e
+longest_is name ps rest_match text taken (b ∷ rest) each e =
+    let span : List ℕ = taken ++ b ∷ [] in
+    longer name ps text taken span (spans_with rest_match Decimal span rest) (longest_match rest_match Decimal span rest) (more_by_one taken b)
+    (one_span name Decimal ps text span rest rest_match (is_span Decimal span) refl (one_more taken rest b text e) (each rest))
+    (longest_is name ps rest_match text span rest each (one_more taken rest b text e))
+
+-- every match has more than nothing in its first span
+whole_field : (name : List ℕ) (kind : FieldKind) (ps : List PieceValue) (text : List ℕ) (o : Option (List (List ℕ))) → IsResultAbove name kind ps text [] o → IsBestResult (FieldPiece name kind ∷ ps) text o
+whole_field name kind ps text None h = λ spans m. none spans m where
+  none : (spans : List (List ℕ)) → Matches (FieldPiece name kind ∷ ps) text spans → ⊥
+  none [] m = m.spans_fit
+  none (x ∷ xs) m = h x xs m (not_empty kind x m.spans_fit.0)
+whole_field name kind ps text (Some []) h = absurd h
+whole_field name kind ps text (Some (y ∷ ys)) h = record { matches = h.matches; best = λ others m. each others m } where
+  each : (others : List (List ℕ)) → Matches (FieldPiece name kind ∷ ps) text others → (others ≡ y ∷ ys) ⊎ IsPreferred (FieldPiece name kind ∷ ps) (y ∷ ys) others
+  each [] m = absurd m.spans_fit
+  each (x ∷ xs) m = h.best x xs m (not_empty kind x m.spans_fit.0)
+
+field_is : (name : List ℕ) (kind : FieldKind) (ps : List PieceValue) (rest_match : List ℕ → Option (List (List ℕ))) (text : List ℕ) → ((t : List ℕ) → IsBestResult ps t (rest_match t)) → IsBestResult (FieldPiece name kind ∷ ps) text (field_match kind rest_match text)
+field_is name Plain ps rest_match text each = whole_field name Plain ps text (shortest_match rest_match Plain [] text) (shortest_is name ps rest_match text [] text each refl)
+field_is name Decimal ps rest_match text each = whole_field name Decimal ps text (longest_match rest_match Decimal [] text) (longest_is name ps rest_match text [] text each refl)
+
+-- the computed spans are those of the preferred match
+pub best_match_is : (ps : List PieceValue) (text : List ℕ) → IsBestResult ps text (best_match ps text)
+best_match_is [] [] = record { matches = record { spans_fit = tt; whole = refl }; best = λ others m. only others m } where
+  only : (others : List (List ℕ)) → Matches [] [] others → (others ≡ []) ⊎ IsPreferred [] [] others
+  only [] m = inl refl
+  only (x ∷ xs) m = absurd m.spans_fit
+best_match_is [] (b ∷ text) = λ spans m. let bad : b ∷ text ≡ [] = m.whole in let no : ⊥ = cc in no
+best_match_is (Literal literal ∷ ps) text = literal_result literal ps text (best_match ps) (starts_with nat_eq text literal) refl (best_match_is ps (drop (length literal) text))
+best_match_is (FieldPiece name kind ∷ ps) text = field_is name kind ps (best_match ps) text (best_match_is ps)
+
+pub match_of_is : (ps : List PieceValue) (text : List ℕ) → IsMatchResult ps text (match_of ps text)
+unfolding match_of
+match_of_is ps text = as_result ps text (best_match ps text) (best_match_is ps text)

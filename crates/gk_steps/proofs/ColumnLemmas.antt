@@ -1,0 +1,151 @@
+-- The steps that the code takes.
+use Rattle.std.proofs.Common.{◌≡◌, ℕ, zero, suc, cond, ◌==◌, ◌+◌, ◌-◌, ◌<◌, ◌≤◌, inl, inr, Bool, true, false, List, [], ◌∷◌, ◌++◌, length, take, drop, get_or, Option, Some, None, ap, sym, subst, ◌∙◌, arith, length-append, length-drop}
+use Rattle.std.specs.Prelude.{IsUtf8}
+use Rattle.std.proofs.Math.Nat.{eq-or-lt_of_le}
+use Rattle.std.proofs.Math.Seq.{take-append_seam}
+use Rattle.std.proofs.lemmas.List.{get_or-take, get_or-drop}
+use Rattle.std.proofs.lemmas.Str.{IsUtf8-between, IsUtf8-string_bytes}
+use Rattle.gk_steps.specs.declared.pattern.FieldKind.TheVariants.{Plain, Decimal}
+use Rattle.std.specs.Prelude.{String, string_bytes}
+use Rattle.std.specs.declared.alloc.Global.{Global}
+use Rattle.gk_steps.specs.declared.pattern.FieldKind.{FieldKind}
+use Rattle.gk_steps.specs.declared.pattern.Piece.{Piece}
+use Rattle.gk_steps.specs.declared.pattern.Piece.TheVariants as pieces
+use Rattle.gk_steps.specs.Pattern.{PieceValue, Literal, FieldPiece, piece_value}
+use Rattle.std.specs.Char.{digit_value}
+use Rattle.std.specs.Str.Parse.{AllDigits, IsNumeral, without_leading_sign, without_leading_plus}
+use Rattle.std.proofs.lemmas.Bool.Decides.{nat_tests}
+use Rattle.gk_steps.specs.Matching.{IsSpan}
+use Rattle.gk_steps.specs.Columns.{ArePlaces, part, IsStepTo, IsStep, IsNearest, IsLongestTo}
+use Rattle.gk_steps.proofs.TableLemmas.{IsTextPiece, cut_at, part_size}
+
+one_column : (text places : List ℕ) (d e : ℕ) → ArePlaces text places → d < length places → e < length places → get_or places d 0 ≡ get_or places e 0 → d ≡ e
+one_column text places d e h ld le same =
+    let not_less : d < e → ⊥ = λ less. let lower = h.falling d e less le in absurd (omega arith) in
+    let not_more : e < d → ⊥ = λ more. let lower = h.falling e d more ld in absurd (omega arith) in
+    omega (arith, not_less, not_more)
+
+-- a step over a literal
+pub literal_cut : (literal text places : List ℕ) (row : List Bool) (c d : ℕ) → ArePlaces text places → c < length places → IsStepTo (Literal literal) text places row c d → drop (get_or places c 0) text ≡ literal ++ drop (get_or places d 0) text
+literal_cut literal text places row c d h l s = cut_at text places c d h l s.within ∙ ap (λ f. f ++ drop (get_or places d 0) text) s.takes
+
+literal_place : (literal text places : List ℕ) (row : List Bool) (c d : ℕ) → ArePlaces text places → c < length places → IsStepTo (Literal literal) text places row c d → get_or places d 0 ≡ get_or places c 0 + length literal
+literal_place literal text places row c d h l s = part_size text places c d h l s.within ∙ ap (λ n. get_or places c 0 + n) (ap length s.takes)
+
+-- the end of a literal, from the rest after it
+pub literal_end : (literal text rest : List ℕ) (p : ℕ) → p ≤ length text → drop p text ≡ literal ++ rest → length text - length rest ≡ p + length literal
+literal_end literal text rest p within e = let size : length (drop p text) ≡ length literal + length rest = ap length e ∙ length-append literal rest in omega (arith, length-drop p text)
+
+pub literal_some : (literal text rest places : List ℕ) (row : List Bool) (c d : ℕ) → ArePlaces text places → c < length places → drop (get_or places c 0) text ≡ literal ++ rest → d ≤ c → get_or places d 0 ≡ length text - length rest → get_or row d false ≡ true → IsStep (Literal literal) text places row c (Some d)
+literal_some literal text rest places row c d h l e within at yes_below =
+    let end = literal_end literal text rest (get_or places c 0) (h.cuts c l).0 e in
+    let size : get_or places d 0 - get_or places c 0 ≡ length literal = omega arith in
+    (record { within = within; rest = yes_below; takes = ap (λ n. take n (drop (get_or places c 0) text)) size ∙ ap (take (length literal)) e ∙ take-append_seam literal rest }, λ other s. tt)
+
+pub literal_none_at : (literal text rest places : List ℕ) (row : List Bool) (c d : ℕ) → ArePlaces text places → c < length places → drop (get_or places c 0) text ≡ literal ++ rest → d ≤ c → get_or places d 0 ≡ length text - length rest → get_or row d false ≡ false → IsStep (Literal literal) text places row c None
+literal_none_at literal text rest places row c d h l e within at no_below = λ other s.
+    let end = literal_end literal text rest (get_or places c 0) (h.cuts c l).0 e in
+    let there = literal_place literal text places row c other h l s in
+    let same : other ≡ d = one_column text places other d h (let w = s.within in omega arith) (omega arith) (omega arith) in
+    let is_true : get_or row d false ≡ true = ap (λ k. get_or row k false) (sym same) ∙ s.rest in
+    let bad : ⊥ = cc in bad
+
+pub literal_none : (literal text rest places : List ℕ) (row : List Bool) (c : ℕ) → ArePlaces text places → c < length places → drop (get_or places c 0) text ≡ literal ++ rest → ((d : ℕ) → d ≤ c → get_or places d 0 ≡ length text - length rest → ⊥) → IsStep (Literal literal) text places row c None
+literal_none literal text rest places row c h l e none = λ other s. none other s.within (literal_place literal text places row c other h l s ∙ sym (literal_end literal text rest (get_or places c 0) (h.cuts c l).0 e))
+
+-- a step over a plain field
+pub plain_takes : (name text places : List ℕ) (row : List Bool) (c d : ℕ) → IsUtf8 text → ArePlaces text places → c < length places → d < c → get_or row d false ≡ true → IsStepTo (FieldPiece name Plain) text places row c d
+plain_takes name text places row c d u h l less is =
+    let up = h.falling d c less l in
+    let size = part_size text places c d h l (omega arith) in
+    record { within = omega arith; rest = is; takes = (IsUtf8-between text (get_or places c 0) (get_or places d 0) u (omega arith) (h.cuts c l) (h.cuts d (omega arith)), omega arith) }
+
+-- a field takes something
+pub before : (piece : PieceValue) (text places : List ℕ) (row : List Bool) (c d : ℕ) → ArePlaces text places → c < length places → IsStepTo piece text places row c d → 0 < length (part text places c d) → d < c
+before piece text places row c d h l s some = elim (eq-or-lt_of_le s.within) [
+  | inr less ↦ less
+  | inl same ↦ let size = part_size text places c d h l s.within in let at : get_or places d 0 ≡ get_or places c 0 = ap (λ k. get_or places k 0) same in absurd (omega arith)
+]
+
+pub plain_is : (name text places : List ℕ) (row : List Bool) (c : ℕ) (o : Option ℕ) → IsUtf8 text → ArePlaces text places → c < length places → IsNearest row c o → IsStep (FieldPiece name Plain) text places row c o
+plain_is name text places row c None u h l none = λ d s. let is_false = none d (before (FieldPiece name Plain) text places row c d h l s s.takes.1) in let is_true = s.rest in let bad : ⊥ = cc in bad
+plain_is name text places row c (Some d) u h l near = (
+  plain_takes name text places row c d u h l near.0 near.1,
+  λ e s.
+      let not_nearer : d < e → ⊥ = λ less. let is_false = near.2 e (before (FieldPiece name Plain) text places row c e h l s s.takes.1) less in let is_true = s.rest in let bad : ⊥ = cc in bad in
+      omega (arith, not_nearer),
+)
+
+-- the name of a field says nothing here
+pub rename : (name : List ℕ) (text places : List ℕ) (row : List Bool) (c d : ℕ) → IsStepTo (FieldPiece [] Decimal) text places row c d → IsStepTo (FieldPiece name Decimal) text places row c d
+rename name text places row c d s = record { within = s.within; rest = s.rest; takes = s.takes }
+
+pub rename_back : (name : List ℕ) (text places : List ℕ) (row : List Bool) (c d : ℕ) → IsStepTo (FieldPiece name Decimal) text places row c d → IsStepTo (FieldPiece [] Decimal) text places row c d
+rename_back name text places row c d s = record { within = s.within; rest = s.rest; takes = s.takes }
+
+pub named : (name : List ℕ) (text places : List ℕ) (row : List Bool) (c : ℕ) (o : Option ℕ) → IsStep (FieldPiece [] Decimal) text places row c o → IsStep (FieldPiece name Decimal) text places row c o
+named name text places row c None none = λ d s. none d (rename_back name text places row c d s)
+named name text places row c (Some d) s = (rename name text places row c d s.0, λ e t. s.1 e (rename_back name text places row c e t))
+
+-- the digits of a number
+digit_range : (b : ℕ) → digit_value b < 10 → (48 ≤ b) × (b < 58)
+digit_range b h = let low : 48 ≤ b = grind (arith, nat_tests) in let high : b < 58 = grind (arith, nat_tests) in (low, high)
+
+pub digits_range : (ds : List ℕ) → AllDigits 10 ds → (i : ℕ) → i < length ds → (48 ≤ get_or ds i 0) × (get_or ds i 0 < 58)
+digits_range [] h i l = absurd (omega arith)
+digits_range (b ∷ bs) h zero l = digit_range b h.0
+digits_range (b ∷ bs) h (suc i) l = digits_range bs h.1 i (omega arith)
+
+tail_range : (x : List ℕ) → AllDigits 10 (drop 1 x) → (i : ℕ) → 0 < i → i < length x → (48 ≤ get_or x i 0) × (get_or x i 0 < 58)
+tail_range [] h i some l = absurd (omega arith)
+tail_range (b ∷ bs) h zero some l = absurd (omega arith)
+tail_range (b ∷ bs) h (suc i) some l = digits_range bs h i (omega arith)
+
+plus_digit : (x : List ℕ) (b : Bool) → AllDigits 10 (drop (cond b 1 0) x) → (i : ℕ) → 0 < i → i < length x → (48 ≤ get_or x i 0) × (get_or x i 0 < 58)
+plus_digit x true h i some l = tail_range x h i some l
+plus_digit x false h i some l = digits_range x h i l
+
+minus_digit : (x : List ℕ) (b : Bool) → AllDigits 10 (cond b (drop 1 x) (without_leading_plus x)) → (i : ℕ) → 0 < i → i < length x → (48 ≤ get_or x i 0) × (get_or x i 0 < 58)
+minus_digit x true h i some l = tail_range x h i some l
+minus_digit x false h i some l = plus_digit x (get_or x 0 0 == 43) h i some l
+
+tail_digit : (x : List ℕ) → IsNumeral 10 (without_leading_sign x) → (i : ℕ) → 0 < i → i < length x → (48 ≤ get_or x i 0) × (get_or x i 0 < 58)
+tail_digit x h i some l = minus_digit x (get_or x 0 0 == 45) h.1 i some l
+
+pub decimal_some : (x : List ℕ) → IsSpan Decimal x → 0 < length x
+decimal_some [] h = absurd (omega (arith, h.0.0))
+decimal_some (b ∷ bs) h = omega arith
+
+-- a step down to a column, and those down to the next one
+pub longest_none : (low : ℕ) (text places : List ℕ) (row : List Bool) (c : ℕ) → ArePlaces text places → c < length places → c ≤ low → IsLongestTo low (FieldPiece [] Decimal) text places row c None
+longest_none low text places row c h l most = λ d up s. let less = before (FieldPiece [] Decimal) text places row c d h l s (decimal_some (part text places c d) s.takes) in absurd (omega arith)
+
+pub longest_more : (low next : ℕ) (text places : List ℕ) (row : List Bool) (c : ℕ) (o : Option ℕ) → low ≡ next + 1 → (IsStepTo (FieldPiece [] Decimal) text places row c next → ⊥) → IsLongestTo low (FieldPiece [] Decimal) text places row c o → IsLongestTo next (FieldPiece [] Decimal) text places row c o
+longest_more low next text places row c None e not_next h = λ d up s. elim (eq-or-lt_of_le up) [ inl same ↦ not_next (subst (IsStepTo (FieldPiece [] Decimal) text places row c) (sym same) s) | inr more ↦ h d (omega arith) s ]
+longest_more low next text places row c (Some b) e not_next h = (h.0, λ d up s. elim (eq-or-lt_of_le up) [ inl same ↦ absurd (not_next (subst (IsStepTo (FieldPiece [] Decimal) text places row c) (sym same) s)) | inr more ↦ h.1 d (omega arith) s ])
+
+pub longest_at : (next : ℕ) (text places : List ℕ) (row : List Bool) (c : ℕ) → IsStepTo (FieldPiece [] Decimal) text places row c next → IsLongestTo next (FieldPiece [] Decimal) text places row c (Some next)
+longest_at next text places row c s = (s, λ d up t. up)
+
+pub longest_is : (low : ℕ) (text places : List ℕ) (row : List Bool) (c : ℕ) (o : Option ℕ) → ((d : ℕ) → d < low → IsStepTo (FieldPiece [] Decimal) text places row c d → ⊥) → IsLongestTo low (FieldPiece [] Decimal) text places row c o → IsStep (FieldPiece [] Decimal) text places row c o
+longest_is low text places row c None none h = λ d s. let not_less : d < low → ⊥ = λ less. none d less s in h d (omega (arith, not_less)) s
+longest_is low text places row c (Some b) none h = (h.0, λ d s. let not_less : d < low → ⊥ = λ less. none d less s in h.1 d (omega (arith, not_less)) s)
+
+-- no number goes past a byte that is no digit
+pub no_longer : (text places : List ℕ) (row : List Bool) (c next d : ℕ) → ArePlaces text places → c < length places → next < c → d ≤ next → get_or places c 0 < get_or places next 0 - 1 → (48 ≤ get_or text (get_or places next 0 - 1) 0 → get_or text (get_or places next 0 - 1) 0 < 58 → ⊥) → IsStepTo (FieldPiece [] Decimal) text places row c d → ⊥
+no_longer text places row c next d h l less down past not_digit s =
+    let p = get_or places c 0 in
+    let last = get_or places next 0 - 1 in
+    let size = part_size text places c d h l (omega arith) in
+    let up : get_or places next 0 ≤ get_or places d 0 = elim (eq-or-lt_of_le down) [ inl same ↦ omega (arith, ap (λ k. get_or places k 0) same) | inr under ↦ let more = h.falling d next under (omega arith) in omega arith ] in
+    let at : get_or (part text places c d) (last - p) 0 ≡ get_or text last 0 = get_or-take (get_or places d 0 - p) (drop p text) (last - p) 0 (omega arith) ∙ get_or-drop p text (last - p) 0 ∙ ap (λ k. get_or text k 0) (let sum : p + (last - p) ≡ last = omega arith in sum) in
+    let digit = tail_digit (part text places c d) s.takes.0 (last - p) (omega arith) (omega arith) in
+    not_digit (omega (arith, digit.0)) (omega (arith, digit.1))
+
+-- what a piece says, from its variant
+pub field_piece : (piece : Piece) (name : String Global) (kind kind' : FieldKind) → piece ≡ pieces.Field name kind → kind ≡ kind' → piece_value piece ≡ FieldPiece (string_bytes name) kind'
+field_piece piece name kind kind' e k = ap piece_value e ∙ ap (λ k. FieldPiece (string_bytes name) k) k
+
+pub text_piece : (piece : Piece) → IsTextPiece (piece_value piece)
+text_piece (pieces.Literal text) = IsUtf8-string_bytes text
+text_piece (pieces.Field name kind) = tt

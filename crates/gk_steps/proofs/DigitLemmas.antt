@@ -1,0 +1,113 @@
+-- Runs of digits between two columns.
+use Rattle.std.proofs.Common.{◌≡◌, ℕ, ◌+◌, ◌-◌, ◌*◌, ◌<◌, ◌≤◌, inl, inr, Bool, true, false, List, [], ◌∷◌, ◌++◌, length, take, drop, get_or, ap, sym, subst, ◌∙◌, arith, length-drop}
+use Rattle.std.specs.Prelude.{IsUtf8}
+use Rattle.std.specs.Char.{digit_value}
+use Rattle.std.specs.Str.Parse.{AllDigits, digits_value}
+use Rattle.std.proofs.Math.Nat.{eq-or-lt_of_le}
+use Rattle.std.proofs.lemmas.List.{get_or-take, get_or-drop, take_more, take-take}
+use Rattle.std.proofs.lemmas.Str.{IsCharBoundary-after_ascii}
+use Rattle.std.proofs.lemmas.Bool.Decides.{nat_tests}
+use Rattle.std.proofs.lemmas.Int.Digits.{digits_value_push}
+use Rattle.std.proofs.lemmas.Str.Parse.{digits_value-take-le}
+use Rattle.gk_steps.specs.Columns.{ArePlaces, part, IsDigitsTo, IsRunTo}
+use Rattle.gk_steps.proofs.TableLemmas.{part_size}
+use Rattle.gk_steps.proofs.ColumnLemmas.{digits_range}
+
+-- after a byte of ASCII stands the next column
+pub next_place : (text places : List ℕ) (c : ℕ) → IsUtf8 text → ArePlaces text places → c + 1 < length places → get_or text (get_or places (c + 1) 0) 0 < 128 → get_or places c 0 ≡ get_or places (c + 1) 0 + 1
+next_place text places c u h l low =
+    let up = h.falling c (c + 1) (omega arith) l in
+    let end = (h.cuts c (omega arith)).0 in
+    by (h.complete (get_or places (c + 1) 0 + 1) (omega arith) (IsCharBoundary-after_ascii text (get_or places (c + 1) 0) u (omega arith) low)) where
+      by : (e : ℕ) × (e < length places) × (get_or places e 0 ≡ get_or places (c + 1) 0 + 1) → get_or places c 0 ≡ get_or places (c + 1) 0 + 1
+      by (e, k, at) =
+          let not_less : e < c → ⊥ = λ less. let a = h.falling e c less (omega arith) in let b = h.falling c (c + 1) (omega arith) l in absurd (omega arith) in
+          let not_more : c < e → ⊥ = λ more. elim (let least : c + 1 ≤ e = omega arith in eq-or-lt_of_le least) [
+            | inl same ↦ let is : get_or places e 0 ≡ get_or places (c + 1) 0 = ap (λ k. get_or places k 0) (sym same) in absurd (omega arith)
+            | inr past ↦ let a = h.falling (c + 1) e past k in absurd (omega arith)
+          ] in
+          let same : c ≡ e = omega (arith, not_less, not_more) in
+          ap (λ k. get_or places k 0) same ∙ at
+
+-- one byte more between two columns
+pub part_more : (text places : List ℕ) (c d : ℕ) → ArePlaces text places → c < length places → d + 1 ≤ c → get_or places d 0 ≡ get_or places (d + 1) 0 + 1 → part text places c d ≡ part text places c (d + 1) ++ get_or text (get_or places (d + 1) 0) 0 ∷ []
+part_more text places c d h l within next =
+    let p = get_or places c 0 in
+    let q = get_or places (d + 1) 0 in
+    let size = part_size text places c (d + 1) h l within in
+    let size_d = part_size text places c d h l (omega arith) in
+    let end = (h.cuts d (omega arith)).0 in
+    let one : get_or places d 0 - p ≡ q - p + 1 = omega arith in
+    let at : p + (q - p) ≡ q = omega arith in
+    ap (λ n. take n (drop p text)) one ∙ take_more (drop p text) (q - p) 0 (omega (arith, length-drop p text)) ∙ ap (λ b. take (q - p) (drop p text) ++ b ∷ []) (get_or-drop p text (q - p) 0 ∙ ap (λ k. get_or text k 0) at)
+
+all_more : (xs : List ℕ) (b : ℕ) → AllDigits 10 xs → digit_value b < 10 → AllDigits 10 (xs ++ b ∷ [])
+all_more [] b h less = (less, tt)
+all_more (x ∷ xs) b h less = (h.0, all_more xs b h.1 less)
+
+digit_is : (b : ℕ) → 48 ≤ b → b < 58 → digit_value b ≡ b - 48
+digit_is b low high = grind (arith, nat_tests)
+
+-- a part is a prefix of a longer one
+prefix_of : (text places : List ℕ) (c d e : ℕ) → ArePlaces text places → c < length places → d ≤ e → e ≤ c → part text places c e ≡ take (get_or places e 0 - get_or places c 0) (part text places c d)
+prefix_of text places c d e h l down within =
+    let up : get_or places e 0 ≤ get_or places d 0 = elim (eq-or-lt_of_le down) [ inl same ↦ omega (arith, ap (λ k. get_or places k 0) same) | inr under ↦ let more = h.falling d e under (omega arith) in omega arith ] in
+    sym (take-take (get_or places e 0 - get_or places c 0) (get_or places d 0 - get_or places c 0) (drop (get_or places c 0) text) (omega arith))
+
+-- nothing read yet
+pub part_none : (text places : List ℕ) (c : ℕ) → part text places c c ≡ []
+part_none text places c = let none : get_or places c 0 - get_or places c 0 ≡ 0 = omega arith in ap (λ n. take n (drop (get_or places c 0) text)) none
+
+pub run_start : (most : ℕ) (text places : List ℕ) (below : List Bool) (c : ℕ) → IsRunTo c most text places below c 0
+run_start most text places below c = record {
+  digits = subst (AllDigits 10) (sym (part_none text places c)) tt;
+  value_is = sym (ap (digits_value 10) (part_none text places c));
+  none = λ d least s. let same : d ≡ c = let w = s.within in omega arith in let none : length (part text places c d) ≡ 0 = ap (λ k. length (part text places c k)) same ∙ ap length (part_none text places c) in absurd (omega (arith, s.numeral.0));
+}
+
+-- one digit more
+pub run_digits : (most : ℕ) (text places : List ℕ) (below : List Bool) (c d b value value' : ℕ) → ArePlaces text places → c < length places → d + 1 ≤ c → get_or places d 0 ≡ get_or places (d + 1) 0 + 1 → b ≡ get_or text (get_or places (d + 1) 0) 0 → 48 ≤ b → b < 58 → value' ≡ value * 10 + (b - 48) → IsRunTo (d + 1) most text places below c value
+    → AllDigits 10 (part text places c d) × (value' ≡ digits_value 10 (part text places c d))
+run_digits most text places below c d b value value' h l within next is low high sum r =
+    let more : part text places c d ≡ part text places c (d + 1) ++ b ∷ [] = part_more text places c d h l within next ∙ ap (λ x. part text places c (d + 1) ++ x ∷ []) (sym is) in
+    let digit = digit_is b low high in
+    let pushed = digits_value_push 10 (part text places c (d + 1)) b in
+    let whole : digits_value 10 (part text places c d) ≡ digits_value 10 (part text places c (d + 1)) * 10 + digit_value b = ap (digits_value 10) more ∙ pushed in
+    let before = r.value_is in
+    (subst (AllDigits 10) (sym more) (all_more (part text places c (d + 1)) b r.digits (omega arith)), omega arith)
+
+pub run_more : (most : ℕ) (text places : List ℕ) (below : List Bool) (c d value value' : ℕ) → AllDigits 10 (part text places c d) × (value' ≡ digits_value 10 (part text places c d)) → get_or below d false ≡ false → IsRunTo (d + 1) most text places below c value → IsRunTo d most text places below c value'
+run_more most text places below c d value value' now not_here r = record {
+  digits = now.0;
+  value_is = now.1;
+  none = λ e least s. elim (eq-or-lt_of_le least) [
+    | inr more ↦ r.none e (omega arith) s
+    | inl same ↦ let is_true = s.rest in let is_false : get_or below e false ≡ false = ap (λ k. get_or below k false) (sym same) ∙ not_here in let bad : ⊥ = cc in bad
+  ];
+}
+
+pub run_found : (most : ℕ) (text places : List ℕ) (below : List Bool) (c d value : ℕ) → ArePlaces text places → c < length places → d + 1 ≤ c → AllDigits 10 (part text places c d) × (value ≡ digits_value 10 (part text places c d)) → value ≤ most → get_or below d false ≡ true → (e : ℕ) × IsDigitsTo most text places below c e
+run_found most text places below c d value h l within now small here =
+    let size = part_size text places c d h l (omega arith) in
+    let up = h.falling d c (omega arith) l in
+    (d, record { within = omega arith; rest = here; numeral = (omega arith, now.0); value = omega (arith, now.1) })
+
+-- past a value that is too large
+pub run_over : (most : ℕ) (text places : List ℕ) (below : List Bool) (c d value value' : ℕ) → ArePlaces text places → c < length places → d + 1 ≤ c → AllDigits 10 (part text places c d) × (value' ≡ digits_value 10 (part text places c d)) → most < value' → IsRunTo (d + 1) most text places below c value → (e : ℕ) → IsDigitsTo most text places below c e → ⊥
+run_over most text places below c d value value' h l within now large r = λ e s.
+    let small : e ≤ d = let not_more : d < e → ⊥ = λ more. r.none e (omega arith) s in omega (arith, not_more) in
+    let least : digits_value 10 (part text places c d) ≤ digits_value 10 (part text places c e) = subst (λ x. digits_value 10 x ≤ digits_value 10 (part text places c e)) (sym (prefix_of text places c e d h l small (omega arith))) (digits_value-take-le 10 (part text places c e) (get_or places d 0 - get_or places c 0) (omega arith)) in
+    absurd (omega (arith, s.value, now.1))
+
+-- past a byte that is no digit
+pub run_past : (most : ℕ) (text places : List ℕ) (below : List Bool) (c d b value : ℕ) → ArePlaces text places → c < length places → d + 1 ≤ c → b ≡ get_or text (get_or places (d + 1) 0) 0 → (48 ≤ b → b < 58 → ⊥) → IsRunTo (d + 1) most text places below c value → (e : ℕ) → IsDigitsTo most text places below c e → ⊥
+run_past most text places below c d b value h l within is not_digit r = λ e s.
+    let p = get_or places c 0 in
+    let q = get_or places (d + 1) 0 in
+    let small : e < d + 1 = let not_more : d + 1 ≤ e → ⊥ = λ more. r.none e more s in omega (arith, not_more) in
+    let up = h.falling e (d + 1) small (omega arith) in
+    let size = part_size text places c e h l (omega arith) in
+    let size_d = part_size text places c (d + 1) h l within in
+    let at : get_or (part text places c e) (q - p) 0 ≡ get_or text q 0 = get_or-take (get_or places e 0 - p) (drop p text) (q - p) 0 (omega arith) ∙ get_or-drop p text (q - p) 0 ∙ ap (λ k. get_or text k 0) (let sum : p + (q - p) ≡ q = omega arith in sum) in
+    let digit = digits_range (part text places c e) s.numeral.1 (q - p) (omega arith) in
+    not_digit (omega (arith, digit.0)) (omega (arith, digit.1))

@@ -1,0 +1,235 @@
+-- The search over a library.
+use Rattle.std.proofs.Common.{◌≡◌, ℕ, zero, suc, ◌+◌, ◌<◌, ◌≤◌, inl, inr, Bool, true, false, List, [], ◌∷◌, length, map, get_or, Option, Some, None, option_map, refl, ap, sym, subst, ◌∙◌, arith}
+use Rattle.std.specs.Prelude.{slice_get, Result, Ok, Err, IfOk}
+use Rattle.std.specs.declared.alloc.AllocError.{AllocError}
+use Rattle.gk_steps.specs.declared.finding.Found.{Found}
+use Rattle.std.specs.Option.{option_or}
+use Rattle.std.proofs.Math.Nat.{eq-or-lt_of_le}
+use Rattle.std.proofs.lemmas.List.{length-map}
+use Rattle.gk_gherkin.specs.declared.feature.StepType.{StepType}
+use Rattle.gk_gherkin.specs.declared.feature.StepType.TheVariants.{Given, When, Then}
+use Rattle.gk_steps.specs.declared.pattern.FieldKind.TheVariants.{Plain, Decimal}
+use Rattle.gk_steps.specs.declared.library.Entry.{Entry}
+use Rattle.gk_steps.specs.Pattern.{PieceValue, Literal, FieldPiece}
+use Rattle.gk_steps.specs.Matching.{AreSpans, MatchesNot, IsMatchResult, FieldValue, span_values, match_of}
+use Rattle.gk_steps.proofs.MatchingLemmas.{one_result}
+use Rattle.gk_steps.proofs.BestMatchLemmas.{match_of_is}
+use Rattle.gk_steps.specs.Finding.{EntryValue, LibraryValue, FoundValue, entry_value, found_value, NoneFound, NoneBefore, IsFirstFound, IsFoundOf, IsFound, IsFoundAny, is_same_type, is_of_type, match_where, found_at, found_from, found, found_any, HaveKindsOf, FitsLibrary, FindsWhatIsFound}
+
+pub same_option : {A : Type 0} (x y : A) → ◌≡◌ {A = Option A} (Some x) (Some y) → x ≡ y
+same_option x y e = cc
+
+pub entry_at : (entries : List Entry) (i : ℕ) (x : Entry) → i < length entries → x ≡ get_or entries i x → slice_get (map entry_value entries) i ≡ Some (entry_value x)
+entry_at [] i x l e = absurd (omega arith)
+entry_at (y ∷ ys) zero x l e = ap (λ z. Some (entry_value z)) (sym e)
+entry_at (y ∷ ys) (suc i) x l e = entry_at ys i x (omega arith) e
+
+within : (entries : List EntryValue) (k : ℕ) (e : EntryValue) → slice_get entries k ≡ Some e → k < length entries
+within [] k e is = let bad : ⊥ = cc in absurd bad
+within (x ∷ xs) zero e is = omega arith
+within (x ∷ xs) (suc k) e is = let less = within xs k e is in omega arith
+
+-- one entry more without a match
+pub none_more : (entries : List Entry) (step_type : Option StepType) (text : List ℕ) (place : ℕ) (x : Entry) → place < length entries → x ≡ get_or entries place x → (x.step_type ≡ step_type → MatchesNot (entry_value x).pattern text) → NoneBefore place (map entry_value entries) step_type text → NoneBefore (place + 1) (map entry_value entries) step_type text
+none_more entries step_type text place x l e not_here h = λ earlier other less is same. elim (let most : earlier ≤ place = omega arith in eq-or-lt_of_le most) [
+  | inr old ↦ h earlier other old is same
+  | inl here ↦
+      let other_is : entry_value x ≡ other = same_option (entry_value x) other (sym (entry_at entries place x l e) ∙ ap (slice_get (map entry_value entries)) (sym here) ∙ is) in
+      subst (λ (v : EntryValue). MatchesNot v.pattern text) other_is (not_here (ap (λ (v : EntryValue). v.step_type) other_is ∙ same))
+]
+
+pub none_all : (entries : List Entry) (step_type : Option StepType) (text : List ℕ) (place : ℕ) → length entries ≤ place → NoneBefore place (map entry_value entries) step_type text → NoneFound (map entry_value entries) step_type text
+none_all entries step_type text place past h = λ k e is same. h k e (omega (arith, within (map entry_value entries) k e is, length-map entries entry_value)) is same
+
+pub first_at : (entries : List Entry) (step_type : Option StepType) (text : List ℕ) (place : ℕ) (x : Entry) (fields : List FieldValue) → place < length entries → x ≡ get_or entries place x → x.step_type ≡ step_type → IsMatchResult (entry_value x).pattern text (Some fields) → NoneBefore place (map entry_value entries) step_type text
+    → IsFirstFound (map entry_value entries) step_type text (record { entry = place; fields = fields })
+first_at entries step_type text place x fields l e is found h = record { entry = entry_value x; place = entry_at entries place x l e; is_type = is; fields = found; first = h }
+
+-- the computed test of types
+same_type_is : (a b : StepType) → is_same_type a b ≡ true → a ≡ b
+same_type_is Given Given e = refl
+same_type_is Given When e = let bad : ⊥ = cc in absurd bad
+same_type_is Given Then e = let bad : ⊥ = cc in absurd bad
+same_type_is When Given e = let bad : ⊥ = cc in absurd bad
+same_type_is When When e = refl
+same_type_is When Then e = let bad : ⊥ = cc in absurd bad
+same_type_is Then Given e = let bad : ⊥ = cc in absurd bad
+same_type_is Then When e = let bad : ⊥ = cc in absurd bad
+same_type_is Then Then e = refl
+
+same_type_test : (a : StepType) → is_same_type a a ≡ true
+same_type_test Given = refl
+same_type_test When = refl
+same_type_test Then = refl
+
+pub of_type_is : (a b : Option StepType) → is_of_type a b ≡ true → a ≡ b
+of_type_is None None e = refl
+of_type_is None (Some b) e = let bad : ⊥ = cc in absurd bad
+of_type_is (Some a) None e = let bad : ⊥ = cc in absurd bad
+of_type_is (Some a) (Some b) e = ap Some (same_type_is a b e)
+
+pub of_type_itself : (a : Option StepType) → is_of_type a a ≡ true
+of_type_itself None = refl
+of_type_itself (Some a) = same_type_test a
+
+pub of_type_not : (a b : Option StepType) → is_of_type a b ≡ false → a ≡ b → ⊥
+of_type_not a b e same = let no : true ≡ false = sym (of_type_itself a) ∙ ap (is_of_type a) same ∙ e in let bad : ⊥ = cc in bad
+
+-- what is found among entries of which the first has the place base
+abbrev IsFoundFrom : ℕ → LibraryValue → Option StepType → List ℕ → Option FoundValue → Type 0
+IsFoundFrom base es step_type text None = NoneFound es step_type text
+IsFoundFrom base es step_type text (Some f) = (k : ℕ) × (f.entry ≡ base + k) × IsFirstFound es step_type text (record { entry = k; fields = f.fields })
+
+no_option : {A : Type 0} (x : A) {P : Type 0} → ◌≡◌ {A = Option A} None (Some x) → P
+no_option x e = let no : ⊥ = cc in absurd no
+
+not_at : (e : EntryValue) (es : LibraryValue) (step_type : Option StepType) (text : List ℕ) → (e.step_type ≡ step_type → MatchesNot e.pattern text) → NoneFound es step_type text → NoneFound (e ∷ es) step_type text
+not_at e es step_type text h more zero other is same = subst (λ (x : EntryValue). MatchesNot x.pattern text) (same_option e other is) (h (ap (λ (x : EntryValue). x.step_type) (same_option e other is) ∙ same))
+not_at e es step_type text h more (suc k) other is same = more k other is same
+
+earlier_not : (e : EntryValue) (es : LibraryValue) (step_type : Option StepType) (text : List ℕ) (k : ℕ) → (e.step_type ≡ step_type → MatchesNot e.pattern text)
+    → ((earlier : ℕ) (other : EntryValue) → earlier < k → slice_get es earlier ≡ Some other → other.step_type ≡ step_type → MatchesNot other.pattern text)
+    → (earlier : ℕ) (other : EntryValue) → earlier < suc k → slice_get (e ∷ es) earlier ≡ Some other → other.step_type ≡ step_type → MatchesNot other.pattern text
+earlier_not e es step_type text k h more zero other less is same = subst (λ (x : EntryValue). MatchesNot x.pattern text) (same_option e other is) (h (ap (λ (x : EntryValue). x.step_type) (same_option e other is) ∙ same))
+earlier_not e es step_type text k h more (suc j) other less is same = more j other (omega arith) is same
+
+later_found : (e : EntryValue) (es : LibraryValue) (step_type : Option StepType) (text : List ℕ) (base : ℕ) (o : Option FoundValue) → (e.step_type ≡ step_type → MatchesNot e.pattern text) → IsFoundFrom (suc base) es step_type text o → IsFoundFrom base (e ∷ es) step_type text o
+later_found e es step_type text base None h more = not_at e es step_type text h more
+later_found e es step_type text base (Some f) h more =
+    let i = more.2 in
+    (suc more.0, omega (arith, more.1), record { entry = i.entry; place = i.place; is_type = i.is_type; fields = i.fields; first = earlier_not e es step_type text more.0 h i.first })
+
+-- what a pattern finds where its entry is of the type
+abbrev IsWhere : EntryValue → Option StepType → List ℕ → Option (List FieldValue) → Type 0
+IsWhere e step_type text None = e.step_type ≡ step_type → MatchesNot e.pattern text
+IsWhere e step_type text (Some fields) = (e.step_type ≡ step_type) × IsMatchResult e.pattern text (Some fields)
+
+of_result : (e : EntryValue) (step_type : Option StepType) (text : List ℕ) (o : Option (List FieldValue)) → e.step_type ≡ step_type → IsMatchResult e.pattern text o → IsWhere e step_type text o
+of_result e step_type text None is h = λ same. h
+of_result e step_type text (Some fields) is h = (is, h)
+
+where_is : (e : EntryValue) (step_type : Option StepType) (text : List ℕ) (b : Bool) → is_of_type e.step_type step_type ≡ b → IsWhere e step_type text (match_where b e.pattern text)
+where_is e step_type text true is = of_result e step_type text (match_of e.pattern text) (of_type_is e.step_type step_type is) (match_of_is e.pattern text)
+where_is e step_type text false is = λ same. absurd (of_type_not e.step_type step_type is same)
+
+first_found : (e : EntryValue) (es : LibraryValue) (step_type : Option StepType) (text : List ℕ) (base : ℕ) (o : Option (List FieldValue)) (later : Option FoundValue) → IsWhere e step_type text o → IsFoundFrom (suc base) es step_type text later
+    → IsFoundFrom base (e ∷ es) step_type text (elim o [ Some fields ↦ Some (found_at base fields) | None ↦ later ])
+first_found e es step_type text base (Some fields) later h more = (0, omega arith, record { entry = e; place = refl; is_type = h.0; fields = h.1; first = λ earlier other less is same. absurd (omega arith) })
+first_found e es step_type text base None later h more = later_found e es step_type text base later h more
+
+found_from_is : (es : LibraryValue) (step_type : Option StepType) (text : List ℕ) (base : ℕ) → IsFoundFrom base es step_type text (found_from base es step_type text)
+found_from_is [] step_type text base = λ place entry is same. no_option entry is
+found_from_is (e ∷ es) step_type text base =
+    first_found e es step_type text base (match_where (is_of_type e.step_type step_type) e.pattern text) (found_from (suc base) es step_type text) (where_is e step_type text (is_of_type e.step_type step_type) refl) (found_from_is es step_type text (suc base))
+
+from_zero : (es : LibraryValue) (step_type : Option StepType) (text : List ℕ) (o : Option FoundValue) → IsFoundFrom 0 es step_type text o → IsFoundOf es step_type text o
+from_zero es step_type text None h = h
+from_zero es step_type text (Some f) h =
+    let here : h.0 ≡ f.entry = omega (arith, h.1) in
+    subst (λ (k : ℕ). IsFirstFound es step_type text (record { entry = k; fields = f.fields })) here h.2
+
+pub of_is : (es : LibraryValue) (step_type : Option StepType) (text : List ℕ) → IsFoundOf es step_type text (found_from 0 es step_type text)
+of_is es step_type text = from_zero es step_type text (found_from 0 es step_type text) (found_from_is es step_type text 0)
+
+-- what is found among the entries of one type is determined
+refuses : (e : EntryValue) (text : List ℕ) (fields : List FieldValue) → IsMatchResult e.pattern text (Some fields) → MatchesNot e.pattern text → ⊥
+refuses e text fields h never = never h.0 h.1.matches
+
+same_place : (es : LibraryValue) (step_type : Option StepType) (text : List ℕ) (f g : FoundValue) (h : IsFirstFound es step_type text f) (k : IsFirstFound es step_type text g) → f.entry < g.entry → ⊥
+same_place es step_type text f g h k less = refuses h.entry text f.fields h.fields (k.first f.entry h.entry less h.place h.is_type)
+
+both_found : (es : LibraryValue) (step_type : Option StepType) (text : List ℕ) (f g : FoundValue) (h : IsFirstFound es step_type text f) (k : IsFirstFound es step_type text g) → f.entry ≡ g.entry → f ≡ g
+both_found es step_type text f g h k e =
+    let entries : h.entry ≡ k.entry = same_option h.entry k.entry (sym h.place ∙ ap (slice_get es) e ∙ k.place) in
+    let fields : f.fields ≡ g.fields = same_option f.fields g.fields (one_result k.entry.pattern text (Some f.fields) (Some g.fields) (subst (λ (x : EntryValue). IsMatchResult x.pattern text (Some f.fields)) entries h.fields) k.fields) in
+    ap (λ n. let x : FoundValue = record { entry = n; fields = f.fields } in x) e ∙ ap (λ fs. let x : FoundValue = record { entry = g.entry; fields = fs } in x) fields
+
+two_found : (es : LibraryValue) (step_type : Option StepType) (text : List ℕ) (f g : FoundValue) (h : IsFirstFound es step_type text f) (k : IsFirstFound es step_type text g) → f ≡ g
+two_found es step_type text f g h k =
+    let not_more : f.entry ≤ g.entry = omega (arith, same_place es step_type text g f k h) in
+    elim (eq-or-lt_of_le not_more) [ inl e ↦ both_found es step_type text f g h k e | inr less ↦ absurd (same_place es step_type text f g h k less) ]
+
+none_or_first : (es : LibraryValue) (step_type : Option StepType) (text : List ℕ) (f : FoundValue) → NoneFound es step_type text → IsFirstFound es step_type text f → ⊥
+none_or_first es step_type text f h k = refuses k.entry text f.fields k.fields (h f.entry k.entry k.place k.is_type)
+
+pub one_of : (es : LibraryValue) (step_type : Option StepType) (text : List ℕ) (a b : Option FoundValue) → IsFoundOf es step_type text a → IsFoundOf es step_type text b → a ≡ b
+one_of es step_type text None None h k = refl
+one_of es step_type text None (Some g) h k = absurd (none_or_first es step_type text g h k)
+one_of es step_type text (Some f) None h k = absurd (none_or_first es step_type text f k h)
+one_of es step_type text (Some f) (Some g) h k = ap Some (two_found es step_type text f g h k)
+
+-- what the code finds among the entries of one type is what the definitions compute
+pub of_computed : (es : LibraryValue) (step_type : Option StepType) (text : List ℕ) (a : Option FoundValue) → IsFoundOf es step_type text a → a ≡ found_from 0 es step_type text
+of_computed es step_type text a h = one_of es step_type text a (found_from 0 es step_type text) h (of_is es step_type text)
+
+pub any_computed : (es : LibraryValue) (text : List ℕ) (a : Option FoundValue) → IsFoundOf es None text a → a ≡ found_any es text
+unfolding found_any
+any_computed es text a h = of_computed es None text a h
+
+pub own_computed : (es : LibraryValue) (step_type : StepType) (text : List ℕ) (f : FoundValue) → IsFoundOf es (Some step_type) text (Some f) → Some f ≡ found es step_type text
+unfolding found
+own_computed es step_type text f h = ap (λ o. option_or o (found_from 0 es None text)) (of_computed es (Some step_type) text (Some f) h)
+
+pub other_computed : (es : LibraryValue) (step_type : StepType) (text : List ℕ) (a : Option FoundValue) → IsFoundOf es (Some step_type) text None → IsFoundOf es None text a → a ≡ found es step_type text
+unfolding found
+other_computed es step_type text a h k = of_computed es None text a k ∙ ap (λ o. option_or o (found_from 0 es None text)) (of_computed es (Some step_type) text None h)
+
+-- the laws
+two_parts : (es : LibraryValue) (step_type : StepType) (text : List ℕ) (a b : Option FoundValue) → IsFoundOf es (Some step_type) text a → IsFoundOf es None text b → IsFound es step_type text (option_or a b)
+two_parts es step_type text (Some f) b h k = inl h
+two_parts es step_type text None None h k = (h, k)
+two_parts es step_type text None (Some g) h k = inr (h, k)
+
+found_is : (es : LibraryValue) (step_type : StepType) (text : List ℕ) → IsFound es step_type text (found es step_type text)
+unfolding found
+found_is es step_type text = two_parts es step_type text (found_from 0 es (Some step_type) text) (found_from 0 es None text) (of_is es (Some step_type) text) (of_is es None text)
+
+found_only : (es : LibraryValue) (step_type : StepType) (text : List ℕ) (a : Option FoundValue) → IsFound es step_type text a → a ≡ found es step_type text
+found_only es step_type text None h = other_computed es step_type text None h.0 h.1
+found_only es step_type text (Some f) (inl h) = own_computed es step_type text f h
+found_only es step_type text (Some f) (inr h) = other_computed es step_type text (Some f) h.0 h.1
+
+any_is : (es : LibraryValue) (text : List ℕ) (a : Option FoundValue) → IsFoundOf es None text a → IsFoundAny es text a
+any_is es text None h = h
+any_is es text (Some f) h = h
+
+is_any : (es : LibraryValue) (text : List ℕ) (a : Option FoundValue) → IsFoundAny es text a → IsFoundOf es None text a
+is_any es text None h = h
+is_any es text (Some f) h = h
+
+found_any_is : (es : LibraryValue) (text : List ℕ) → IsFoundAny es text (found_any es text)
+unfolding found_any
+found_any_is es text = any_is es text (found_from 0 es None text) (of_is es None text)
+
+have_kinds : (ps : List PieceValue) (spans : List (List ℕ)) → AreSpans ps spans → HaveKindsOf ps (span_values ps spans)
+have_kinds [] [] h = tt
+have_kinds [] (span ∷ spans) h = absurd h
+have_kinds (Literal text ∷ ps) spans h = have_kinds ps spans h
+have_kinds (FieldPiece name kind ∷ ps) [] h = absurd h
+have_kinds (FieldPiece name Plain ∷ ps) (span ∷ spans) h = have_kinds ps spans h.1
+have_kinds (FieldPiece name Decimal ∷ ps) (span ∷ spans) h = have_kinds ps spans h.1
+
+first_fits : (es : LibraryValue) (step_type : Option StepType) (text : List ℕ) (f : FoundValue) → IsFirstFound es step_type text f → FitsLibrary es f
+first_fits es step_type text f h = record { entry = h.entry; place = h.place; fields = subst (HaveKindsOf h.entry.pattern) (sym h.fields.2) (have_kinds h.entry.pattern h.fields.0 h.fields.1.matches.spans_fit) }
+
+found_fits : (es : LibraryValue) (step_type : StepType) (text : List ℕ) (f : FoundValue) → IsFound es step_type text (Some f) → FitsLibrary es f
+found_fits es step_type text f (inl h) = first_fits es (Some step_type) text f h
+found_fits es step_type text f (inr h) = first_fits es None text f h.1
+
+pub finds : FindsWhatIsFound
+finds = record {
+  is_found = found_is;
+  only = found_only;
+  is_found_any = found_any_is;
+  only_any = λ es text a h. any_computed es text a (is_any es text a h);
+  fits = found_fits;
+  fits_any = λ es text f h. first_fits es None text f h;
+}
+
+pub any_answer : (es : LibraryValue) (text : List ℕ) (r : Result (Option Found) AllocError) → IfOk r (λ o. IsFoundOf es None text (option_map found_value o)) → IfOk r (λ o. option_map found_value o ≡ found_any es text)
+any_answer es text (Ok o) h = any_computed es text (option_map found_value o) h
+any_answer es text (Err e) h = tt
+
+pub other_answer : (es : LibraryValue) (step_type : StepType) (text : List ℕ) (r : Result (Option Found) AllocError) → IsFoundOf es (Some step_type) text None → IfOk r (λ o. IsFoundOf es None text (option_map found_value o)) → IfOk r (λ o. option_map found_value o ≡ found es step_type text)
+other_answer es step_type text (Ok o) none h = other_computed es step_type text (option_map found_value o) none h
+other_answer es step_type text (Err e) none h = tt

@@ -1,0 +1,17 @@
+mod MatchingLemmas
+mod BestMatchLemmas
+mod PlacesLemmas
+mod TableLemmas
+mod ColumnLemmas
+mod TableRowLemmas
+mod TableReadLemmas
+mod PassingOverLemmas
+mod FindingLemmas
+mod SpellingLemmas
+mod ActionLemmas
+mod LibraryLineLemmas
+mod LibraryFileLemmas
+mod DefaultFileLemmas
+mod WorkedPatterns
+mod DigitLemmas
+mod NumberLemmas

@@ -1,0 +1,252 @@
+-- The lines of a step library.
+use Rattle.std.proofs.Common.{◌≡◌, ℕ, zero, suc, ◌+◌, ◌<◌, Bool, true, false, cond, not, List, [], ◌∷◌, ◌++◌, length, take, drop, get_or, map, Option, Some, None, refl, ap, sym, subst, ◌∙◌, arith, append_assoc}
+use Rattle.std.specs.Prelude.{filter}
+use Rattle.std.proofs.lemmas.List.{map-append}
+use Rattle.std.proofs.lemmas.List.Elements.{filter-append}
+use Rattle.gk_gherkin.specs.declared.feature.StepType.{StepType}
+use Rattle.gk_gherkin.specs.declared.lines.Line.{Line}
+use Rattle.gk_gherkin.specs.Lines.{LineValue, Lines, line_value, lines_of, IsText}
+use Rattle.gk_steps.specs.declared.action.Action.{Action}
+use Rattle.gk_steps.specs.declared.library_fault.LibraryFault.{LibraryFault}
+use Rattle.gk_steps.specs.declared.library_fault.LibraryFault.TheVariants as faults
+use Rattle.gk_steps.specs.Pattern.{PieceValue, SpellsPattern}
+use Rattle.gk_steps.specs.Matching.{Matches, MatchesNot}
+use Rattle.gk_steps.specs.Action.{ActionRow, action_row}
+use Rattle.gk_steps.specs.Finding.{EntryValue, LibraryValue}
+use Rattle.gk_steps.specs.LibraryFile.{Sides, is_ignored, sides_of, HasNeededFields, HasRightKinds, NoneMatches, SpellsEntry, SpellEntries, ReadsLibrary, IsReadableLibrary, HasPattern, IsBadType, IsBadPattern, IsUnknownAction, IsMissingField, IsOtherKind, IsAmbiguous, StopsLibraryAt, LibraryReadingIsUnique}
+use Rattle.gk_steps.specs.LibraryFault.{LibraryFaultSays}
+use Rattle.gk_steps.specs.LibraryLine.{EntryFaultSays, AddsLine, Ignored, Spelled, LineFaultSays, LibraryLinesFaultSays}
+use Rattle.gk_steps.proofs.SpellingLemmas.{spelling}
+
+-- what a line spells is determined
+some_same : {A : Type 0} (x y : A) → ◌≡◌ {A = Option A} (Some x) (Some y) → x ≡ y
+some_same x y e = cc
+
+some_not : {A : Type 0} (x : A) → ◌≡◌ {A = Option A} (Some x) None → ⊥
+some_not x e = let bad : ⊥ = cc in bad
+
+abbrev entry_from : Option StepType → List PieceValue → Action → EntryValue
+entry_from step_type ps action = record { step_type = step_type; pattern = ps; action = action }
+
+same_row : (a b : Sides) (r s : ActionRow) → a ≡ b → action_row a.action ≡ Some r → action_row b.action ≡ Some s → r ≡ s
+same_row a b r s e h k = some_same r s (sym h ∙ ap (λ (x : Sides). action_row x.action) e ∙ k)
+
+one_entry : (earlier : LibraryValue) (line : LineValue) (a b : EntryValue) → SpellsEntry earlier line a → SpellsEntry earlier line b → a ≡ b
+one_entry earlier line a b h k =
+    let types : a.step_type ≡ b.step_type = some_same a.step_type b.step_type (sym h.is_type ∙ k.is_type) in
+    let sides : h.sides ≡ k.sides = some_same h.sides k.sides (sym h.is_cut ∙ k.is_cut) in
+    let patterns : a.pattern ≡ b.pattern = spelling k.sides.pattern a.pattern b.pattern (subst (λ (s : Sides). SpellsPattern s.pattern a.pattern) sides h.is_pattern) k.is_pattern in
+    let rows : h.row ≡ k.row = same_row h.sides k.sides h.row k.row sides h.is_action k.is_action in
+    let actions : a.action ≡ b.action = h.action ∙ ap (λ (r : ActionRow). r.action) rows ∙ sym k.action in
+    ap (λ t. entry_from t a.pattern a.action) types ∙ ap (λ ps. entry_from b.step_type ps a.action) patterns ∙ ap (λ x. entry_from b.step_type b.pattern x) actions
+
+one_by_one : (earlier : LibraryValue) (ls : Lines) (a b : LibraryValue) → SpellEntries earlier ls a → SpellEntries earlier ls b → a ≡ b
+one_by_one earlier [] [] [] h k = refl
+one_by_one earlier [] [] (y ∷ ys) h k = absurd k
+one_by_one earlier [] (x ∷ xs) b h k = absurd h
+one_by_one earlier (l ∷ ls) [] b h k = absurd h
+one_by_one earlier (l ∷ ls) (x ∷ xs) [] h k = absurd k
+one_by_one earlier (l ∷ ls) (x ∷ xs) (y ∷ ys) h k =
+    let first : x ≡ y = one_entry earlier l x y h.0 k.0 in
+    ap (λ (e : EntryValue). e ∷ xs) first ∙ ap (λ (es : LibraryValue). y ∷ es) (one_by_one (earlier ++ y ∷ []) ls xs ys (subst (λ (e : EntryValue). SpellEntries (earlier ++ e ∷ []) ls xs) first h.1) k.1)
+
+pub one_reading : LibraryReadingIsUnique
+one_reading ls a b h k = one_by_one [] (filter (λ line. not (is_ignored line)) ls) a b h k
+
+-- lines one after the other
+pub record IsSplitAt (earlier : LibraryValue) (xs : Lines) (ys : Lines) (es : LibraryValue) : Type 0 where
+  pub first : LibraryValue
+  pub second : LibraryValue
+  pub whole : es ≡ first ++ second
+  pub before : SpellEntries earlier xs first
+  pub after : SpellEntries (earlier ++ first) ys second
+
+all_of : (es : LibraryValue) → es ++ [] ≡ es
+all_of [] = refl
+all_of (e ∷ es) = ap (λ (q : LibraryValue). e ∷ q) (all_of es)
+
+split_at : (earlier : LibraryValue) (xs ys : Lines) (es : LibraryValue) → SpellEntries earlier (xs ++ ys) es → IsSplitAt earlier xs ys es
+split_at earlier [] ys es h = record { first = []; second = es; whole = refl; before = tt; after = subst (λ (q : LibraryValue). SpellEntries q ys es) (sym (all_of earlier)) h }
+split_at earlier (x ∷ xs) ys [] h = absurd h
+split_at earlier (x ∷ xs) ys (e ∷ es) h =
+    let more = split_at (earlier ++ e ∷ []) xs ys es h.1 in
+    record {
+      first = e ∷ more.first;
+      second = more.second;
+      whole = ap (λ (q : LibraryValue). e ∷ q) more.whole;
+      before = (h.0, more.before);
+      after = subst (λ (q : LibraryValue). SpellEntries q ys more.second) (append_assoc earlier (e ∷ []) more.first) more.after;
+    }
+
+one_more : (earlier : LibraryValue) (xs : Lines) (es : LibraryValue) (l : LineValue) (e : EntryValue) → SpellEntries earlier xs es → SpellsEntry (earlier ++ es) l e → SpellEntries earlier (xs ++ l ∷ []) (es ++ e ∷ [])
+one_more earlier [] [] l e h s = (subst (λ (q : LibraryValue). SpellsEntry q l e) (all_of earlier) s, tt)
+one_more earlier [] (x ∷ xs) l e h s = absurd h
+one_more earlier (y ∷ ys) [] l e h s = absurd h
+one_more earlier (y ∷ ys) (x ∷ xs) l e h s = (h.0, one_more (earlier ++ x ∷ []) ys xs l e h.1 (subst (λ (q : LibraryValue). SpellsEntry q l e) (sym (append_assoc earlier (x ∷ []) xs)) s))
+
+-- a line more
+kept_line : (b : Bool) (l : LineValue) → is_ignored l ≡ b → filter (λ line. not (is_ignored line)) (l ∷ []) ≡ cond b [] (l ∷ [])
+kept_line true l e = ap (λ v. cond (not v) (l ∷ []) []) e
+kept_line false l e = ap (λ v. cond (not v) (l ∷ []) []) e
+
+kept : (xs : Lines) (l : LineValue) (b : Bool) → is_ignored l ≡ b → filter (λ line. not (is_ignored line)) (xs ++ l ∷ []) ≡ filter (λ line. not (is_ignored line)) xs ++ cond b [] (l ∷ [])
+kept xs l b e = filter-append (λ line. not (is_ignored line)) xs (l ∷ []) ∙ ap (λ (q : Lines). filter (λ line. not (is_ignored line)) xs ++ q) (kept_line b l e)
+
+none_more : (xs : Lines) → xs ++ [] ≡ xs
+none_more [] = refl
+none_more (x ∷ xs) = ap (λ (q : Lines). x ∷ q) (none_more xs)
+
+ignored_more : (xs : Lines) (l : LineValue) (es : LibraryValue) → is_ignored l ≡ true → ReadsLibrary xs es → ReadsLibrary (xs ++ l ∷ []) es
+ignored_more xs l es e h = subst (λ (q : Lines). SpellEntries [] q es) (sym (kept xs l true e ∙ none_more (filter (λ line. not (is_ignored line)) xs))) h
+
+entry_more : (xs : Lines) (l : LineValue) (es : LibraryValue) (x : EntryValue) → is_ignored l ≡ false → ReadsLibrary xs es → SpellsEntry es l x → ReadsLibrary (xs ++ l ∷ []) (es ++ x ∷ [])
+entry_more xs l es x e h s = subst (λ (q : Lines). SpellEntries [] q (es ++ x ∷ [])) (sym (kept xs l false e)) (one_more [] (filter (λ line. not (is_ignored line)) xs) es l x h s)
+
+pub record IsCutAt (ls : List Line) (i : ℕ) (x : Line) : Type 0 where
+  pub whole : ls ≡ take i ls ++ x ∷ drop (suc i) ls
+  pub more : take (suc i) ls ≡ take i ls ++ x ∷ []
+
+cut_at : (ls : List Line) (i : ℕ) (x : Line) → i < length ls → x ≡ get_or ls i x → IsCutAt ls i x
+cut_at [] i x l e = absurd (omega arith)
+cut_at (y ∷ ys) zero x l e = record { whole = ap (λ (z : Line). z ∷ ys) (sym e); more = ap (λ (z : Line). z ∷ []) (sym e) }
+cut_at (y ∷ ys) (suc i) x l e = let c = cut_at ys i x (omega arith) e in record { whole = ap (λ (zs : List Line). y ∷ zs) c.whole; more = ap (λ (zs : List Line). y ∷ zs) c.more }
+
+values_more : (ls : List Line) (i : ℕ) (x : Line) → i < length ls → x ≡ get_or ls i x → map line_value (take (i + 1) ls) ≡ map line_value (take i ls) ++ line_value x ∷ []
+values_more ls i x l e =
+    let next : i + 1 ≡ suc i = omega arith in
+    ap (λ (k : ℕ). map line_value (take k ls)) next ∙ ap (map line_value) (cut_at ls i x l e).more ∙ map-append line_value (take i ls) (x ∷ [])
+
+pub ignored_at : (ls : List Line) (i : ℕ) (x : Line) (es : LibraryValue) → i < length ls → x ≡ get_or ls i x → is_ignored (line_value x) ≡ true → ReadsLibrary (map line_value (take i ls)) es → ReadsLibrary (map line_value (take (i + 1) ls)) es
+ignored_at ls i x es l e ignored h = subst (λ (q : Lines). ReadsLibrary q es) (sym (values_more ls i x l e)) (ignored_more (map line_value (take i ls)) (line_value x) es ignored h)
+
+pub entry_at : (ls : List Line) (i : ℕ) (x : Line) (es : LibraryValue) (entry : EntryValue) → i < length ls → x ≡ get_or ls i x → is_ignored (line_value x) ≡ false → ReadsLibrary (map line_value (take i ls)) es → SpellsEntry es (line_value x) entry → ReadsLibrary (map line_value (take (i + 1) ls)) (es ++ entry ∷ [])
+entry_at ls i x es entry l e counts h s = subst (λ (q : Lines). ReadsLibrary q (es ++ entry ∷ [])) (sym (values_more ls i x l e)) (entry_more (map line_value (take i ls)) (line_value x) es entry counts h s)
+
+-- a faulty line ends every reading
+kept_rest : (xs : Lines) (l : LineValue) (more : Lines) → is_ignored l ≡ false → filter (λ line. not (is_ignored line)) (xs ++ l ∷ more) ≡ filter (λ line. not (is_ignored line)) xs ++ l ∷ filter (λ line. not (is_ignored line)) more
+kept_rest xs l more e =
+    let here : filter (λ line. not (is_ignored line)) (l ∷ more) ≡ l ∷ filter (λ line. not (is_ignored line)) more = ap (λ v. cond (not v) (l ∷ filter (λ line. not (is_ignored line)) more) (filter (λ line. not (is_ignored line)) more)) e in
+    filter-append (λ line. not (is_ignored line)) xs (l ∷ more) ∙ ap (λ (q : Lines). filter (λ line. not (is_ignored line)) xs ++ q) here
+
+first_spelled : (earlier : LibraryValue) (l : LineValue) (ls : Lines) (es : LibraryValue) → SpellEntries earlier (l ∷ ls) es → (e : EntryValue) × SpellsEntry earlier l e
+first_spelled earlier l ls [] h = absurd h
+first_spelled earlier l ls (e ∷ es) h = (e, h.0)
+
+stopped : (before : Lines) (line : LineValue) (entries : LibraryValue) → ReadsLibrary before entries → is_ignored line ≡ false → ((e : EntryValue) → SpellsEntry entries line e → ⊥) → (more : Lines) → IsReadableLibrary (before ++ line ∷ more) → ⊥
+stopped before line entries fits counts never more r =
+    let cut = split_at [] (filter (λ l. not (is_ignored l)) before) (line ∷ filter (λ l. not (is_ignored l)) more) r.0 (subst (λ (q : Lines). SpellEntries [] q r.0) (kept_rest before line more counts) r.1) in
+    let same : cut.first ≡ entries = one_by_one [] (filter (λ l. not (is_ignored l)) before) cut.first entries cut.before fits in
+    let first = first_spelled cut.first line (filter (λ l. not (is_ignored l)) more) cut.second cut.after in
+    never first.0 (subst (λ (q : LibraryValue). SpellsEntry q line first.0) same first.1)
+
+stop_at : (Fault : LibraryValue → LineValue → Type 0) (n : ℕ) (ls : List Line) (i : ℕ) (x : Line) (es : LibraryValue) → i < length ls → x ≡ get_or ls i x → is_ignored (line_value x) ≡ false → ReadsLibrary (map line_value (take i ls)) es
+    → n ≡ (line_value x).line → Fault es (line_value x) → ((e : EntryValue) → SpellsEntry es (line_value x) e → ⊥) → StopsLibraryAt (map line_value ls) n Fault
+stop_at Fault n ls i x es l e counts h number fault never = record {
+  before = map line_value (take i ls);
+  line = line_value x;
+  after = map line_value (drop (suc i) ls);
+  whole = ap (map line_value) (cut_at ls i x l e).whole ∙ map-append line_value (take i ls) (x ∷ drop (suc i) ls);
+  number = sym number;
+  entries = es;
+  fits = h;
+  counts = counts;
+  stops = stopped (map line_value (take i ls)) (line_value x) es h counts never;
+  fault = fault;
+}
+
+-- no line with a fault spells an entry
+never_type : (es : LibraryValue) (l : LineValue) → IsBadType es l → (e : EntryValue) → SpellsEntry es l e → ⊥
+never_type es l f e s = some_not e.step_type (sym s.is_type ∙ f)
+
+never_pattern : (es : LibraryValue) (l : LineValue) → IsBadPattern es l → (e : EntryValue) → SpellsEntry es l e → ⊥
+never_pattern es l f e s = f.bad s.sides e.pattern s.is_cut s.is_pattern
+
+sides_same : (l : LineValue) (step_type : Option StepType) (a b : Sides) (ps : List PieceValue) → HasPattern l step_type a ps → sides_of l ≡ Some b → a ≡ b
+sides_same l step_type a b ps g cut = some_same a b (sym g.is_cut ∙ cut)
+
+never_action : (es : LibraryValue) (l : LineValue) → IsUnknownAction es l → (e : EntryValue) → SpellsEntry es l e → ⊥
+never_action es l f e s = some_not s.row (sym s.is_action ∙ ap (λ (x : Sides). action_row x.action) (sym (sides_same l f.step_type f.sides s.sides f.ps f.good s.is_cut)) ∙ f.bad)
+
+pattern_same : (l : LineValue) (step_type : Option StepType) (a b : Sides) (ps qs : List PieceValue) → HasPattern l step_type a ps → sides_of l ≡ Some b → SpellsPattern b.pattern qs → qs ≡ ps
+pattern_same l step_type a b ps qs g cut s = spelling a.pattern qs ps (subst (λ (x : Sides). SpellsPattern x.pattern qs) (sym (sides_same l step_type a b ps g cut)) s) g.is_pattern
+
+row_same : (l : LineValue) (step_type : Option StepType) (a b : Sides) (ps : List PieceValue) (r q : ActionRow) → HasPattern l step_type a ps → sides_of l ≡ Some b → action_row a.action ≡ Some r → action_row b.action ≡ Some q → q ≡ r
+row_same l step_type a b ps r q g cut h k = sym (same_row a b r q (sides_same l step_type a b ps g cut) h k)
+
+never_needs : (es : LibraryValue) (l : LineValue) → IsMissingField es l → (e : EntryValue) → SpellsEntry es l e → ⊥
+never_needs es l f e s =
+    let ps = pattern_same l f.step_type f.sides s.sides f.ps e.pattern f.good s.is_cut s.is_pattern in
+    let row = row_same l f.step_type f.sides s.sides f.ps f.row s.row f.good s.is_cut f.is_action s.is_action in
+    f.bad (subst (λ (q : List PieceValue). HasNeededFields f.row q) ps (subst (λ (r : ActionRow). HasNeededFields r e.pattern) row s.needs))
+
+never_kinds : (es : LibraryValue) (l : LineValue) → IsOtherKind es l → (e : EntryValue) → SpellsEntry es l e → ⊥
+never_kinds es l f e s =
+    let ps = pattern_same l f.step_type f.sides s.sides f.ps e.pattern f.good s.is_cut s.is_pattern in
+    let row = row_same l f.step_type f.sides s.sides f.ps f.row s.row f.good s.is_cut f.is_action s.is_action in
+    f.bad (subst (λ (q : List PieceValue). HasRightKinds f.row q) ps (subst (λ (r : ActionRow). HasRightKinds r e.pattern) row s.kinds))
+
+none_there : (before : LibraryValue) (x : EntryValue) (after : LibraryValue) (step_type : Option StepType) (text : List ℕ) → NoneMatches (before ++ x ∷ after) step_type text → x.step_type ≡ step_type → MatchesNot x.pattern text
+none_there [] x after step_type text h = h.0
+none_there (b ∷ before) x after step_type text h = none_there before x after step_type text h.1
+
+never_ambiguous : (es : LibraryValue) (l : LineValue) → IsAmbiguous es l → (e : EntryValue) → SpellsEntry es l e → ⊥
+never_ambiguous es l f e s =
+    let sides = sides_same l f.step_type f.sides s.sides f.ps f.good s.is_cut in
+    let types : e.step_type ≡ f.step_type = some_same e.step_type f.step_type (sym s.is_type ∙ f.good.is_type) in
+    let none : NoneMatches (f.before ++ f.entry ∷ f.after) e.step_type s.sides.pattern = subst (λ (q : LibraryValue). NoneMatches q e.step_type s.sides.pattern) f.whole s.unambiguous in
+    none_there f.before f.entry f.after e.step_type s.sides.pattern none (f.same ∙ sym types) f.spans (subst (λ (x : Sides). Matches f.entry.pattern x.pattern f.spans) sides f.matches)
+
+pub fault_at : (f : LibraryFault) (ls : List Line) (i : ℕ) (x : Line) (es : LibraryValue) → i < length ls → x ≡ get_or ls i x → is_ignored (line_value x) ≡ false → ReadsLibrary (map line_value (take i ls)) es → EntryFaultSays f es (line_value x) → LibraryLinesFaultSays f (map line_value ls)
+fault_at faults.Memory ls i x es l e counts h f = tt
+fault_at (faults.BadType n) ls i x es l e counts h f = stop_at IsBadType n ls i x es l e counts h f.0 f.1 (never_type es (line_value x) f.1)
+fault_at (faults.BadPattern n) ls i x es l e counts h f = stop_at IsBadPattern n ls i x es l e counts h f.0 f.1 (never_pattern es (line_value x) f.1)
+fault_at (faults.UnknownAction n) ls i x es l e counts h f = stop_at IsUnknownAction n ls i x es l e counts h f.0 f.1 (never_action es (line_value x) f.1)
+fault_at (faults.MissingField n) ls i x es l e counts h f = stop_at IsMissingField n ls i x es l e counts h f.0 f.1 (never_needs es (line_value x) f.1)
+fault_at (faults.FieldKind n) ls i x es l e counts h f = stop_at IsOtherKind n ls i x es l e counts h f.0 f.1 (never_kinds es (line_value x) f.1)
+fault_at (faults.Ambiguous n) ls i x es l e counts h f = stop_at IsAmbiguous n ls i x es l e counts h f.0 f.1 (never_ambiguous es (line_value x) f.1)
+fault_at (faults.NotUtf8 n) ls i x es l e counts h f = absurd f
+fault_at faults.TooLong ls i x es l e counts h f = absurd f
+
+-- the whole file
+stops_whole : (Fault : LibraryValue → LineValue → Type 0) (n : ℕ) (ls : Lines) (es : LibraryValue) → StopsLibraryAt ls n Fault → ReadsLibrary ls es → ⊥
+stops_whole Fault n ls es s h = s.stops s.after (es, subst (λ (q : Lines). ReadsLibrary q es) s.whole h)
+
+pub only_memory : (f : LibraryFault) (ls : Lines) (es : LibraryValue) → LibraryLinesFaultSays f ls → ReadsLibrary ls es → f ≡ faults.Memory
+only_memory faults.Memory ls es f h = refl
+only_memory (faults.BadType n) ls es f h = absurd (stops_whole IsBadType n ls es f h)
+only_memory (faults.BadPattern n) ls es f h = absurd (stops_whole IsBadPattern n ls es f h)
+only_memory (faults.UnknownAction n) ls es f h = absurd (stops_whole IsUnknownAction n ls es f h)
+only_memory (faults.MissingField n) ls es f h = absurd (stops_whole IsMissingField n ls es f h)
+only_memory (faults.FieldKind n) ls es f h = absurd (stops_whole IsOtherKind n ls es f h)
+only_memory (faults.Ambiguous n) ls es f h = absurd (stops_whole IsAmbiguous n ls es f h)
+only_memory (faults.NotUtf8 n) ls es f h = absurd f
+only_memory faults.TooLong ls es f h = absurd f
+
+pub says_so : (f : LibraryFault) (bytes : List ℕ) → IsText bytes → LibraryLinesFaultSays f (lines_of bytes) → LibraryFaultSays f bytes
+says_so faults.Memory bytes is f = is
+says_so (faults.BadType n) bytes is f = (is, f)
+says_so (faults.BadPattern n) bytes is f = (is, f)
+says_so (faults.UnknownAction n) bytes is f = (is, f)
+says_so (faults.MissingField n) bytes is f = (is, f)
+says_so (faults.FieldKind n) bytes is f = (is, f)
+says_so (faults.Ambiguous n) bytes is f = (is, f)
+says_so (faults.NotUtf8 n) bytes is f = absurd f
+says_so faults.TooLong bytes is f = absurd f
+
+-- a line more
+pub added_at : (ls : List Line) (i : ℕ) (x : Line) (es after : LibraryValue) → i < length ls → x ≡ get_or ls i x → ReadsLibrary (map line_value (take i ls)) es → AddsLine es (line_value x) after → ReadsLibrary (map line_value (take (i + 1) ls)) after
+added_at ls i x es after l e h (Ignored ignored same) = subst (λ (q : LibraryValue). ReadsLibrary (map line_value (take (i + 1) ls)) q) (sym same) (ignored_at ls i x es l e ignored h)
+added_at ls i x es after l e h (Spelled counts a) = subst (λ (q : LibraryValue). ReadsLibrary (map line_value (take (i + 1) ls)) q) (sym a.added) (entry_at ls i x es a.entry l e counts h a.spells)
+
+pub stopped_at : (f : LibraryFault) (ls : List Line) (i : ℕ) (x : Line) (es : LibraryValue) → i < length ls → x ≡ get_or ls i x → ReadsLibrary (map line_value (take i ls)) es → LineFaultSays f es (line_value x) → LibraryLinesFaultSays f (map line_value ls)
+stopped_at f ls i x es l e h s = fault_at f ls i x es l e s.counts h s.fault_is
+
+-- the whole file
+pub file_only : (bytes : List ℕ) (ls : Lines) (a : LibraryValue) → ls ≡ lines_of bytes → ReadsLibrary ls a → (b : LibraryValue) → ReadsLibrary (lines_of bytes) b → a ≡ b
+file_only bytes ls a e h b k = one_reading (lines_of bytes) a b (subst (λ (q : Lines). ReadsLibrary q a) e h) k
+
+pub file_fault : (f : LibraryFault) (bytes : List ℕ) (ls : Lines) → IsText bytes → ls ≡ lines_of bytes → LibraryLinesFaultSays f ls → LibraryFaultSays f bytes
+file_fault f bytes ls is e h = says_so f bytes is (subst (λ (q : Lines). LibraryLinesFaultSays f q) e h)
+
+pub file_memory : (f : LibraryFault) (bytes : List ℕ) (ls : Lines) → ls ≡ lines_of bytes → LibraryLinesFaultSays f ls → (b : LibraryValue) → ReadsLibrary (lines_of bytes) b → f ≡ faults.Memory
+file_memory f bytes ls e h b k = only_memory f (lines_of bytes) b (subst (λ (q : Lines). LibraryLinesFaultSays f q) e h) k

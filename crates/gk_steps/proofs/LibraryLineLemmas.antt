@@ -1,0 +1,358 @@
+-- One line of a step library.
+use Rattle.std.proofs.Common.{◌≡◌, ℕ, zero, suc, ◌+◌, ◌-◌, ◌<◌, ◌≤◌, Bool, true, false, cond, ◌&&◌, nat_eq, List, [], ◌∷◌, ◌++◌, length, take, drop, get_or, codes, find, Option, Some, None, option_map, refl, ap, sym, subst, ◌∙◌, arith}
+use Rattle.std.specs.Prelude.{is_some, IsSome, slice_get}
+use Rattle.std.specs.List.{AllByRecursion, list_all, prefix_len, position_or_len, before_first, after_first}
+use Rattle.std.specs.Str.{IsUtf8, IsCharBoundary, bytes_eq}
+use Rattle.std.proofs.lemmas.Bool.Decides.{nat_tests}
+use Rattle.std.proofs.lemmas.List.{take_all, drop_all}
+use Rattle.std.proofs.Common.{length-drop}
+use Rattle.std.proofs.lemmas.List.Sums.{prefix_len_passes, prefix_len-le-length, passes_at_first}
+use Rattle.std.proofs.lemmas.Str.{IsCharBoundary-start, IsCharBoundary-after_ascii, IsCharBoundary-before_ascii}
+use Rattle.gk_gherkin.specs.declared.feature.StepType.{StepType}
+use Rattle.gk_gherkin.specs.Lines.{LineValue, is_blank}
+use Rattle.gk_gherkin.specs.Class.{begins}
+use Rattle.gk_steps.specs.declared.action.Action.{Action}
+use Rattle.gk_steps.specs.declared.pattern.FieldKind.{FieldKind}
+use Rattle.gk_steps.specs.declared.pattern.FieldKind.TheVariants.{Plain, Decimal}
+use Rattle.gk_steps.specs.declared.library_fault.LibraryFault.{LibraryFault}
+use Rattle.gk_steps.specs.declared.library_fault.LibraryFault.TheVariants as faults
+use Rattle.gk_steps.specs.Pattern.{PieceValue, SpellsPattern, field_kind}
+use Rattle.gk_steps.specs.Action.{ActionRow, action_row, action_table, kind_of_field}
+use Rattle.gk_steps.specs.Finding.{EntryValue, LibraryValue, FoundValue, NoneFound, IsFirstFound, IsFoundOf}
+use Rattle.gk_steps.specs.LibraryFile.{Sides, into_sides, last_arrow, NoneMatches, SpellsEntry, HasPattern, IsAmbiguous}
+use Rattle.gk_steps.specs.LibraryLine.{uses_of, needed_names, used_names, is_same_kind, is_none_or_kind, has_needed, has_right_kinds, FitsAction, LacksField, HasOtherKind, ActionFaultSays, PatternFaultSays, IsCut, CutFaultSays, EntryFaultSays}
+
+-- where blanks end, a text may be cut
+blank_ascii : (b : ℕ) → is_blank b ≡ true → b < 128
+blank_ascii b h = grind (arith, nat_tests)
+
+pub boundary_at : (bs : List ℕ) (n : ℕ) → IsUtf8 bs → n ≤ prefix_len is_blank bs → IsCharBoundary bs n
+boundary_at bs zero u le = IsCharBoundary-start bs u
+boundary_at bs (suc k) u le =
+    let within : k < length bs = omega (arith, prefix_len-le-length is_blank bs) in
+    let at : get_or bs k 0 < 128 = blank_ascii (get_or bs k 0) (prefix_len_passes is_blank bs k 0 (omega arith)) in
+    let e : k + 1 ≡ suc k = omega arith in
+    subst (IsCharBoundary bs) e (IsCharBoundary-after_ascii bs k u within at)
+
+pub before_first_blank : (bs : List ℕ) (n : ℕ) → n ≡ position_or_len is_blank bs → n < length bs → IsCharBoundary bs n
+before_first_blank bs n e h =
+    let at : get_or bs n 0 < 128 = subst (λ n. get_or bs n 0 < 128) (sym e) (blank_ascii (get_or bs (position_or_len is_blank bs) 0) (passes_at_first is_blank bs 0 (omega arith))) in
+    IsCharBoundary-before_ascii bs n h at
+
+pub after_first_blank : (bs : List ℕ) (n : ℕ) → IsUtf8 bs → n ≡ position_or_len is_blank bs → n < length bs → IsCharBoundary bs (n + 1)
+after_first_blank bs n u e h =
+    let at : get_or bs n 0 < 128 = subst (λ n. get_or bs n 0 < 128) (sym e) (blank_ascii (get_or bs (position_or_len is_blank bs) 0) (passes_at_first is_blank bs 0 (omega arith))) in
+    IsCharBoundary-after_ascii bs n u h at
+
+pub no_blank : (text : List ℕ) (n : ℕ) → n ≡ position_or_len is_blank text → length text ≤ n → after_first is_blank text ≡ []
+no_blank text n e h = drop_all (position_or_len is_blank text + 1) text (omega arith)
+
+pub to_blank : (text part : List ℕ) (n : ℕ) → n ≡ position_or_len is_blank text → part ≡ take (n - 0) text → part ≡ before_first is_blank text
+to_blank text part n e cut =
+    let whole : n - 0 ≡ position_or_len is_blank text = omega arith in
+    cut ∙ ap (λ (m : ℕ). take m text) whole
+
+pub past_blank : (text part : List ℕ) (n : ℕ) → n ≡ position_or_len is_blank text → part ≡ drop (n + 1) text → part ≡ after_first is_blank text
+past_blank text part n e cut = cut ∙ ap (λ (m : ℕ). drop (m + 1) text) e
+
+-- the last arrow
+arrow_not_here : (b : ℕ) (bs : List ℕ) (o : Option Sides) → o ≡ None → begins (b ∷ bs) (codes "=>") ≡ false → into_sides (b ∷ bs) o ≡ None
+arrow_not_here b bs o e f =
+    let nothing : into_sides (b ∷ bs) None ≡ None = ap (λ v. cond v (let s : Option Sides = Some (record { pattern = []; action = drop 1 bs }) in s) None) f in
+    ap (into_sides (b ∷ bs)) e ∙ nothing
+
+arrow_here : (b : ℕ) (bs : List ℕ) (o : Option Sides) → o ≡ None → begins (b ∷ bs) (codes "=>") ≡ true → into_sides (b ∷ bs) o ≡ Some (record { pattern = []; action = drop 1 bs })
+arrow_here b bs o e f =
+    let here : into_sides (b ∷ bs) None ≡ Some (record { pattern = []; action = drop 1 bs }) = ap (λ v. cond v (let s : Option Sides = Some (record { pattern = []; action = drop 1 bs }) in s) None) f in
+    ap (into_sides (b ∷ bs)) e ∙ here
+
+pub arrow_none : (text : List ℕ) (i : ℕ) → i < length text → last_arrow (drop (suc i) text) ≡ None → begins (drop i text) (codes "=>") ≡ false → last_arrow (drop i text) ≡ None
+unfolding last_arrow
+arrow_none [] i l h e = absurd (omega arith)
+arrow_none (b ∷ bs) zero l h e = arrow_not_here b bs (last_arrow bs) h e
+arrow_none (b ∷ bs) (suc i) l h e = arrow_none bs i (omega arith) h e
+
+pub arrow_some : (text : List ℕ) (i : ℕ) → i < length text → last_arrow (drop (suc i) text) ≡ None → begins (drop i text) (codes "=>") ≡ true → last_arrow text ≡ Some (record { pattern = take i text; action = drop (i + 2) text })
+unfolding last_arrow
+arrow_some [] i l h e = absurd (omega arith)
+arrow_some (b ∷ bs) zero l h e = arrow_here b bs (last_arrow bs) h e
+arrow_some (b ∷ bs) (suc i) l h e =
+    let more : last_arrow bs ≡ Some (record { pattern = take i bs; action = drop (i + 2) bs }) = arrow_some bs i (omega arith) h e in
+    let there : suc (i + 2) ≡ suc i + 2 = omega arith in
+    ap (into_sides (b ∷ bs)) more ∙ ap (λ (k : ℕ). let s : Option Sides = Some (record { pattern = b ∷ take i bs; action = drop k (b ∷ bs) }) in s) there
+
+-- tests
+and_so : (a b : Bool) → (a && b) ≡ true → (a ≡ true) × (b ≡ true)
+and_so true b e = (refl, e)
+and_so false b e = let bad : ⊥ = cc in absurd bad
+
+and_both : (a b : Bool) → a ≡ true → b ≡ true → (a && b) ≡ true
+and_both true b e f = f
+and_both false b e f = let bad : ⊥ = cc in absurd bad
+
+pub needed_so : (ps : List PieceValue) (names : List (List ℕ)) → list_all (λ name. is_some (field_kind ps name)) names ≡ true → AllByRecursion (λ name. IsSome (field_kind ps name)) names
+needed_so ps [] e = tt
+needed_so ps (name ∷ names) e =
+    let parts = and_so (is_some (field_kind ps name)) (list_all (λ n. is_some (field_kind ps n)) names) e in
+    (parts.0, needed_so ps names parts.1)
+
+needed_test : (ps : List PieceValue) (names : List (List ℕ)) → AllByRecursion (λ name. IsSome (field_kind ps name)) names → list_all (λ name. is_some (field_kind ps name)) names ≡ true
+needed_test ps [] h = refl
+needed_test ps (name ∷ names) h = and_both (is_some (field_kind ps name)) (list_all (λ n. is_some (field_kind ps n)) names) h.0 (needed_test ps names h.1)
+
+same_kind_so : (a b : FieldKind) → is_same_kind a b ≡ true → a ≡ b
+same_kind_so Plain Plain e = refl
+same_kind_so Plain Decimal e = let bad : ⊥ = cc in absurd bad
+same_kind_so Decimal Plain e = let bad : ⊥ = cc in absurd bad
+same_kind_so Decimal Decimal e = refl
+
+same_kind_test : (a : FieldKind) → is_same_kind a a ≡ true
+same_kind_test Plain = refl
+same_kind_test Decimal = refl
+
+kind_so : (o : Option FieldKind) (kind : FieldKind) → is_none_or_kind o kind ≡ true → (k : FieldKind) → o ≡ Some k → k ≡ kind
+kind_so None kind e k is = let bad : ⊥ = cc in absurd bad
+kind_so (Some other) kind e k is = let same : other ≡ k = cc in sym same ∙ same_kind_so other kind e
+
+kind_test : (o : Option FieldKind) (kind : FieldKind) → ((k : FieldKind) → o ≡ Some k → k ≡ kind) → is_none_or_kind o kind ≡ true
+kind_test None kind h = refl
+kind_test (Some other) kind h = ap (is_same_kind other) (sym (h other refl)) ∙ same_kind_test other
+
+pub kinds_so : (ps : List PieceValue) (names : List (List ℕ)) → list_all (λ name. is_none_or_kind (field_kind ps name) (kind_of_field name)) names ≡ true
+    → AllByRecursion (λ name. (kind : FieldKind) → field_kind ps name ≡ Some kind → kind ≡ kind_of_field name) names
+kinds_so ps [] e = tt
+kinds_so ps (name ∷ names) e =
+    let parts = and_so (is_none_or_kind (field_kind ps name) (kind_of_field name)) (list_all (λ n. is_none_or_kind (field_kind ps n) (kind_of_field n)) names) e in
+    (kind_so (field_kind ps name) (kind_of_field name) parts.0, kinds_so ps names parts.1)
+
+kinds_test : (ps : List PieceValue) (names : List (List ℕ)) → AllByRecursion (λ name. (kind : FieldKind) → field_kind ps name ≡ Some kind → kind ≡ kind_of_field name) names
+    → list_all (λ name. is_none_or_kind (field_kind ps name) (kind_of_field name)) names ≡ true
+kinds_test ps [] h = refl
+kinds_test ps (name ∷ names) h =
+    and_both (is_none_or_kind (field_kind ps name) (kind_of_field name)) (list_all (λ n. is_none_or_kind (field_kind ps n) (kind_of_field n)) names) (kind_test (field_kind ps name) (kind_of_field name) h.0) (kinds_test ps names h.1)
+
+-- the table of actions
+pub record FitsRow (row : ActionRow) : Type 0 where
+  pub needs : row.needs ≡ needed_names (uses_of row.action)
+  pub uses : row.uses ≡ used_names (uses_of row.action)
+
+find_here : (v : Bool) (P : ActionRow → Type 0) (p : ActionRow → Bool) (ys : List ActionRow) (x y : ActionRow) → cond v (Some y) (find p ys) ≡ Some x → P y → (find p ys ≡ Some x → P x) → P x
+find_here true P p ys x y e h more = let same : y ≡ x = cc in subst P same h
+find_here false P p ys x y e h more = more e
+
+find_all : (P : ActionRow → Type 0) (p : ActionRow → Bool) (xs : List ActionRow) (x : ActionRow) → find p xs ≡ Some x → AllByRecursion P xs → P x
+find_all P p [] x e h = let bad : ⊥ = cc in absurd bad
+find_all P p (y ∷ ys) x e h = find_here (p y) P p ys x y e h.0 (λ f. find_all P p ys x f h.1)
+
+rows_fit : AllByRecursion FitsRow action_table
+rows_fit = (record { needs = refl; uses = refl }, (record { needs = refl; uses = refl }, (record { needs = refl; uses = refl }, (record { needs = refl; uses = refl }, (record { needs = refl; uses = refl }, (record { needs = refl; uses = refl }, (record { needs = refl; uses = refl }, (record { needs = refl; uses = refl }, (record { needs = refl; uses = refl }, (record { needs = refl; uses = refl }, (record { needs = refl; uses = refl }, (record { needs = refl; uses = refl }, (record { needs = refl; uses = refl }, (record { needs = refl; uses = refl }, (record { needs = refl; uses = refl }, (record { needs = refl; uses = refl }, (record { needs = refl; uses = refl }, (record { needs = refl; uses = refl }, (record { needs = refl; uses = refl }, (record { needs = refl; uses = refl }, (record { needs = refl; uses = refl }, (record { needs = refl; uses = refl }, tt))))))))))))))))))))))
+
+row_fits : (name : List ℕ) (row : ActionRow) → action_row name ≡ Some row → FitsRow row
+unfolding action_row
+row_fits name row e = find_all FitsRow (λ (r : ActionRow). bytes_eq r.name name) action_table row e rows_fit
+
+-- the row of a found action
+pub record IsRowOf (o : Option ActionRow) (action : Action) : Type 0 where
+  pub row : ActionRow
+  pub is : o ≡ Some row
+  pub action_is : action ≡ row.action
+
+row_of : (o : Option ActionRow) (action : Action) → ◌≡◌ {A = Option Action} (Some action) (option_map (λ (row : ActionRow). row.action) o) → IsRowOf o action
+row_of None action e = let bad : ⊥ = cc in absurd bad
+row_of (Some row) action e = record { row = row; is = refl; action_is = cc }
+
+pub no_row : (o : Option ActionRow) → ◌≡◌ {A = Option Action} None (option_map (λ (row : ActionRow). row.action) o) → o ≡ None
+no_row None e = refl
+no_row (Some row) e = let bad : ⊥ = cc in absurd bad
+
+needs_fit : (row : ActionRow) (action : Action) (ps : List PieceValue) → FitsRow row → action ≡ row.action → has_needed (uses_of action) ps ≡ list_all (λ name. is_some (field_kind ps name)) row.needs
+needs_fit row action ps f e = ap (λ a. has_needed (uses_of a) ps) e ∙ ap (λ (names : List (List ℕ)). list_all (λ name. is_some (field_kind ps name)) names) (sym f.needs)
+
+kinds_fit : (row : ActionRow) (action : Action) (ps : List PieceValue) → FitsRow row → action ≡ row.action → has_right_kinds (uses_of action) ps ≡ list_all (λ name. is_none_or_kind (field_kind ps name) (kind_of_field name)) row.uses
+kinds_fit row action ps f e = ap (λ a. has_right_kinds (uses_of a) ps) e ∙ ap (λ (names : List (List ℕ)). list_all (λ name. is_none_or_kind (field_kind ps name) (kind_of_field name)) names) (sym f.uses)
+
+pub action_fits : (name : List ℕ) (ps : List PieceValue) (action : Action) → ◌≡◌ {A = Option Action} (Some action) (option_map (λ (row : ActionRow). row.action) (action_row name)) → has_needed (uses_of action) ps ≡ true → has_right_kinds (uses_of action) ps ≡ true → FitsAction name ps action
+action_fits name ps action e needs kinds =
+    let r = row_of (action_row name) action e in
+    let f = row_fits name r.row r.is in
+    record { row = r.row; is_action = r.is; action_is = r.action_is; needs = needed_so ps r.row.needs (sym (needs_fit r.row action ps f r.action_is) ∙ needs); kinds = kinds_so ps r.row.uses (sym (kinds_fit r.row action ps f r.action_is) ∙ kinds) }
+
+true_not_false : (b : Bool) → b ≡ true → b ≡ false → ⊥
+true_not_false true e f = let bad : ⊥ = cc in bad
+true_not_false false e f = let bad : ⊥ = cc in bad
+
+pub lacks_field : (name : List ℕ) (ps : List PieceValue) (action : Action) → ◌≡◌ {A = Option Action} (Some action) (option_map (λ (row : ActionRow). row.action) (action_row name)) → has_needed (uses_of action) ps ≡ false → LacksField name ps
+lacks_field name ps action e needs =
+    let r = row_of (action_row name) action e in
+    let f = row_fits name r.row r.is in
+    record { row = r.row; is_action = r.is; bad = λ h. true_not_false (has_needed (uses_of action) ps) (needs_fit r.row action ps f r.action_is ∙ needed_test ps r.row.needs h) needs }
+
+pub other_kind : (name : List ℕ) (ps : List PieceValue) (action : Action) → ◌≡◌ {A = Option Action} (Some action) (option_map (λ (row : ActionRow). row.action) (action_row name)) → has_needed (uses_of action) ps ≡ true → has_right_kinds (uses_of action) ps ≡ false → HasOtherKind name ps
+other_kind name ps action e needs kinds =
+    let r = row_of (action_row name) action e in
+    let f = row_fits name r.row r.is in
+    record { row = r.row; is_action = r.is; needs = needed_so ps r.row.needs (sym (needs_fit r.row action ps f r.action_is) ∙ needs); bad = λ h. true_not_false (has_right_kinds (uses_of action) ps) (kinds_fit r.row action ps f r.action_is ∙ kinds_test ps r.row.uses h) kinds }
+
+-- faults of a line
+same_sides : (a b : Sides) → ◌≡◌ {A = Option Sides} (Some a) (Some b) → a ≡ b
+same_sides a b e = cc
+
+no_sides : (a : Sides) → ◌≡◌ {A = Option Sides} None (Some a) → ⊥
+no_sides a e = let bad : ⊥ = cc in bad
+
+pub cut_fault : (f : LibraryFault) (earlier : LibraryValue) (line : LineValue) → CutFaultSays f line → EntryFaultSays f earlier line
+cut_fault (faults.BadType n) earlier line h = h
+cut_fault (faults.BadPattern n) earlier line h = (h.0, record { step_type = h.1; is_type = h.2; bad = λ sides ps cut s. no_sides sides (sym h.3 ∙ cut) })
+cut_fault (faults.NotUtf8 n) earlier line h = absurd h
+cut_fault (faults.UnknownAction n) earlier line h = absurd h
+cut_fault (faults.MissingField n) earlier line h = absurd h
+cut_fault (faults.FieldKind n) earlier line h = absurd h
+cut_fault (faults.Ambiguous n) earlier line h = absurd h
+cut_fault faults.TooLong earlier line h = absurd h
+cut_fault faults.Memory earlier line h = absurd h
+
+pub pattern_fault : (f : LibraryFault) (earlier : LibraryValue) (line : LineValue) (step_type : Option StepType) (text name : List ℕ) → IsCut line step_type text name → PatternFaultSays f line.line text → EntryFaultSays f earlier line
+pattern_fault (faults.BadPattern n) earlier line step_type text name c h =
+    (h.0, record { step_type = step_type; is_type = c.is_type; bad = λ sides ps cut s. h.1 ps (subst (λ (t : Sides). SpellsPattern t.pattern ps) (same_sides sides (record { pattern = text; action = name }) (sym cut ∙ c.is_cut)) s) })
+pattern_fault (faults.BadType n) earlier line step_type text name c h = absurd h
+pattern_fault (faults.NotUtf8 n) earlier line step_type text name c h = absurd h
+pattern_fault (faults.UnknownAction n) earlier line step_type text name c h = absurd h
+pattern_fault (faults.MissingField n) earlier line step_type text name c h = absurd h
+pattern_fault (faults.FieldKind n) earlier line step_type text name c h = absurd h
+pattern_fault (faults.Ambiguous n) earlier line step_type text name c h = absurd h
+pattern_fault faults.TooLong earlier line step_type text name c h = absurd h
+pattern_fault faults.Memory earlier line step_type text name c h = tt
+
+good_so : (line : LineValue) (step_type : Option StepType) (text name : List ℕ) (ps : List PieceValue) → IsCut line step_type text name → SpellsPattern text ps → HasPattern line step_type (record { pattern = text; action = name }) ps
+good_so line step_type text name ps c s = record { is_type = c.is_type; is_cut = c.is_cut; is_pattern = s }
+
+pub action_fault : (f : LibraryFault) (earlier : LibraryValue) (line : LineValue) (step_type : Option StepType) (text name : List ℕ) (ps : List PieceValue) → IsCut line step_type text name → SpellsPattern text ps → ActionFaultSays f line.line name ps → EntryFaultSays f earlier line
+action_fault (faults.UnknownAction n) earlier line step_type text name ps c s h = (h.0, record { step_type = step_type; sides = record { pattern = text; action = name }; ps = ps; good = good_so line step_type text name ps c s; bad = h.1 })
+action_fault (faults.MissingField n) earlier line step_type text name ps c s h = (h.0, record { step_type = step_type; sides = record { pattern = text; action = name }; ps = ps; row = h.1.row; good = good_so line step_type text name ps c s; is_action = h.1.is_action; bad = h.1.bad })
+action_fault (faults.FieldKind n) earlier line step_type text name ps c s h = (h.0, record { step_type = step_type; sides = record { pattern = text; action = name }; ps = ps; row = h.1.row; good = good_so line step_type text name ps c s; is_action = h.1.is_action; needs = h.1.needs; bad = h.1.bad })
+action_fault (faults.BadType n) earlier line step_type text name ps c s h = absurd h
+action_fault (faults.BadPattern n) earlier line step_type text name ps c s h = absurd h
+action_fault (faults.NotUtf8 n) earlier line step_type text name ps c s h = absurd h
+action_fault (faults.Ambiguous n) earlier line step_type text name ps c s h = absurd h
+action_fault faults.TooLong earlier line step_type text name ps c s h = absurd h
+action_fault faults.Memory earlier line step_type text name ps c s h = absurd h
+
+-- an earlier entry
+pub record IsAt (xs : LibraryValue) (x : EntryValue) : Type 0 where
+  pub before : LibraryValue
+  pub after : LibraryValue
+  pub whole : xs ≡ before ++ x ∷ after
+
+at_place : (xs : LibraryValue) (i : ℕ) (x : EntryValue) → slice_get xs i ≡ Some x → IsAt xs x
+at_place [] i x e = let bad : ⊥ = cc in absurd bad
+at_place (y ∷ ys) zero x e = let same : y ≡ x = cc in record { before = []; after = ys; whole = ap (λ (z : EntryValue). z ∷ ys) same }
+at_place (y ∷ ys) (suc i) x e = let more = at_place ys i x e in record { before = y ∷ more.before; after = more.after; whole = ap (λ (zs : LibraryValue). y ∷ zs) more.whole }
+
+pub ambiguous : (earlier : LibraryValue) (line : LineValue) (step_type : Option StepType) (text name : List ℕ) (ps : List PieceValue) (action : Action) (f : FoundValue) → IsCut line step_type text name → SpellsPattern text ps → FitsAction name ps action → IsFirstFound earlier step_type text f → IsAmbiguous earlier line
+ambiguous earlier line step_type text name ps action f c s a first =
+    let place = at_place earlier f.entry first.entry first.place in
+    record {
+      step_type = step_type;
+      sides = record { pattern = text; action = name };
+      ps = ps;
+      row = a.row;
+      good = good_so line step_type text name ps c s;
+      is_action = a.is_action;
+      needs = a.needs;
+      kinds = a.kinds;
+      before = place.before;
+      entry = first.entry;
+      after = place.after;
+      whole = place.whole;
+      same = first.is_type;
+      spans = first.fields.0;
+      matches = first.fields.1.matches;
+    }
+
+none_matches : (earlier : LibraryValue) (step_type : Option StepType) (text : List ℕ) → NoneFound earlier step_type text → NoneMatches earlier step_type text
+none_matches [] step_type text h = tt
+none_matches (e ∷ es) step_type text h = (λ same. h 0 e refl same, none_matches es step_type text (λ place entry is same. h (suc place) entry is same))
+
+pub spells_entry : (earlier : LibraryValue) (line : LineValue) (step_type : Option StepType) (text name : List ℕ) (ps : List PieceValue) (action : Action) → IsCut line step_type text name → SpellsPattern text ps → FitsAction name ps action → NoneFound earlier step_type text
+    → SpellsEntry earlier line (record { step_type = step_type; pattern = ps; action = action })
+spells_entry earlier line step_type text name ps action c s a none = record {
+  sides = record { pattern = text; action = name };
+  row = a.row;
+  is_type = c.is_type;
+  is_cut = c.is_cut;
+  is_pattern = s;
+  is_action = a.is_action;
+  action = a.action_is;
+  needs = a.needs;
+  kinds = a.kinds;
+  unambiguous = none_matches earlier step_type text none;
+}
+
+-- the arrow at a place of the loop
+pub arrow_end : (text : List ℕ) (n : ℕ) → length text ≤ n → last_arrow (drop n text) ≡ None
+unfolding last_arrow
+arrow_end text n h = ap last_arrow (drop_all n text h)
+
+pub none_at : (text : List ℕ) (n : ℕ) → 0 < n → n ≤ length text → last_arrow (drop n text) ≡ None → begins (drop (n - 1) text) (codes "=>") ≡ false → last_arrow (drop (n - 1) text) ≡ None
+none_at text n some within h e =
+    let next : n ≡ suc (n - 1) = omega arith in
+    arrow_none text (n - 1) (omega arith) (subst (λ (k : ℕ). last_arrow (drop k text) ≡ None) next h) e
+
+pub some_at : (text : List ℕ) (n : ℕ) → 0 < n → n ≤ length text → last_arrow (drop n text) ≡ None → begins (drop (n - 1) text) (codes "=>") ≡ true → last_arrow text ≡ Some (record { pattern = take (n - 1) text; action = drop (n - 1 + 2) text })
+some_at text n some within h e =
+    let next : n ≡ suc (n - 1) = omega arith in
+    arrow_some text (n - 1) (omega arith) (subst (λ (k : ℕ). last_arrow (drop k text) ≡ None) next h) e
+
+pub record HasArrowBytes (text : List ℕ) (p : ℕ) : Type 0 where
+  pub within : p + 1 < length text
+  pub first : get_or text p 0 < 128
+  pub second : get_or text (p + 1) 0 < 128
+
+two_bytes : (b c : ℕ) (cs : List ℕ) → (nat_eq 61 b && (nat_eq 62 c && true)) ≡ true → (b < 128) × (c < 128)
+two_bytes b c cs e =
+    let first = and_so (nat_eq 61 b) (nat_eq 62 c && true) e in
+    let second = and_so (nat_eq 62 c) true first.1 in
+    (let same : 61 ≡ b = eq_so 61 b first.0 in omega arith, let same : 62 ≡ c = eq_so 62 c second.0 in omega arith)
+  where
+    eq_so : (x y : ℕ) → nat_eq x y ≡ true → x ≡ y
+    eq_so x y e = grind (arith, nat_tests)
+
+pub arrow_bytes : (text : List ℕ) (p : ℕ) → begins (drop p text) (codes "=>") ≡ true → HasArrowBytes text p
+arrow_bytes [] zero e = let bad : ⊥ = cc in absurd bad
+arrow_bytes [] (suc p) e = let bad : ⊥ = cc in absurd bad
+arrow_bytes (b ∷ []) zero e = let bad : false ≡ true = sym (and_no (nat_eq 61 b)) ∙ e in let no : ⊥ = cc in absurd no where
+  and_no : (v : Bool) → (v && false) ≡ false
+  and_no true = refl
+  and_no false = refl
+arrow_bytes (b ∷ c ∷ cs) zero e = let h = two_bytes b c cs e in record { within = omega arith; first = h.0; second = h.1 }
+arrow_bytes (b ∷ bs) (suc p) e =
+    let more = arrow_bytes bs p e in
+    let next : suc p + 1 ≡ suc (p + 1) = omega arith in
+    record { within = omega (arith, more.within); first = more.first; second = subst (λ (k : ℕ). get_or (b ∷ bs) k 0 < 128) (sym next) more.second }
+
+pub arrow_boundary : (text : List ℕ) (p : ℕ) → begins (drop p text) (codes "=>") ≡ true → IsCharBoundary text p
+arrow_boundary text p e = let h = arrow_bytes text p e in IsCharBoundary-before_ascii text p (omega (arith, h.within)) h.first
+
+pub arrow_after : (text : List ℕ) (p : ℕ) → IsUtf8 text → begins (drop p text) (codes "=>") ≡ true → IsCharBoundary text (p + 2)
+arrow_after text p u e =
+    let h = arrow_bytes text p e in
+    let next : p + 1 + 1 ≡ p + 2 = omega arith in
+    subst (IsCharBoundary text) next (IsCharBoundary-after_ascii text (p + 1) u h.within h.second)
+
+pub sides_from : (text bytes first second : List ℕ) (p : ℕ) → bytes ≡ text → first ≡ take (p - 0) text → second ≡ drop (p + 2) text → last_arrow bytes ≡ Some (record { pattern = take p bytes; action = drop (p + 2) bytes })
+    → ◌≡◌ {A = Option Sides} (Some (record { pattern = first; action = second })) (last_arrow text)
+sides_from text bytes first second p same a b e =
+    let whole : p - 0 ≡ p = omega arith in
+    let pattern : first ≡ take p bytes = a ∙ ap (λ (k : ℕ). take k text) whole ∙ ap (take p) (sym same) in
+    let action : second ≡ drop (p + 2) bytes = b ∙ ap (drop (p + 2)) (sym same) in
+    ap (λ (x : List ℕ). let s : Option Sides = Some (record { pattern = x; action = second }) in s) pattern ∙ ap (λ (x : List ℕ). let s : Option Sides = Some (record { pattern = take p bytes; action = x }) in s) action ∙ sym e ∙ ap last_arrow same
+
+pub whole_rest : (xs : List ℕ) (p : ℕ) → take (length xs - p) (drop p xs) ≡ drop p xs
+whole_rest xs p = take_all (length xs - p) (drop p xs) (omega (arith, length-drop p xs))
+
+-- what was found among the earlier entries
+pub ambiguous_with : (earlier : LibraryValue) (line : LineValue) (step_type : Option StepType) (text name : List ℕ) (ps : List PieceValue) (action : Action) (o : Option FoundValue) (f : FoundValue) → o ≡ Some f → IsCut line step_type text name → SpellsPattern text ps → FitsAction name ps action → IsFoundOf earlier step_type text o → IsAmbiguous earlier line
+ambiguous_with earlier line step_type text name ps action o f e c s a h = ambiguous earlier line step_type text name ps action f c s a (subst (λ (x : Option FoundValue). IsFoundOf earlier step_type text x) e h)
+
+pub entry_with : (earlier : LibraryValue) (line : LineValue) (step_type : Option StepType) (text name : List ℕ) (ps : List PieceValue) (action : Action) (o : Option FoundValue) → o ≡ None → IsCut line step_type text name → SpellsPattern text ps → FitsAction name ps action → IsFoundOf earlier step_type text o → SpellsEntry earlier line (record { step_type = step_type; pattern = ps; action = action })
+entry_with earlier line step_type text name ps action o e c s a h = spells_entry earlier line step_type text name ps action c s a (subst (λ (x : Option FoundValue). IsFoundOf earlier step_type text x) e h)

@@ -1,0 +1,170 @@
+-- Numbers from their digits: a zero or a sign in prefix.
+use Rattle.std.proofs.Common.{◌≡◌, ℕ, zero, suc, cond, ◌==◌, ◌+◌, ◌-◌, ◌<◌, ◌≤◌, inl, inr, Bool, true, false, List, [], ◌∷◌, length, take, drop, get_or, ap, sym, subst, ◌∙◌, arith}
+use Rattle.std.specs.Prelude.{FitsSigned}
+use Rattle.std.specs.Int.{w64}
+use lib.IntN.{pos, neg_ℤ}
+use Rattle.std.specs.Str.Parse.{AllDigits, IsNumeral, digits_value}
+use Rattle.std.proofs.Math.Nat.{eq-or-lt_of_le}
+use Rattle.std.proofs.lemmas.Bool.Decides.{eqb_tells}
+use Rattle.std.proofs.lemmas.List.{drop_more, get_or-take, get_or-drop}
+use Rattle.gk_steps.specs.declared.pattern.FieldKind.TheVariants.{Decimal}
+use Rattle.gk_steps.specs.Pattern.{FieldPiece}
+use Rattle.gk_steps.specs.Matching.{IsSpan}
+use Rattle.gk_steps.specs.Columns.{ArePlaces, part, IsDigitsTo, HasDigits}
+use Rattle.gk_steps.specs.Digits.{HasNumber}
+use Rattle.gk_steps.proofs.TableLemmas.{part_size}
+use Rattle.gk_steps.proofs.ColumnLemmas.{before, decimal_some}
+use Rattle.gk_steps.proofs.DigitLemmas.{part_none}
+
+-- a part from its first byte
+pub part_prefix : (text places : List ℕ) (c d : ℕ) → ArePlaces text places → c + 1 < length places → d ≤ c → get_or places c 0 ≡ get_or places (c + 1) 0 + 1 → part text places (c + 1) d ≡ get_or text (get_or places (c + 1) 0) 0 ∷ part text places c d
+part_prefix text places c d h l within next =
+    let q = get_or places (c + 1) 0 in
+    let size = part_size text places c d h (omega arith) within in
+    let end = (h.cuts c (omega arith)).0 in
+    let count : get_or places d 0 - q ≡ suc (get_or places d 0 - get_or places c 0) = omega arith in
+    let whole : drop q text ≡ get_or text q 0 ∷ drop (q + 1) text = drop_more text q 0 (omega arith) in
+    ap (λ n. take n (drop q text)) count ∙ ap (take (suc (get_or places d 0 - get_or places c 0))) whole ∙ ap (λ k. get_or text q 0 ∷ take (get_or places d 0 - get_or places c 0) (drop k text)) (sym next)
+
+-- digits take something
+digits_before : (most : ℕ) (text places : List ℕ) (below : List Bool) (c d : ℕ) → IsDigitsTo most text places below c d → d < c
+digits_before most text places below c d s = elim (eq-or-lt_of_le s.within) [
+  | inr less ↦ less
+  | inl same ↦ let none : length (part text places c d) ≡ 0 = ap (λ k. length (part text places c k)) same ∙ ap length (part_none text places c) in absurd (omega (arith, s.numeral.0))
+]
+
+-- a leading zero
+pub zero_below : (most : ℕ) (text places : List ℕ) (below : List Bool) (c : ℕ) → ArePlaces text places → c + 1 < length places → get_or places c 0 ≡ get_or places (c + 1) 0 + 1 → get_or text (get_or places (c + 1) 0) 0 ≡ 48 → get_or below c false ≡ true → (d : ℕ) × IsDigitsTo most text places below (c + 1) d
+zero_below most text places below c h l next is here =
+    let one : part text places (c + 1) c ≡ 48 ∷ [] = part_prefix text places c c h l (omega arith) next ∙ ap (λ b. b ∷ part text places c c) is ∙ ap (λ x. 48 ∷ x) (part_none text places c) in (
+      c,
+      record {
+        within = omega arith;
+        rest = here;
+        numeral = subst (IsNumeral 10) (sym one) (omega arith, (omega arith, tt));
+        value = let none : digits_value 10 (part text places (c + 1) c) ≡ 0 = ap (digits_value 10) one in omega arith;
+      },
+    )
+
+pub zero_after : (most : ℕ) (text places : List ℕ) (below : List Bool) (c d : ℕ) → ArePlaces text places → c + 1 < length places → get_or places c 0 ≡ get_or places (c + 1) 0 + 1 → get_or text (get_or places (c + 1) 0) 0 ≡ 48 → IsDigitsTo most text places below c d → IsDigitsTo most text places below (c + 1) d
+zero_after most text places below c d h l next is s =
+    let more : part text places (c + 1) d ≡ 48 ∷ part text places c d = part_prefix text places c d h l s.within next ∙ ap (λ b. b ∷ part text places c d) is in
+    record {
+      within = let w = s.within in omega arith;
+      rest = s.rest;
+      numeral = subst (IsNumeral 10) (sym more) (omega arith, (omega arith, s.numeral.1));
+      value = let same : digits_value 10 (part text places (c + 1) d) ≡ digits_value 10 (part text places c d) = ap (digits_value 10) more in omega (arith, s.value);
+    }
+
+pub zero_only : (most : ℕ) (text places : List ℕ) (below : List Bool) (c d : ℕ) → ArePlaces text places → c + 1 < length places → get_or places c 0 ≡ get_or places (c + 1) 0 + 1 → get_or text (get_or places (c + 1) 0) 0 ≡ 48 → get_or below c false ≡ false → ((e : ℕ) → IsDigitsTo most text places below c e → ⊥) → IsDigitsTo most text places below (c + 1) d → ⊥
+zero_only most text places below c d h l next is not_here none s =
+    let less = digits_before most text places below (c + 1) d s in
+    elim (let most : d ≤ c = omega arith in eq-or-lt_of_le most) [
+      | inl same ↦ let is_true = s.rest in let is_false : get_or below d false ≡ false = ap (λ k. get_or below k false) same ∙ not_here in let bad : ⊥ = cc in bad
+      | inr under ↦
+          let more : part text places (c + 1) d ≡ 48 ∷ part text places c d = part_prefix text places c d h l (omega arith) next ∙ ap (λ b. b ∷ part text places c d) is in
+          let size = part_size text places c d h (omega arith) (omega arith) in
+          let up = h.falling d c under (omega arith) in
+          let all : AllDigits 10 (48 ∷ part text places c d) = subst (AllDigits 10) more s.numeral.1 in
+          let same : digits_value 10 (part text places (c + 1) d) ≡ digits_value 10 (part text places c d) = ap (digits_value 10) more in
+          none d (record { within = omega arith; rest = s.rest; numeral = (omega arith, all.1); value = omega (arith, s.value) })
+    ]
+
+-- a sign in prefix
+plus_digits : (x : List ℕ) → IsSpan Decimal (43 ∷ x) → IsNumeral 10 x × (digits_value 10 x ≤ 9223372036854775807)
+plus_digits x h = let small : digits_value 10 x < 9223372036854775808 = h.1.sfits in (h.0, omega arith)
+
+digits_plus : (x : List ℕ) → IsNumeral 10 x → digits_value 10 x ≤ 9223372036854775807 → IsSpan Decimal (43 ∷ x)
+digits_plus x h small = (h, record { sfits = let less : digits_value 10 x < 9223372036854775808 = omega arith in less })
+
+negative_small : (n : ℕ) → FitsSigned w64 (neg_ℤ (pos n)) → n ≤ 9223372036854775808
+negative_small zero h = omega arith
+negative_small (suc m) h = let small : m < 9223372036854775808 = h.sfits in omega arith
+
+small_negative : (n : ℕ) → n ≤ 9223372036854775808 → FitsSigned w64 (neg_ℤ (pos n))
+small_negative zero h = record { sfits = let less : 0 < 9223372036854775808 = omega arith in less }
+small_negative (suc m) h = record { sfits = let less : m < 9223372036854775808 = omega arith in less }
+
+minus_digits : (x : List ℕ) → IsSpan Decimal (45 ∷ x) → IsNumeral 10 x × (digits_value 10 x ≤ 9223372036854775808)
+minus_digits x h = (h.0, negative_small (digits_value 10 x) h.1)
+
+digits_minus : (x : List ℕ) → IsNumeral 10 x → digits_value 10 x ≤ 9223372036854775808 → IsSpan Decimal (45 ∷ x)
+digits_minus x h small = (h, small_negative (digits_value 10 x) small)
+
+-- no sign in prefix
+abbrev bare : Bool → Bool → List ℕ → List ℕ
+bare minus plus x = cond minus (drop 1 x) (drop (cond plus 1 0) x)
+
+abbrev SpanBy : Bool → Bool → List ℕ → Type 0
+SpanBy minus plus x = IsNumeral 10 (bare minus plus x) × FitsSigned w64 (cond minus (neg_ℤ (pos (digits_value 10 (bare minus plus x)))) (pos (digits_value 10 (bare minus plus x))))
+
+bare_digits : (x : List ℕ) → (get_or x 0 0 == 45) ≡ false → (get_or x 0 0 == 43) ≡ false → IsSpan Decimal x → IsNumeral 10 x × (digits_value 10 x ≤ 9223372036854775807)
+bare_digits x m p h =
+    let s : SpanBy false false x = subst (λ b. SpanBy false b x) p (subst (λ b. SpanBy b (get_or x 0 0 == 43) x) m h) in
+    let small : digits_value 10 x < 9223372036854775808 = s.1.sfits in (s.0, omega arith)
+
+digits_bare : (x : List ℕ) → (get_or x 0 0 == 45) ≡ false → (get_or x 0 0 == 43) ≡ false → IsNumeral 10 x → digits_value 10 x ≤ 9223372036854775807 → IsSpan Decimal x
+digits_bare x m p h small =
+    let s : SpanBy false false x = (h, record { sfits = let less : digits_value 10 x < 9223372036854775808 = omega arith in less }) in
+    subst (λ b. SpanBy b (get_or x 0 0 == 43) x) (sym m) (subst (λ b. SpanBy false b x) (sym p) s)
+
+-- what the code knows at a column, from the column after
+pub zero_rest : (most : ℕ) (text places : List ℕ) (below : List Bool) (c : ℕ) (b : Bool) → ArePlaces text places → c + 1 < length places → get_or places c 0 ≡ get_or places (c + 1) 0 + 1 → get_or text (get_or places (c + 1) 0) 0 ≡ 48 → get_or below c false ≡ false → HasDigits most text places below c b → HasDigits most text places below (c + 1) b
+zero_rest most text places below c true h l next is not_here has = (has.0, zero_after most text places below c has.0 h l next is has.1)
+zero_rest most text places below c false h l next is not_here has = λ d s. zero_only most text places below c d h l next is not_here has s
+
+signed_part : (text places : List ℕ) (below : List Bool) (c d sign : ℕ) → ArePlaces text places → c + 1 < length places → get_or places c 0 ≡ get_or places (c + 1) 0 + 1 → get_or text (get_or places (c + 1) 0) 0 ≡ sign → d ≤ c → part text places (c + 1) d ≡ sign ∷ part text places c d
+signed_part text places below c d sign h l next is within = part_prefix text places c d h l within next ∙ ap (λ b. b ∷ part text places c d) is
+
+pub plus_at : (text places : List ℕ) (below : List Bool) (c : ℕ) (b : Bool) → ArePlaces text places → c + 1 < length places → get_or places c 0 ≡ get_or places (c + 1) 0 + 1 → get_or text (get_or places (c + 1) 0) 0 ≡ 43 → HasDigits 9223372036854775807 text places below c b → HasNumber text places below (c + 1) b
+plus_at text places below c true h l next is has = (
+  has.0,
+  record {
+    within = let w = has.1.within in omega arith;
+    rest = has.1.rest;
+    takes = subst (IsSpan Decimal) (sym (signed_part text places below c has.0 43 h l next is has.1.within)) (digits_plus (part text places c has.0) has.1.numeral has.1.value);
+  },
+)
+plus_at text places below c false h l next is has = λ d s.
+    let less = before (FieldPiece [] Decimal) text places below (c + 1) d h l s (decimal_some (part text places (c + 1) d) s.takes) in
+    let digits = plus_digits (part text places c d) (subst (IsSpan Decimal) (signed_part text places below c d 43 h l next is (omega arith)) s.takes) in
+    has d (record { within = omega arith; rest = s.rest; numeral = digits.0; value = digits.1 })
+
+pub minus_at : (text places : List ℕ) (below : List Bool) (c : ℕ) (b : Bool) → ArePlaces text places → c + 1 < length places → get_or places c 0 ≡ get_or places (c + 1) 0 + 1 → get_or text (get_or places (c + 1) 0) 0 ≡ 45 → HasDigits 9223372036854775808 text places below c b → HasNumber text places below (c + 1) b
+minus_at text places below c true h l next is has = (
+  has.0,
+  record {
+    within = let w = has.1.within in omega arith;
+    rest = has.1.rest;
+    takes = subst (IsSpan Decimal) (sym (signed_part text places below c has.0 45 h l next is has.1.within)) (digits_minus (part text places c has.0) has.1.numeral has.1.value);
+  },
+)
+minus_at text places below c false h l next is has = λ d s.
+    let less = before (FieldPiece [] Decimal) text places below (c + 1) d h l s (decimal_some (part text places (c + 1) d) s.takes) in
+    let digits = minus_digits (part text places c d) (subst (IsSpan Decimal) (signed_part text places below c d 45 h l next is (omega arith)) s.takes) in
+    has d (record { within = omega arith; rest = s.rest; numeral = digits.0; value = digits.1 })
+
+first_byte : (text places : List ℕ) (c d : ℕ) → ArePlaces text places → c < length places → d < c → get_or (part text places c d) 0 0 ≡ get_or text (get_or places c 0) 0
+first_byte text places c d h l less =
+    let up = h.falling d c less l in
+    let same : get_or places c 0 + 0 ≡ get_or places c 0 = omega arith in
+    get_or-take (get_or places d 0 - get_or places c 0) (drop (get_or places c 0) text) 0 0 (omega arith) ∙ get_or-drop (get_or places c 0) text 0 0 ∙ ap (λ k. get_or text k 0) same
+
+pub bare_at : (text places : List ℕ) (below : List Bool) (c : ℕ) (b : Bool) → ArePlaces text places → c < length places → (get_or text (get_or places c 0) 0 == 45) ≡ false → (get_or text (get_or places c 0) 0 == 43) ≡ false → HasDigits 9223372036854775807 text places below c b → HasNumber text places below c b
+bare_at text places below c true h l m p has =
+    let first = first_byte text places c has.0 h l (digits_before 9223372036854775807 text places below c has.0 has.1) in (
+      has.0,
+      record {
+        within = has.1.within;
+        rest = has.1.rest;
+        takes = digits_bare (part text places c has.0) (ap (λ k. k == 45) first ∙ m) (ap (λ k. k == 43) first ∙ p) has.1.numeral has.1.value;
+      },
+    )
+bare_at text places below c false h l m p has = λ d s.
+    let less = before (FieldPiece [] Decimal) text places below c d h l s (decimal_some (part text places c d) s.takes) in
+    let first = first_byte text places c d h l less in
+    let digits = bare_digits (part text places c d) (ap (λ k. k == 45) first ∙ m) (ap (λ k. k == 43) first ∙ p) s.takes in
+    has d (record { within = s.within; rest = s.rest; numeral = digits.0; value = digits.1 })
+
+pub not_byte : (a b : ℕ) → (a ≡ b → ⊥) → (a == b) ≡ false
+not_byte a b differ = elim (eqb_tells a b) [ inl t ↦ absurd (differ t.1) | inr f ↦ f.0 ]

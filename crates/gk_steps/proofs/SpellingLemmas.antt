@@ -1,0 +1,433 @@
+-- What a text spells, taken apart from its start.
+use Rattle.std.proofs.Common.{◌≡◌, ℕ, zero, suc, ◌+◌, ◌-◌, ◌<◌, ◌≤◌, ◌⊎◌, inl, inr, Bool, true, false, cond, not, ◌||◌, ◌&&◌, List, [], ◌∷◌, ◌++◌, length, take, drop, get_or, codes, flat_map, IsTrue, Option, Some, None, refl, ap, sym, subst, ◌∙◌, arith, append_assoc}
+use Rattle.std.specs.Prelude.{is_some, Result, Err, nat_lt}
+use Rattle.std.specs.Str.{bytes_eq}
+use Rattle.std.proofs.lemmas.Slice.Eq.{bytes_eq-Decides}
+use Rattle.std.specs.List.{AllByRecursion, list_all, prefix_len, position_or_len}
+use Rattle.std.specs.Str.{IsUtf8, IsCharBoundary}
+use Rattle.std.proofs.lemmas.Bool.Decides.{nat_tests}
+use Rattle.std.proofs.lemmas.List.Sums.{prefix_len_passes, prefix_len-le-length, passes_at_first}
+use Rattle.std.proofs.lemmas.Str.{IsCharBoundary-start, IsCharBoundary-after_ascii, IsCharBoundary-before_ascii}
+use Rattle.gk_steps.specs.declared.pattern.FieldKind.{FieldKind}
+use Rattle.gk_steps.specs.declared.pattern.FieldKind.TheVariants.{Plain, Decimal}
+use Rattle.gk_steps.specs.Pattern.{PieceValue, Literal, FieldPiece, spelled_literal, spelled_piece, is_name_letter, is_name_byte, is_field_name, field_names, AreDistinctNames, AreLongestRuns, SpellsPattern, field_kind}
+use Rattle.gk_steps.specs.Spelling.{is_brace, BeginsAtBrace, EndsLiteral, EndsName, field_tail, literal_pieces, IsSpelled, HasLiteral, HasField, HasNoField, AddsLiteral, AddsField, BeginWithField, IsLeft, IsReadTo, are_distinct, is_pattern}
+use Rattle.gk_steps.specs.declared.pattern.Pattern.{Pattern}
+use Rattle.gk_steps.specs.declared.pattern_fault.PatternFault.{PatternFault}
+use Rattle.gk_steps.specs.declared.pattern_fault.PatternFault.TheVariants.{BadPattern, Memory}
+
+-- where a text may be cut
+brace_ascii : (b : ℕ) → is_brace b ≡ true → b < 128
+brace_ascii b h = grind (arith, nat_tests)
+
+name_ascii : (b : ℕ) → is_name_byte b ≡ true → b < 128
+name_ascii b h = grind (arith, nat_tests)
+
+pub brace_boundary : (bs : List ℕ) (n : ℕ) → n ≡ position_or_len is_brace bs → n < length bs → IsCharBoundary bs n
+brace_boundary bs n e h =
+    let at : get_or bs n 0 < 128 = subst (λ n. get_or bs n 0 < 128) (sym e) (brace_ascii (get_or bs (position_or_len is_brace bs) 0) (passes_at_first is_brace bs 0 (omega arith))) in
+    IsCharBoundary-before_ascii bs n h at
+
+pub name_boundary : (bs : List ℕ) (n : ℕ) → IsUtf8 bs → n ≤ prefix_len is_name_byte bs → IsCharBoundary bs n
+name_boundary bs zero u le = IsCharBoundary-start bs u
+name_boundary bs (suc k) u le =
+    let within : k < length bs = omega (arith, prefix_len-le-length is_name_byte bs) in
+    let at : get_or bs k 0 < 128 = name_ascii (get_or bs k 0) (prefix_len_passes is_name_byte bs k 0 (omega arith)) in
+    let e : k + 1 ≡ suc k = omega arith in
+    subst (IsCharBoundary bs) e (IsCharBoundary-after_ascii bs k u within at)
+
+-- what comes before the first brace
+plain_take : (v : Bool) (b : ℕ) (n : ℕ) (bs : List ℕ) → flat_map spelled_literal (take n bs) ≡ take n bs
+    → is_brace b ≡ v → flat_map spelled_literal (take (cond (not v) (1 + n) 0) (b ∷ bs)) ≡ take (cond (not v) (1 + n) 0) (b ∷ bs)
+plain_take true b n bs h e = refl
+plain_take false b n bs h e =
+    let one : 1 + n ≡ suc n = omega arith in
+    let here : spelled_literal b ≡ b ∷ [] = ap (λ v. cond v (b ∷ b ∷ []) (b ∷ [])) e in
+    let there : flat_map spelled_literal (take (suc n) (b ∷ bs)) ≡ take (suc n) (b ∷ bs) = ap (λ (l : List ℕ). l ++ flat_map spelled_literal (take n bs)) here ∙ ap (λ (l : List ℕ). b ∷ l) h in
+    subst (λ k. flat_map spelled_literal (take k (b ∷ bs)) ≡ take k (b ∷ bs)) (sym one) there
+
+pub plain_part : (bs : List ℕ) → flat_map spelled_literal (take (position_or_len is_brace bs) bs) ≡ take (position_or_len is_brace bs) bs
+plain_part [] = refl
+plain_part (b ∷ bs) = plain_take (is_brace b) b (position_or_len is_brace bs) bs (plain_part bs) refl
+
+brace_drop : (v : Bool) (b : ℕ) (n : ℕ) (bs : List ℕ) → BeginsAtBrace (drop n bs) → is_brace b ≡ v → BeginsAtBrace (drop (cond (not v) (1 + n) 0) (b ∷ bs))
+brace_drop true b n bs h e = e
+brace_drop false b n bs h e = let one : 1 + n ≡ suc n = omega arith in subst (λ k. BeginsAtBrace (drop k (b ∷ bs))) (sym one) h
+
+pub begins_at : (bs : List ℕ) → BeginsAtBrace (drop (position_or_len is_brace bs) bs)
+begins_at [] = tt
+begins_at (b ∷ bs) = brace_drop (is_brace b) b (position_or_len is_brace bs) bs (begins_at bs) refl
+
+-- before which a literal ends
+brace_is : (b : ℕ) → is_brace b ≡ true → (b ≡ 123) ⊎ (b ≡ 125)
+brace_is b h = grind (arith, nat_tests)
+
+pub ends_literal : (text : List ℕ) → ((rest : List ℕ) → text ≡ codes "{{" ++ rest → ⊥) → ((rest : List ℕ) → text ≡ codes "}}" ++ rest → ⊥) → BeginsAtBrace text → EndsLiteral text
+ends_literal [] no_open no_close h = tt
+ends_literal (b ∷ []) no_open no_close h = h
+ends_literal (b ∷ c ∷ bs) no_open no_close h = (
+  h,
+  λ same. elim (brace_is b h) [
+    | inl e ↦ no_open bs (ap (λ x. b ∷ x ∷ bs) same ∙ ap (λ x. x ∷ x ∷ bs) e)
+    | inr e ↦ no_close bs (ap (λ x. b ∷ x ∷ bs) same ∙ ap (λ x. x ∷ x ∷ bs) e)
+  ],
+)
+
+-- a literal is determined by the text
+not_plain : (b : ℕ) (bs rest : List ℕ) → is_brace b ≡ false → rest ≡ b ∷ bs → EndsLiteral rest → ⊥
+not_plain b bs [] no_brace e h = let bad : ⊥ = cc in bad
+not_plain b bs (x ∷ []) no_brace e h = let same : is_brace x ≡ is_brace b = ap is_brace (let s : x ≡ b = cc in s) in let no : true ≡ false = sym h ∙ same ∙ no_brace in let bad : ⊥ = cc in bad
+not_plain b bs (x ∷ y ∷ ys) no_brace e h = let same : is_brace x ≡ is_brace b = ap is_brace (let s : x ≡ b = cc in s) in let no : true ≡ false = sym h.0 ∙ same ∙ no_brace in let bad : ⊥ = cc in bad
+
+not_doubled : (b : ℕ) (bs rest : List ℕ) → rest ≡ b ∷ b ∷ bs → EndsLiteral rest → ⊥
+not_doubled b bs [] e h = let bad : ⊥ = cc in bad
+not_doubled b bs (x ∷ []) e h = let bad : ⊥ = cc in bad
+not_doubled b bs (x ∷ y ∷ ys) e h = h.1 (let s : y ≡ x = cc in s)
+
+not_more : (v : Bool) (b : ℕ) (bs rest : List ℕ) → is_brace b ≡ v → rest ≡ cond v (b ∷ b ∷ []) (b ∷ []) ++ bs → EndsLiteral rest → ⊥
+not_more true b bs rest e whole h = not_doubled b bs rest whole h
+not_more false b bs rest e whole h = not_plain b bs rest e whole h
+
+doubled_or_not : (v w : Bool) (a b : ℕ) (xs ys : List ℕ) → is_brace a ≡ v → is_brace b ≡ w → cond v (a ∷ a ∷ []) (a ∷ []) ++ xs ≡ cond w (b ∷ b ∷ []) (b ∷ []) ++ ys → (a ≡ b) × (xs ≡ ys)
+doubled_or_not true true a b xs ys ea eb e = (cc, cc)
+doubled_or_not true false a b xs ys ea eb e = let s : a ≡ b = cc in let no : true ≡ false = sym ea ∙ ap is_brace s ∙ eb in let bad : ⊥ = cc in absurd bad
+doubled_or_not false true a b xs ys ea eb e = let s : a ≡ b = cc in let no : false ≡ true = sym ea ∙ ap is_brace s ∙ eb in let bad : ⊥ = cc in absurd bad
+doubled_or_not false false a b xs ys ea eb e = (cc, cc)
+
+pub one_literal : (xs ys rest left : List ℕ) → flat_map spelled_literal xs ++ rest ≡ flat_map spelled_literal ys ++ left → EndsLiteral rest → EndsLiteral left → (xs ≡ ys) × (rest ≡ left)
+one_literal [] [] rest left e h k = (refl, e)
+one_literal [] (y ∷ ys) rest left e h k = absurd (not_more (is_brace y) y (flat_map spelled_literal ys ++ left) rest refl (e ∙ append_assoc (spelled_literal y) (flat_map spelled_literal ys) left) h)
+one_literal (x ∷ xs) [] rest left e h k = absurd (not_more (is_brace x) x (flat_map spelled_literal xs ++ rest) left refl (sym e ∙ append_assoc (spelled_literal x) (flat_map spelled_literal xs) rest) k)
+one_literal (x ∷ xs) (y ∷ ys) rest left e h k =
+    let first = doubled_or_not (is_brace x) (is_brace y) x y (flat_map spelled_literal xs ++ rest) (flat_map spelled_literal ys ++ left) refl refl
+    (sym (append_assoc (spelled_literal x) (flat_map spelled_literal xs) rest) ∙ e ∙ append_assoc (spelled_literal y) (flat_map spelled_literal ys) left) in
+    let more = one_literal xs ys rest left first.1 h k in
+    (ap (λ z. z ∷ xs) first.0 ∙ ap (λ (zs : List ℕ). y ∷ zs) more.0, more.1)
+
+-- a name is determined by the text
+name_len_is : (name rest : List ℕ) → list_all is_name_byte name ≡ true → EndsName rest → prefix_len is_name_byte (name ++ rest) ≡ length name
+name_len_is [] [] h k = refl
+name_len_is [] (b ∷ bs) h k = ap (λ v. cond v (1 + prefix_len is_name_byte bs) 0) k
+name_len_is (x ∷ xs) rest h k =
+    let parts = both_so (is_name_byte x) (list_all is_name_byte xs) h in
+    ap (λ v. cond v (1 + prefix_len is_name_byte (xs ++ rest)) 0) parts.0 ∙ let more = name_len_is xs rest parts.1 k in omega arith
+  where
+    both_so : (a b : Bool) → (a && b) ≡ true → (a ≡ true) × (b ≡ true)
+    both_so true b e = (refl, e)
+    both_so false b e = let bad : ⊥ = cc in absurd bad
+
+take_seam : (a b : List ℕ) → take (length a) (a ++ b) ≡ a
+take_seam [] b = refl
+take_seam (x ∷ a) b = ap (λ (l : List ℕ). x ∷ l) (take_seam a b)
+
+drop_seam : (a b : List ℕ) → drop (length a) (a ++ b) ≡ b
+drop_seam [] b = refl
+drop_seam (x ∷ a) b = drop_seam a b
+
+pub one_name : (text before after : List ℕ) (n : ℕ) → n ≡ prefix_len is_name_byte text → before ≡ take (n - 0) text → after ≡ drop n text
+    → (name rest : List ℕ) → list_all is_name_byte name ≡ true → EndsName rest → text ≡ name ++ rest → (before ≡ name) × (after ≡ rest)
+one_name text before after n size first second name rest h k whole =
+    let len : n ≡ length name = size ∙ ap (prefix_len is_name_byte) whole ∙ name_len_is name rest h k in
+    let len0 : n - 0 ≡ length name = omega arith in
+    (first ∙ ap (λ m. take m text) len0 ∙ ap (take (length name)) whole ∙ take_seam name rest, second ∙ ap (λ m. drop m text) len ∙ ap (drop (length name)) whole ∙ drop_seam name rest)
+
+-- a field is its brace, its name and what stands after the name
+pub field_text : (name : List ℕ) (kind : FieldKind) (rest : List ℕ) → spelled_piece (FieldPiece name kind) ++ rest ≡ codes "{" ++ (name ++ (field_tail kind ++ rest))
+field_text name Plain rest = ap (λ (l : List ℕ). 123 ∷ l) (append_assoc name (codes "}") rest)
+field_text name Decimal rest = ap (λ (l : List ℕ). 123 ∷ l) (append_assoc name (codes ":d}") rest)
+
+pub tail_ends : (kind : FieldKind) (rest : List ℕ) → EndsName (field_tail kind ++ rest)
+tail_ends Plain rest = refl
+tail_ends Decimal rest = refl
+
+and_so : (a b : Bool) → (a && b) ≡ true → (a ≡ true) × (b ≡ true)
+and_so true b e = (refl, e)
+and_so false b e = let bad : ⊥ = cc in absurd bad
+
+or_left : (a b : Bool) → a ≡ true → (a || b) ≡ true
+or_left true b e = refl
+or_left false b e = let bad : ⊥ = cc in absurd bad
+
+and_both : (a b : Bool) → a ≡ true → b ≡ true → (a && b) ≡ true
+and_both true b e f = f
+and_both false b e f = let bad : ⊥ = cc in absurd bad
+
+pub name_bytes : (name : List ℕ) → IsTrue (is_field_name name) → list_all is_name_byte name ≡ true
+name_bytes [] h = refl
+name_bytes (b ∷ bs) h =
+    let parts = and_so (is_name_letter b) (list_all is_name_byte bs) h in
+    and_both (is_name_byte b) (list_all is_name_byte bs) (or_left (is_name_letter b) _ parts.0) parts.1
+
+letter_no_brace : (b : ℕ) → is_name_letter b ≡ true → b ≡ 123 → ⊥
+letter_no_brace b h e = let other : is_name_letter 123 ≡ true = ap is_name_letter (sym e) ∙ h in let bad : ⊥ = cc in bad
+
+field_ends : (name : List ℕ) (kind : FieldKind) (rest : List ℕ) → IsTrue (is_field_name name) → EndsLiteral (spelled_piece (FieldPiece name kind) ++ rest)
+field_ends [] kind rest h = let bad : ⊥ = cc in absurd bad
+field_ends (b ∷ bs) Plain rest h = (refl, λ e. letter_no_brace b (and_so (is_name_letter b) (list_all is_name_byte bs) h).0 e)
+field_ends (b ∷ bs) Decimal rest h = (refl, λ e. letter_no_brace b (and_so (is_name_letter b) (list_all is_name_byte bs) h).0 e)
+
+same_rest : (b : ℕ) (x y : List ℕ) → b ∷ x ≡ b ∷ y → x ≡ y
+same_rest b x y e = cc
+
+same_start : (b c : ℕ) (x y : List ℕ) → b ∷ x ≡ c ∷ y → b ≡ c
+same_start b c x y e = cc
+
+one_tail : (a b : FieldKind) (x y : List ℕ) → field_tail a ++ x ≡ field_tail b ++ y → (a ≡ b) × (x ≡ y)
+one_tail Plain Plain x y e = (refl, same_rest 125 x y e)
+one_tail Plain Decimal x y e = absurd (omega (arith, same_start 125 58 x (100 ∷ 125 ∷ y) e))
+one_tail Decimal Plain x y e = absurd (omega (arith, same_start 58 125 (100 ∷ 125 ∷ x) y e))
+one_tail Decimal Decimal x y e = (refl, same_rest 125 x y (same_rest 100 (125 ∷ x) (125 ∷ y) (same_rest 58 (100 ∷ 125 ∷ x) (100 ∷ 125 ∷ y) e)))
+
+pub record IsSameField (a : List ℕ) (j : FieldKind) (x : List ℕ) (b : List ℕ) (k : FieldKind) (y : List ℕ) : Type 0 where
+  pub name : a ≡ b
+  pub kind : j ≡ k
+  pub rest : x ≡ y
+
+pub one_field : (text a : List ℕ) (j : FieldKind) (x b : List ℕ) (k : FieldKind) (y : List ℕ) → HasField text a j x → HasField text b k y → IsSameField a j x b k y
+one_field text a j x b k y h i =
+    let e : codes "{" ++ (a ++ (field_tail j ++ x)) ≡ codes "{" ++ (b ++ (field_tail k ++ y)) = sym (field_text a j x) ∙ sym h.whole ∙ i.whole ∙ field_text b k y in
+    let inner : a ++ (field_tail j ++ x) ≡ b ++ (field_tail k ++ y) = same_rest 123 (a ++ (field_tail j ++ x)) (b ++ (field_tail k ++ y)) e in
+    let cut = one_name (a ++ (field_tail j ++ x)) a (field_tail j ++ x) (prefix_len is_name_byte (a ++ (field_tail j ++ x))) refl
+    (sym (take_seam a (field_tail j ++ x)) ∙ ap (λ m. take m (a ++ (field_tail j ++ x))) (let s : length a ≡ prefix_len is_name_byte (a ++ (field_tail j ++ x)) - 0 = omega (arith, name_len_is a (field_tail j ++ x) (name_bytes a h.is_name) (tail_ends j x)) in s))
+    (sym (drop_seam a (field_tail j ++ x)) ∙ ap (λ m. drop m (a ++ (field_tail j ++ x))) (sym (name_len_is a (field_tail j ++ x) (name_bytes a h.is_name) (tail_ends j x))))
+    b (field_tail k ++ y) (name_bytes b i.is_name) (tail_ends k y) inner in
+    let tails = one_tail j k x y cut.1 in
+    record { name = cut.0; kind = tails.0; rest = tails.1 }
+
+-- pieces whose first is no literal begin where a literal ends
+no_literal_ends : (text : List ℕ) (ps : List PieceValue) → IsSpelled text ps → BeginWithField ps → EndsLiteral text
+no_literal_ends text [] s f = subst EndsLiteral (sym s.spelled) tt
+no_literal_ends text (Literal l ∷ ps) s f = absurd f
+no_literal_ends text (FieldPiece name kind ∷ ps) s f = subst EndsLiteral (sym s.spelled) (field_ends name kind (flat_map spelled_piece ps) s.names.0)
+
+-- a literal before such pieces
+with_literal : (literal text rest : List ℕ) (ps : List PieceValue) → text ≡ flat_map spelled_literal literal ++ rest → IsSpelled rest ps → BeginWithField ps → IsSpelled text (literal_pieces literal ++ ps)
+with_literal [] text rest ps whole s f = record { spelled = whole ∙ s.spelled; names = s.names; runs = s.runs }
+with_literal (b ∷ bs) text rest [] whole s f = record { spelled = whole ∙ ap (λ r. flat_map spelled_literal (b ∷ bs) ++ r) s.spelled; names = s.names; runs = (omega arith, s.runs) }
+with_literal (b ∷ bs) text rest (Literal l ∷ ps) whole s f = absurd f
+with_literal (b ∷ bs) text rest (FieldPiece name kind ∷ ps) whole s f = record { spelled = whole ∙ ap (λ r. flat_map spelled_literal (b ∷ bs) ++ r) s.spelled; names = s.names; runs = (omega arith, s.runs) }
+
+-- the pieces of a text that begins with a literal
+literal_or_none : (ps : List PieceValue) (l : List ℕ) → AreLongestRuns (Literal l ∷ ps) → (0 < length l) × AreLongestRuns ps × BeginWithField ps
+literal_or_none [] l h = (h.0, h.1, tt)
+literal_or_none (Literal k ∷ ps) l h = absurd h
+literal_or_none (FieldPiece name kind ∷ ps) l h = (h.0, h.1, tt)
+
+as_pieces : (l : List ℕ) → 0 < length l → Literal l ∷ [] ≡ literal_pieces l
+as_pieces [] h = absurd (omega arith)
+as_pieces (b ∷ bs) h = refl
+
+after_field_first : (literal text rest : List ℕ) (ps : List PieceValue) → HasLiteral text literal rest → IsSpelled text ps → BeginWithField ps → IsLeft (literal_pieces literal) rest ps
+after_field_first literal text rest ps h s f =
+    let one = one_literal literal [] rest text (sym h.whole) h.end (no_literal_ends text ps s f) in
+    record {
+      left = ps;
+      whole = ap (λ (l : List ℕ). literal_pieces l ++ ps) (sym one.0);
+      spelled = subst (λ t. IsSpelled t ps) (sym one.1) s;
+      field = f;
+    }
+
+pub take_literal : (literal text rest : List ℕ) (ps : List PieceValue) → HasLiteral text literal rest → IsSpelled text ps → IsLeft (literal_pieces literal) rest ps
+take_literal literal text rest [] h s = after_field_first literal text rest [] h s tt
+take_literal literal text rest (FieldPiece name kind ∷ ps) h s = after_field_first literal text rest (FieldPiece name kind ∷ ps) h s tt
+take_literal literal text rest (Literal l ∷ ps) h s =
+    let parts = literal_or_none ps l s.runs in
+    let later : IsSpelled (flat_map spelled_piece ps) ps = record { spelled = refl; names = s.names; runs = parts.1 } in
+    let one = one_literal literal l rest (flat_map spelled_piece ps) (sym h.whole ∙ s.spelled) h.end (no_literal_ends (flat_map spelled_piece ps) ps later parts.2) in
+    record {
+      left = ps;
+      whole = ap (λ (q : List PieceValue). q ++ ps) (as_pieces l parts.0) ∙ ap (λ (m : List ℕ). literal_pieces m ++ ps) (sym one.0);
+      spelled = subst (λ t. IsSpelled t ps) (sym one.1) later;
+      field = parts.2;
+    }
+
+-- reading begins
+pub read_first : (text rest : List ℕ) (after : List PieceValue) → AddsLiteral text [] after rest → IsReadTo text after rest
+read_first text rest after a = record {
+  build = λ ps s f. subst (λ (q : List PieceValue). IsSpelled text (q ++ ps)) (sym a.added) (with_literal a.literal text rest ps a.has.whole s f);
+  take = λ ps s. subst (λ (q : List PieceValue). IsLeft q rest ps) (sym a.added) (take_literal a.literal text rest ps a.has s);
+}
+
+-- a field more, and the literal after it
+with_field : (text rest : List ℕ) (name : List ℕ) (kind : FieldKind) (ps : List PieceValue) → HasField text name kind rest → IsSpelled rest ps → IsSpelled text (FieldPiece name kind ∷ ps)
+with_field text rest name kind ps h s = record { spelled = h.whole ∙ ap (λ r. spelled_piece (FieldPiece name kind) ++ r) s.spelled; names = (h.is_name, s.names); runs = s.runs }
+
+some_is : (b : ℕ) (bs : List ℕ) → b ∷ bs ≡ [] → ⊥
+some_is b bs e = let bad : ⊥ = cc in bad
+
+not_nothing : (text rest name : List ℕ) (kind : FieldKind) → HasField text name kind rest → text ≡ [] → ⊥
+not_nothing text rest name kind h e = some_is 123 (name ++ (field_tail kind ++ rest)) (sym (field_text name kind rest) ∙ sym h.whole ∙ e)
+
+first_field : (rest : List ℕ) (name : List ℕ) (kind : FieldKind) (ps : List PieceValue) → IsSpelled rest (FieldPiece name kind ∷ ps) → HasField rest name kind (flat_map spelled_piece ps)
+first_field rest name kind ps s = record { is_name = s.names.0; whole = s.spelled }
+
+assoc_pieces : (a b c d : List PieceValue) → ((a ++ b) ++ c) ++ d ≡ a ++ (b ++ (c ++ d))
+assoc_pieces a b c d = append_assoc (a ++ b) c d ∙ append_assoc a b (c ++ d)
+
+take_field : (text rest name : List ℕ) (kind : FieldKind) (ps : List PieceValue) → HasField text name kind rest → IsSpelled text ps → BeginWithField ps → (qs : List PieceValue) × (ps ≡ FieldPiece name kind ∷ qs) × IsSpelled rest qs
+take_field text rest name kind [] h s f = absurd (not_nothing text rest name kind h s.spelled)
+take_field text rest name kind (Literal l ∷ ps) h s f = absurd f
+take_field text rest name kind (FieldPiece other k ∷ ps) h s f =
+    let one = one_field text other k (flat_map spelled_piece ps) name kind rest (first_field text other k ps s) h in
+    let first : FieldPiece other k ≡ FieldPiece name kind = ap (λ n. FieldPiece n k) one.name ∙ ap (λ j. FieldPiece name j) one.kind in
+    let later : IsSpelled (flat_map spelled_piece ps) ps = record { spelled = refl; names = s.names.1; runs = s.runs } in
+    (ps, ap (λ (p : PieceValue). p ∷ ps) first, subst (λ t. IsSpelled t ps) one.rest later)
+
+pub read_more : (text rest middle last : List ℕ) (done with_one all : List PieceValue) → IsReadTo text done rest → AddsField rest done with_one middle → AddsLiteral middle with_one all last → IsReadTo text all last
+read_more text rest middle last done with_one all r a b = record { build = built; take = taken } where
+  whole : (ps : List PieceValue) → all ++ ps ≡ done ++ ((FieldPiece a.name a.kind ∷ []) ++ (literal_pieces b.literal ++ ps))
+  whole ps = ap (λ (q : List PieceValue). q ++ ps) (b.added ∙ ap (λ (q : List PieceValue). q ++ literal_pieces b.literal) a.added) ∙ assoc_pieces done (FieldPiece a.name a.kind ∷ []) (literal_pieces b.literal) ps
+
+  built : (ps : List PieceValue) → IsSpelled last ps → BeginWithField ps → IsSpelled text (all ++ ps)
+  built ps s f = subst (IsSpelled text) (sym (whole ps)) (r.build (FieldPiece a.name a.kind ∷ (literal_pieces b.literal ++ ps)) (with_field rest middle a.name a.kind (literal_pieces b.literal ++ ps) a.has (with_literal b.literal middle last ps b.has.whole s f)) tt)
+
+  taken : (ps : List PieceValue) → IsSpelled text ps → IsLeft all last ps
+  taken ps s =
+      let first = r.take ps s in
+      let second = take_field rest middle a.name a.kind first.left a.has first.spelled first.field in
+      let third = take_literal b.literal middle last second.0 b.has second.2 in
+      record {
+        left = third.left;
+        whole = first.whole ∙ ap (λ (q : List PieceValue). done ++ q) second.1 ∙ ap (λ (q : List PieceValue). done ++ (FieldPiece a.name a.kind ∷ q)) third.whole ∙ sym (whole third.left);
+        spelled = third.spelled;
+        field = third.field;
+      }
+
+-- the end of a text
+nothing_spelled : (ps : List PieceValue) → IsSpelled [] ps → BeginWithField ps → ps ≡ []
+nothing_spelled [] s f = refl
+nothing_spelled (Literal l ∷ ps) s f = absurd f
+nothing_spelled (FieldPiece name kind ∷ ps) s f = absurd (not_nothing [] (flat_map spelled_piece ps) name kind (first_field [] name kind ps s) refl)
+
+all_of : (done : List PieceValue) → done ++ [] ≡ done
+all_of [] = refl
+all_of (p ∷ ps) = ap (λ (q : List PieceValue). p ∷ q) (all_of ps)
+
+pub read_whole : (text rest : List ℕ) (done : List PieceValue) → IsReadTo text done rest → rest ≡ [] → IsSpelled text done
+read_whole text rest done r e = subst (IsSpelled text) (all_of done) (r.build [] (record { spelled = e; names = tt; runs = tt }) tt)
+
+pub read_only : (text rest : List ℕ) (done : List PieceValue) → IsReadTo text done rest → rest ≡ [] → (ps : List PieceValue) → IsSpelled text ps → done ≡ ps
+read_only text rest done r e ps s =
+    let l = r.take ps s in
+    let nothing : l.left ≡ [] = nothing_spelled l.left (subst (λ t. IsSpelled t l.left) e l.spelled) l.field in
+    sym (l.whole ∙ ap (λ (q : List PieceValue). done ++ q) nothing ∙ all_of done)
+
+no_field_spelled : (rest : List ℕ) (ps : List PieceValue) → HasNoField rest → (rest ≡ [] → ⊥) → IsSpelled rest ps → BeginWithField ps → ⊥
+no_field_spelled rest [] none some s f = some s.spelled
+no_field_spelled rest (Literal l ∷ ps) none some s f = f
+no_field_spelled rest (FieldPiece name kind ∷ ps) none some s f = none name kind (flat_map spelled_piece ps) (first_field rest name kind ps s)
+
+pub read_never : (text rest : List ℕ) (done : List PieceValue) → IsReadTo text done rest → HasNoField rest → (rest ≡ [] → ⊥) → (ps : List PieceValue) → IsSpelled text ps → ⊥
+read_never text rest done r none some ps s = let l = r.take ps s in no_field_spelled rest l.left none some l.spelled l.field
+
+-- what a text spells is determined
+pub spelled_of : (text : List ℕ) (ps : List PieceValue) → SpellsPattern text ps → IsSpelled text ps
+spelled_of text ps s = record { spelled = s.spelled; names = s.names; runs = s.runs }
+
+-- two spellings of one text, piece by piece
+one_spelling : (ps qs : List PieceValue) (text : List ℕ) → IsSpelled text ps → IsSpelled text qs → ps ≡ qs
+one_spelling [] qs text s k = nothing_at text qs s.spelled k where
+  nothing_at : (text : List ℕ) (qs : List PieceValue) → text ≡ [] → IsSpelled text qs → [] ≡ qs
+  nothing_at text [] e k = refl
+  nothing_at text (Literal [] ∷ qs) e k = absurd (omega (arith, (literal_or_none qs [] k.runs).0))
+  nothing_at text (Literal (b ∷ bs) ∷ qs) e k = absurd (spelled_some (is_brace b) b (flat_map spelled_literal bs ++ flat_map spelled_piece qs) (sym e ∙ k.spelled ∙ append_assoc (spelled_literal b) (flat_map spelled_literal bs) (flat_map spelled_piece qs))) where
+    spelled_some : (v : Bool) (b : ℕ) (bs : List ℕ) → [] ≡ cond v (b ∷ b ∷ []) (b ∷ []) ++ bs → ⊥
+    spelled_some true b bs e = let bad : ⊥ = cc in bad
+    spelled_some false b bs e = let bad : ⊥ = cc in bad
+  nothing_at text (FieldPiece name kind ∷ qs) e k = absurd (not_nothing text (flat_map spelled_piece qs) name kind (first_field text name kind qs k) e)
+one_spelling (Literal l ∷ ps) qs text s k =
+    let parts = literal_or_none ps l s.runs in
+    let here : IsSpelled (flat_map spelled_piece ps) ps = record { spelled = refl; names = s.names; runs = parts.1 } in
+    let has : HasLiteral text l (flat_map spelled_piece ps) = record { whole = s.spelled; end = no_literal_ends (flat_map spelled_piece ps) ps here parts.2 } in
+    let other = take_literal l text (flat_map spelled_piece ps) qs has k in
+    ap (λ (q : List PieceValue). q ++ ps) (as_pieces l parts.0) ∙ ap (λ (q : List PieceValue). literal_pieces l ++ q) (one_spelling ps other.left (flat_map spelled_piece ps) here other.spelled) ∙ sym other.whole
+one_spelling (FieldPiece name kind ∷ ps) qs text s k =
+    let here : IsSpelled (flat_map spelled_piece ps) ps = record { spelled = refl; names = s.names.1; runs = s.runs } in
+    let none : HasLiteral text [] text = record { whole = refl; end = no_literal_ends text (FieldPiece name kind ∷ ps) s tt } in
+    let other = take_literal [] text text qs none k in
+    let more = take_field text (flat_map spelled_piece ps) name kind other.left (first_field text name kind ps s) other.spelled other.field in
+    ap (λ (q : List PieceValue). FieldPiece name kind ∷ q) (one_spelling ps more.0 (flat_map spelled_piece ps) here more.2) ∙ sym more.1 ∙ sym other.whole
+
+pub spelling : (text : List ℕ) (a b : List PieceValue) → SpellsPattern text a → SpellsPattern text b → a ≡ b
+spelling text a b h k = one_spelling a b text (spelled_of text a h) (spelled_of text b k)
+
+-- names that stand twice
+no_kind_here : (v : Bool) (ps : List PieceValue) (other name : List ℕ) (kind : FieldKind) → bytes_eq other name ≡ v → cond v (Some kind) (field_kind ps name) ≡ None
+    → (field_kind ps name ≡ None → AllByRecursion (λ (o : List ℕ). o ≡ name → ⊥) (field_names ps)) → (other ≡ name → ⊥) × AllByRecursion (λ (o : List ℕ). o ≡ name → ⊥) (field_names ps)
+no_kind_here true ps other name kind is f more = let bad : ⊥ = cc in absurd bad
+no_kind_here false ps other name kind is f more = (λ same. let no : true ≡ false = sym ((bytes_eq-Decides other name).1 same) ∙ is in let bad : ⊥ = cc in bad, more f)
+
+no_kind : (ps : List PieceValue) (name : List ℕ) → field_kind ps name ≡ None → AllByRecursion (λ (other : List ℕ). other ≡ name → ⊥) (field_names ps)
+no_kind [] name e = tt
+no_kind (Literal l ∷ ps) name e = no_kind ps name e
+no_kind (FieldPiece other kind ∷ ps) name e = no_kind_here (bytes_eq other name) ps other name kind refl e (no_kind ps name)
+
+some_kind_here : (v : Bool) (ps : List PieceValue) (other name : List ℕ) (kind k : FieldKind) → bytes_eq other name ≡ v → cond v (Some kind) (field_kind ps name) ≡ Some k → (other ≡ name → ⊥) → (field_kind ps name ≡ Some k → ⊥) → ⊥
+some_kind_here true ps other name kind k is f here more = here ((bytes_eq-Decides other name).0 is)
+some_kind_here false ps other name kind k is f here more = more f
+
+some_kind : (ps : List PieceValue) (name : List ℕ) (k : FieldKind) → field_kind ps name ≡ Some k → AllByRecursion (λ (other : List ℕ). other ≡ name → ⊥) (field_names ps) → ⊥
+some_kind [] name k e h = let bad : ⊥ = cc in bad
+some_kind (Literal l ∷ ps) name k e h = some_kind ps name k e h
+some_kind (FieldPiece other kind ∷ ps) name k e h = some_kind_here (bytes_eq other name) ps other name kind k refl e h.0 (λ f. some_kind ps name k f h.1)
+
+none_of : (o : Option FieldKind) → not (is_some o) ≡ true → o ≡ None
+none_of None e = refl
+none_of (Some k) e = let bad : ⊥ = cc in absurd bad
+
+pub distinct_so : (ps : List PieceValue) → are_distinct ps ≡ true → AreDistinctNames (field_names ps)
+distinct_so [] e = tt
+distinct_so (Literal l ∷ ps) e = distinct_so ps e
+distinct_so (FieldPiece name kind ∷ ps) e =
+    let parts = and_so (not (is_some (field_kind ps name))) (are_distinct ps) e in
+    (no_kind ps name (none_of (field_kind ps name) parts.0), distinct_so ps parts.1)
+
+none_test : (ps : List PieceValue) (name : List ℕ) (o : Option FieldKind) → field_kind ps name ≡ o → AllByRecursion (λ (other : List ℕ). other ≡ name → ⊥) (field_names ps) → not (is_some o) ≡ true
+none_test ps name None e h = refl
+none_test ps name (Some k) e h = absurd (some_kind ps name k e h)
+
+pub distinct_test : (ps : List PieceValue) → AreDistinctNames (field_names ps) → are_distinct ps ≡ true
+distinct_test [] h = refl
+distinct_test (Literal l ∷ ps) h = distinct_test ps h
+distinct_test (FieldPiece name kind ∷ ps) h = and_both (not (is_some (field_kind ps name))) (are_distinct ps) (none_test ps name (field_kind ps name) refl h.0) (distinct_test ps h.1)
+
+-- pieces that are a pattern
+less_so : (a b : ℕ) → nat_lt a b ≡ true → a < b
+less_so a b e = grind (arith, nat_tests)
+
+less_test : (a b : ℕ) → a < b → nat_lt a b ≡ true
+less_test a b e = grind (arith, nat_tests)
+
+pub spells : (text : List ℕ) (ps : List PieceValue) → IsSpelled text ps → is_pattern ps ≡ true → SpellsPattern text ps
+spells text ps s e =
+    let parts = and_so (nat_lt 0 (length ps)) (are_distinct ps) e in
+    record { spelled = s.spelled; names = s.names; distinct = distinct_so ps parts.1; runs = s.runs; some = less_so 0 (length ps) parts.0 }
+
+pub spells_test : (text : List ℕ) (ps : List PieceValue) → SpellsPattern text ps → is_pattern ps ≡ true
+spells_test text ps s = and_both (nat_lt 0 (length ps)) (are_distinct ps) (less_test 0 (length ps) s.some) (distinct_test ps s.distinct)
+
+pub not_pattern : (text : List ℕ) (qs ps : List PieceValue) → is_pattern qs ≡ false → qs ≡ ps → SpellsPattern text ps → ⊥
+not_pattern text qs ps e same s = let no : true ≡ false = sym (spells_test text ps s) ∙ ap is_pattern (sym same) ∙ e in let bad : ⊥ = cc in bad
+
+pub not_bad : (fault : PatternFault) → fault ≡ Memory → ◌≡◌ {A = Result Pattern PatternFault} (Err fault) (Err BadPattern) → ⊥
+not_bad fault e is = let f : Memory ≡ BadPattern = cc in let bad : ⊥ = cc in bad
+
+-- what stands before a place that is given by a number
+pub plain_of : (text part : List ℕ) (n : ℕ) → n ≡ position_or_len is_brace text → part ≡ take (n - 0) text → flat_map spelled_literal part ≡ part
+plain_of text part n e cut =
+    let whole : n - 0 ≡ position_or_len is_brace text = omega arith in
+    let same : part ≡ take (position_or_len is_brace text) text = cut ∙ ap (λ m. take m text) whole in
+    ap (flat_map spelled_literal) same ∙ plain_part text ∙ sym same
+
+pub begins_of : (text part : List ℕ) (n : ℕ) → n ≡ position_or_len is_brace text → part ≡ drop n text → BeginsAtBrace part
+begins_of text part n e cut = subst BeginsAtBrace (sym (cut ∙ ap (λ m. drop m text) e)) (begins_at text)
+
+pub no_field : (text body name end : List ℕ) → text ≡ codes "{" ++ body → ((n r : List ℕ) → list_all is_name_byte n ≡ true → EndsName r → body ≡ n ++ r → (name ≡ n) × (end ≡ r))
+    → ((kind : FieldKind) (r : List ℕ) → end ≡ field_tail kind ++ r → ⊥) → HasNoField text
+no_field text body name end whole only none = λ n kind r h.
+    let inner : body ≡ n ++ (field_tail kind ++ r) = same_rest 123 body (n ++ (field_tail kind ++ r)) (sym whole ∙ h.whole ∙ field_text n kind r) in
+    none kind r (only n (field_tail kind ++ r) (name_bytes n h.is_name) (tail_ends kind r) inner).1
+
+pub empty_so : (xs : List ℕ) → length xs ≡ 0 → xs ≡ []
+empty_so [] e = refl
+empty_so (x ∷ xs) e = absurd (omega arith)

@@ -1,0 +1,27 @@
+use Rattle.std.proofs.Common.{◌≡◌, ◌≤◌, ℕ, List, length, refl, sym, subst, ◌∙◌}
+use Rattle.gk_gherkin.specs.Lines.{limit, lines_of, IsText}
+use Rattle.gk_steps.specs.Finding.{library_value}
+use Rattle.gk_steps.specs.LibraryFile.{ReadsLibrary}
+use Rattle.gk_steps.specs.DefaultFile.{default_text, default_entries}
+use Rattle.gk_steps.proofs.DefaultFileLemmas.{default_reads, default_short}
+use Rattle.gk_steps.proofs.LibraryFileLemmas.{one_reading}
+use Rattle.gk_steps.proofs.default_file.default_library.Goals as goal
+
+pub returns-in-Ok-clause-read : goal.returns-in-Ok-clause-read
+unfolding default_text
+returns-in-Ok-clause-read c =
+    let same : c.as_bytes.result.now ≡ default_text = c.as_bytes.ensures.value ∙ refl in
+    subst (λ (t : List ℕ). ReadsLibrary (lines_of t) (library_value c.in-Ok.library)) same c.in-Ok.ensures.found.1
+
+pub returns-in-Ok-clause-entries : goal.returns-in-Ok-clause-entries
+unfolding default_text
+returns-in-Ok-clause-entries c =
+    let same : c.as_bytes.result.now ≡ default_text = c.as_bytes.ensures.value ∙ refl in
+    one_reading (lines_of default_text) (library_value c.in-Ok.library) default_entries (subst (λ (t : List ℕ). ReadsLibrary (lines_of t) (library_value c.in-Ok.library)) same c.in-Ok.ensures.found.1) default_reads
+
+pub unreachable-requires : goal.unreachable-requires
+unfolding default_text
+unreachable-requires c =
+    let same : c.as_bytes.result.now ≡ default_text = c.as_bytes.ensures.value ∙ refl in
+    let is_text : IsText c.as_bytes.result.now = (subst (λ (t : List ℕ). length t ≤ limit) (sym same) default_short, c.as_bytes.ensures.utf8) in
+    c.in_default.not-Memory (c.in-Err.ensures.only default_entries is_text (subst (λ (t : List ℕ). ReadsLibrary (lines_of t) default_entries) (sym same) default_reads))

@@ -1,0 +1,6 @@
+use Rattle.std.proofs.Common.{map}
+use Rattle.gk_steps.specs.Finding.{NoneBefore, entry_value}
+use Rattle.gk_steps.proofs.finding.find_of.Given as goal
+
+abbrev pub invariant-loop-place : goal.invariant-loop-place
+invariant-loop-place l = NoneBefore l.place (map entry_value l.entries) l.step_type l.text

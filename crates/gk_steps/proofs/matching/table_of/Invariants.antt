@@ -1,0 +1,7 @@
+use Rattle.std.proofs.Common.{◌≡◌, ◌+◌, ◌*◌, length, map}
+use Rattle.gk_steps.specs.Pattern.{piece_value}
+use Rattle.gk_steps.specs.Columns.{IsTable}
+use Rattle.gk_steps.proofs.matching.table_of.Given as goal
+
+abbrev pub invariant-loop-below : goal.invariant-loop-below
+invariant-loop-below l = record { table : IsTable (l.below + 1) (map piece_value l.pieces) l.text l.places l.rows.items; filled : l.counter.filled ≡ (l.below + 1) * length l.places }

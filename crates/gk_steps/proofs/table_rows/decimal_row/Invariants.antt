@@ -1,0 +1,6 @@
+use Rattle.std.proofs.Common.{◌≡◌, ◌+◌, ◌-◌}
+use Rattle.gk_steps.specs.Digits.{KnowsDigits, IsNumberRow}
+use Rattle.gk_steps.proofs.table_rows.decimal_row.Given as goal
+
+abbrev pub invariant-loop-column : goal.invariant-loop-column
+invariant-loop-column l = record { row : IsNumberRow l.column l.text l.places l.below l.row.items; digits : KnowsDigits l.text l.places l.below (l.column - 1) l.digits; filled : l.counter.filled ≡ l.fn.counter.filled + l.column }

@@ -1,0 +1,13 @@
+use Rattle.std.proofs.Common.{◌≡◌, [], length, subst, arith}
+use Rattle.gk_steps.specs.Columns.{IsRowTo}
+use Rattle.gk_steps.proofs.TableRowLemmas.{end_more}
+use Rattle.gk_steps.proofs.table_rows.first_row.Goals as goal
+
+pub loop-column-preserved : goal.loop-column-preserved
+loop-column-preserved c = record {
+  row = λ text h. end_more text c.args.places.now c.loop-column.column c.loop-column.row.items c.fill.new.row.items h c.loop-column-test.true c.in_ok-fill.ensures.items (c.loop-column.invariant.row text h);
+  filled = omega (arith, c.in_ok-fill.ensures.filled);
+}
+
+pub returns-clause-row : goal.returns-clause-row
+returns-clause-row c = λ text h. let end : c.loop-column.column ≡ length c.args.places.now = omega arith in subst (λ k. IsRowTo k [] text c.args.places.now c.loop-column.row.items) end (c.loop-column.invariant.row text h)

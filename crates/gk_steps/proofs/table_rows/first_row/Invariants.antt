@@ -1,0 +1,6 @@
+use Rattle.std.proofs.Common.{◌≡◌, ◌+◌, ℕ, List, []}
+use Rattle.gk_steps.specs.Columns.{ArePlaces, IsRowTo}
+use Rattle.gk_steps.proofs.table_rows.first_row.Given as goal
+
+abbrev pub invariant-loop-column : goal.invariant-loop-column
+invariant-loop-column l = record { row : (text : List ℕ) → ArePlaces text l.places → IsRowTo l.column [] text l.places l.row.items; filled : l.counter.filled ≡ l.fn.counter.filled + l.column }

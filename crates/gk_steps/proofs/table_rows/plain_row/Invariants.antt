@@ -1,0 +1,6 @@
+use Rattle.std.proofs.Common.{◌≡◌, ◌+◌}
+use Rattle.gk_steps.specs.Columns.{IsPlainRow, IsAnyBefore}
+use Rattle.gk_steps.proofs.table_rows.plain_row.Given as goal
+
+abbrev pub invariant-loop-column : goal.invariant-loop-column
+invariant-loop-column l = record { row : IsPlainRow l.column l.below l.row.items; any : IsAnyBefore l.below l.column l.any; filled : l.counter.filled ≡ l.fn.counter.filled + l.column }

@@ -1,0 +1,82 @@
+-- The built-in actions by name, and the fields that each needs and uses.
+use Rattle.std.specs.Prelude.{codes, ℕ, List, [], ◌∷◌, ◌++◌, Option, find, if◌then◌else◌}
+use Rattle.std.specs.Str.{bytes_eq}
+use Rattle.gk_steps.specs.declared.pattern.FieldKind.{FieldKind}
+use Rattle.gk_steps.specs.declared.pattern.FieldKind.TheVariants.{Plain, Decimal}
+use Rattle.gk_steps.specs.declared.action.Action.{Action}
+use Rattle.gk_steps.specs.declared.action.Action.TheVariants as actions
+
+-- A row of the table of actions: a name, its action, the fields that it needs, and all that it uses. (this project's profile)
+pub record ActionRow : Type 0 where
+  pub name : List ℕ
+  pub action : Action
+  pub needs : List (List ℕ)
+  pub uses : List (List ℕ)
+
+-- The field for a name. (this project's profile)
+abbrev pub name_word : List ℕ
+name_word = codes "name"
+
+-- The field for a new name. (this project's profile)
+abbrev pub to_word : List ℕ
+to_word = codes "to"
+
+-- The field for a text. (this project's profile)
+abbrev pub text_word : List ℕ
+text_word = codes "text"
+
+-- The field for a number. (this project's profile)
+abbrev pub number_word : List ℕ
+number_word = codes "n"
+
+-- The kind that a field of this name has to have: `n` is a number, any other is plain. (this project's profile)
+abbrev pub kind_of_field : List ℕ → FieldKind
+kind_of_field name = if bytes_eq name number_word then Decimal else Plain
+
+-- The row of an action that uses the fields that it needs, and no other. (this project's profile)
+abbrev pub plain_row : List ℕ → Action → List (List ℕ) → ActionRow
+plain_row name action needs = record { name = name; action = action; needs = needs; uses = needs }
+
+-- The row of an action that needs `name`, and uses `text` where the pattern has it. (this project's profile)
+abbrev pub text_row : List ℕ → Action → ActionRow
+text_row name action = record { name = name; action = action; needs = name_word ∷ []; uses = name_word ∷ text_word ∷ [] }
+
+-- The actions on files. (this project's profile)
+abbrev pub file_rows : List ActionRow
+file_rows =
+    text_row (codes "write_file") actions.WriteFile
+    ∷ text_row (codes "append_file") actions.AppendFile
+    ∷ plain_row (codes "remove_file") actions.RemoveFile (name_word ∷ [])
+    ∷ plain_row (codes "rename_file") actions.RenameFile (name_word ∷ to_word ∷ [])
+    ∷ plain_row (codes "write_files") actions.WriteFiles []
+    ∷ plain_row (codes "file_exists") actions.FileExists (name_word ∷ [])
+    ∷ plain_row (codes "file_absent") actions.FileAbsent (name_word ∷ [])
+    ∷ text_row (codes "file_is") actions.FileIs
+    ∷ text_row (codes "file_contains") actions.FileContains
+    ∷ []
+
+-- The other actions. (this project's profile)
+abbrev pub other_rows : List ActionRow
+other_rows =
+    text_row (codes "set_env") actions.SetEnv
+    ∷ plain_row (codes "remove_env") actions.RemoveEnv (name_word ∷ [])
+    ∷ text_row (codes "env_is") actions.EnvIs
+    ∷ plain_row (codes "env_absent") actions.EnvAbsent (name_word ∷ [])
+    ∷ text_row (codes "set_value") actions.SetValue
+    ∷ plain_row (codes "delete_value") actions.DeleteValue (name_word ∷ [])
+    ∷ text_row (codes "value_is") actions.ValueIs
+    ∷ plain_row (codes "value_absent") actions.ValueAbsent (name_word ∷ [])
+    ∷ plain_row (codes "set_number") actions.SetNumber (name_word ∷ number_word ∷ [])
+    ∷ plain_row (codes "add_number") actions.AddNumber (name_word ∷ number_word ∷ [])
+    ∷ plain_row (codes "number_is") actions.NumberIs (name_word ∷ number_word ∷ [])
+    ∷ plain_row (codes "pass") actions.Pass []
+    ∷ plain_row (codes "fail") actions.Fail []
+    ∷ []
+
+-- The table of actions. (this project's profile)
+abbrev pub action_table : List ActionRow
+action_table = file_rows ++ other_rows
+
+-- The row of a name; none where no action has that name.
+unfoldable pub action_row : List ℕ → Option ActionRow
+action_row name = find (λ (row : ActionRow). bytes_eq row.name name) action_table

@@ -1,0 +1,118 @@
+-- Proof machinery: the table of a match. A column is a number of characters, those that stand after a place;
+-- a row is a number of pieces, the last ones of the pattern.
+use Rattle.std.specs.Prelude.{◌≡◌, ◌<◌, ◌≤◌, ◌-◌, ℕ, Bool, true, false, List, [], ◌∷◌, ◌++◌, length, take, drop, slice_index, Vec, slice_index_or, Option, Some, None}
+use Rattle.std.specs.Str.{chars, IsCharBoundary}
+use Rattle.std.specs.Str.Parse.{IsNumeral, AllDigits, digits_value}
+use Rattle.gk_steps.specs.declared.pattern.FieldKind.TheVariants.{Plain, Decimal}
+use Rattle.gk_steps.specs.Pattern.{PieceValue, Literal, FieldPiece}
+use Rattle.std.specs.declared.alloc.Global.{Global}
+use Rattle.gk_steps.specs.Matching.{IsSpan, Matches, MatchesNot, IsBestMatch, FieldValue, span_value, span_values}
+
+-- The places of a text from a place on where it may be cut, from the last to the first.
+pub record ArePlacesFrom (low : ℕ) (text : List ℕ) (places : List ℕ) : Type 0 where
+  pub some : 0 < length places
+  pub cuts : (c : ℕ) → c < length places → IsCharBoundary text (slice_index places c)
+  pub above : (c : ℕ) → c < length places → low ≤ slice_index places c
+  pub falling : (c d : ℕ) → c < d → d < length places → slice_index places d < slice_index places c
+  pub complete : (p : ℕ) → low ≤ p → IsCharBoundary text p → (c : ℕ) × (c < length places) × (slice_index places c ≡ p)
+  pub counts : (c : ℕ) → c < length places → length (chars (drop (slice_index places c) text)) ≡ c
+
+-- All of them.
+abbrev pub ArePlaces : List ℕ → List ℕ → Type 0
+ArePlaces text places = ArePlacesFrom 0 text places
+
+-- Whether these pieces match a text.
+abbrev pub IsCell : List PieceValue → List ℕ → Bool → Type 0
+IsCell ps text true = (spans : List (List ℕ)) × Matches ps text spans
+IsCell ps text false = MatchesNot ps text
+
+-- The first cells of a row: whether these pieces match what stands after each place.
+pub record IsRowTo (size : ℕ) (ps : List PieceValue) (text : List ℕ) (places : List ℕ) (row : List Bool) : Type 0 where
+  pub size_is : length row ≡ size
+  pub cells : (c : ℕ) → c < size → IsCell ps (drop (slice_index places c) text) (slice_index_or row c false)
+
+-- A whole row.
+abbrev pub IsRow : List PieceValue → List ℕ → List ℕ → List Bool → Type 0
+IsRow ps text places row = IsRowTo (length places) ps text places row
+
+-- What stands between two columns' places.
+abbrev pub part : List ℕ → List ℕ → ℕ → ℕ → List ℕ
+part text places c d = take (slice_index places d - slice_index places c) (drop (slice_index places c) text)
+
+-- What a piece can take.
+abbrev pub Takes : PieceValue → List ℕ → Type 0
+Takes (Literal literal) x = x ≡ literal
+Takes (FieldPiece name kind) x = IsSpan kind x
+
+-- A step over a piece from one column to another, after which the row below says that the rest matches.
+pub record IsStepTo (piece : PieceValue) (text : List ℕ) (places : List ℕ) (below : List Bool) (c : ℕ) (d : ℕ) : Type 0 where
+  pub within : d ≤ c
+  pub rest : slice_index_or below d false ≡ true
+  pub takes : Takes piece (part text places c d)
+
+-- A step that is not after another: a plain field takes as little as it can, the other kind as much as it can.
+abbrev pub IsNotAfter : PieceValue → ℕ → ℕ → Type 0
+IsNotAfter (Literal literal) d e = Unit {0}
+IsNotAfter (FieldPiece name Plain) d e = e ≤ d
+IsNotAfter (FieldPiece name Decimal) d e = d ≤ e
+
+-- The preferred step over a piece, or that there is none.
+abbrev pub IsStep : PieceValue → List ℕ → List ℕ → List Bool → ℕ → Option ℕ → Type 0
+IsStep piece text places below c None = (d : ℕ) → IsStepTo piece text places below c d → ⊥
+IsStep piece text places below c (Some d) = IsStepTo piece text places below c d × ((e : ℕ) → IsStepTo piece text places below c e → IsNotAfter piece d e)
+
+-- Whether a cell before a column is true.
+abbrev pub IsAnyBefore : List Bool → ℕ → Bool → Type 0
+IsAnyBefore row c true = (d : ℕ) × (d < c) × (slice_index_or row d false ≡ true)
+IsAnyBefore row c false = (d : ℕ) → d < c → slice_index_or row d false ≡ false
+
+-- The nearest cell before a column that is true, or that there is none.
+abbrev pub IsNearest : List Bool → ℕ → Option ℕ → Type 0
+IsNearest row c None = (d : ℕ) → d < c → slice_index_or row d false ≡ false
+IsNearest row c (Some d) = (d < c) × (slice_index_or row d false ≡ true) × ((e : ℕ) → e < c → d < e → slice_index_or row e false ≡ false)
+
+-- The longest step down to a column, of those down to another, or that there is none.
+abbrev pub IsLongestTo : ℕ → PieceValue → List ℕ → List ℕ → List Bool → ℕ → Option ℕ → Type 0
+IsLongestTo low piece text places below c None = (d : ℕ) → low ≤ d → IsStepTo piece text places below c d → ⊥
+IsLongestTo low piece text places below c (Some d) = IsStepTo piece text places below c d × ((e : ℕ) → low ≤ e → IsStepTo piece text places below c e → d ≤ e)
+
+-- The first cells of a row of which each says whether a cell before it is true in the row below.
+pub record IsPlainRow (size : ℕ) (below : List Bool) (row : List Bool) : Type 0 where
+  pub size_is : length row ≡ size
+  pub cells : (c : ℕ) → c < size → IsAnyBefore below c (slice_index_or row c false)
+
+-- The rows for the last pieces of a pattern, from none on.
+pub record IsTable (size : ℕ) (ps : List PieceValue) (text : List ℕ) (places : List ℕ) (rows : List (Vec Bool Global)) : Type 0 where
+  pub size_is : length rows ≡ size
+  pub each : (r : ℕ) (d : Vec Bool Global) → r < size → IsRow (drop (length ps - r) ps) text places (slice_index_or rows r d).items
+
+-- What a field says that took a span.
+abbrev pub values_of : PieceValue → List ℕ → List FieldValue
+values_of (Literal literal) x = []
+values_of (FieldPiece name kind) x = span_value kind x ∷ []
+
+-- The spans that were read so far: with the preferred match of what is left they are the preferred match.
+pub record IsReadTo (taken : ℕ) (column : ℕ) (ps : List PieceValue) (text : List ℕ) (places : List ℕ) (fields : List FieldValue) : Type 0 where
+  pub spans : List (List ℕ)
+  pub known : column < length places
+  pub matched : (rest : List (List ℕ)) × Matches (drop taken ps) (drop (slice_index places column) text) rest
+  pub best : (rest : List (List ℕ)) → IsBestMatch (drop taken ps) (drop (slice_index places column) text) rest → IsBestMatch ps text (spans ++ rest)
+  pub values : (rest : List (List ℕ)) → span_values ps (spans ++ rest) ≡ fields ++ span_values (drop taken ps) rest
+
+-- A step over digits alone, with a value up to a limit, after which the row below says that the rest matches.
+pub record IsDigitsTo (most : ℕ) (text : List ℕ) (places : List ℕ) (below : List Bool) (c : ℕ) (d : ℕ) : Type 0 where
+  pub within : d ≤ c
+  pub rest : slice_index_or below d false ≡ true
+  pub numeral : IsNumeral 10 (part text places c d)
+  pub value : digits_value 10 (part text places c d) ≤ most
+
+-- Whether there is such a step from a column.
+abbrev pub HasDigits : ℕ → List ℕ → List ℕ → List Bool → ℕ → Bool → Type 0
+HasDigits most text places below c true = (d : ℕ) × IsDigitsTo most text places below c d
+HasDigits most text places below c false = (d : ℕ) → IsDigitsTo most text places below c d → ⊥
+
+-- Digits that were read from a column down to another, after none of which the rest matches.
+pub record IsRunTo (low : ℕ) (most : ℕ) (text : List ℕ) (places : List ℕ) (below : List Bool) (c : ℕ) (value : ℕ) : Type 0 where
+  pub digits : AllDigits 10 (part text places c low)
+  pub value_is : value ≡ digits_value 10 (part text places c low)
+  pub none : (d : ℕ) → low ≤ d → IsDigitsTo most text places below c d → ⊥

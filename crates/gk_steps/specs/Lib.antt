@@ -1,0 +1,13 @@
+-- What patterns and step libraries are, and what they find, in reading order. A definition whose comment names no source is this project's profile, or a word that the others use.
+pub mod Pattern
+pub mod Matching
+pub mod PassingOver
+pub mod Action
+pub mod Finding
+pub mod LibraryFile
+pub mod LibraryFault
+pub mod DefaultFile
+pub mod Spelling
+pub mod LibraryLine
+pub mod Columns
+pub mod Digits

@@ -1,0 +1,180 @@
+-- What a step library file says, line by line.
+use Rattle.std.specs.Prelude.{codes, not, ◌≡◌, ℕ, Bool, false, ◌==◌, ◌||◌, List, [], ◌∷◌, ◌++◌, length, drop, filter, IsSome, Option, Some, None, option_map, if◌then◌else◌, Result, Ok, Err}
+use Rattle.std.specs.List.{AllByRecursion, before_first, after_first}
+use Rattle.std.specs.Str.{bytes_eq}
+use Rattle.gk_gherkin.specs.declared.feature.StepType.{StepType}
+use Rattle.gk_gherkin.specs.declared.feature.StepType.TheVariants.{Given, When, Then}
+use Rattle.gk_gherkin.specs.Lines.{LineValue, Lines, is_blank, trim}
+use Rattle.gk_gherkin.specs.Class.{begins}
+use Rattle.gk_steps.specs.declared.pattern.FieldKind.{FieldKind}
+use Rattle.gk_steps.specs.declared.library.Library.{Library}
+use Rattle.gk_steps.specs.declared.library_fault.LibraryFault.{LibraryFault}
+use Rattle.gk_steps.specs.declared.library_fault.LibraryFault.TheVariants.{Memory}
+use Rattle.gk_steps.specs.Pattern.{PieceValue, SpellsPattern, field_kind}
+use Rattle.gk_steps.specs.Matching.{Matches, MatchesNot}
+use Rattle.gk_steps.specs.Finding.{EntryValue, LibraryValue, library_value}
+use Rattle.gk_steps.specs.Action.{ActionRow, action_row, kind_of_field}
+
+-- Lines that are ignored: blank ones, and those that begin with `#`. (this project's profile)
+abbrev pub is_ignored : LineValue → Bool
+is_ignored line = (length (trim line.text) == 0) || begins (trim line.text) (codes "#")
+
+-- The type that a word says: none inside for `step`, none at all for any other word. (this project's profile)
+abbrev pub entry_type : List ℕ → Option (Option StepType)
+entry_type word =
+    if bytes_eq word (codes "given") then Some (Some Given) else
+    (if bytes_eq word (codes "when") then Some (Some When) else
+    (if bytes_eq word (codes "then") then Some (Some Then) else
+    (if bytes_eq word (codes "step") then Some None else None)))
+
+-- The type of a line: the word before its first blank. (this project's profile)
+unfoldable pub type_of : LineValue → Option (Option StepType)
+type_of line = entry_type (before_first is_blank (trim line.text))
+
+-- The two sides of an `=>`: a pattern's text and an action's name. (this project's profile)
+pub record Sides : Type 0 where
+  pub pattern : List ℕ
+  pub action : List ℕ
+
+-- A byte more at the start of the left side, or an `=>` found where none comes later.
+abbrev pub into_sides : List ℕ → Option Sides → Option Sides
+into_sides (b ∷ bs) (Some sides) = Some (record { pattern = b ∷ sides.pattern; action = sides.action })
+into_sides (b ∷ bs) None = if begins (b ∷ bs) (codes "=>") then Some (record { pattern = []; action = drop 1 bs }) else None
+into_sides [] sides = None
+
+-- The two sides of the last `=>` in a text; none where there is no `=>`. (this project's profile)
+unfoldable pub last_arrow : List ℕ → Option Sides
+last_arrow [] = None
+last_arrow (b ∷ bs) = into_sides (b ∷ bs) (last_arrow bs)
+
+-- Both sides trimmed. (this project's profile)
+abbrev pub trimmed_sides : Sides → Sides
+trimmed_sides sides = record { pattern = trim sides.pattern; action = trim sides.action }
+
+-- The pattern's text and the action's name, which stand after the type on the two sides of the last `=>`; none where no `=>` stands there. (this project's profile)
+unfoldable pub sides_of : LineValue → Option Sides
+sides_of line = option_map trimmed_sides (last_arrow (after_first is_blank (trim line.text)))
+
+-- The pattern has each field that the action needs. (this project's profile)
+abbrev pub HasNeededFields : ActionRow → List PieceValue → Type 0
+HasNeededFields row ps = AllByRecursion (λ name. IsSome (field_kind ps name)) row.needs
+
+-- Each field that the action uses is of its kind. (this project's profile)
+abbrev pub HasRightKinds : ActionRow → List PieceValue → Type 0
+HasRightKinds row ps = AllByRecursion (λ name. (kind : FieldKind) → field_kind ps name ≡ Some kind → kind ≡ kind_of_field name) row.uses
+
+-- No earlier entry of a type matches a text. (behave's documentation: ambiguous steps; this project's profile)
+abbrev pub NoneMatches : List EntryValue → Option StepType → List ℕ → Type 0
+NoneMatches earlier step_type text = AllByRecursion (λ (e : EntryValue). e.step_type ≡ step_type → MatchesNot e.pattern text) earlier
+
+-- A line that spells an entry, after earlier ones: a type, a pattern, an action with the fields that it needs and of the kinds that it uses, and no earlier entry of the type that matches the pattern's text as written. (this project's profile)
+pub record SpellsEntry (earlier : List EntryValue) (line : LineValue) (entry : EntryValue) : Type 0 where
+  pub sides : Sides
+  pub row : ActionRow
+  pub is_type : type_of line ≡ Some entry.step_type
+  pub is_cut : sides_of line ≡ Some sides
+  pub is_pattern : SpellsPattern sides.pattern entry.pattern
+  pub is_action : action_row sides.action ≡ Some row
+  pub action : entry.action ≡ row.action
+  pub needs : HasNeededFields row entry.pattern
+  pub kinds : HasRightKinds row entry.pattern
+  pub unambiguous : NoneMatches earlier entry.step_type sides.pattern
+
+-- Lines that spell entries, one each, in order.
+abbrev pub SpellEntries : List EntryValue → Lines → List EntryValue → Type 0
+SpellEntries earlier [] [] = Unit {0}
+SpellEntries earlier (line ∷ ls) (entry ∷ entries) = SpellsEntry earlier line entry × SpellEntries (earlier ++ entry ∷ []) ls entries
+SpellEntries earlier _ _ = ⊥
+
+-- What the lines of a library file say: each that isn't ignored spells an entry. (this project's profile)
+abbrev pub ReadsLibrary : Lines → List EntryValue → Type 0
+ReadsLibrary ls entries = SpellEntries [] (filter (λ line. not (is_ignored line)) ls) entries
+
+-- A list of lines is readable as a library where it has a reading.
+abbrev pub IsReadableLibrary : Lines → Type 0
+IsReadableLibrary ls = (entries : List EntryValue) × ReadsLibrary ls entries
+
+-- The fault of a line whose first word is no type. (this project's profile)
+abbrev pub IsBadType : List EntryValue → LineValue → Type 0
+IsBadType earlier line = type_of line ≡ None
+
+-- After a good type: no `=>`, or a text that spells no pattern.
+pub record IsBadPattern (earlier : List EntryValue) (line : LineValue) : Type 0 where
+  pub step_type : Option StepType
+  pub is_type : type_of line ≡ Some step_type
+  pub bad : (sides : Sides) (ps : List PieceValue) → sides_of line ≡ Some sides → SpellsPattern sides.pattern ps → ⊥
+
+-- What is good in a line whose fault is of its action, its fields or an earlier entry.
+pub record HasPattern (line : LineValue) (step_type : Option StepType) (sides : Sides) (ps : List PieceValue) : Type 0 where
+  pub is_type : type_of line ≡ Some step_type
+  pub is_cut : sides_of line ≡ Some sides
+  pub is_pattern : SpellsPattern sides.pattern ps
+
+-- After a good type and pattern: a name that no action has.
+pub record IsUnknownAction (earlier : List EntryValue) (line : LineValue) : Type 0 where
+  pub step_type : Option StepType
+  pub sides : Sides
+  pub ps : List PieceValue
+  pub good : HasPattern line step_type sides ps
+  pub bad : action_row sides.action ≡ None
+
+-- After a known action: a pattern without a field that it needs.
+pub record IsMissingField (earlier : List EntryValue) (line : LineValue) : Type 0 where
+  pub step_type : Option StepType
+  pub sides : Sides
+  pub ps : List PieceValue
+  pub row : ActionRow
+  pub good : HasPattern line step_type sides ps
+  pub is_action : action_row sides.action ≡ Some row
+  pub bad : HasNeededFields row ps → ⊥
+
+-- After all needed fields: one that is used is of another kind.
+pub record IsOtherKind (earlier : List EntryValue) (line : LineValue) : Type 0 where
+  pub step_type : Option StepType
+  pub sides : Sides
+  pub ps : List PieceValue
+  pub row : ActionRow
+  pub good : HasPattern line step_type sides ps
+  pub is_action : action_row sides.action ≡ Some row
+  pub needs : HasNeededFields row ps
+  pub bad : HasRightKinds row ps → ⊥
+
+-- After right kinds: an earlier entry of the same type matches the pattern's text as written.
+pub record IsAmbiguous (earlier : List EntryValue) (line : LineValue) : Type 0 where
+  pub step_type : Option StepType
+  pub sides : Sides
+  pub ps : List PieceValue
+  pub row : ActionRow
+  pub good : HasPattern line step_type sides ps
+  pub is_action : action_row sides.action ≡ Some row
+  pub needs : HasNeededFields row ps
+  pub kinds : HasRightKinds row ps
+  pub before : List EntryValue
+  pub entry : EntryValue
+  pub after : List EntryValue
+  pub whole : earlier ≡ before ++ entry ∷ after
+  pub same : entry.step_type ≡ step_type
+  pub spans : List (List ℕ)
+  pub matches : Matches entry.pattern sides.pattern spans
+
+-- A fault on line n: the lines before it are a library; those up to and with it begin none; and the fault's own fact holds of it.
+pub record StopsLibraryAt (ls : Lines) (n : ℕ) (Fault : List EntryValue → LineValue → Type 0) : Type 0 where
+  pub before : Lines
+  pub line : LineValue
+  pub after : Lines
+  pub whole : ls ≡ before ++ line ∷ after
+  pub number : line.line ≡ n
+  pub entries : List EntryValue
+  pub fits : ReadsLibrary before entries
+  pub counts : is_ignored line ≡ false
+  pub stops : (more : Lines) → IsReadableLibrary (before ++ line ∷ more) → ⊥
+  pub fault : Fault entries line
+
+-- A library that was answered has these entries, or memory was refused. (this project's profile)
+abbrev pub AnswersLibrary : Result Library LibraryFault → LibraryValue → Type 0
+AnswersLibrary (Ok library) entries = library_value library ≡ entries
+AnswersLibrary (Err fault) entries = fault ≡ Memory
+
+-- Lines have one reading at most.
+abbrev pub LibraryReadingIsUnique : Type 0
+LibraryReadingIsUnique = (ls : Lines) (a b : List EntryValue) → ReadsLibrary ls a → ReadsLibrary ls b → a ≡ b

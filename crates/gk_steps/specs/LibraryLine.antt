@@ -1,0 +1,160 @@
+-- Proof machinery: reading one line of a step library.
+use Rattle.std.specs.Prelude.{◌≡◌, ℕ, Bool, true, false, is_some, List, [], ◌∷◌, ◌++◌, Option, Some, None}
+use Rattle.std.specs.List.{list_all}
+use Rattle.gk_gherkin.specs.Lines.{LineValue, Lines}
+use Rattle.gk_gherkin.specs.declared.feature.StepType.{StepType}
+use Rattle.gk_steps.specs.declared.action.Action.{Action}
+use Rattle.gk_steps.specs.declared.action.Action.TheVariants as actions
+use Rattle.gk_steps.specs.declared.action.Uses.{Uses}
+use Rattle.gk_steps.specs.declared.action.Uses.TheVariants as uses
+use Rattle.gk_steps.specs.declared.pattern.FieldKind.{FieldKind}
+use Rattle.gk_steps.specs.declared.pattern.FieldKind.TheVariants.{Plain, Decimal}
+use Rattle.gk_steps.specs.declared.library_fault.LibraryFault.{LibraryFault}
+use Rattle.gk_steps.specs.declared.library_fault.LibraryFault.TheVariants as faults
+use Rattle.gk_steps.specs.Pattern.{PieceValue, SpellsPattern, field_kind}
+use Rattle.gk_steps.specs.Action.{ActionRow, action_row, kind_of_field, name_word, to_word, text_word, number_word}
+use Rattle.gk_steps.specs.Finding.{EntryValue}
+use Rattle.gk_steps.specs.LibraryFile.{SpellsEntry, is_ignored, type_of, sides_of, HasNeededFields, HasRightKinds, IsBadType, IsBadPattern, IsUnknownAction, IsMissingField, IsOtherKind, IsAmbiguous, StopsLibraryAt}
+
+-- The fields that an action uses.
+abbrev pub uses_of : Action → Uses
+uses_of actions.WriteFile = uses.NameAndText
+uses_of actions.AppendFile = uses.NameAndText
+uses_of actions.RemoveFile = uses.Name
+uses_of actions.RenameFile = uses.NameAndTo
+uses_of actions.WriteFiles = uses.Nothing
+uses_of actions.FileExists = uses.Name
+uses_of actions.FileAbsent = uses.Name
+uses_of actions.FileIs = uses.NameAndText
+uses_of actions.FileContains = uses.NameAndText
+uses_of actions.SetEnv = uses.NameAndText
+uses_of actions.RemoveEnv = uses.Name
+uses_of actions.EnvIs = uses.NameAndText
+uses_of actions.EnvAbsent = uses.Name
+uses_of actions.SetValue = uses.NameAndText
+uses_of actions.DeleteValue = uses.Name
+uses_of actions.ValueIs = uses.NameAndText
+uses_of actions.ValueAbsent = uses.Name
+uses_of actions.SetNumber = uses.NameAndNumber
+uses_of actions.AddNumber = uses.NameAndNumber
+uses_of actions.NumberIs = uses.NameAndNumber
+uses_of actions.Pass = uses.Nothing
+uses_of actions.Fail = uses.Nothing
+
+-- The names that are needed.
+abbrev pub needed_names : Uses → List (List ℕ)
+needed_names uses.Nothing = []
+needed_names uses.Name = name_word ∷ []
+needed_names uses.NameAndText = name_word ∷ []
+needed_names uses.NameAndTo = name_word ∷ to_word ∷ []
+needed_names uses.NameAndNumber = name_word ∷ number_word ∷ []
+
+-- The names that are used.
+abbrev pub used_names : Uses → List (List ℕ)
+used_names uses.Nothing = []
+used_names uses.Name = name_word ∷ []
+used_names uses.NameAndText = name_word ∷ text_word ∷ []
+used_names uses.NameAndTo = name_word ∷ to_word ∷ []
+used_names uses.NameAndNumber = name_word ∷ number_word ∷ []
+
+-- Two kinds are the same.
+abbrev pub is_same_kind : FieldKind → FieldKind → Bool
+is_same_kind Plain Plain = true
+is_same_kind Decimal Decimal = true
+is_same_kind _ _ = false
+
+-- A field of this kind, or none.
+abbrev pub is_none_or_kind : Option FieldKind → FieldKind → Bool
+is_none_or_kind None kind = true
+is_none_or_kind (Some other) kind = is_same_kind other kind
+
+-- The needed fields are there, as a test.
+abbrev pub has_needed : Uses → List PieceValue → Bool
+has_needed names ps = list_all (λ name. is_some (field_kind ps name)) (needed_names names)
+
+-- The used fields are of their kinds, as a test.
+abbrev pub has_right_kinds : Uses → List PieceValue → Bool
+has_right_kinds names ps = list_all (λ name. is_none_or_kind (field_kind ps name) (kind_of_field name)) (used_names names)
+
+-- An action that this name has and whose fields the pattern has.
+pub record FitsAction (name : List ℕ) (ps : List PieceValue) (action : Action) : Type 0 where
+  pub row : ActionRow
+  pub is_action : action_row name ≡ Some row
+  pub action_is : action ≡ row.action
+  pub needs : HasNeededFields row ps
+  pub kinds : HasRightKinds row ps
+
+-- A needed field that isn't there.
+pub record LacksField (name : List ℕ) (ps : List PieceValue) : Type 0 where
+  pub row : ActionRow
+  pub is_action : action_row name ≡ Some row
+  pub bad : HasNeededFields row ps → ⊥
+
+-- A used field of the other kind.
+pub record HasOtherKind (name : List ℕ) (ps : List PieceValue) : Type 0 where
+  pub row : ActionRow
+  pub is_action : action_row name ≡ Some row
+  pub needs : HasNeededFields row ps
+  pub bad : HasRightKinds row ps → ⊥
+
+-- Why no action fits.
+abbrev pub ActionFaultSays : LibraryFault → ℕ → List ℕ → List PieceValue → Type 0
+ActionFaultSays (faults.UnknownAction n) line name ps = (n ≡ line) × (action_row name ≡ None)
+ActionFaultSays (faults.MissingField n) line name ps = (n ≡ line) × LacksField name ps
+ActionFaultSays (faults.FieldKind n) line name ps = (n ≡ line) × HasOtherKind name ps
+ActionFaultSays _ line name ps = ⊥
+
+-- Why a text spells no pattern.
+abbrev pub PatternFaultSays : LibraryFault → ℕ → List ℕ → Type 0
+PatternFaultSays (faults.BadPattern n) line text = (n ≡ line) × ((ps : List PieceValue) → SpellsPattern text ps → ⊥)
+PatternFaultSays faults.Memory line text = Unit {0}
+PatternFaultSays _ line text = ⊥
+
+-- A line's type and the two sides of its arrow.
+pub record IsCut (line : LineValue) (step_type : Option StepType) (pattern : List ℕ) (action : List ℕ) : Type 0 where
+  pub is_type : type_of line ≡ Some step_type
+  pub is_cut : sides_of line ≡ Some (record { pattern = pattern; action = action })
+
+-- Why a line can't be cut.
+abbrev pub CutFaultSays : LibraryFault → LineValue → Type 0
+CutFaultSays (faults.BadType n) line = (n ≡ line.line) × (type_of line ≡ None)
+CutFaultSays (faults.BadPattern n) line = (n ≡ line.line) × (step_type : Option StepType) × (type_of line ≡ Some step_type) × (sides_of line ≡ None)
+CutFaultSays _ line = ⊥
+
+-- Why a line spells no entry.
+abbrev pub EntryFaultSays : LibraryFault → List EntryValue → LineValue → Type 0
+EntryFaultSays faults.Memory earlier line = Unit {0}
+EntryFaultSays (faults.BadType n) earlier line = (n ≡ line.line) × IsBadType earlier line
+EntryFaultSays (faults.BadPattern n) earlier line = (n ≡ line.line) × IsBadPattern earlier line
+EntryFaultSays (faults.UnknownAction n) earlier line = (n ≡ line.line) × IsUnknownAction earlier line
+EntryFaultSays (faults.MissingField n) earlier line = (n ≡ line.line) × IsMissingField earlier line
+EntryFaultSays (faults.FieldKind n) earlier line = (n ≡ line.line) × IsOtherKind earlier line
+EntryFaultSays (faults.Ambiguous n) earlier line = (n ≡ line.line) × IsAmbiguous earlier line
+EntryFaultSays _ earlier line = ⊥
+
+-- What a fault of the lines says.
+abbrev pub LibraryLinesFaultSays : LibraryFault → Lines → Type 0
+LibraryLinesFaultSays faults.Memory ls = Unit {0}
+LibraryLinesFaultSays (faults.BadType n) ls = StopsLibraryAt ls n IsBadType
+LibraryLinesFaultSays (faults.BadPattern n) ls = StopsLibraryAt ls n IsBadPattern
+LibraryLinesFaultSays (faults.UnknownAction n) ls = StopsLibraryAt ls n IsUnknownAction
+LibraryLinesFaultSays (faults.MissingField n) ls = StopsLibraryAt ls n IsMissingField
+LibraryLinesFaultSays (faults.FieldKind n) ls = StopsLibraryAt ls n IsOtherKind
+LibraryLinesFaultSays (faults.Ambiguous n) ls = StopsLibraryAt ls n IsAmbiguous
+LibraryLinesFaultSays _ ls = ⊥
+
+-- Entries with one more, which a line spells.
+pub record AddsEntry (before : List EntryValue) (line : LineValue) (after : List EntryValue) : Type 0 where
+  pub entry : EntryValue
+  pub spells : SpellsEntry before line entry
+  pub added : after ≡ before ++ entry ∷ []
+
+-- Entries with what a line says: the same where it is ignored.
+pub data AddsLine (before : List EntryValue) (line : LineValue) (after : List EntryValue) : Type 0 where
+  Ignored : is_ignored line ≡ true → after ≡ before → AddsLine before line after
+  Spelled : is_ignored line ≡ false → AddsEntry before line after → AddsLine before line after
+
+-- Why a line that counts spells no entry, or memory was refused.
+pub record LineFaultSays (fault : LibraryFault) (earlier : List EntryValue) (line : LineValue) : Type 0 where
+  pub counts : is_ignored line ≡ false
+  pub fault_is : EntryFaultSays fault earlier line

@@ -1,0 +1,19 @@
+-- Texts that a pattern matches nowhere, by the literals at its ends.
+use Rattle.std.specs.Prelude.{◌≡◌, ℕ, List, [], ◌∷◌, ◌++◌}
+use Rattle.gk_steps.specs.Pattern.{PieceValue, Literal, FieldPiece}
+
+-- A literal that stands first in the pattern begins the text.
+abbrev pub FitsStart : List PieceValue → List ℕ → Type 0
+FitsStart (Literal literal ∷ ps) text = (rest : List ℕ) × (text ≡ literal ++ rest)
+FitsStart _ text = Unit {0}
+
+-- What a text ends with whose pattern ends with this piece.
+abbrev pub EndsWithPiece : PieceValue → List ℕ → Type 0
+EndsWithPiece (Literal literal) text = (prefix : List ℕ) × (text ≡ prefix ++ literal)
+EndsWithPiece (FieldPiece name kind) text = Unit {0}
+
+-- A literal that stands last in the pattern ends the text.
+abbrev pub FitsEnd : List PieceValue → List ℕ → Type 0
+FitsEnd [] text = Unit {0}
+FitsEnd (p ∷ []) text = EndsWithPiece p text
+FitsEnd (p ∷ q ∷ ps) text = FitsEnd (q ∷ ps) text

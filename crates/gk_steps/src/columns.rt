@@ -1,0 +1,124 @@
+//! Steps over a piece, from a column of the table to another.
+ghost use Rattle.std.specs.Prelude.{◌≡◌, ◌<◌, ◌++◌, ℕ, List, [], length, string_bytes, Option, Some, None, false, slice_index_or, IfSome, IsSomeAnd, MatchOption, MatchBool};
+ghost use Rattle.std.specs.Str.Parse.{signed_digits_value};
+ghost use Rattle.gk_steps.specs.declared.pattern.FieldKind.TheVariants.{Decimal};
+ghost use Rattle.gk_steps.specs.Pattern.{Literal, FieldPiece, piece_value};
+ghost use Rattle.gk_steps.specs.Matching.{IsSpan};
+ghost use Rattle.gk_steps.specs.Columns.{ArePlaces, IsStep, IsStepTo, IsNearest};
+
+use crate::pattern::{FieldKind, Piece};
+
+/// The rest after a prefix.
+pub(crate) fn rest_after<'a>(text: &'a str, prefix: &str) -> Option<&'a str>
+    ensures found { IfSome result (λ rest. text.entry.now ≡ prefix.now ++ rest.now) }
+    ensures only { (rest : List ℕ) → text.entry.now ≡ prefix.now ++ rest → IsSomeAnd result (λ found. found.now ≡ rest) }
+{
+    if text.starts_with(prefix) {
+        Some(&text[prefix.len()..])
+    } else {
+        None
+    }
+}
+
+/// The step over a literal.
+fn literal_step(
+    literal: &str,
+    text: &str,
+    places: &[usize],
+    below: &[bool],
+    column: usize,
+) -> Option<usize>
+    requires places { ArePlaces text.now places.now }
+    requires column { column < length places.now }
+    requires width { length below.now ≡ length places.now }
+    ensures { IsStep (Literal literal.now) text.now places.now below.now column result }
+{
+    let rest = rest_after(&text[places[column]..], literal)?;
+    let end = text.len() - rest.len();
+    for back in 0..column + 1 {
+        if places[column - back] == end {
+            return if below[column - back] {
+                Some(column - back)
+            } else {
+                None
+            };
+        }
+    }
+    None
+}
+
+/// The shortest step over one character or more.
+fn plain_step(below: &[bool], column: usize) -> Option<usize>
+    requires { column < length below.now }
+    ensures { IsNearest below.now column result }
+{
+    for back in 0..column {
+        if below[column - 1 - back] {
+            return Some(column - 1 - back);
+        }
+    }
+    None
+}
+
+/// The number that a span of digits spells.
+pub(crate) fn number_of(span: &str) -> Option<i64>
+    ensures { MatchOption result (IsSpan Decimal span.now → ⊥) (λ n. IsSpan Decimal span.now × (n ≡ signed_digits_value 10 span.now)) }
+{
+    span.parse::<i64>().ok()
+}
+
+// Whether there is a step over a number from a column to another.
+fn is_decimal_step(text: &str, places: &[usize], below: &[bool], column: usize, next: usize) -> bool
+    requires places { ArePlaces text.now places.now }
+    requires column { column < length places.now }
+    requires next { next < column }
+    requires width { length below.now ≡ length places.now }
+    ensures { MatchBool result (IsStepTo (FieldPiece [] Decimal) text.now places.now below.now column next) (IsStepTo (FieldPiece [] Decimal) text.now places.now below.now column next → ⊥) }
+{
+    below[next] && number_of(&text[places[column]..places[next]]).is_some()
+}
+
+/// The longest step over a number. Looks along a run of digits alone.
+fn decimal_step(text: &str, places: &[usize], below: &[bool], column: usize) -> Option<usize>
+    requires places { ArePlaces text.now places.now }
+    requires column { column < length places.now }
+    requires width { length below.now ≡ length places.now }
+    ensures { IsStep (FieldPiece [] Decimal) text.now places.now below.now column result }
+{
+    let place = places[column];
+    let bytes = text.as_bytes();
+    let mut longest = None;
+    for back in 0..column {
+        let next = column - 1 - back;
+        let last = places[next] - 1;
+        if place < last && !bytes[last].is_ascii_digit() {
+            return longest;
+        }
+        if is_decimal_step(text, places, below, column, next) {
+            longest = Some(next);
+        }
+    }
+    longest
+}
+
+/// The preferred step over a piece.
+pub(crate) fn step(
+    piece: &Piece,
+    text: &str,
+    places: &[usize],
+    below: &[bool],
+    column: usize,
+) -> Option<usize>
+    requires places { ArePlaces text.now places.now }
+    requires column { column < length places.now }
+    requires width { length below.now ≡ length places.now }
+    ensures { IsStep (piece_value piece.now) text.now places.now below.now column result }
+{
+    match piece {
+        Piece::Literal(literal) => literal_step(literal, text, places, below, column),
+        Piece::Field { kind, .. } => match kind {
+            FieldKind::Plain => plain_step(below, column),
+            FieldKind::Decimal => decimal_step(text, places, below, column),
+        },
+    }
+}

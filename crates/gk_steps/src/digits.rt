@@ -1,0 +1,122 @@
+//! Runs of digits, looked along from a column.
+ghost use Rattle.std.specs.Prelude.{◌≡◌, ◌<◌, ◌≤◌, ◌+◌, ◌-◌, ◌*◌, length, MatchOption};
+ghost use Rattle.gk_steps.specs.Columns.{ArePlaces, HasDigits};
+ghost use Rattle.gk_steps.specs.Digits.{KnowsDigits, HasNumber};
+
+// A value with one digit more, up to a limit.
+fn grown(value: u64, digit: u8, most: u64) -> Option<u64>
+    requires { (48 ≤ digit) × (digit < 58) }
+    ensures { MatchOption result (most < value * 10 + (digit - 48)) (λ r. (r ≡ value * 10 + (digit - 48)) × (r ≤ most)) }
+{
+    let more = value.checked_mul(10)?.checked_add(u64::from(digit - b'0'))?;
+    if more <= most { Some(more) } else { None }
+}
+
+/// Whether digits stand at a column, with a value up to a limit, after which the rest matches.
+pub(crate) fn has_digits(
+    most: u64,
+    text: &str,
+    places: &[usize],
+    below: &[bool],
+    column: usize,
+) -> bool
+    requires places { ArePlaces text.now places.now }
+    requires column { column < length places.now }
+    requires width { length below.now ≡ length places.now }
+    ensures { HasDigits most text.now places.now below.now column result }
+{
+    let bytes = text.as_bytes();
+    let mut value: u64 = 0;
+    for back in 0..column {
+        let byte = bytes[places[column - back]];
+        if !byte.is_ascii_digit() {
+            return false;
+        }
+        match grown(value, byte, most) {
+            Some(more) => value = more,
+            None => return false,
+        }
+        if below[column - back - 1] {
+            return true;
+        }
+    }
+    false
+}
+
+const LARGEST: u64 = 9_223_372_036_854_775_807;
+
+/// What is known at a column of the digits that stand there: whether the rest matches after some that
+/// spell a number with a plus, and with a minus.
+#[derive(Clone, Copy, Debug, PartialEq, Eq)]
+pub(crate) struct Digits {
+    pub positive: bool,
+    pub negative: bool,
+}
+
+// The same at a column, from the column after: a leading zero changes no value.
+fn digits_at(
+    most: u64,
+    text: &str,
+    places: &[usize],
+    below: &[bool],
+    column: usize,
+    after: bool,
+) -> bool
+    requires places { ArePlaces text.now places.now }
+    requires column { column < length places.now }
+    requires width { length below.now ≡ length places.now }
+    requires after { HasDigits most text.now places.now below.now (column - 1) after }
+    ensures { HasDigits most text.now places.now below.now column result }
+{
+    if column > 0 && text.as_bytes()[places[column]] == b'0' {
+        if below[column - 1] {
+            return true;
+        }
+        return after;
+    }
+    has_digits(most, text, places, below, column)
+}
+
+impl Digits {
+    /// What is known at a column, from the column after.
+    pub(crate) fn next(&self, text: &str, places: &[usize], below: &[bool], column: usize) -> Digits
+        requires places { ArePlaces text.now places.now }
+        requires column { column < length places.now }
+        requires width { length below.now ≡ length places.now }
+        requires after { KnowsDigits text.now places.now below.now (column - 1) self.now }
+        ensures { KnowsDigits text.now places.now below.now column result }
+    {
+        Digits {
+            positive: digits_at(LARGEST, text, places, below, column, self.positive),
+            negative: digits_at(LARGEST + 1, text, places, below, column, self.negative),
+        }
+    }
+}
+
+/// Whether there is a step over a number from a column, with a sign or none.
+pub(crate) fn has_number(
+    text: &str,
+    places: &[usize],
+    below: &[bool],
+    column: usize,
+    after: Digits,
+    here: Digits,
+) -> bool
+    requires places { ArePlaces text.now places.now }
+    requires column { column < length places.now }
+    requires after { KnowsDigits text.now places.now below.now (column - 1) after }
+    requires here { KnowsDigits text.now places.now below.now column here }
+    ensures { HasNumber text.now places.now below.now column result }
+{
+    if column == 0 {
+        return false;
+    }
+    let byte = text.as_bytes()[places[column]];
+    if byte == b'+' {
+        return after.positive;
+    }
+    if byte == b'-' {
+        return after.negative;
+    }
+    here.positive
+}

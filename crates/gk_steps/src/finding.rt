@@ -1,0 +1,153 @@
+//! What a step's text finds in a library.
+ghost use Rattle.std.specs.Prelude.{◌≡◌, map, IfOk, MatchBool, MatchOption, option_map, is_some, Option, Some, None};
+ghost use Rattle.gk_steps.specs.Pattern.{piece_value};
+ghost use Rattle.gk_steps.specs.Matching.{field_value};
+ghost use Rattle.gk_steps.specs.Finding as spec;
+ghost use Rattle.gk_steps.specs.Finding.{IsFoundOf, FindsWhatIsFound, entry_value, library_value, found_value};
+
+use crate::action::Action;
+use crate::library::{Entry, Library};
+use crate::pattern::{Field, Piece};
+use gk_gherkin::StepType;
+use std::alloc::{AllocError, Global};
+
+/// An entry's place in the library, and what its fields took, in the pattern's order.
+#[derive(Debug, Drop)]
+pub struct Found {
+    pub entry: usize,
+    pub fields: Vec<Field>,
+}
+
+// Whether two types are the same.
+fn is_same(a: Option<StepType>, b: Option<StepType>) -> bool
+    ensures { MatchBool result (a ≡ b) (a ≡ b → ⊥) }
+{
+    match a {
+        None => b.is_none(),
+        Some(a) => match b {
+            None => false,
+            Some(b) => a == b,
+        },
+    }
+}
+
+// What a text finds among the entries of one type.
+pub(crate) fn find_of(
+    alloc: Global,
+    entries: &[Entry],
+    step_type: Option<StepType>,
+    text: &str,
+) -> Result<Option<Found>, AllocError>
+    ensures { IfOk result (λ found. IsFoundOf (map entry_value entries.now) step_type text.now (option_map found_value found)) }
+{
+    for place in 0..entries.len() {
+        let entry = &entries[place];
+        if is_same(entry.step_type, step_type) {
+            match entry.pattern.matches(alloc, text)? {
+                Some(fields) => return Ok(Some(Found {
+                    entry: place,
+                    fields,
+                })),
+                None => {}
+            }
+        }
+    }
+    Ok(None)
+}
+
+// What the field of a name took.
+fn field_named<'a>(pieces: &[Piece], fields: &'a [Field], name: &str) -> Option<&'a Field>
+    ensures { option_map (λ f. field_value f.now) result ≡ spec.field_named name.now (map piece_value pieces.now) (map field_value fields.now) }
+{
+    let mut rest = fields;
+    for piece in pieces {
+        if let Piece::Field { name: other, .. } = piece {
+            let (field, later) = rest.split_first()?;
+            if other.as_str() == name {
+                return Some(field);
+            }
+            rest = later;
+        }
+    }
+    None
+}
+
+impl Library {
+    /// What a step finds: the preferred match of the first entry of its type that has one, in library
+    /// order, or else of the first entry of type `step`. An entry whose ends the text doesn't have is
+    /// passed over without a table. (behave's documentation: step implementations; this project's
+    /// profile)
+    pub fn find(
+        &self,
+        alloc: Global,
+        step_type: StepType,
+        text: &str,
+    ) -> Result<Option<Found>, AllocError>
+        ensures { IfOk result (λ found. option_map found_value found ≡ spec.found (library_value self.now) step_type text.now) }
+    {
+        if let Some(found) = find_of(alloc, &self.entries, Some(step_type), text)? {
+            return Ok(Some(found));
+        }
+        find_of(alloc, &self.entries, None, text)
+    }
+
+    /// The same among the entries of type `step` alone. (this project's profile)
+    pub fn find_any(&self, alloc: Global, text: &str) -> Result<Option<Found>, AllocError>
+        ensures { IfOk result (λ found. option_map found_value found ≡ spec.found_any (library_value self.now) text.now) }
+    {
+        find_of(alloc, &self.entries, None, text)
+    }
+
+    /// Whether a step finds an entry. (this project's profile)
+    pub fn knows(&self, alloc: Global, step_type: StepType, text: &str) -> Result<bool, AllocError>
+        ensures { IfOk result (λ known. known ≡ is_some (spec.found (library_value self.now) step_type text.now)) }
+    {
+        Ok(self.find(alloc, step_type, text)?.is_some())
+    }
+
+    /// The action of what was found in this library. Takes no memory.
+    pub fn action(&self, found: &Found) -> Action
+        ensures { result ≡ spec.action_of (library_value self.now) (found_value found.now) }
+    {
+        match self.entries.get(found.entry) {
+            Some(entry) => entry.action,
+            None => Action::Pass,
+        }
+    }
+
+    // What the field of a name took in what was found in this library.
+    fn field<'a>(&self, found: &'a Found, name: &str) -> Option<&'a Field>
+        ensures { option_map (λ f. field_value f.now) result ≡ spec.field_of (library_value self.now) (found_value found.now) name.now }
+    {
+        let entry = self.entries.get(found.entry)?;
+        field_named(&entry.pattern.pieces, &found.fields, name)
+    }
+
+    /// The text that the field of a name took, or none where the pattern has no such field or it is a
+    /// number. Takes no memory.
+    pub fn text<'a>(&self, found: &'a Found, name: &str) -> Option<&'a str>
+        ensures { option_map (λ t. t.now) result ≡ spec.text_field (library_value self.now) (found_value found.now) name.now }
+    {
+        match self.field(found, name)? {
+            Field::Text(text) => Some(text),
+            Field::Number(_) => None,
+        }
+    }
+
+    /// The number that the field of a name took, or none where the pattern has no such field or it is a
+    /// text. Takes no memory.
+    pub fn number(&self, found: &Found, name: &str) -> Option<i64>
+        ensures { result ≡ spec.number_field (library_value self.now) (found_value found.now) name.now }
+    {
+        match self.field(found, name)? {
+            Field::Text(_) => None,
+            Field::Number(number) => Some(*number),
+        }
+    }
+}
+
+/// What the definitions compute as found is what a text finds, there is nothing else that it finds, and
+/// it fits the library.
+pub fn finding_is_determined()
+    ensures { FindsWhatIsFound }
+{}

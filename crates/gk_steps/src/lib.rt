@@ -1,0 +1,34 @@
+//! Patterns and step libraries. A pattern's or a library's text comes in; what matches a step's text,
+//! with its fields, goes out.
+#![tactic(auto)]
+
+mod action;
+mod columns;
+mod default_file;
+mod digits;
+mod finding;
+mod library;
+mod library_fault;
+mod library_file;
+mod library_line;
+mod matching;
+mod passing_over;
+mod pattern;
+mod pattern_fault;
+mod places;
+mod spelling;
+mod table_rows;
+
+pub use action::Action;
+pub use default_file::{DEFAULT_TEXT, default_library};
+pub use finding::{Found, finding_is_determined};
+pub use library::{Entry, Library};
+pub use library_fault::LibraryFault;
+pub use library_file::{library_reading_is_unique, read_library};
+pub use matching::matches_are_determined;
+pub use pattern::{Field, FieldKind, Pattern, Piece};
+pub use pattern_fault::PatternFault;
+pub use spelling::{read_pattern, spelling_is_unique};
+
+#[cfg(test)]
+mod tests;

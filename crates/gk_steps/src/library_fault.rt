@@ -1,0 +1,83 @@
+//! Why a step library could not be read.
+ghost use Rattle.std.specs.Prelude.{◌≡◌};
+ghost use Rattle.gk_steps.specs.LibraryFault.{line_of_library_fault, library_fault_text};
+ghost use Rattle.gk_steps.specs.declared.library_fault.LibraryFault.TheVariants.{Memory};
+
+use std::alloc::{AllocError, AllocFailed};
+
+/// Why a step library could not be read. Lines are counted from 1. Of more faults than one in a line,
+/// the first of `BadType`, `BadPattern`, `UnknownAction`, `MissingField`, `FieldKind` and `Ambiguous`
+/// comes; of faulty lines the first. (this project's profile)
+#[derive(Clone, Copy, Debug, PartialEq, Eq)]
+pub enum LibraryFault {
+    /// The bytes aren't UTF-8. The line is that of the first byte after the longest prefix that is.
+    NotUtf8 { line: u32 },
+    /// A line whose first word is not `given`, `when`, `then` or `step`.
+    BadType { line: u32 },
+    /// A line without `=>`, or whose pattern's text spells no pattern.
+    BadPattern { line: u32 },
+    /// A line that names no action.
+    UnknownAction { line: u32 },
+    /// A line whose pattern lacks a field that its action needs.
+    MissingField { line: u32 },
+    /// A line whose pattern has a field that its action uses, of the other kind.
+    FieldKind { line: u32 },
+    /// A line whose pattern's text, as written, is matched by an earlier entry of its type.
+    Ambiguous { line: u32 },
+    /// More bytes than a file may have, whatever they spell.
+    TooLong,
+    /// A growth of memory was refused.
+    Memory,
+}
+
+impl LibraryFault {
+    /// The line that the fault names, or none where it names no line.
+    pub fn line(&self) -> Option<u32>
+        ensures { result ≡ line_of_library_fault self.now }
+    {
+        match self {
+            LibraryFault::NotUtf8 { line } => Some(*line),
+            LibraryFault::BadType { line } => Some(*line),
+            LibraryFault::BadPattern { line } => Some(*line),
+            LibraryFault::UnknownAction { line } => Some(*line),
+            LibraryFault::MissingField { line } => Some(*line),
+            LibraryFault::FieldKind { line } => Some(*line),
+            LibraryFault::Ambiguous { line } => Some(*line),
+            LibraryFault::TooLong => None,
+            LibraryFault::Memory => None,
+        }
+    }
+
+    /// The fault's text, as it is printed after the file's name and the line. (this project's profile)
+    pub fn text(&self) -> &'static str
+        ensures { result.now ≡ library_fault_text self.now }
+    {
+        match self {
+            LibraryFault::NotUtf8 { .. } => "not UTF-8",
+            LibraryFault::BadType { .. } => "bad step type",
+            LibraryFault::BadPattern { .. } => "bad pattern",
+            LibraryFault::UnknownAction { .. } => "unknown action",
+            LibraryFault::MissingField { .. } => "missing field",
+            LibraryFault::FieldKind { .. } => "wrong kind of field",
+            LibraryFault::Ambiguous { .. } => "ambiguous with an earlier line",
+            LibraryFault::TooLong => "longer than 16777216 bytes",
+            LibraryFault::Memory => "out of memory",
+        }
+    }
+}
+
+impl From<AllocError> for LibraryFault {
+    ghost from_gives = { λ _ e. e ≡ Memory };
+
+    fn from(_e: AllocError) -> LibraryFault {
+        LibraryFault::Memory
+    }
+}
+
+impl<T: Drop> From<AllocFailed<T>> for LibraryFault {
+    ghost from_gives = { λ _ e. e ≡ Memory };
+
+    fn from(_e: AllocFailed<T>) -> LibraryFault {
+        LibraryFault::Memory
+    }
+}

@@ -1,0 +1,99 @@
+//! Reading a step library file.
+ghost use Rattle.std.specs.Prelude.{◌≡◌, ℕ, List, map, IfOk, IfErr, OnOk};
+ghost use Rattle.gk_steps.specs.declared.library_fault.LibraryFault.TheVariants.{Memory};
+ghost use Rattle.gk_gherkin.specs.ReadFault.{LinesFaultSays};
+ghost use Rattle.gk_gherkin.specs.Lines.{line_value, lines_of, IsText};
+ghost use Rattle.gk_steps.specs.Finding.{LibraryValue, entry_value, library_value};
+ghost use Rattle.gk_steps.specs.LibraryFile.{ReadsLibrary, AnswersLibrary, LibraryReadingIsUnique};
+ghost use Rattle.gk_steps.specs.LibraryFault.{LibraryFaultSays};
+ghost use Rattle.gk_steps.specs.LibraryLine.{EntryFaultSays, LineFaultSays, AddsEntry, AddsLine, LibraryLinesFaultSays};
+
+use crate::library::{Entry, Library};
+use crate::library_fault::LibraryFault;
+use crate::library_line::{is_ignored, read_entry};
+use gk_gherkin::{Line, ReadFault, read_lines};
+use std::alloc::Global;
+
+// The fault of the bytes, of those that come where lines alone are read.
+fn lines_fault(fault: ReadFault) -> LibraryFault
+    ensures says { (bytes : List ℕ) → LinesFaultSays fault bytes → LibraryFaultSays result bytes }
+    ensures only { (bytes : List ℕ) → IsText bytes → LinesFaultSays fault bytes → result ≡ Memory }
+{
+    match fault {
+        ReadFault::TooLong => LibraryFault::TooLong,
+        ReadFault::NotUtf8 { line } => LibraryFault::NotUtf8 { line },
+        _ => LibraryFault::Memory,
+    }
+}
+
+// Adds the entry that a line spells.
+fn add_entry(entries: &mut Vec<Entry>, alloc: Global, line: &Line) -> Result<(), LibraryFault>
+    ensures added { OnOk result (AddsEntry (map entry_value entries.old.items) (line_value line.now) (map entry_value entries.new.items)) }
+    ensures fault { IfErr result (λ f. EntryFaultSays f (map entry_value entries.old.items) (line_value line.now)) }
+{
+    match read_entry(alloc, entries, line) {
+        Ok(entry) => {
+            entries.push(entry)?;
+            Ok(())
+        }
+        Err(fault) => Err(fault),
+    }
+}
+
+// Adds what a line says, where it isn't ignored.
+fn add_line(entries: &mut Vec<Entry>, alloc: Global, line: &Line) -> Result<(), LibraryFault>
+    ensures added { OnOk result (AddsLine (map entry_value entries.old.items) (line_value line.now) (map entry_value entries.new.items)) }
+    ensures fault { IfErr result (λ f. LineFaultSays f (map entry_value entries.old.items) (line_value line.now)) }
+{
+    if is_ignored(line) {
+        return Ok(());
+    }
+    match add_entry(entries, alloc, line) {
+        Ok(()) => Ok(()),
+        Err(fault) => Err(fault),
+    }
+}
+
+// The entries that the lines spell.
+fn read_entries(alloc: Global, lines: &[Line]) -> Result<Vec<Entry>, LibraryFault>
+    ensures found { IfOk result (λ es. ReadsLibrary (map line_value lines.now) (map entry_value es.items)) }
+    ensures fault { IfErr result (λ f. LibraryLinesFaultSays f (map line_value lines.now)) }
+{
+    let mut entries = Vec::new(alloc);
+    for line in lines {
+        match add_line(&mut entries, alloc, line) {
+            Ok(()) => {}
+            Err(fault) => return Err(fault),
+        }
+    }
+    Ok(entries)
+}
+
+/// The library that the bytes of a file spell. Blank lines and those that begin with `#` are ignored;
+/// any other line is a type (`given`, `when`, `then` or `step`), a blank, a pattern, `=>` and an
+/// action's name. The cut is at the last `=>`, and both sides are trimmed.
+///
+/// `TooLong` and `NotUtf8` come before any fault of a line. `Memory` comes only where a growth was
+/// refused. A refusal answers nothing of what was read before it. (behave's documentation: step
+/// implementations; this project's profile)
+pub fn read_library(alloc: Global, bytes: &[u8]) -> Result<Library, LibraryFault>
+    // What is answered is what the lines say.
+    ensures found { IfOk result (λ l. IsText bytes.now × ReadsLibrary (lines_of bytes.now) (library_value l)) }
+    // What the lines say is answered, unless memory runs out.
+    ensures only { (entries : LibraryValue) → IsText bytes.now → ReadsLibrary (lines_of bytes.now) entries → AnswersLibrary result entries }
+    // Which fault it is.
+    ensures fault { IfErr result (λ e. LibraryFaultSays e bytes.now) }
+{
+    match read_lines(alloc, bytes) {
+        Ok(document) => match read_entries(alloc, &document.lines) {
+            Ok(entries) => Ok(Library { entries }),
+            Err(fault) => Err(fault),
+        },
+        Err(fault) => Err(lines_fault(fault)),
+    }
+}
+
+/// No list of lines says two libraries. (this project's profile)
+pub fn library_reading_is_unique()
+    ensures { LibraryReadingIsUnique }
+{}

@@ -1,0 +1,159 @@
+//! A match by a table.
+ghost use Rattle.std.specs.Prelude.{◌≡◌, ◌<◌, ◌≤◌, ◌+◌, ◌*◌, ◌++◌, ℕ, List, length, map, string_bytes, IfOk, OnOk, IsTrue, option_map};
+ghost use Rattle.std.specs.Str.{chars};
+ghost use Rattle.gk_steps.specs.Pattern.{piece_value, pattern_value};
+ghost use Rattle.gk_steps.specs.Matching.{IsSpan, Matches, IsMatchResult, IsBestMatch, MatchesAreDetermined, field_value, span_value, span_values};
+ghost use Rattle.gk_steps.specs.Columns.{ArePlaces, IsTable, Takes, values_of};
+
+use crate::columns::{number_of, step};
+use crate::pattern::{Field, FieldKind, Pattern, Piece};
+use crate::places::places_of;
+use crate::table_rows::{Counter, first_row, row_over};
+use std::alloc::{AllocError, Global};
+
+// What a field says that took a span.
+fn field_of(alloc: Global, kind: FieldKind, span: &str) -> Result<Field, AllocError>
+    requires { IsSpan kind span.now }
+    ensures { IfOk result (λ field. field_value field ≡ span_value kind span.now) }
+{
+    match kind {
+        FieldKind::Plain => Ok(Field::Text(String::from_str(alloc, span)?)),
+        FieldKind::Decimal => Ok(Field::Number(number_of(span).unwrap())),
+    }
+}
+
+// Adds what a piece says that took a span.
+fn push_taken(
+    fields: &mut Vec<Field>,
+    alloc: Global,
+    piece: &Piece,
+    span: &str,
+) -> Result<(), AllocError>
+    requires { Takes (piece_value piece.now) span.now }
+    ensures { OnOk result (map field_value fields.new.items ≡ map field_value fields.old.items ++ values_of (piece_value piece.now) span.now) }
+{
+    if let Piece::Field { kind, .. } = piece {
+        fields.push(field_of(alloc, *kind, span)?)?;
+    }
+    Ok(())
+}
+
+// Whether so many cells can be counted.
+fn can_count(pieces: usize, width: usize) -> bool
+    ensures { IsTrue result → (pieces + 1) * width ≤ 18446744073709551615 }
+{
+    match pieces.checked_add(1) {
+        Some(rows) => rows.checked_mul(width).is_some(),
+        None => false,
+    }
+}
+
+// The rows for the last pieces, from none to all of them, and how many cells were filled.
+fn table_of(
+    alloc: Global,
+    pieces: &[Piece],
+    text: &str,
+    places: &[usize],
+) -> Result<(Vec<Vec<bool>>, u64), AllocError>
+    requires { ArePlaces text.now places.now }
+    ensures table { IfOk result (λ r. IsTable (length pieces.now + 1) (map piece_value pieces.now) text.now places.now r.0.items) }
+    ensures count { IfOk result (λ r. r.1 ≡ (length pieces.now + 1) * length places.now) }
+{
+    if !can_count(pieces.len(), places.len()) {
+        return Err(AllocError);
+    }
+    let mut counter = Counter { filled: 0 };
+    let mut rows = Vec::new(alloc);
+    let first = first_row(&mut counter, alloc, places)?;
+    rows.push(first)?;
+    for below in 0..pieces.len() {
+        let piece = &pieces[pieces.len() - 1 - below];
+        let row = row_over(&mut counter, alloc, piece, text, places, &rows[below])?;
+        rows.push(row)?;
+    }
+    Ok((rows, counter.filled))
+}
+
+// Reads the preferred match from the table.
+fn read(
+    alloc: Global,
+    pieces: &[Piece],
+    text: &str,
+    places: &[usize],
+    rows: &[Vec<bool>],
+) -> Result<Vec<Field>, AllocError>
+    requires places { ArePlaces text.now places.now }
+    requires table { IsTable (length pieces.now + 1) (map piece_value pieces.now) text.now places.now rows.now }
+    requires matched { (spans : List (List ℕ)) × Matches (map piece_value pieces.now) text.now spans }
+    ensures { IfOk result (λ fields. (spans : List (List ℕ)) × IsBestMatch (map piece_value pieces.now) text.now spans × (map field_value fields.items ≡ span_values (map piece_value pieces.now) spans)) }
+{
+    let mut fields = Vec::new(alloc);
+    let mut column = places.len() - 1;
+    for taken in 0..pieces.len() {
+        let piece = &pieces[taken];
+        let next = step(piece, text, places, &rows[pieces.len() - 1 - taken], column).unwrap();
+        push_taken(
+            &mut fields,
+            alloc,
+            piece,
+            &text[places[column]..places[next]],
+        )?;
+        column = next;
+    }
+    Ok(fields)
+}
+
+// A match by a table of these places.
+fn match_pieces(
+    alloc: Global,
+    pieces: &[Piece],
+    text: &str,
+    places: &[usize],
+) -> Result<(Option<Vec<Field>>, u64), AllocError>
+    requires { ArePlaces text.now places.now }
+    ensures found { IfOk result (λ r. IsMatchResult (map piece_value pieces.now) text.now (option_map (λ fields. map field_value fields.items) r.0)) }
+    ensures count { IfOk result (λ r. r.1 ≡ (length pieces.now + 1) * length places.now) }
+{
+    let (rows, filled) = table_of(alloc, pieces, text, places)?;
+    if !rows[pieces.len()][places.len() - 1] {
+        return Ok((None, filled));
+    }
+    let fields = read(alloc, pieces, text, places, &rows)?;
+    Ok((Some(fields), filled))
+}
+
+impl Pattern {
+    /// The fields of the preferred match of a text, where there is one, and how many cells of the table
+    /// were filled.
+    pub fn matches_counted(
+        &self,
+        alloc: Global,
+        text: &str,
+    ) -> Result<(Option<Vec<Field>>, u64), AllocError>
+        ensures found { IfOk result (λ r. IsMatchResult (pattern_value self.now) text.now (option_map (λ fields. map field_value fields.items) r.0)) }
+        ensures count { IfOk result (λ r. r.1 ≡ (length self.now.pieces.items + 1) * (length (chars text.now) + 1)) }
+    {
+        let places = places_of(alloc, text)?;
+        match_pieces(alloc, &self.pieces, text, &places)
+    }
+}
+
+impl Pattern {
+    /// The fields of the preferred match of a text, where there is one. A text that the ends of the pattern
+    /// refuse is passed over without a table.
+    pub fn matches(&self, alloc: Global, text: &str) -> Result<Option<Vec<Field>>, AllocError>
+        ensures { IfOk result (λ found. IsMatchResult (pattern_value self.now) text.now (option_map (λ fields. map field_value fields.items) found)) }
+    {
+        if !self.can_match(text) {
+            return Ok(None);
+        }
+        let (found, _) = self.matches_counted(alloc, text)?;
+        Ok(found)
+    }
+}
+
+/// A pattern has one preferred match of a text at most, and what the definitions compute is what it
+/// finds.
+pub fn matches_are_determined()
+    ensures { MatchesAreDetermined }
+{}

@@ -1,0 +1,30 @@
+//! Patterns of step texts.
+
+/// The kind of a field: `{name}` or `{name:d}`. (behave's documentation: step parameters)
+#[derive(Clone, Copy, Debug, PartialEq, Eq)]
+pub enum FieldKind {
+    /// Takes one character or more, as few as it can.
+    Plain,
+    /// Takes an optional `+` or `-` and ASCII digits with a value in an `i64`, as many as it can.
+    Decimal,
+}
+
+/// A run of literal characters, or a field. (behave's documentation: step parameters)
+#[derive(Debug, Drop)]
+pub enum Piece {
+    Literal(String),
+    Field { name: String, kind: FieldKind },
+}
+
+/// A pattern of step texts: its pieces, in their order.
+#[derive(Debug, Drop)]
+pub struct Pattern {
+    pub pieces: Vec<Piece>,
+}
+
+/// What a field took.
+#[derive(Debug, Drop)]
+pub enum Field {
+    Text(String),
+    Number(i64),
+}

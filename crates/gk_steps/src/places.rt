@@ -1,0 +1,21 @@
+//! The places between a text's characters.
+ghost use Rattle.std.specs.Prelude.{IfOk};
+ghost use Rattle.gk_steps.specs.Columns.{ArePlaces};
+
+use std::alloc::{AllocError, Global};
+
+/// The places where a text may be cut, from its end to its prefix: the place at `c` has `c` characters
+/// after it.
+pub(crate) fn places_of(alloc: Global, text: &str) -> Result<Vec<usize>, AllocError>
+    ensures { IfOk result (λ places. ArePlaces text.now places.items) }
+{
+    let mut places = Vec::new(alloc);
+    places.push(text.len())?;
+    for after in 0..text.len() {
+        let place = text.len() - 1 - after;
+        if text.is_char_boundary(place) {
+            places.push(place)?;
+        }
+    }
+    Ok(places)
+}

@@ -1,0 +1,262 @@
+//! Reading a pattern from its text.
+ghost use Rattle.std.specs.Prelude.{◌≡◌, ◌≤◌, ◌<◌, ◌++◌, ℕ, List, length, map, flat_map, string_bytes, IsTrue, true, IfOk, IfSome, IsSomeAnd, MatchOption, None, Err};
+ghost use Rattle.std.specs.List.{prefix_len, position_or_len, list_all};
+ghost use Rattle.gk_steps.specs.declared.pattern.FieldKind.{FieldKind as Kind};
+ghost use Rattle.gk_steps.specs.declared.pattern_fault.PatternFault.TheVariants.{BadPattern};
+ghost use Rattle.gk_steps.specs.Pattern as spec;
+ghost use Rattle.gk_steps.specs.Pattern.{PieceValue, piece_value, pattern_value, spelled_literal, is_name_letter, is_name_byte, SpellsPattern, SpellingIsUnique};
+ghost use Rattle.gk_steps.specs.Spelling as machinery;
+ghost use Rattle.gk_steps.specs.Spelling.{BeginsAtBrace, EndsLiteral, EndsName, HasLiteral, HasField, HasNoField, AddsLiteral, AddsField, IsSpelled, AnswersPieces, field_tail};
+
+use crate::columns::rest_after;
+use crate::pattern::{FieldKind, Pattern, Piece};
+use crate::pattern_fault::PatternFault;
+use std::alloc::{AllocError, Global};
+
+fn is_brace(byte: u8) -> bool
+    ensures { result ≡ machinery.is_brace byte }
+{
+    byte == b'{' || byte == b'}'
+}
+
+fn is_name_letter(byte: u8) -> bool
+    ensures { result ≡ spec.is_name_letter byte }
+{
+    (65 <= byte && byte <= 90) || ((97 <= byte && byte <= 122) || (byte == 95))
+}
+
+fn is_name_byte(byte: u8) -> bool
+    ensures { result ≡ spec.is_name_byte byte }
+{
+    is_name_letter(byte) || (48 <= byte && byte <= 57)
+}
+
+fn are_name_bytes(text: &[u8]) -> bool
+    ensures { result ≡ list_all spec.is_name_byte text.now }
+{
+    text.iter().all(|byte| is_name_byte(*byte))
+}
+
+fn is_field_name(text: &[u8]) -> bool
+    ensures { result ≡ spec.is_field_name text.now }
+{
+    match text.split_first() {
+        Some((first, rest)) => is_name_letter(*first) && are_name_bytes(rest),
+        None => false,
+    }
+}
+
+// How many bytes come before the first brace.
+fn plain_len(text: &[u8]) -> usize
+    ensures value { result ≡ position_or_len machinery.is_brace text.now }
+    ensures within { result ≤ length text.now }
+{
+    for (i, byte) in text.iter().enumerate() {
+        if is_brace(*byte) {
+            return i;
+        }
+    }
+    text.len()
+}
+
+// How many bytes of a name a text begins with.
+fn name_len(text: &[u8]) -> usize
+    ensures value { result ≡ prefix_len spec.is_name_byte text.now }
+    ensures within { result ≤ length text.now }
+{
+    for (i, byte) in text.iter().enumerate() {
+        if !is_name_byte(*byte) {
+            return i;
+        }
+    }
+    text.len()
+}
+
+// What comes before the first brace, and the rest.
+fn plain_run<'a>(text: &'a str) -> (&'a str, &'a str)
+    ensures whole { text.entry.now ≡ result.0.now ++ result.1.now }
+    ensures plain { flat_map spelled_literal result.0.now ≡ result.0.now }
+    ensures end { BeginsAtBrace result.1.now }
+{
+    let end = plain_len(text.as_bytes());
+    (&text[..end], &text[end..])
+}
+
+// The brace that a text begins with twice, and the rest.
+fn doubled_brace<'a>(text: &'a str) -> Option<(&'a str, &'a str)>
+    ensures found { IfSome result (λ p. text.entry.now ≡ flat_map spelled_literal p.0.now ++ p.1.now) }
+    ensures shorter { IfSome result (λ p. length p.1.now < length text.entry.now) }
+    ensures none { result ≡ None → BeginsAtBrace text.entry.now → EndsLiteral text.entry.now }
+{
+    if let Some(rest) = rest_after(text, "{{") {
+        return Some(("{", rest));
+    }
+    let rest = rest_after(text, "}}")?;
+    Some(("}", rest))
+}
+
+// The literal that a text begins with, which may be empty, and the rest.
+fn literal_run<'a>(alloc: Global, text: &'a str) -> Result<(String, &'a str), AllocError>
+    ensures literal { IfOk result (λ p. HasLiteral text.entry.now (string_bytes p.0) p.1.now) }
+    ensures within { IfOk result (λ p. length p.1.now ≤ length text.entry.now) }
+{
+    let (plain, end) = plain_run(text);
+    let mut literal = String::from_str(alloc, plain)?;
+    let mut rest = end;
+    while let Some((brace, after)) = doubled_brace(rest) {
+        literal.push_str(brace)?;
+        let (plain, end) = plain_run(after);
+        literal.push_str(plain)?;
+        rest = end;
+    }
+    Ok((literal, rest))
+}
+
+// The bytes of a name that a text begins with, and the rest.
+fn name_run<'a>(text: &'a str) -> (&'a str, &'a str)
+    ensures whole { text.entry.now ≡ result.0.now ++ result.1.now }
+    ensures only { (name rest : List ℕ) → list_all spec.is_name_byte name ≡ true → EndsName rest → text.entry.now ≡ name ++ rest → (result.0.now ≡ name) × (result.1.now ≡ rest) }
+{
+    let end = name_len(text.as_bytes());
+    (&text[..end], &text[end..])
+}
+
+// The kind of a field, from what stands after its name, and the rest.
+fn field_end<'a>(text: &'a str) -> Option<(FieldKind, &'a str)>
+    ensures found { IfSome result (λ p. text.entry.now ≡ field_tail p.0 ++ p.1.now) }
+    ensures only { (kind : Kind) (rest : List ℕ) → text.entry.now ≡ field_tail kind ++ rest → IsSomeAnd result (λ p. (p.0 ≡ kind) × (p.1.now ≡ rest)) }
+{
+    if let Some(rest) = rest_after(text, "}") {
+        return Some((FieldKind::Plain, rest));
+    }
+    let rest = rest_after(text, ":d}")?;
+    Some((FieldKind::Decimal, rest))
+}
+
+// The field that a text begins with: its name, its kind and the rest.
+fn field_at<'a>(text: &'a str) -> Option<(&'a str, FieldKind, &'a str)>
+    ensures { MatchOption result (HasNoField text.entry.now) (λ f. HasField text.entry.now f.0.now f.1 f.2.now) }
+{
+    let body = rest_after(text, "{")?;
+    let (name, end) = name_run(body);
+    if !is_field_name(name.as_bytes()) {
+        return None;
+    }
+    match field_end(end) {
+        Some((kind, rest)) => Some((name, kind, rest)),
+        None => None,
+    }
+}
+
+// Adds the literal that a text begins with, where it isn't empty, and answers the rest.
+fn push_literal<'a>(
+    pieces: &mut Vec<Piece>,
+    alloc: Global,
+    text: &'a str,
+) -> Result<&'a str, AllocError>
+    ensures added { IfOk result (λ rest. AddsLiteral text.entry.now (map piece_value pieces.old.items) (map piece_value pieces.new.items) rest.now) }
+    ensures within { IfOk result (λ rest. length rest.now ≤ length text.entry.now) }
+{
+    let (literal, rest) = literal_run(alloc, text)?;
+    if !literal.is_empty() {
+        pieces.push(Piece::Literal(literal))?;
+    }
+    Ok(rest)
+}
+
+// Adds the field that a text begins with, and answers the rest.
+fn push_field<'a>(
+    pieces: &mut Vec<Piece>,
+    alloc: Global,
+    text: &'a str,
+) -> Result<Option<&'a str>, AllocError>
+    ensures added { IfOk result (λ o. MatchOption o (HasNoField text.entry.now) (λ rest. AddsField text.entry.now (map piece_value pieces.old.items) (map piece_value pieces.new.items) rest.now)) }
+    ensures shorter { IfOk result (λ o. IfSome o (λ rest. length rest.now < length text.entry.now)) }
+{
+    match field_at(text) {
+        Some((name, kind, rest)) => {
+            let name = String::from_str(alloc, name)?;
+            pieces.push(Piece::Field { name, kind })?;
+            Ok(Some(rest))
+        }
+        None => Ok(None),
+    }
+}
+
+// The pieces that a text spells, whatever names stand twice.
+fn read_pieces(alloc: Global, text: &str) -> Result<Vec<Piece>, PatternFault>
+    ensures found { IfOk result (λ ps. IsSpelled text.now (map piece_value ps.items)) }
+    ensures only { (ps : List PieceValue) → IsSpelled text.now ps → AnswersPieces result ps }
+{
+    let mut pieces = Vec::new(alloc);
+    let mut rest = push_literal(&mut pieces, alloc, text)?;
+    while !rest.is_empty() {
+        match push_field(&mut pieces, alloc, rest)? {
+            Some(after) => rest = push_literal(&mut pieces, alloc, after)?,
+            None => return Err(PatternFault::BadPattern),
+        }
+    }
+    Ok(pieces)
+}
+
+/// The kind of the field of a name; none where the pieces have no such field.
+pub(crate) fn field_kind(pieces: &[Piece], name: &str) -> Option<FieldKind>
+    ensures { result ≡ spec.field_kind (map piece_value pieces.now) name.now }
+{
+    for piece in pieces {
+        if let Piece::Field { name: other, kind } = piece {
+            if other.as_str() == name {
+                return Some(*kind);
+            }
+        }
+    }
+    None
+}
+
+// Whether no name stands twice.
+fn are_distinct(pieces: &[Piece]) -> bool
+    ensures { result ≡ machinery.are_distinct (map piece_value pieces.now) }
+{
+    let mut rest = pieces;
+    while let Some((piece, later)) = rest.split_first() {
+        if let Piece::Field { name, .. } = piece {
+            if field_kind(later, name).is_some() {
+                return false;
+            }
+        }
+        rest = later;
+    }
+    true
+}
+
+// Whether pieces are a pattern: there is one, and no name stands twice.
+fn is_pattern(pieces: &[Piece]) -> bool
+    ensures { result ≡ machinery.is_pattern (map piece_value pieces.now) }
+{
+    !pieces.is_empty() && are_distinct(pieces)
+}
+
+/// The pattern that a text spells. `{{` is a literal `{` and `}}` a literal `}`, read from left to
+/// right; otherwise `{` opens a field: a name (an ASCII letter or `_`, then ASCII letters, digits and
+/// `_`), optionally `:d`, and `}`.
+///
+/// `BadPattern` comes exactly where the text spells none: an empty text, a lone `}`, anything else in
+/// braces, or a name that stands twice. `Memory` comes only where a growth was refused. (behave's
+/// documentation: step parameters; this project's profile)
+pub fn read_pattern(alloc: Global, text: &str) -> Result<Pattern, PatternFault>
+    // What is answered is what the text spells.
+    ensures found { IfOk result (λ p. SpellsPattern text.now (pattern_value p)) }
+    // A text that spells a pattern is no fault of the pattern.
+    ensures bad { (ps : List PieceValue) → SpellsPattern text.now ps → result ≡ Err BadPattern → ⊥ }
+{
+    let pieces = read_pieces(alloc, text)?;
+    if !is_pattern(&pieces) {
+        return Err(PatternFault::BadPattern);
+    }
+    Ok(Pattern { pieces })
+}
+
+/// A text spells one pattern at most.
+pub fn spelling_is_unique()
+    ensures { SpellingIsUnique }
+{}
