@@ -1,0 +1,221 @@
+-- How a sandbox keeps what is seen of it.
+use Rattle.std.proofs.Common.{◌≡◌, ◌≢◌, ◌⊎◌, inl, inr, ℕ, zero, suc, ◌+◌, ◌-◌, ◌<◌, ◌≤◌, None, List, [], ◌∷◌, ◌++◌, length, drop, take, set, get_or, get_or-set_other, get_or-set_same, refl, sym, ap, subst, ◌∙◌, arith}
+use Rattle.std.proofs.lemmas.List.{length-take-le, length-append}
+use Rattle.std.proofs.Math.Seq.{drop-length}
+use Rattle.gk_world.specs.Journal.{rewound, FitAll}
+use Rattle.gk_world.proofs.UndoLemmas.{length-layers_of}
+use Rattle.gk_world.proofs.JournalLemmas.{FitAll-drop}
+use Rattle.gk_world.specs.declared.world_fault.WorldFault.{WorldFault}
+use Rattle.gk_world.specs.declared.world_fault.WorldFault.TheVariants.{Memory}
+use Rattle.gk_world.specs.declared.cells.TheConstants.{LAYERS}
+use Rattle.gk_world.specs.declared.world.World.{World}
+use Rattle.gk_world.specs.declared.world.WorldUndo.{WorldUndo}
+use Rattle.gk_world.specs.declared.world.WorldChange.{WorldChange}
+use Rattle.gk_world.specs.Slots.{map_at, layers_of}
+use Rattle.gk_world.specs.Refusals.{IsFault, delete_refusal}
+use Rattle.gk_world.specs.State.{state_of}
+use Rattle.gk_world.specs.Values.{state_at, IsLayer}
+use Rattle.gk_world.specs.World.{contents_of, Fits, undone, Steps, Refuses, CanApply, IsHere, changed, refusal, IsClear}
+use Rattle.gk_world.proofs.WorldLemmas.{contents_changed, contents_allow, contents_refuse, clear_still, here_applies}
+use Rattle.gk_world.specs.Sandbox.{SandboxValue, depth, begun, Ends, Becomes, one_if_open}
+use Rattle.gk_world.specs.Kept.{seen_undos, open_marks, saved_of, value_of, AreMarks, IsSound}
+
+-- ---- lengths
+pub length-open_marks : (d : ℕ) (marks : List ℕ) → length (open_marks d marks) ≡ d
+length-open_marks zero marks = refl
+length-open_marks (suc d) marks = ap suc (length-open_marks d marks)
+
+length-saved_of : (ms : List ℕ) (us : List WorldUndo) (w : World) → length (saved_of ms us w) ≡ length ms
+length-saved_of [] us w = refl
+length-saved_of (m ∷ ms) us w = ap suc (length-saved_of ms us w)
+
+length-seen_undos : (w : World) (us : List WorldUndo) → length (seen_undos w us) ≡ length us
+length-seen_undos w [] = refl
+length-seen_undos w (u ∷ us) = ap suc (length-seen_undos w us)
+
+-- how many changes are recorded after one more
+some_open : (ms : List ℕ) (us : List WorldUndo) (w : World) → 0 < length ms → one_if_open (saved_of ms us w) ≡ 1
+some_open [] us w lt = absurd (omega arith)
+some_open (m ∷ ms) us w lt = refl
+
+none_open : (ms : List ℕ) (us : List WorldUndo) (w : World) → length ms ≡ 0 → one_if_open (saved_of ms us w) ≡ 0
+none_open [] us w e = refl
+none_open (m ∷ ms) us w e = absurd (omega arith)
+
+-- the depth and the number of entries, from what is seen
+marks_are : (w : World) (us : List WorldUndo) (ms : List ℕ) (v : SandboxValue) → value_of w us ms ≡ v → depth v ≡ length ms
+marks_are w us ms v is = sym (ap depth is) ∙ length-saved_of ms us w
+
+pub depth_is : (w : World) (us : List WorldUndo) (d : ℕ) (marks : List ℕ) (v : SandboxValue) → value_of w us (open_marks d marks) ≡ v → d ≡ depth v
+depth_is w us d marks v is = sym (length-open_marks d marks) ∙ sym (marks_are w us (open_marks d marks) v is)
+
+pub recorded_is : (w : World) (us : List WorldUndo) (ms : List ℕ) (v : SandboxValue) → value_of w us ms ≡ v → length us ≡ length v.entries
+recorded_is w us ms v is = sym (length-seen_undos w us) ∙ ap (λ (v : SandboxValue). length v.entries) is
+
+-- ---- what rewinding to each mark gives
+abbrev pub Same : ℕ → List WorldUndo → List WorldUndo → World → World → Type 0
+Same n us vs w t = (m : ℕ) → m ≤ n → rewound undone (drop m vs) t ≡ rewound undone (drop m us) w
+
+saved_of-same : (ms : List ℕ) (n : ℕ) (us vs : List WorldUndo) (w t : World) → AreMarks ms n us w → Same n us vs w t → saved_of ms vs t ≡ saved_of ms us w
+saved_of-same [] n us vs w t h same = refl
+saved_of-same (m ∷ ms) n us vs w t h same = λ i. contents_of (length ms) (same m h.0 i) ∷ saved_of-same ms m us vs w t h.2 (λ k le. same k (omega (arith, h.0))) i
+
+marks-same : (ms : List ℕ) (n : ℕ) (us vs : List WorldUndo) (w t : World) → AreMarks ms n us w → Same n us vs w t → AreMarks ms n vs t
+marks-same [] n us vs w t h same = h
+marks-same (m ∷ ms) n us vs w t h same = (h.0, subst (IsClear (length ms)) (sym (same m h.0)) h.1, marks-same ms m us vs w t h.2 (λ k le. same k (omega (arith, h.0))))
+
+marks-more : (ms : List ℕ) (n k : ℕ) (us : List WorldUndo) (w : World) → 0 < length ms → n ≤ k → AreMarks ms n us w → AreMarks ms k us w
+marks-more [] n k us w lt le h = absurd (omega arith)
+marks-more (m ∷ ms) n k us w lt le h = (omega (arith, h.0), h.1, h.2)
+
+-- ---- a layer begins
+open_marks-set : (d i : ℕ) (marks : List ℕ) (n : ℕ) → d ≤ i → open_marks d (set marks i n) ≡ open_marks d marks
+open_marks-set zero i marks n le = refl
+open_marks-set (suc d) i marks n le =
+    let ne : d ≢ i = omega arith in
+    λ k. get_or-set_other marks i d n 0 ne k ∷ open_marks-set d i marks n (omega arith) k
+
+marked : (d : ℕ) (marks : List ℕ) (n : ℕ) → d < length marks → open_marks (d + 1) (set marks d n) ≡ n ∷ open_marks d marks
+marked d marks n lt =
+    let one : d + 1 ≡ suc d = omega arith in
+    ap (λ d'. open_marks d' (set marks d n)) one ∙ (λ k. get_or-set_same marks d n 0 lt k ∷ open_marks-set d d marks n (omega arith) k)
+
+module _ (w : World) (us : List WorldUndo) (ms : List ℕ) (h : IsSound w us ms) where
+  nothing_since : rewound undone (drop (length us) us) w ≡ w
+  nothing_since = ap (λ us. rewound undone us w) (drop-length us)
+
+  sound_inside : length ms < LAYERS → IsSound w us (length us ∷ ms)
+  sound_inside lt = record {
+    room = omega arith;
+    clear = λ k le. h.clear k (omega arith);
+    ordered = (omega arith, subst (IsClear (length ms)) (sym nothing_since) h.clear, h.ordered);
+    fit = h.fit;
+  }
+
+  value_inside : value_of w us (length us ∷ ms) ≡ begun (value_of w us ms)
+  value_inside = λ i. record {
+    now = record { files = map_at 0 w.files; env = map_at 0 w.env; values = h.clear (length ms) (omega arith) i ∷ layers_of (length ms) w.values };
+    saved = contents_of (length ms) (nothing_since i) ∷ saved_of ms us w;
+    entries = seen_undos w us;
+    marks = sym (length-seen_undos w us) i ∷ ms;
+  }
+
+module _ (w : World) (us : List WorldUndo) (d n : ℕ) (marks : List ℕ) (v : SandboxValue) (is : value_of w us (open_marks d marks) ≡ v) (few : depth v < LAYERS) (room : length marks ≡ LAYERS) (all : n ≡ length us) (h : IsSound w us (open_marks d marks)) where
+  begun_marks : open_marks (d + 1) (set marks d n) ≡ length us ∷ open_marks d marks
+  begun_marks = marked d marks n (omega (arith, depth_is w us d marks v is)) ∙ ap (λ n. n ∷ open_marks d marks) all
+
+  pub begun_sound : IsSound w us (open_marks (d + 1) (set marks d n))
+  begun_sound = subst (IsSound w us) (sym begun_marks) (sound_inside w us (open_marks d marks) h (omega (arith, length-open_marks d marks, depth_is w us d marks v is)))
+
+  pub begun_value : value_of w us (open_marks (d + 1) (set marks d n)) ≡ begun v
+  begun_value = ap (value_of w us) begun_marks ∙ value_inside w us (open_marks d marks) h ∙ ap begun is
+
+-- ---- a layer ends
+module _ (w : World) (us : List WorldUndo) (m : ℕ) (ms : List ℕ) (h : IsSound w us (m ∷ ms)) (t : World) (vs : List WorldUndo)
+    (back : t ≡ rewound undone (drop m us) w) (left : vs ≡ take m us) (same : Same m us vs w t)
+    (older : (k : ℕ) → k ≤ m → FitAll undone Fits (drop k us) w → FitAll undone Fits (drop k vs) t) where
+  left_are : length vs ≡ m
+  left_are = ap length left ∙ length-take-le m us h.ordered.0
+
+  sound_outside : IsSound t vs ms
+  sound_outside = record {
+    room = omega (arith, h.room);
+    clear = subst (IsClear (length ms)) (sym back) h.ordered.1;
+    ordered = subst (λ n. AreMarks ms n vs t) (sym left_are) (marks-same ms m us vs w t h.ordered.2 same);
+    fit = older 0 (omega arith) h.fit;
+  }
+
+  ends_outside : Ends (value_of w us (m ∷ ms)) (value_of t vs ms)
+  ends_outside = record {
+    given_back = λ i. contents_of (length ms) (sym back i) ∷ sym (saved_of-same ms m us vs w t h.ordered.2 same) i;
+    forgotten = λ i. (sym left_are ∙ sym (length-seen_undos t vs)) i ∷ ms;
+  }
+
+-- what is known of the innermost mark
+module _ (w : World) (us : List WorldUndo) (d number : ℕ) (marks : List ℕ) (v : SandboxValue) (is : value_of w us (open_marks d marks) ≡ v) (innermost : number ≡ depth v) (above : 0 < number) (h : IsSound w us (open_marks d marks)) where
+  outer_is : d ≡ suc (number - 1)
+  outer_is = omega (arith, depth_is w us d marks v is)
+
+  sound_here : IsSound w us (get_or marks (number - 1) 0 ∷ open_marks (number - 1) marks)
+  sound_here = subst (λ d. IsSound w us (open_marks d marks)) outer_is h
+
+  pub mark_within : get_or marks (number - 1) 0 ≤ length us
+  mark_within = sound_here.ordered.0
+
+  pub fit_since : FitAll undone Fits (drop (get_or marks (number - 1) 0) us) w
+  fit_since = FitAll-drop undone Fits (get_or marks (number - 1) 0) us w h.fit
+
+  module _ (t : World) (vs : List WorldUndo)
+      (back : t ≡ rewound undone (drop (get_or marks (number - 1) 0) us) w) (left : vs ≡ take (get_or marks (number - 1) 0) us)
+      (same : Same (get_or marks (number - 1) 0) us vs w t)
+      (older : (k : ℕ) → k ≤ get_or marks (number - 1) 0 → FitAll undone Fits (drop k us) w → FitAll undone Fits (drop k vs) t) where
+    pub ended_sound : IsSound t vs (open_marks (number - 1) marks)
+    ended_sound = sound_outside w us _ _ sound_here t vs back left same older
+
+    pub ended : Ends v (value_of t vs (open_marks (number - 1) marks))
+    ended = subst (λ v. Ends v (value_of t vs (open_marks (number - 1) marks))) (ap (λ d. value_of w us (open_marks d marks)) (sym outer_is) ∙ is) (ends_outside w us _ _ sound_here t vs back left same older)
+
+-- ---- changes
+module _ (c : WorldChange) (w : World) (us : List WorldUndo) (ms : List ℕ) (v : SandboxValue) (is : value_of w us ms ≡ v) (here : IsHere c (depth v)) (h : IsSound w us ms) where
+  here_now : IsHere c (length ms)
+  here_now = subst (IsHere c) (marks_are w us ms v is) here
+
+  pub applies : CanApply c
+  applies = here_applies c (length ms) here_now h.room
+
+  pub refuses : (e : WorldFault) → Refuses c w e → IsFault (refusal c v.now) e
+  refuses e r = subst (λ (v : SandboxValue). IsFault (refusal c v.now) e) is (contents_refuse c (length ms) w e here_now r)
+
+  pub may_be : refusal c v.now ≡ None → (e : WorldFault) → (e ≡ Memory) ⊎ Refuses c w e → IsFault (refusal c v.now) e
+  may_be none e (inl m) = subst (IsFault (refusal c v.now)) (sym m) none
+  may_be none e (inr r) = refuses e r
+
+  pub allows : (t : World) → Steps c w t → refusal c v.now ≡ None
+  allows t s = subst (λ (v : SandboxValue). refusal c v.now ≡ None) is (contents_allow c (length ms) w t here_now s)
+
+  module _ (t : World) (vs : List WorldUndo) (s : Steps c w t) (same : Same (length us) us vs w t) where
+    becomes : length vs ≡ length us + one_if_open (saved_of ms us w) → Becomes (changed c v.now) v (value_of t vs ms)
+    becomes more = subst (λ (v : SandboxValue). Becomes (changed c v.now) v (value_of t vs ms)) is (record {
+      contents = contents_changed c (length ms) w t here_now s;
+      layers = saved_of-same ms (length us) us vs w t h.ordered same;
+      marks = refl;
+      recorded = length-seen_undos t vs ∙ more ∙ ap (λ n. n + one_if_open (saved_of ms us w)) (sym (length-seen_undos w us));
+    })
+
+    pub becomes_recorded : (u : WorldUndo) → vs ≡ us ++ u ∷ [] → 0 < length ms → Becomes (changed c v.now) v (value_of t vs ms)
+    becomes_recorded u e lt = becomes (ap length e ∙ length-append us (u ∷ []) ∙ ap (λ n. length us + n) (sym (some_open ms us w lt)))
+
+    pub becomes_unrecorded : vs ≡ us → length ms ≡ 0 → Becomes (changed c v.now) v (value_of t vs ms)
+    becomes_unrecorded e z = becomes (ap length e ∙ (omega (arith, none_open ms us w z)))
+
+    pub sound_still : (u : WorldUndo) → vs ≡ us ++ u ∷ [] → (0 < length ms) → FitAll undone Fits vs t → IsSound t vs ms
+    sound_still u is lt fit = record {
+      room = h.room;
+      clear = clear_still c (length ms) w t here_now s h.clear;
+      ordered = marks-more ms (length us) (length vs) vs t lt (omega (arith, ap length is, length-append us (u ∷ []))) (marks-same ms (length us) us vs w t h.ordered same);
+      fit = fit;
+    }
+
+-- what is said of values in the innermost layer
+pub delete_refusal_is : (w : World) (us : List WorldUndo) (ms : List ℕ) (v : SandboxValue) → value_of w us ms ≡ v → (d : ℕ) → d ≡ depth v → (name : List ℕ) → delete_refusal (state_at d w.values) name ≡ delete_refusal (state_of v.now) name
+delete_refusal_is w us ms v is d e name =
+    ap (λ d. delete_refusal (state_at d w.values) name) (e ∙ marks_are w us ms v is)
+    ∙ ap (λ (v : SandboxValue). delete_refusal (state_of v.now) name) is
+
+pub layer_is : (w : World) (us : List WorldUndo) (ms : List ℕ) (v : SandboxValue) → value_of w us ms ≡ v → IsSound w us ms → (d : ℕ) → d ≡ depth v → 0 < depth v → IsLayer d
+layer_is w us ms v is h d e lt = record { from = omega (arith, e, lt); to = omega (arith, e, marks_are w us ms v is, h.room) }
+
+-- each open layer has a map of values
+pub values_are : (w : World) (us : List WorldUndo) (ms : List ℕ) (v : SandboxValue) → value_of w us ms ≡ v → length v.now.values ≡ depth v
+values_are w us ms v is =
+    sym (ap (λ (v : SandboxValue). length v.now.values) is)
+    ∙ length-layers_of (length ms) w.values
+    ∙ sym (marks_are w us ms v is)
+
+none_recorded : (ms : List ℕ) (n : ℕ) (us : List WorldUndo) (w : World) → AreMarks ms n us w → length ms ≡ 0 → n ≡ 0
+none_recorded [] n us w h e = h
+none_recorded (m ∷ ms) n us w h e = absurd (omega arith)
+
+-- with no layer open nothing is recorded
+pub unrecorded : (w : World) (us : List WorldUndo) (ms : List ℕ) (v : SandboxValue) → value_of w us ms ≡ v → IsSound w us ms → depth v ≡ 0 → length v.entries ≡ 0
+unrecorded w us ms v is h e = sym (recorded_is w us ms v is) ∙ none_recorded ms (length us) us w h.ordered (sym (marks_are w us ms v is) ∙ e)

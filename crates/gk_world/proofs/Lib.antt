@@ -1,0 +1,10 @@
+pub mod KeptLemmas
+pub mod ListingLemmas
+pub mod RewindLemmas
+pub mod JournalLemmas
+pub mod RowsLemmas
+pub mod SlotsLemmas
+pub mod UndoLemmas
+pub mod WorldLemmas
+pub mod StateLemmas
+pub mod SandboxLemmas

@@ -1,0 +1,90 @@
+-- The entries of an index map as slots.
+use Rattle.std.proofs.Common.{◌≡◌, ℕ, zero, suc, ◌<◌, Bool, true, false, cond, List, [], ◌∷◌, ◌++◌, get_or, set, length, Option, None, Some, is_some, MatchOption, String, string_bytes, position, slice_get, bytes_eq, refl, sym, ap, ◌∙◌, subst, true≢false, arith}
+use Rattle.std.proofs.lemmas.List.Quantifiers.{position-Some}
+use Rattle.std.specs.Global.{Global}
+use Rattle.std.specs.Map.{lookup, keys_of, values_of}
+use Rattle.indexmap.specs.IndexMap.{set_value_at}
+use Rattle.gk_world.specs.Cells.{Slot, Cell}
+use Rattle.gk_world.specs.Slots.{cells_of, with_cells, with_cell, IsPlace, IsMissing, IsAt, IsNew}
+use Rattle.gk_world.specs.Slots.{seen, slots_of}
+use Rattle.gk_world.proofs.SlotsLemmas.{place_is}
+
+-- whether a key is this name
+abbrev pub is_name : List ℕ → String Global → Bool
+is_name n k = bytes_eq n (string_bytes k)
+
+by_test : {P : Type 0} (b : Bool) → (b ≡ true → P) → (b ≡ false → P) → P
+by_test true f g = f refl
+by_test false f g = g refl
+
+module _ {C : Type 0} (cells : C → List Cell) where
+  missing_from : (n : List ℕ) (es : List (String Global × C)) → lookup (is_name n) es ≡ None → IsMissing n (slots_of cells es)
+  missing_from n [] h = tt
+  missing_from n (e ∷ es) h = by_test (is_name n e.0)
+      (λ y. absurd (true≢false (ap is_some (ap (λ b. cond b (Some e.1) (lookup (is_name n) es)) (sym y) ∙ h))))
+      (λ f. (f, missing_from n es (ap (λ b. cond b (Some e.1) (lookup (is_name n) es)) (sym f) ∙ h)))
+
+  lookup-missing : (n : List ℕ) (es : List (String Global × C)) → IsMissing n (slots_of cells es) → lookup (is_name n) es ≡ None
+  lookup-missing n [] h = refl
+  lookup-missing n (e ∷ es) h = ap (λ b. cond b (Some e.1) (lookup (is_name n) es)) h.0 ∙ lookup-missing n es h.1
+
+  place_by_index : (n : List ℕ) (es : List (String Global × C)) (i : ℕ) (d : String Global) → i < length es → is_name n (get_or (keys_of es) i d) ≡ true → ((k : ℕ) → k < i → is_name n (get_or (keys_of es) k d) ≡ false) → IsPlace n (slots_of cells es) i
+  place_by_index n [] i d lt hit h = absurd (omega arith)
+  place_by_index n (e ∷ es) zero d lt hit h = hit
+  place_by_index n (e ∷ es) (suc i) d lt hit h = (h zero (omega arith), place_by_index n es i d (omega arith) hit (λ k l. h (suc k) (omega arith)))
+
+  length-keys : (es : List (String Global × C)) → length (keys_of es) ≡ length es
+  length-keys [] = refl
+  length-keys (e ∷ es) = ap suc (length-keys es)
+
+  place_from : (n : List ℕ) (es : List (String Global × C)) (i : ℕ) → position (is_name n) (keys_of es) ≡ Some i → IsPlace n (slots_of cells es) i
+  place_from n [] i h = absurd (true≢false (sym (ap is_some h)))
+  place_from n (e ∷ es) i h =
+      let f = position-Some (is_name n) (keys_of (e ∷ es)) i e.0 h in
+      place_by_index n (e ∷ es) i e.0 (subst (λ n. i < n) (length-keys (e ∷ es)) f.0) f.1 f.2
+
+  -- where an index map finds a name
+  pub found_at : (n : List ℕ) (es : List (String Global × C)) (s : List Slot) (r : Option ℕ) → slots_of cells es ≡ s → r ≡ position (is_name n) (keys_of es) → is_some r ≡ is_some (lookup (is_name n) es) → MatchOption r (IsNew n s) (λ i. IsAt n s i)
+  found_at n es s r e h f = place_is n (slots_of cells es) s r e (raw r h f)
+    where
+      none : {A : Type 0} (o : Option A) → false ≡ is_some o → o ≡ None
+      none None g = refl
+      none (Some x) g = absurd (true≢false (sym g))
+
+      raw : (r : Option ℕ) → r ≡ position (is_name n) (keys_of es) → is_some r ≡ is_some (lookup (is_name n) es) → MatchOption r (IsMissing n (slots_of cells es)) (λ i. IsPlace n (slots_of cells es) i)
+      raw (Some i) h f = place_from n es i (sym h)
+      raw None h f = missing_from n es (none (lookup (is_name n) es) f)
+
+  rows-set : (es : List (String Global × C)) (i : ℕ) (new : C) → slots_of cells (set_value_at es i new) ≡ with_cells (slots_of cells es) i (cells new)
+  rows-set [] i new = refl
+  rows-set (e ∷ es) zero new = refl
+  rows-set (e ∷ es) (suc i) new = ap (λ l. seen cells e ∷ l) (rows-set es i new)
+
+  cells-at : (es : List (String Global × C)) (i : ℕ) (x : C) → slice_get (values_of es) i ≡ Some x → cells_of (slots_of cells es) i ≡ cells x
+  cells-at [] i x h = absurd (true≢false (sym (ap is_some h)))
+  cells-at (e ∷ es) zero x h = let same : e.1 ≡ x = cc in ap cells same
+  cells-at (e ∷ es) (suc i) x h = cells-at es i x h
+
+  pub cells-at-place : (es : List (String Global × C)) (s : List Slot) (i : ℕ) (x : C) → slots_of cells es ≡ s → slice_get (values_of es) i ≡ Some x → cells x ≡ cells_of s i
+  cells-at-place es s i x is at = sym (cells-at es i x at) ∙ ap (λ s. cells_of s i) is
+
+  -- a write of one cell of the row at i
+  pub row-write : (es : List (String Global × C)) (s : List Slot) (i j : ℕ) (x new : C) (c : Cell) → slots_of cells es ≡ s → slice_get (values_of es) i ≡ Some x → cells new ≡ set (cells x) j c → slots_of cells (set_value_at es i new) ≡ with_cell s i j c
+  row-write es s i j x new c is at e =
+      rows-set es i new
+      ∙ ap (with_cells (slots_of cells es) i) (e ∙ ap (λ l. set l j c) (cells-at-place es s i x is at))
+      ∙ ap (λ t. with_cells t i (set (cells_of s i) j c)) is
+
+  slots_of-append : (es fs : List (String Global × C)) → slots_of cells (es ++ fs) ≡ slots_of cells es ++ slots_of cells fs
+  slots_of-append [] fs = refl
+  slots_of-append (e ∷ es) fs = ap (λ l. seen cells e ∷ l) (slots_of-append es fs)
+
+  -- a row that is added
+  pub pushed : (es fs : List (String Global × C)) (s : List Slot) (k : String Global) (new : C) → slots_of cells es ≡ s → IsMissing (string_bytes k) s → (lookup (is_name (string_bytes k)) es ≡ None → fs ≡ es ++ (k, new) ∷ []) → slots_of cells fs ≡ s ++ (string_bytes k, cells new) ∷ []
+  pushed es fs s k new e miss h =
+      let none = lookup-missing (string_bytes k) es (subst (IsMissing (string_bytes k)) (sym e) miss) in
+      ap (slots_of cells) (h none) ∙ slots_of-append es ((k, new) ∷ []) ∙ ap (λ l. l ++ (string_bytes k, cells new) ∷ []) e
+
+  pub length-slots_of : (es : List (String Global × C)) → length (slots_of cells es) ≡ length es
+  length-slots_of [] = refl
+  length-slots_of (e ∷ es) = ap suc (length-slots_of es)

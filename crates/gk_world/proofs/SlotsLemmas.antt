@@ -1,0 +1,188 @@
+-- Slots and the maps that they stand for.
+use Rattle.std.proofs.Common.{◌≡◌, ℕ, zero, suc, ◌<◌, Bool, true, false, cond, List, [], ◌∷◌, ◌++◌, Option, None, Some, MatchOption, length, take, refl, sym, ap, subst, ◌∙◌, bytes_eq, get_or, set, true≢false, arith, get_or-set_other, get_or-set_same}
+use Rattle.std.specs.FinMap as map
+use Rattle.std.specs.FinMap.{get, get-empty, get-insert, get-remove, same_map, slice_cmp-IsAntisymmetric, nat_cmp-IsAntisymmetric}
+use Rattle.std.proofs.lemmas.Cmp.{nat_list_cmp_total}
+use Rattle.std.proofs.lemmas.Map.Text.{is_eq-slice_cmp}
+use Rattle.std.proofs.lemmas.Slice.Eq.{bytes_eq-Decides}
+use Rattle.std.proofs.lemmas.List.{take-append-le, length-append}
+use Rattle.std.proofs.Math.Seq.{take-length}
+use Rattle.gk_world.specs.Cells.{Slot, Cell}
+use Rattle.gk_world.specs.Contents.{Texts}
+use Rattle.gk_world.specs.Slots.{map_at, Writes, with_cells, with_cell, cells_of, name_at, IsPlace, IsMissing, IsAt, IsNew}
+use Rattle.gk_world.specs.Contents.{with_entry}
+use Rattle.gk_world.specs.Cells.{cell_at, IsOnly}
+use Rattle.gk_world.specs.Slots.{HasCell, IsNewest}
+
+pub same_texts : (m n : Texts) → ((q : List ℕ) → get m q ≡ get n q) → m ≡ n
+same_texts m n h = same_map nat_list_cmp_total (slice_cmp-IsAntisymmetric nat_cmp-IsAntisymmetric) m n h
+
+-- what a map has once one name is set
+pub get-with_entry : (m : Texts) (n : List ℕ) (c : Cell) (q : List ℕ) → get (with_entry m n c) q ≡ cond (bytes_eq q n) c (get m q)
+get-with_entry m n None q = get-remove nat_list_cmp_total m n q ∙ ap (λ b. cond b None (get m q)) (is_eq-slice_cmp q n)
+get-with_entry m n (Some t) q = get-insert nat_list_cmp_total m n t q ∙ ap (λ b. cond b (Some t) (get m q)) (is_eq-slice_cmp q n)
+
+pub bytes_self : (n m : List ℕ) → bytes_eq n m ≡ true → n ≡ m
+bytes_self n m e = (bytes_eq-Decides n m).0 e
+
+cond_twice : {A : Type 0} (b : Bool) (x y z : A) → cond b x z ≡ cond b x (cond b y z)
+cond_twice true x y z = refl
+cond_twice false x y z = refl
+
+cond_apart : {A : Type 0} (b c : Bool) (x y z : A) → (b ≡ true → c ≡ true → ⊥) → cond b x (cond c y z) ≡ cond c y (cond b x z)
+cond_apart true true x y z h = absurd (h refl refl)
+cond_apart true false x y z h = refl
+cond_apart false c x y z h = refl
+
+-- two names that differ are not both q
+apart : (n m q : List ℕ) → bytes_eq n m ≡ false → bytes_eq q m ≡ true → bytes_eq q n ≡ true → ⊥
+apart n m q f a b =
+    let same : n ≡ m = sym ((bytes_eq-Decides q n).0 b) ∙ (bytes_eq-Decides q m).0 a in
+    true≢false (sym ((bytes_eq-Decides n m).1 same) ∙ f)
+
+-- to write the slot of a name is to set that name
+get-map_at-with_cells : (j : ℕ) (n : List ℕ) (s : List Slot) (i : ℕ) (c : List Cell) → IsPlace n s i → (q : List ℕ) → get (map_at j (with_cells s i c)) q ≡ cond (bytes_eq q n) (cell_at j c) (get (map_at j s) q)
+get-map_at-with_cells j n [] i c h q = absurd h
+get-map_at-with_cells j n (s ∷ ss) zero c h q =
+    get-with_entry (map_at j ss) s.0 (cell_at j c) q
+    ∙ ap (λ m. cond (bytes_eq q m) (cell_at j c) (get (map_at j ss) q)) (sym ((bytes_eq-Decides n s.0).0 h))
+    ∙ cond_twice (bytes_eq q n) (cell_at j c) (cell_at j s.1) (get (map_at j ss) q)
+    ∙ ap (cond (bytes_eq q n) (cell_at j c)) (ap (λ m. cond (bytes_eq q m) (cell_at j s.1) (get (map_at j ss) q)) ((bytes_eq-Decides n s.0).0 h) ∙ sym (get-with_entry (map_at j ss) s.0 (cell_at j s.1) q))
+get-map_at-with_cells j n (s ∷ ss) (suc i) c h q =
+    get-with_entry (map_at j (with_cells ss i c)) s.0 (cell_at j s.1) q
+    ∙ ap (cond (bytes_eq q s.0) (cell_at j s.1)) (get-map_at-with_cells j n ss i c h.1 q)
+    ∙ cond_apart (bytes_eq q s.0) (bytes_eq q n) _ _ _ (apart n s.0 q h.0)
+    ∙ ap (cond (bytes_eq q n) (cell_at j c)) (sym (get-with_entry (map_at j ss) s.0 (cell_at j s.1) q))
+
+get-map_at-push : (j : ℕ) (n : List ℕ) (s : List Slot) (c : List Cell) → IsMissing n s → (q : List ℕ) → get (map_at j (s ++ (n, c) ∷ [])) q ≡ cond (bytes_eq q n) (cell_at j c) (get (map_at j s) q)
+get-map_at-push j n [] c h q = get-with_entry map.empty n (cell_at j c) q
+get-map_at-push j n (s ∷ ss) c h q =
+    get-with_entry (map_at j (ss ++ (n, c) ∷ [])) s.0 (cell_at j s.1) q
+    ∙ ap (cond (bytes_eq q s.0) (cell_at j s.1)) (get-map_at-push j n ss c h.1 q)
+    ∙ cond_apart (bytes_eq q s.0) (bytes_eq q n) _ _ _ (apart n s.0 q h.0)
+    ∙ ap (cond (bytes_eq q n) (cell_at j c)) (sym (get-with_entry (map_at j ss) s.0 (cell_at j s.1) q))
+
+-- the same as equations of maps
+map_at-with_cells : (j : ℕ) (n : List ℕ) (s : List Slot) (i : ℕ) (c : List Cell) → IsPlace n s i → map_at j (with_cells s i c) ≡ with_entry (map_at j s) n (cell_at j c)
+map_at-with_cells j n s i c h = same_texts _ _ (λ q. get-map_at-with_cells j n s i c h q ∙ sym (get-with_entry (map_at j s) n (cell_at j c) q))
+
+pub map_at-push : (j : ℕ) (n : List ℕ) (s : List Slot) (c : List Cell) → IsMissing n s → map_at j (s ++ (n, c) ∷ []) ≡ with_entry (map_at j s) n (cell_at j c)
+map_at-push j n s c h = same_texts _ _ (λ q. get-map_at-push j n s c h q ∙ sym (get-with_entry (map_at j s) n (cell_at j c) q))
+
+-- what a map has at a name
+pub get-map_at-place : (j : ℕ) (n : List ℕ) (s : List Slot) (i : ℕ) → IsPlace n s i → get (map_at j s) n ≡ cell_at j (cells_of s i)
+get-map_at-place j n [] i h = absurd h
+get-map_at-place j n (s ∷ ss) zero h = get-with_entry (map_at j ss) s.0 (cell_at j s.1) n ∙ ap (λ b. cond b (cell_at j s.1) (get (map_at j ss) n)) h
+get-map_at-place j n (s ∷ ss) (suc i) h = get-with_entry (map_at j ss) s.0 (cell_at j s.1) n ∙ ap (λ b. cond b (cell_at j s.1) (get (map_at j ss) n)) h.0 ∙ get-map_at-place j n ss i h.1
+
+pub get-map_at-missing : (j : ℕ) (n : List ℕ) (s : List Slot) → IsMissing n s → get (map_at j s) n ≡ None
+get-map_at-missing j n [] h = get-empty _ n
+get-map_at-missing j n (s ∷ ss) h = get-with_entry (map_at j ss) s.0 (cell_at j s.1) n ∙ ap (λ b. cond b (cell_at j s.1) (get (map_at j ss) n)) h.0 ∙ get-map_at-missing j n ss h.1
+
+-- to set what is there changes nothing
+pub same_write : (m : Texts) (n : List ℕ) (c : Cell) → get m n ≡ c → with_entry m n c ≡ m
+same_write m n c h = same_texts _ _ (λ q. get-with_entry m n c q ∙ by (bytes_eq q n) q refl)
+  where
+    by : (b : Bool) (q : List ℕ) → bytes_eq q n ≡ b → cond b c (get m q) ≡ get m q
+    by true q e = sym h ∙ ap (get m) (sym (bytes_self q n e))
+    by false q e = refl
+
+-- a write of one cell of a name's slot
+pub writes : (n : List ℕ) (s t : List Slot) (i j : ℕ) (c : Cell) → t ≡ with_cell s i j c → IsPlace n s i → j < length (cells_of s i) → Writes n j c s t
+writes n s t i j c e h lt = subst (Writes n j c s) (sym e) (record {
+  here = map_at-with_cells j n s i (set (cells_of s i) j c) h ∙ ap (with_entry (map_at j s) n) (get_or-set_same (cells_of s i) j c None lt);
+  others = λ k ne.
+      map_at-with_cells k n s i (set (cells_of s i) j c) h
+      ∙ ap (with_entry (map_at k s) n) (get_or-set_other (cells_of s i) j k c None ne)
+      ∙ same_write (map_at k s) n (cell_at k (cells_of s i)) (get-map_at-place k n s i h);
+})
+
+-- a slot that is added, with one text
+pub pushes : (n : List ℕ) (s t : List Slot) (cells : List Cell) (j : ℕ) (c : Cell) → t ≡ s ++ (n, cells) ∷ [] → IsMissing n s → IsOnly j c cells → Writes n j c s t
+pushes n s t cells j c e h only = subst (Writes n j c s) (sym e) (record {
+  here = map_at-push j n s cells h ∙ ap (with_entry (map_at j s) n) only.here;
+  others = λ k ne. map_at-push k n s cells h ∙ same_write (map_at k s) n (cell_at k cells) (get-map_at-missing k n s h ∙ sym (only.others k ne));
+})
+
+-- ---- places
+pub place-within : (n : List ℕ) (s : List Slot) (i : ℕ) → IsPlace n s i → i < length s
+place-within n [] i h = absurd h
+place-within n (s ∷ ss) zero h = omega arith
+place-within n (s ∷ ss) (suc i) h = omega (arith, place-within n ss i h.1)
+
+pub named : (n : List ℕ) (s : List Slot) (i : ℕ) → IsPlace n s i → n ≡ name_at s i
+named n [] i h = absurd h
+named n (w ∷ s) zero h = bytes_self n w.0 h
+named n (w ∷ s) (suc i) h = named n s i h.1
+
+pub first_is : (n : List ℕ) (s : List Slot) (i : ℕ) → IsPlace n s i → IsPlace (name_at s i) s i
+first_is n s i h = subst (λ n. IsPlace n s i) (named n s i h) h
+
+IsPlace-with_cells : (n : List ℕ) (s : List Slot) (i : ℕ) (c : List Cell) → IsPlace n s i → IsPlace n (with_cells s i c) i
+IsPlace-with_cells n [] i c h = absurd h
+IsPlace-with_cells n (w ∷ s) zero c h = h
+IsPlace-with_cells n (w ∷ s) (suc i) c h = (h.0, IsPlace-with_cells n s i c h.1)
+
+cells-written : (s : List Slot) (i : ℕ) (cs : List Cell) → i < length s → cells_of (with_cells s i cs) i ≡ cs
+cells-written [] i cs lt = absurd (omega arith)
+cells-written (w ∷ s) zero cs lt = refl
+cells-written (w ∷ s) (suc i) cs lt = cells-written s i cs (omega arith)
+
+length-set : (cs : List Cell) (j : ℕ) (c : Cell) → length (set cs j c) ≡ length cs
+length-set [] j c = refl
+length-set (d ∷ cs) zero c = refl
+length-set (d ∷ cs) (suc j) c = ap suc (length-set cs j c)
+
+-- a slot whose cell is written has that cell
+pub has_cell : (w : ℕ) (s t : List Slot) (i j : ℕ) (c : Cell) → t ≡ with_cell s i j c → IsPlace (name_at s i) s i → j < length (cells_of s i) → j < w → HasCell w t i j
+has_cell w s t i j c e first within allowed = subst (λ t. HasCell w t i j) (sym e) (record {
+  first = first_is (name_at s i) (with_cell s i j c) i (IsPlace-with_cells (name_at s i) s i (set (cells_of s i) j c) first);
+  within = subst (λ n. j < n) (sym (ap length (cells-written s i (set (cells_of s i) j c) (place-within _ s i first)) ∙ length-set (cells_of s i) j c)) within;
+  allowed = allowed;
+})
+
+-- a slot that is added is the newest
+pub newest : (width : ℕ) (n : List ℕ) (s t : List Slot) (cells : List Cell) (i j : ℕ) (c : Cell) → t ≡ s ++ (n, cells) ∷ [] → i ≡ length s → IsMissing n s → IsOnly j c cells → j < width → IsNewest width t i j
+newest width n s t cells i j c e is h only allowed =
+    subst (λ t. IsNewest width t i j) (sym e) (subst (λ i. IsNewest width (s ++ (n, cells) ∷ []) i j) (sym is) (record {
+      last = length-append s ((n, cells) ∷ []);
+      only = subst (IsMissing (name_at (s ++ (n, cells) ∷ []) (length s))) (sym (take-append-le (length s) s ((n, cells) ∷ []) (omega arith) ∙ take-length s)) (subst (λ n. IsMissing n s) (ap (λ (w : Slot). w.0) (last s)) h);
+      others = λ k ne. ap (λ (w : Slot). cell_at k w.1) (sym (last s)) ∙ only.others k ne;
+      allowed = allowed;
+    }))
+  where
+    last : (s : List Slot) → (n, cells) ≡ get_or (s ++ (n, cells) ∷ []) (length s) ([], [])
+    last [] = refl
+    last (v ∷ s) = last s
+
+pub place_is : (n : List ℕ) (s t : List Slot) (r : Option ℕ) → s ≡ t → MatchOption r (IsMissing n s) (λ i. IsPlace n s i) → MatchOption r (IsNew n t) (λ i. IsAt n t i)
+place_is n s t None e h = subst (IsNew n) e (record { missing = h; absent = λ k. get-map_at-missing k n s h })
+place_is n s t (Some i) e h = subst (λ s. IsAt n s i) e (record { within = place-within n s i h; found = h; first = first_is n s i h; holds = λ k. get-map_at-place k n s i h })
+
+-- ---- undoing
+written-twice : (s : List Slot) (i : ℕ) (cs ds : List Cell) → with_cells (with_cells s i cs) i ds ≡ with_cells s i ds
+written-twice [] i cs ds = refl
+written-twice (w ∷ s) zero cs ds = refl
+written-twice (w ∷ s) (suc i) cs ds = ap (λ l. w ∷ l) (written-twice s i cs ds)
+
+written-same : (s : List Slot) (i : ℕ) → with_cells s i (cells_of s i) ≡ s
+written-same [] i = refl
+written-same (w ∷ s) zero = refl
+written-same (w ∷ s) (suc i) = ap (λ l. w ∷ l) (written-same s i)
+
+set-back : (cs : List Cell) (j : ℕ) (c : Cell) → set (set cs j c) j (get_or cs j None) ≡ cs
+set-back [] j c = refl
+set-back (d ∷ cs) zero c = refl
+set-back (d ∷ cs) (suc j) c = ap (λ l. d ∷ l) (set-back cs j c)
+
+-- a write of one cell, and back
+pub cell-back : (s t : List Slot) (i j : ℕ) (c old : Cell) → t ≡ with_cell s i j c → i < length s → old ≡ get_or (cells_of s i) j None → with_cell t i j old ≡ s
+cell-back s t i j c old e lt is =
+    (λ k. with_cell (e k) i j (is k))
+    ∙ ap (λ cs. with_cells (with_cell s i j c) i (set cs j (get_or (cells_of s i) j None))) (cells-written s i (set (cells_of s i) j c) lt)
+    ∙ ap (with_cells (with_cell s i j c) i) (set-back (cells_of s i) j c)
+    ∙ written-twice s i _ _ ∙ written-same s i
+
+-- a slot that is added, taken off
+pub push-back : (s t : List Slot) (w : Slot) (i : ℕ) → t ≡ s ++ w ∷ [] → i ≡ length s → take i t ≡ s
+push-back s t w i e is = (λ k. take (is k) (e k)) ∙ take-append-le (length s) s (w ∷ []) (omega arith) ∙ take-length s

@@ -1,0 +1,33 @@
+-- What changes of finite maps are to the plain state.
+use Rattle.std.specs.Prelude.{◌≡◌, ℕ, cond, List, [], ◌∷◌, Some, None, refl}
+use Rattle.std.proofs.Common.{◌∙◌, ap}
+use Rattle.std.specs.Ordering.{nat_cmp}
+use Rattle.std.specs.Cmp.Lexicographic.{slice_cmp}
+use Rattle.std.specs.FinMap as finite
+use Rattle.std.specs.FinMap.{get-empty, get-insert, get-remove}
+use Rattle.std.proofs.lemmas.Cmp.{nat_list_cmp_total}
+use Rattle.std.proofs.lemmas.Map.Text.{is_eq-slice_cmp}
+use Rattle.gk_world.specs.Contents.{Texts, Contents, with_layer}
+use Rattle.gk_world.specs.State.{with_text, without, laid_over, enter, laid, own_of, outer_of, state_of}
+
+-- a map with a text put in
+pub inserted : (m : Texts) (name text : List ℕ) → finite.get (finite.insert m name text) ≡ with_text (finite.get m) name text
+inserted m name text i other = (get-insert nat_list_cmp_total m name text other ∙ ap (λ b. cond b (Some text) (finite.get m other)) (is_eq-slice_cmp other name)) i
+
+-- a map with a name taken out
+pub removed : (m : Texts) (name : List ℕ) → finite.get (finite.remove m name) ≡ without (finite.get m) name
+removed m name i other = (get-remove nat_list_cmp_total m name other ∙ ap (λ b. cond b None (finite.get m other)) (is_eq-slice_cmp other name)) i
+
+-- the layers further out, seen from a new one
+outer_layers : (vs : List Texts) → laid vs ≡ laid_over (own_of vs) (outer_of vs)
+outer_layers [] = refl
+outer_layers (v ∷ vs) = refl
+
+-- a layer that begins enters the plain state
+pub entered : (c : Contents) → state_of (with_layer c) ≡ enter (state_of c)
+entered c i = record {
+  files = finite.get c.files;
+  env = finite.get c.env;
+  outer = outer_layers c.values i;
+  own = λ name. get-empty (slice_cmp nat_cmp) name i;
+}

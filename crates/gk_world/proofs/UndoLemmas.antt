@@ -1,0 +1,108 @@
+-- What undos are on maps.
+use Rattle.std.proofs.Common.{◌≡◌, ◌≢◌, ℕ, zero, suc, ◌+◌, ◌<◌, ◌≤◌, ◌==◌, Bool, true, false, cond, List, [], ◌∷◌, ◌++◌, get_or, take, length, None, option_map, string_bytes, bytes_eq, refl, sym, ap, ◌∙◌, subst, true≢false, arith}
+use Rattle.std.proofs.lemmas.Bool.Decides.{Decides-eqb}
+use Rattle.std.specs.FinMap as map
+use Rattle.gk_world.specs.Cells.{Slot, Cell}
+use Rattle.gk_world.specs.declared.slots.SlotUndo.{SlotUndo}
+use Rattle.gk_world.specs.declared.slots.SlotUndo.TheVariants.{Restore, Created}
+use Rattle.gk_world.specs.Contents.{Texts}
+use Rattle.gk_world.specs.Cells.{cell_at}
+use Rattle.gk_world.specs.Slots.{map_at, layers_of, name_at, with_cells, Writes}
+use Rattle.gk_world.specs.Contents.{with_entry}
+use Rattle.gk_world.specs.Slots.{Fits, undone, name_of, cell_of, old_of}
+use Rattle.gk_world.specs.Undone.{with_values}
+use Rattle.gk_world.proofs.SlotsLemmas.{writes, map_at-push, same_write, get-map_at-missing, same_texts, get-with_entry, place-within, bytes_self}
+
+-- the last slot, split off
+last_off : (s : List Slot) (n : ℕ) → length s ≡ n + 1 → s ≡ take n s ++ get_or s n ([], []) ∷ []
+last_off [] n h = absurd (omega arith)
+last_off (w ∷ []) zero h = refl
+last_off (w ∷ x ∷ s) zero h = absurd (omega arith)
+last_off (w ∷ s) (suc n) h = ap (λ l. w ∷ l) (last_off s n (omega arith))
+
+taken_back : (m : Texts) (n : List ℕ) (c : Cell) → map.get m n ≡ None → m ≡ with_entry (with_entry m n c) n None
+taken_back m n c none = same_texts _ _ (λ q. by (bytes_eq q n) q refl ∙ sym (get-with_entry (with_entry m n c) n None q ∙ ap (cond (bytes_eq q n) None) (get-with_entry m n c q)))
+  where
+    by : (b : Bool) (q : List ℕ) → bytes_eq q n ≡ b → map.get m q ≡ cond b None (cond b c (map.get m q))
+    by true q h = ap (map.get m) (bytes_self q n h) ∙ none
+    by false q h = refl
+
+-- an undo sets a cell of its name to the old text
+pub undo_writes : (w : ℕ) (u : SlotUndo) (s : List Slot) → Fits w u s → Writes (name_of s u) (cell_of u) (old_of u) s (undone u s)
+undo_writes w (Restore place cell old) s h = writes (name_at s place) s _ place cell (option_map string_bytes old) refl h.first h.within
+undo_writes w (Created place cell) s h =
+    let x : Slot = get_or s place ([], []) in
+    let before : List Slot = take place s in
+    let e : (k : ℕ) → map_at k s ≡ with_entry (map_at k before) x.0 (cell_at k x.1) = λ k. ap (map_at k) (last_off s place h.last) ∙ map_at-push k x.0 before x.1 h.only in
+    record {
+      here = taken_back (map_at cell before) x.0 (cell_at cell x.1) (get-map_at-missing cell x.0 before h.only) ∙ ap (λ m. with_entry m x.0 None) (sym (e cell));
+      others = λ k ne. sym (e k ∙ same_write (map_at k before) x.0 (cell_at k x.1) (get-map_at-missing k x.0 before h.only ∙ sym (h.others k ne)));
+    }
+
+pub length-layers_of : (d : ℕ) (s : List Slot) → length (layers_of d s) ≡ d
+length-layers_of zero s = refl
+length-layers_of (suc d) s = ap suc (length-layers_of d s)
+
+layers_same : (d : ℕ) (s t : List Slot) → ((k : ℕ) → k < d → map_at k t ≡ map_at k s) → layers_of d t ≡ layers_of d s
+layers_same zero s t h = refl
+layers_same (suc d) s t h = λ i. h d (omega arith) i ∷ layers_same d s t (λ k lt. h k (omega arith)) i
+
+-- a write into one layer's cells
+pub layers_put : (d j : ℕ) (n : List ℕ) (c : Cell) (s t : List Slot) → Writes n j c s t → layers_of d t ≡ with_values (suc j) (λ m. with_entry m n c) (layers_of d s)
+layers_put zero j n c s t h = refl
+layers_put (suc d) j n c s t h = by (layers_put d j n c s t h) (suc j == suc (length (layers_of d s))) refl
+  where
+    by : layers_of d t ≡ with_values (suc j) (λ m. with_entry m n c) (layers_of d s) → (b : Bool) → (suc j == suc (length (layers_of d s))) ≡ b → map_at d t ∷ layers_of d t ≡ cond b (with_entry (map_at d s) n c ∷ layers_of d s) (map_at d s ∷ with_values (suc j) (λ m. with_entry m n c) (layers_of d s))
+    by rest true e =
+        let same : suc j ≡ suc (length (layers_of d s)) = (Decides-eqb (suc j) (suc (length (layers_of d s)))).0 e in
+        let is : j ≡ d = omega (arith, length-layers_of d s) in
+        let here : map_at d t ≡ with_entry (map_at d s) n c = subst (λ k. map_at k t ≡ with_entry (map_at k s) n c) is h.here in
+        λ i. here i ∷ layers_same d s t (λ k lt. h.others k (omega arith)) i
+    by rest false e =
+        let ne : d ≢ j = λ q. true≢false (sym ((Decides-eqb (suc j) (suc (length (layers_of d s)))).1 (omega (arith, length-layers_of d s))) ∙ e) in
+        λ i. h.others d ne i ∷ rest i
+
+-- the names of t are the first names of s
+pub record Kept (t s : List Slot) : Type 0 where
+  pub shorter : length t ≤ length s
+  pub names : (i : ℕ) → i < length t → name_at t i ≡ name_at s i
+
+pub kept_refl : (s : List Slot) → Kept s s
+kept_refl s = record { shorter = omega arith; names = λ i h. refl }
+
+pub kept_twice : (r t s : List Slot) → Kept r t → Kept t s → Kept r s
+kept_twice r t s a b = record { shorter = omega (arith, a.shorter, b.shorter); names = λ i h. a.names i h ∙ b.names i (omega (arith, a.shorter)) }
+
+kept_cells : (s : List Slot) (i : ℕ) (c : List Cell) → Kept (with_cells s i c) s
+kept_cells [] i c = kept_refl []
+kept_cells (w ∷ s) zero c = record { shorter = omega arith; names = elim [ zero ↦ λ h. refl | suc i ↦ λ h. refl ] }
+kept_cells (w ∷ s) (suc i) c =
+    let r = kept_cells s i c in
+    record { shorter = omega (arith, r.shorter); names = elim [ zero ↦ λ h. refl | suc k ↦ λ h. r.names k (omega arith) ] }
+
+kept_take : (n : ℕ) (s : List Slot) → Kept (take n s) s
+kept_take zero s = record { shorter = omega arith; names = λ i h. absurd (omega arith) }
+kept_take (suc n) [] = kept_refl []
+kept_take (suc n) (w ∷ s) =
+    let r = kept_take n s in
+    record { shorter = omega (arith, r.shorter); names = elim [ zero ↦ λ h. refl | suc k ↦ λ h. r.names k (omega arith) ] }
+
+pub kept_undone : (u : SlotUndo) (s : List Slot) → Kept (undone u s) s
+kept_undone (Restore place cell old) s = kept_cells s place _
+kept_undone (Created place cell) s = kept_take place s
+
+-- an undo that fits where the names are kept has the same name
+pub name_same : (w : ℕ) (u : SlotUndo) (t s : List Slot) → Kept t s → Fits w u t → name_of t u ≡ name_of s u
+name_same w (Restore place cell old) t s k h = k.names place (place-within _ t place h.first)
+name_same w (Created place cell) t s k h = k.names place (omega (arith, h.last))
+
+-- an undo that fits is of one of so many cells
+pub cell_within : (w : ℕ) (u : SlotUndo) (s : List Slot) → Fits w u s → cell_of u < w
+cell_within w (Restore place cell old) s h = h.allowed
+cell_within w (Created place cell) s h = h.allowed
+
+-- where there is one cell alone, an undo sets its name to the old text
+pub map_undone : (u : SlotUndo) (s : List Slot) → Fits 1 u s → map_at 0 (undone u s) ≡ with_entry (map_at 0 s) (name_of s u) (old_of u)
+map_undone u s h =
+    let e : cell_of u ≡ 0 = omega (arith, cell_within 1 u s h) in
+    subst (λ k. map_at k (undone u s) ≡ with_entry (map_at k s) (name_of s u) (old_of u)) e (undo_writes 1 u s h).here

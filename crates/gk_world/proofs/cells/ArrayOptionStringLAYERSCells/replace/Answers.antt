@@ -1,0 +1,6 @@
+use Rattle.std.proofs.Common.{◌∙◌, ap, map, option_map, string_bytes}
+use Rattle.std.proofs.lemmas.List.{map-set}
+use Rattle.gk_world.proofs.cells.ArrayOptionStringLAYERSCells.replace.Goals as goal
+
+pub returns-clause-set : goal.returns-clause-set
+returns-clause-set c = ap (map (option_map string_bytes)) c.exchange.ensures.after ∙ map-set (option_map string_bytes) c.args.self.now c.args.cell c.args.text

@@ -1,0 +1,32 @@
+use Rattle.std.proofs.Common.{◌∙◌, ap, subst, sym, length, ◌≤◌, arith}
+use Rattle.gk_world.specs.Journal.{rewound, FitAll}
+use Rattle.gk_world.proofs.JournalLemmas.{popped, rewound-before, FitAll-before, settled}
+use Rattle.gk_world.proofs.journal.Journal.rewind.Goals as goal
+
+pub undo-requires : goal.undo-requires
+undo-requires g c =
+    let p = popped g.T.Reversible.undone g.T.Reversible.fits c.loop-self.self-inside.entries.items c.pop.new.self.items c.pop.result c.unwrap-undo.result c.args.mark (g.T.Reversible.slots c.loop-self.on) c.pop.ensures.items c.unwrap-undo.ensures (omega arith) c.loop-self.invariant.fit in
+    p.fits_now
+
+pub loop-self-preserved : goal.loop-self-preserved
+loop-self-preserved g c =
+    let p = popped g.T.Reversible.undone g.T.Reversible.fits c.loop-self.self-inside.entries.items c.pop.new.self.items c.pop.result c.unwrap-undo.result c.args.mark (g.T.Reversible.slots c.loop-self.on) c.pop.ensures.items c.unwrap-undo.ensures (omega arith) c.loop-self.invariant.fit in
+    let e = c.undo.ensures in
+    record {
+      within = p.within;
+      older = p.older ∙ c.loop-self.invariant.older;
+      fit = subst (FitAll g.T.Reversible.undone g.T.Reversible.fits _) (sym e) p.fit;
+      same = ap (rewound g.T.Reversible.undone _) e ∙ p.same ∙ c.loop-self.invariant.same;
+    }
+
+pub returns-clause-same : goal.returns-clause-same
+returns-clause-same g c =
+    let within : c.args.mark ≤ length c.args.self.now = c.requires.mark in
+    let d = settled g.T.Reversible.undone c.self.inside.entries.items c.args.self.now c.loop-self.self-inside.entries.items c.args.mark (g.T.Reversible.slots c.args.on.now) (g.T.Reversible.slots c.loop-self.on) c.self.view_is c.loop-self.invariant.within (omega arith) c.loop-self.invariant.older c.loop-self.invariant.same in
+    λ k le. rewound-before g.T.Reversible.undone c.args.self.now c.loop-self.self-inside.entries.items k c.args.mark _ _ le within d.0 d.1
+
+pub returns-clause-older : goal.returns-clause-older
+returns-clause-older g c =
+    let within : c.args.mark ≤ length c.args.self.now = c.requires.mark in
+    let d = settled g.T.Reversible.undone c.self.inside.entries.items c.args.self.now c.loop-self.self-inside.entries.items c.args.mark (g.T.Reversible.slots c.args.on.now) (g.T.Reversible.slots c.loop-self.on) c.self.view_is c.loop-self.invariant.within (omega arith) c.loop-self.invariant.older c.loop-self.invariant.same in
+    λ k le h. FitAll-before g.T.Reversible.undone g.T.Reversible.fits c.args.self.now c.loop-self.self-inside.entries.items k c.args.mark _ _ le within d.0 d.1 h

@@ -1,0 +1,25 @@
+use Rattle.std.proofs.Common.{◌∙◌}
+use Rattle.gk_world.proofs.KeptLemmas.{mark_within, fit_since, ended_sound, ended}
+use Rattle.gk_world.proofs.sandbox.Sandbox.end.Goals as goal
+
+pub rewind-requires-clause-mark : goal.rewind-requires-clause-mark
+rewind-requires-clause-mark c =
+    let i = c.self.inside in
+    mark_within i.world i.journal i.depth c.layer.inside.number i.marks c.args.self.now c.self.view_is (c.layer.view_is ∙ c.requires) c.layer.invariant c.self.invariant
+
+pub rewind-requires-clause-fit : goal.rewind-requires-clause-fit
+rewind-requires-clause-fit c =
+    let i = c.self.inside in
+    fit_since i.world i.journal i.depth c.layer.inside.number i.marks c.args.self.now c.self.view_is (c.layer.view_is ∙ c.requires) c.layer.invariant c.self.invariant
+
+pub invariant_of-self : goal.invariant_of-self
+invariant_of-self c =
+    let i = c.self.inside in
+    let r = c.rewind.ensures in
+    ended_sound i.world i.journal i.depth c.layer.inside.number i.marks c.args.self.now c.self.view_is (c.layer.view_is ∙ c.requires) c.layer.invariant c.self.invariant c.rewind.new.on c.rewind.new.self r.slots r.entries r.same r.older
+
+pub returns : goal.returns
+returns c =
+    let i = c.self.inside in
+    let r = c.rewind.ensures in
+    ended i.world i.journal i.depth c.layer.inside.number i.marks c.args.self.now c.self.view_is (c.layer.view_is ∙ c.requires) c.layer.invariant c.self.invariant c.rewind.new.on c.rewind.new.self r.slots r.entries r.same r.older

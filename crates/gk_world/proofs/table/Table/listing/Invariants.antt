@@ -1,0 +1,8 @@
+use Rattle.std.specs.FinMap as finite
+use Rattle.gk_world.specs.Slots.{map_at}
+use Rattle.gk_world.proofs.ListingLemmas.{ListsFirst}
+use Rattle.gk_world.proofs.table.Table.listing.Given as goal
+
+-- the names so far, with what they have
+abbrev pub invariant-loop-place : goal.invariant-loop-place
+invariant-loop-place l = ListsFirst (finite.get (map_at 0 l.self-inside.slots)) l.self-inside.slots l.place l.texts

@@ -1,0 +1,8 @@
+use Rattle.gk_world.specs.State.{see}
+use Rattle.gk_world.specs.Values.{state_at}
+use Rattle.gk_world.proofs.ListingLemmas.{ListsFirst}
+use Rattle.gk_world.proofs.values.Values.listing.Given as goal
+
+-- the names so far, with what they have
+abbrev pub invariant-loop-place : goal.invariant-loop-place
+invariant-loop-place l = ListsFirst (see (state_at l.layers l.self-inside.slots)) l.self-inside.slots l.place l.texts

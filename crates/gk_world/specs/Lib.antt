@@ -1,0 +1,14 @@
+-- What the world is, in reading order. Cells, Slots, Table, Values, World, Journal and Kept are how it is kept.
+pub mod Contents
+pub mod State
+pub mod Refusals
+pub mod Undone
+pub mod Sandbox
+pub mod Listing
+pub mod Cells
+pub mod Slots
+pub mod Table
+pub mod Values
+pub mod World
+pub mod Journal
+pub mod Kept

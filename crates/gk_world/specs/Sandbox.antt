@@ -1,0 +1,150 @@
+-- A sandbox, as contracts see it.
+use Rattle.std.specs.Prelude.{◌≡◌, ℕ, zero, suc, ◌+◌, ◌<◌, List, [], ◌∷◌, length, drop, Option, Some, None, refl}
+use Rattle.std.specs.FinMap as finite
+use Rattle.std.specs.Coded.{Coded, code_by, coded×, coded_list, coded_option, coded_ℕ}
+use Rattle.std.proofs.Common.{ap}
+use Rattle.gk_world.specs.Contents.{Contents, with_layer, with_innermost, nothing_yet, contents_code}
+use Rattle.gk_world.specs.Refusals.{joined}
+use Rattle.gk_world.specs.State.{with_text, without, state_of}
+use Rattle.gk_world.specs.Undone.{Which, of_files, of_env, of_layer, UndoValue, rewind}
+
+-- The contents; for each open layer, the innermost first, what its end gives; the undos that are recorded, the oldest first; and how many there were when each layer began. (this project's profile)
+pub record SandboxValue : Type 0 where
+  pub now : Contents
+  pub saved : List Contents
+  pub entries : List UndoValue
+  pub marks : List ℕ
+
+-- How many layers can be open: run, feature and scenario. (behave's documentation: context layers)
+abbrev pub layers : ℕ
+layers = 3
+
+-- A new sandbox: nothing in it, and no layer open. (this project's profile)
+abbrev pub new_sandbox : SandboxValue
+new_sandbox = record { now = nothing_yet; saved = []; entries = []; marks = [] }
+
+-- How many layers are open. (behave's documentation: context layers)
+abbrev pub depth : SandboxValue → ℕ
+depth s = length s.saved
+
+-- A layer begins: its end is to give the contents as they are, and it has no values yet. (behave's documentation: context layers)
+abbrev pub begun : SandboxValue → SandboxValue
+begun s = record { now = with_layer s.now; saved = s.now ∷ s.saved; entries = s.entries; marks = length s.entries ∷ s.marks }
+
+-- A layer ends: what it had saved is there again, and what is recorded since its beginning is forgotten. (behave's documentation: context layers)
+pub record Ends (old new : SandboxValue) : Type 0 where
+  pub given_back : old.saved ≡ new.now ∷ new.saved
+  pub forgotten : old.marks ≡ length new.entries ∷ new.marks
+
+-- How many more changes are recorded after one: with no layer open none is. (this project's profile)
+abbrev pub one_if_open : List Contents → ℕ
+one_if_open [] = 0
+one_if_open (c ∷ cs) = 1
+
+-- The contents have become these by one change, and what each layer's end gives stays. With no layer open the change isn't recorded, and stays. (this project's profile)
+pub record Becomes (now : Contents) (old new : SandboxValue) : Type 0 where
+  pub contents : new.now ≡ now
+  pub layers : new.saved ≡ old.saved
+  pub marks : new.marks ≡ old.marks
+  pub recorded : length new.entries ≡ length old.entries + one_if_open old.saved
+
+-- What changes and inner layers, each of them ended, make of a sandbox; a refused change makes nothing of it. (behave's documentation: context layers)
+pub data Works : SandboxValue → SandboxValue → Type 0 where
+  done : {s : SandboxValue} → Works s s
+  change : {s t u : SandboxValue} {now : Contents} → Becomes now s t → Works t u → Works s u
+  layer : {s t u v : SandboxValue} → Works (begun s) t → Ends t u → Works u v → Works s v
+
+-- The contents, what each open layer's end gives, the marks and the number of entries are what they were. (behave's documentation: context layers)
+pub record IsAsBefore (old new : SandboxValue) : Type 0 where
+  pub contents : new.now ≡ old.now
+  pub layers : new.saved ≡ old.saved
+  pub marks : new.marks ≡ old.marks
+  pub recorded : length new.entries ≡ length old.entries
+
+-- Whatever is done in a layer, its end gives back what was there as it began. (behave's documentation: context layers)
+abbrev pub LayersGiveBack : Type 0
+LayersGiveBack = (s t u : SandboxValue) → Works (begun s) t → Ends t u → IsAsBefore s u
+
+-- Contents with so many further layers, which have no values. (behave's documentation: context layers)
+abbrev pub with_layers : ℕ → Contents → Contents
+with_layers zero c = c
+with_layers (suc n) c = with_layer (with_layers n c)
+
+-- For each open layer: the contents, rewound by the undos recorded since its mark, are those that its end gives, with an empty map for that layer and each inner one. The lists have the innermost layer first, and so many layers are inside the first of them. (this project's profile)
+abbrev pub Rewinds : ℕ → List Contents → List ℕ → List UndoValue → Contents → Type 0
+Rewinds inside [] [] entries now = Unit {0}
+Rewinds inside (c ∷ cs) (mark ∷ marks) entries now = (rewind (drop mark entries) now ≡ with_layers (suc inside) c) × Rewinds (suc inside) cs marks entries now
+Rewinds inside [] (mark ∷ marks) entries now = ⊥
+Rewinds inside (c ∷ cs) [] entries now = ⊥
+
+-- What holds of a sandbox at any moment: its undos give back what its layers have saved. (this project's profile)
+abbrev pub UndosGiveBack : SandboxValue → Type 0
+UndosGiveBack s = Rewinds 0 s.saved s.marks s.entries s.now
+
+-- A map of the contents as an option, in which a program's value keeps it. (this project's profile)
+abbrev pub which_as_option : Which → Option (Option ℕ)
+which_as_option of_files = None
+which_as_option of_env = Some None
+which_as_option (of_layer number) = Some (Some number)
+
+-- The map that such an option names. (this project's profile)
+abbrev pub which_of_option : Option (Option ℕ) → Which
+which_of_option None = of_files
+which_of_option (Some None) = of_env
+which_of_option (Some (Some number)) = of_layer number
+
+-- The way there and back. (this project's profile)
+abbrev pub which_again : (w : Which) → which_of_option (which_as_option w) ≡ w
+which_again of_files = refl
+which_again of_env = refl
+which_again (of_layer number) = refl
+
+-- How a program's value keeps an undo. (this project's profile)
+abbrev pub undo_code : Coded UndoValue
+undo_code = code_by (Option (Option ℕ) × (List ℕ × Option (List ℕ)))
+    (coded× (coded_option (coded_option coded_ℕ)) (coded× (coded_list coded_ℕ) (coded_option (coded_list coded_ℕ))))
+    (λ u. (which_as_option u.which, (u.name, u.old))) (λ p. record { which = which_of_option p.0; name = p.1.0; old = p.1.1 })
+    (λ u. ap (λ w. record { which = w; name = u.name; old = u.old }) (which_again u.which))
+
+-- How a program's value keeps a sandbox. (this project's profile)
+abbrev pub sandbox_code : Coded SandboxValue
+sandbox_code = code_by (Contents × (List Contents × (List UndoValue × List ℕ)))
+    (coded× contents_code (coded× (coded_list contents_code) (coded× (coded_list undo_code) (coded_list coded_ℕ))))
+    (λ s. (s.now, (s.saved, (s.entries, s.marks)))) (λ p. record { now = p.0; saved = p.1.0; entries = p.1.1.0; marks = p.1.1.1 }) (λ _. refl)
+
+-- A file has a text. (this project's profile)
+abbrev pub with_file : Contents → List ℕ → List ℕ → Contents
+with_file c name text = record c { files = finite.insert c.files name text }
+
+-- A file's text has more at its end. (this project's profile)
+abbrev pub with_more : Contents → List ℕ → List ℕ → Contents
+with_more c name more = with_file c name (joined (finite.get c.files) name more)
+
+-- A file is gone. (this project's profile)
+abbrev pub without_file : Contents → List ℕ → Contents
+without_file c name = record c { files = finite.remove c.files name }
+
+-- A variable has a text. (this project's profile)
+abbrev pub with_env : Contents → List ℕ → List ℕ → Contents
+with_env c name text = record c { env = finite.insert c.env name text }
+
+-- A variable is gone. (this project's profile)
+abbrev pub without_env : Contents → List ℕ → Contents
+without_env c name = record c { env = finite.remove c.env name }
+
+-- A value of the innermost layer has a text. (behave's documentation: context layers)
+abbrev pub with_value : Contents → List ℕ → List ℕ → Contents
+with_value c name text = record c { values = with_innermost (λ v. finite.insert v name text) c.values }
+
+-- A value of the innermost layer is gone. (behave's documentation: context layers)
+abbrev pub without_value : Contents → List ℕ → Contents
+without_value c name = record c { values = with_innermost (λ v. finite.remove v name) c.values }
+
+-- What the changes of contents are to the plain state; a value is of the innermost layer, so one has to be open. (behave's documentation: context layers)
+pub record ChangesAreOfState : Type 0 where
+  pub file : (c : Contents) (name text : List ℕ) → state_of (with_file c name text) ≡ record (state_of c) { files = with_text (state_of c).files name text }
+  pub no_file : (c : Contents) (name : List ℕ) → state_of (without_file c name) ≡ record (state_of c) { files = without (state_of c).files name }
+  pub env : (c : Contents) (name text : List ℕ) → state_of (with_env c name text) ≡ record (state_of c) { env = with_text (state_of c).env name text }
+  pub no_env : (c : Contents) (name : List ℕ) → state_of (without_env c name) ≡ record (state_of c) { env = without (state_of c).env name }
+  pub value : (c : Contents) (name text : List ℕ) → 0 < length c.values → state_of (with_value c name text) ≡ record (state_of c) { own = with_text (state_of c).own name text }
+  pub no_value : (c : Contents) (name : List ℕ) → 0 < length c.values → state_of (without_value c name) ≡ record (state_of c) { own = without (state_of c).own name }

@@ -1,0 +1,112 @@
+-- Slots, and the finite maps that they stand for: map_at k has, for each name, the cell k of its slot.
+use Rattle.std.specs.Prelude.{◌≡◌, ◌≢◌, ℕ, zero, suc, ◌+◌, ◌<◌, List, [], ◌∷◌, length, take, map, None, true, false, slice_index_or, slice_set, bytes_eq, String, string_bytes, option_map}
+use Rattle.std.specs.FinMap as finite
+use Rattle.std.specs.Global.{Global}
+use Rattle.gk_world.specs.declared.slots.SlotUndo.{SlotUndo}
+use Rattle.gk_world.specs.declared.slots.SlotUndo.TheVariants.{Restore, Created}
+use Rattle.gk_world.specs.Contents.{Texts, with_entry}
+use Rattle.gk_world.specs.Cells.{Slot, Cell, cell_at}
+
+-- A row as a slot, and rows as slots: names and texts, without where they lie in memory.
+module _ {C : Type 0} (cells : C → List Cell) where
+  -- A row as a slot. (this project's profile)
+  abbrev pub seen : String Global × C → Slot
+  seen r = (string_bytes r.0, cells r.1)
+
+  -- Rows as slots, in their order. (this project's profile)
+  abbrev pub slots_of : List (String Global × C) → List Slot
+  slots_of rows = map seen rows
+
+-- The first slot of a name counts, and an absent cell is no text. (this project's profile)
+abbrev pub map_at : ℕ → List Slot → Texts
+map_at k [] = finite.empty
+map_at k (s ∷ ss) = with_entry (map_at k ss) s.0 (cell_at k s.1)
+
+-- The values of so many layers, the innermost first: the outermost has the first cells. (behave's documentation: context layers)
+abbrev pub layers_of : ℕ → List Slot → List Texts
+layers_of zero s = []
+layers_of (suc d) s = map_at d s ∷ layers_of d s
+
+-- One cell of one name has another text, or none, and all else stays. (this project's profile)
+pub record Writes (name : List ℕ) (cell : ℕ) (text : Cell) (old new : List Slot) : Type 0 where
+  pub here : map_at cell new ≡ with_entry (map_at cell old) name text
+  pub others : (k : ℕ) → k ≢ cell → map_at k new ≡ map_at k old
+
+-- The slots, with these cells in the slot at i. (this project's profile)
+abbrev pub with_cells : List Slot → ℕ → List Cell → List Slot
+with_cells [] i c = []
+with_cells (s ∷ ss) zero c = (s.0, c) ∷ ss
+with_cells (s ∷ ss) (suc i) c = s ∷ with_cells ss i c
+
+-- The name of the slot at i. (this project's profile)
+abbrev pub name_at : List Slot → ℕ → List ℕ
+name_at s i = let w : Slot = slice_index_or s i ([], []) in w.0
+
+-- The cells of the slot at i. (this project's profile)
+abbrev pub cells_of : List Slot → ℕ → List Cell
+cells_of s i = let w : Slot = slice_index_or s i ([], []) in w.1
+
+-- The slots, with this in the cell k of the slot at i. (this project's profile)
+abbrev pub with_cell : List Slot → ℕ → ℕ → Cell → List Slot
+with_cell s i k c = with_cells s i (slice_set (cells_of s i) k c)
+
+-- The first slot of this name is at i. (this project's profile)
+abbrev pub IsPlace : List ℕ → List Slot → ℕ → Type 0
+IsPlace name [] i = ⊥
+IsPlace name (s ∷ ss) zero = bytes_eq name s.0 ≡ true
+IsPlace name (s ∷ ss) (suc i) = (bytes_eq name s.0 ≡ false) × IsPlace name ss i
+
+-- There is no slot of this name. (this project's profile)
+abbrev pub IsMissing : List ℕ → List Slot → Type 0
+IsMissing name [] = Unit {0}
+IsMissing name (s ∷ ss) = (bytes_eq name s.0 ≡ false) × IsMissing name ss
+
+-- The slot at i is the first of this name, and has the name's texts. (this project's profile)
+pub record IsAt (name : List ℕ) (s : List Slot) (i : ℕ) : Type 0 where
+  pub within : i < length s
+  pub found : IsPlace name s i
+  pub first : IsPlace (name_at s i) s i
+  pub holds : (k : ℕ) → finite.get (map_at k s) name ≡ cell_at k (cells_of s i)
+
+-- The name has no slot, and so no text. (this project's profile)
+pub record IsNew (name : List ℕ) (s : List Slot) : Type 0 where
+  pub missing : IsMissing name s
+  pub absent : (k : ℕ) → finite.get (map_at k s) name ≡ None
+
+-- The slot at this place is the first of its name, and has this cell, one of so many. (this project's profile)
+pub record HasCell (width : ℕ) (s : List Slot) (place cell : ℕ) : Type 0 where
+  pub first : IsPlace (name_at s place) s place
+  pub within : cell < length (cells_of s place)
+  pub allowed : cell < width
+
+-- The slot at this place is the last, the only one of its name, and has nothing but in this cell, one of so many. (this project's profile)
+pub record IsNewest (width : ℕ) (s : List Slot) (place cell : ℕ) : Type 0 where
+  pub last : length s ≡ place + 1
+  pub only : IsMissing (name_at s place) (take place s)
+  pub others : (k : ℕ) → k ≢ cell → cell_at k (cells_of s place) ≡ None
+  pub allowed : cell < width
+
+-- Whether an undo fits these slots: the slot that it names is there and, for a creation, is the last, with its other cells absent. (this project's profile)
+abbrev pub Fits : ℕ → SlotUndo → List Slot → Type 0
+Fits width (Restore place cell old) s = HasCell width s place cell
+Fits width (Created place cell) s = IsNewest width s place cell
+
+-- The slots before a change: the cell has its old text again, or the new slot is gone. (this project's profile)
+abbrev pub undone : SlotUndo → List Slot → List Slot
+undone (Restore place cell old) s = with_cell s place cell (option_map string_bytes old)
+undone (Created place cell) s = take place s
+
+-- The name of an undo, as it is seen where it is in slots. (this project's profile)
+abbrev pub name_of : List Slot → SlotUndo → List ℕ
+name_of s (Restore place cell old) = name_at s place
+name_of s (Created place cell) = name_at s place
+
+-- The cell of an undo. (this project's profile)
+abbrev pub cell_of : SlotUndo → ℕ
+cell_of (Restore place cell old) = cell
+cell_of (Created place cell) = cell
+
+-- The old text of an undo, or none. (this project's profile)
+abbrev pub old_of : SlotUndo → Cell
+old_of (Restore place cell old) = option_map string_bytes old
+old_of (Created place cell) = None

@@ -1,0 +1,49 @@
+-- What a change of values does to their layers' maps, and why it may be refused.
+use Rattle.std.specs.Prelude.{◌≡◌, ℕ, ◌<◌, ◌≤◌, ◌-◌, List, Option, Some, None, string_bytes}
+use Rattle.std.specs.FinMap as finite
+use Rattle.gk_world.specs.declared.world_fault.WorldFault.{WorldFault}
+use Rattle.gk_world.specs.declared.cells.TheConstants.{LAYERS}
+use Rattle.gk_world.specs.declared.values.ValueChange.{ValueChange}
+use Rattle.gk_world.specs.declared.values.ValueChange.TheVariants.{Set, Delete}
+use Rattle.gk_world.specs.Cells.{Slot, Cell}
+use Rattle.gk_world.specs.State.{State, state_of}
+use Rattle.gk_world.specs.Refusals.{put_refusal, delete_refusal, IsFault}
+use Rattle.gk_world.specs.Slots.{layers_of, Writes}
+
+-- What so many layers have, and nothing else. (behave's documentation: context layers)
+abbrev pub state_at : ℕ → List Slot → State
+state_at layers s = state_of (record { files = finite.empty; env = finite.empty; values = layers_of layers s })
+
+-- The layer of a change, counted from 1 at the outermost. (behave's documentation: context layers)
+abbrev pub layer_of : ValueChange → ℕ
+layer_of (Set layer name text) = layer
+layer_of (Delete layer name) = layer
+
+-- A layer is counted from 1, and so many can be open. (behave's documentation: context layers)
+pub record IsLayer (layer : ℕ) : Type 0 where
+  pub from : 0 < layer
+  pub to : layer ≤ LAYERS
+
+-- Why a change of values is refused, if it is. (behave's documentation: context layers)
+abbrev pub refusal : ValueChange → State → Option WorldFault
+refusal (Set layer name text) s = put_refusal (string_bytes name) (string_bytes text)
+refusal (Delete layer name) s = delete_refusal s (string_bytes name)
+
+-- The name that a change is of. (this project's profile)
+abbrev pub name_of : ValueChange → List ℕ
+name_of (Set layer name text) = string_bytes name
+name_of (Delete layer name) = string_bytes name
+
+-- The text that the name has after a change, or none. (this project's profile)
+abbrev pub text_of : ValueChange → Cell
+text_of (Set layer name text) = Some (string_bytes text)
+text_of (Delete layer name) = None
+
+-- Nothing refuses the change at slots s, and t has its outcome. (this project's profile)
+pub record Steps (change : ValueChange) (s t : List Slot) : Type 0 where
+  pub allowed : refusal change (state_at (layer_of change) s) ≡ None
+  pub done : Writes (name_of change) (layer_of change - 1) (text_of change) s t
+
+-- The change may be refused at slots s by this fault. (this project's profile)
+abbrev pub Refuses : ValueChange → List Slot → WorldFault → Type 0
+Refuses change s fault = IsFault (refusal change (state_at (layer_of change) s)) fault

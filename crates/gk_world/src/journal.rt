@@ -1,0 +1,73 @@
+//! A journal of changes.
+ghost use Rattle.std.specs.Prelude.{◌≡◌, ℕ, ◌+◌, ◌<◌, ◌≤◌, List, [], ◌∷◌, ◌++◌, length, drop, take, IfOk, IfErr, ◌⊎◌, OnOk, OnErr, vec_len};
+ghost use Rattle.gk_world.specs.Journal.{rewound, FitAll};
+
+use crate::reversible::Reversible;
+use crate::world_fault::WorldFault;
+use std::alloc::Global;
+use std::marker::Model;
+
+/// The undos of the changes made so far, the oldest first. (this project's profile)
+#[derive(Drop)]
+pub struct Journal<T: Reversible> {
+    entries: Vec<T::Undo>,
+}
+
+impl<T: Reversible> Model for Journal<T> {
+    ghost Value = { List T.Undo };
+
+    ghost view = { λ j. j.entries.items };
+}
+
+impl<T: Reversible> Journal<T> {
+    /// A journal without entries. It takes no memory.
+    pub fn new(alloc: Global) -> Self
+        ensures { result ≡ [] }
+    {
+        Journal {
+            entries: Vec::new(alloc),
+        }
+    }
+
+    /// How many changes are recorded. It takes no memory.
+    pub fn len(&self) -> usize
+        ensures { result ≡ length self.now }
+    {
+        self.entries.len()
+    }
+
+    /// Makes a change and records its undo, as the newest entry. The entry's place comes before the
+    /// change, so `Memory` may stand in place of another fault. A refusal changes nothing and keeps
+    /// every entry. (this project's profile)
+    pub fn change(&mut self, on: &mut T, change: T::Change) -> Result<(), WorldFault>
+        requires { T.can_apply change }
+        ensures recorded { OnOk result ((u : T.Undo) × (self.new ≡ self.old ++ u ∷ []) × T.fits u (T.slots on.new) × (T.undone u (T.slots on.new) ≡ T.slots on.old)) }
+        ensures same { OnOk result ((m : ℕ) → m ≤ length self.old → rewound T.undone (drop m self.new) (T.slots on.new) ≡ rewound T.undone (drop m self.old) (T.slots on.old)) }
+        ensures fit { OnOk result ((m : ℕ) → m ≤ length self.old → FitAll T.undone T.fits (drop m self.old) (T.slots on.old) → FitAll T.undone T.fits (drop m self.new) (T.slots on.new)) }
+        ensures done { OnOk result (T.stepped change (T.slots on.old) (T.slots on.new)) }
+        ensures refused { IfErr result (λ e. (e ≡ WorldFault.Memory) ⊎ T.refuses change (T.slots on.old) e) }
+        ensures err { OnErr result ((self.new ≡ self.old) × (T.slots on.new ≡ T.slots on.old)) }
+    {
+        if self.entries.reserve(1).is_err() {
+            return Err(WorldFault::Memory);
+        }
+        let undo = on.apply(change)?;
+        self.entries.push(undo).unwrap();
+        Ok(())
+    }
+
+    /// Undoes the changes since the mark, the newest first. It takes no memory.
+    pub fn rewind(&mut self, on: &mut T, mark: usize)
+        requires mark { mark ≤ length self.old }
+        requires fit { FitAll T.undone T.fits (drop mark self.old) (T.slots on.old) }
+        ensures slots { T.slots on.new ≡ rewound T.undone (drop mark self.old) (T.slots on.old) }
+        ensures entries { self.new ≡ take mark self.old }
+        ensures same { (k : ℕ) → k ≤ mark → rewound T.undone (drop k self.new) (T.slots on.new) ≡ rewound T.undone (drop k self.old) (T.slots on.old) }
+        ensures older { (k : ℕ) → k ≤ mark → FitAll T.undone T.fits (drop k self.old) (T.slots on.old) → FitAll T.undone T.fits (drop k self.new) (T.slots on.new) }
+    {
+        while self.entries.len() > mark {
+            let undo = self.entries.pop().unwrap();
+            on.undo(undo);
+        }
+    }
+}

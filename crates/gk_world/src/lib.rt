@@ -1,0 +1,31 @@
+//! The world that steps change: files, variables and values in layers. Names and texts come in; every
+//! change is recorded with its inverse, and the end of a layer gives back exactly the contents at its
+//! beginning.
+#![tactic(auto)]
+
+mod cells;
+mod journal;
+mod limits;
+mod listing;
+mod reversible;
+mod sandbox;
+mod slots;
+mod state;
+mod table;
+mod values;
+mod world;
+mod world_fault;
+
+pub use journal::Journal;
+pub use limits::{LONGEST_NAME, LONGEST_TEXT};
+pub use listing::Listing;
+pub use reversible::Reversible;
+pub use sandbox::{Layer, Sandbox, changes_are_of_state, layers_give_back};
+pub use slots::SlotUndo;
+pub use state::{layers_enter, put_texts, removed_texts};
+pub use table::{Table, TableChange};
+pub use values::{ValueChange, Values};
+pub use world_fault::WorldFault;
+
+#[cfg(test)]
+mod tests;

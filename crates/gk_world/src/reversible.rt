@@ -1,0 +1,48 @@
+//! What can be changed so that each change can be undone.
+ghost use Rattle.std.specs.Prelude.{◌≡◌, IfOk, IfErr, OnOk, OnErr};
+ghost use Rattle.gk_world.specs.declared.world_fault.WorldFault.{WorldFault};
+
+use crate::world_fault::WorldFault;
+
+/// Slots whose changes can be undone, the newest first. An undo is an ordinary value: to drop it is to
+/// give its change up for good. (this project's profile)
+pub trait Reversible {
+    type Change: Drop;
+
+    type Undo: Drop;
+
+    /// What contracts see of the slots: a list of them, or a few lists.
+    ghost Slots: { Type 0 };
+
+    ghost slots: { Self → Slots };
+
+    /// Whether an undo fits these slots.
+    ghost fits: { Self.Undo → Slots → Type 0 };
+
+    /// The slots before the change.
+    ghost undone: { Self.Undo → Slots → Slots };
+
+    /// Whether an allowed change can lead from these slots to those.
+    ghost stepped: { Self.Change → Slots → Slots → Type 0 };
+
+    /// Whether a change may be refused at these slots by this fault.
+    ghost refuses: { Self.Change → Slots → WorldFault → Type 0 };
+
+    /// Whether a change may be asked for.
+    ghost can_apply: { Self.Change → Type 0 } = { λ _. Unit {0} };
+
+    /// Makes a change, and answers its undo, which gives back the slots before it: so each older undo
+    /// that fitted then fits again after it. A refusal changes nothing.
+    fn apply(&mut self, change: Self::Change) -> Result<Self::Undo, WorldFault>
+        requires { can_apply change }
+        ensures fits { IfOk result (λ u. fits u (slots self.new)) }
+        ensures before { IfOk result (λ u. undone u (slots self.new) ≡ slots self.old) }
+        ensures done { OnOk result (stepped change (slots self.old) (slots self.new)) }
+        ensures err { OnErr result (slots self.new ≡ slots self.old) }
+        ensures refused { IfErr result (refuses change (slots self.old)) };
+
+    /// Takes a change back. It takes no memory.
+    fn undo(&mut self, undo: Self::Undo)
+        requires { fits undo (slots self.old) }
+        ensures { slots self.new ≡ undone undo (slots self.old) };
+}

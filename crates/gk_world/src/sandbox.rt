@@ -1,0 +1,303 @@
+//! The world that steps change: files, variables and values, in layers by a journal.
+ghost use Rattle.std.specs.Prelude.{◌≡◌, ◌<◌, length, None, OnOk, OnErr, IfOk, option_copied};
+ghost use Rattle.std.specs.FinMap as finite;
+ghost use Rattle.gk_world.specs.Listing.{IsListing};
+ghost use Rattle.gk_world.specs.State.{see, state_of};
+ghost use Rattle.gk_world.specs.Refusals as refusals;
+ghost use Rattle.gk_world.specs.Refusals.{append_refusal, remove_refusal, delete_refusal, IsAnswer};
+ghost use Rattle.gk_world.specs.World.{IsHere, changed, refusal};
+ghost use Rattle.gk_world.specs.Sandbox.{with_file, with_more, without_file, with_env, without_env, with_value, without_value};
+ghost use Rattle.gk_world.specs.Sandbox.{new_sandbox, layers, depth, begun, Ends, Becomes, UndosGiveBack, LayersGiveBack, ChangesAreOfState};
+
+use crate::cells::LAYERS;
+use crate::journal::Journal;
+use crate::limits::put_refusal;
+use crate::listing::Listing;
+use crate::reversible::Reversible;
+use crate::table::TableChange;
+use crate::values::ValueChange;
+use crate::world::{World, WorldChange};
+use crate::world_fault::WorldFault;
+use std::alloc::{AllocError, Global};
+use std::marker::Model;
+
+/// An open layer: its number, counted from 1 at the outermost. It has to be spent, and only
+/// `Sandbox::end` takes it. (behave's documentation: context layers)
+pub struct Layer {
+    // Its place, counted from 1 at the outermost.
+    number: usize,
+}
+
+impl Model for Layer {
+    ghost use Rattle.std.specs.Prelude.{ℕ, ◌<◌};
+
+    ghost Value = { ℕ };
+
+    ghost view = { λ l. l.number };
+
+    ghost invariant = { λ l. 0 < l.number };
+}
+
+/// Files, variables and values, and layers whose end gives back what was there at their beginning. Names
+/// have 1 to 255 bytes, texts at most 1,048,576. (behave's documentation: context layers)
+#[derive(Drop)]
+pub struct Sandbox {
+    alloc: Global,
+    world: World,
+    journal: Journal<World>,
+    // How many changes were recorded as each layer began, the outermost first.
+    marks: [usize; LAYERS],
+    depth: usize,
+}
+
+impl Model for Sandbox {
+    ghost use Rattle.gk_world.specs.Sandbox.{SandboxValue, sandbox_code};
+
+    ghost Value = { SandboxValue };
+
+    ghost coded = { sandbox_code };
+
+    ghost use Rattle.gk_world.specs.Kept.{value_of, open_marks, IsSound};
+
+    ghost view = { λ s. value_of s.world s.journal (open_marks s.depth s.marks) };
+
+    ghost invariant = { λ s. IsSound s.world s.journal (open_marks s.depth s.marks) };
+}
+
+impl Sandbox {
+    /// A sandbox with nothing in it and no layer open. It takes no memory.
+    pub fn new(alloc: Global) -> Sandbox
+        ensures { result ≡ new_sandbox }
+    {
+        Sandbox {
+            alloc,
+            world: World::new(alloc),
+            journal: Journal::new(alloc),
+            marks: [0; LAYERS],
+            depth: 0,
+        }
+    }
+
+    /// How many layers are open. It takes no memory.
+    pub fn depth(&self) -> usize
+        ensures { result ≡ depth self.now }
+    {
+        self.depth
+    }
+
+    /// How many changes are recorded in the open layers. It takes no memory. (this project's profile)
+    pub fn recorded(&self) -> usize
+        ensures { result ≡ length self.now.entries }
+    {
+        self.journal.len()
+    }
+
+    /// For each open layer, the contents, rewound by the changes recorded since it began, are those
+    /// that its end gives. Each open layer has a map of values, and with no layer open nothing is
+    /// recorded. (this project's profile)
+    pub fn undos_give_back(&self)
+        ensures undos { UndosGiveBack self.now }
+        ensures values { length self.now.now.values ≡ depth self.now }
+        ensures outside { depth self.now ≡ 0 → length self.now.entries ≡ 0 }
+    {
+        let _ = &self.journal;
+    }
+
+    /// Begins a layer inside the open ones. Its number is then the depth, and it has no values yet. It
+    /// takes no memory. (behave's documentation: context layers)
+    pub fn begin(&mut self) -> Layer
+        requires { depth self.old < layers }
+        ensures ok { self.new ≡ begun self.old }
+        ensures number { result ≡ depth self.new }
+    {
+        self.marks[self.depth] = self.journal.len();
+        self.depth += 1;
+        Layer { number: self.depth }
+    }
+
+    /// Ends the innermost layer, which `layer` has to be: the contents and the number of recorded
+    /// changes are those at its beginning. It takes no memory. (behave's documentation: context layers)
+    pub fn end(&mut self, layer: Layer)
+        requires { layer ≡ depth self.old }
+        ensures { Ends self.old self.new }
+    {
+        // A layer can't be dropped; taking it apart spends it.
+        let Layer { number } = layer;
+        let outer = number - 1;
+        self.journal.rewind(&mut self.world, self.marks[outer]);
+        self.depth = outer;
+    }
+
+    /// Makes a change, and records it where a layer is open. A refusal changes nothing.
+    fn change(&mut self, change: WorldChange) -> Result<(), WorldFault>
+        requires here { IsHere change (depth self.old) }
+        requires allowed { refusal change self.old.now ≡ None }
+        ensures ok { OnOk result (Becomes (changed change self.old.now) self.old self.new) }
+        ensures answer { IsAnswer (refusal change self.old.now) result }
+        ensures err { OnErr result (self.new ≡ self.old) }
+    {
+        if self.depth == 0 {
+            self.world.apply(change)?;
+            return Ok(());
+        }
+        self.journal.change(&mut self.world, change)?;
+        Ok(())
+    }
+
+    /// Puts a file. Refusals come in the order `BadName`, `TextTooLong`. A refusal changes nothing; `Memory`
+    /// is answered only where nothing else refuses.
+    /// (this project's profile)
+    pub fn put_file(&mut self, name: &str, text: &str) -> Result<(), WorldFault>
+        ensures ok { OnOk result (Becomes (with_file self.old.now name.now text.now) self.old self.new) }
+        ensures answer { IsAnswer (refusals.put_refusal name.now text.now) result }
+        ensures err { OnErr result (self.new ≡ self.old) }
+    {
+        if let Some(fault) = put_refusal(name, text) {
+            return Err(fault);
+        }
+        let name = String::from_str(self.alloc, name)?;
+        let text = String::from_str(self.alloc, text)?;
+        self.change(WorldChange::File(TableChange::Put(name, text)))
+    }
+
+    /// Puts more at the end of a file. Refusals come in the order `BadName`, `Absent`, `TextTooLong`.
+    /// A refusal changes nothing; `Memory`
+    /// is answered only where nothing else refuses. (this project's profile)
+    pub fn append_file(&mut self, name: &str, more: &str) -> Result<(), WorldFault>
+        ensures ok { OnOk result (Becomes (with_more self.old.now name.now more.now) self.old self.new) }
+        ensures answer { IsAnswer (append_refusal (finite.get self.old.now.files) name.now more.now) result }
+        ensures err { OnErr result (self.new ≡ self.old) }
+    {
+        if let Some(fault) = self.world.files.append_refusal(name, more) {
+            return Err(fault);
+        }
+        let name = String::from_str(self.alloc, name)?;
+        let more = String::from_str(self.alloc, more)?;
+        self.change(WorldChange::File(TableChange::Append(name, more)))
+    }
+
+    /// Removes a file. Refusals come in the order `BadName`, `Absent`. A refusal changes nothing; `Memory`
+    /// is answered only where nothing else refuses.
+    /// (this project's profile)
+    pub fn remove_file(&mut self, name: &str) -> Result<(), WorldFault>
+        ensures ok { OnOk result (Becomes (without_file self.old.now name.now) self.old self.new) }
+        ensures answer { IsAnswer (remove_refusal (finite.get self.old.now.files) name.now) result }
+        ensures err { OnErr result (self.new ≡ self.old) }
+    {
+        if let Some(fault) = self.world.files.remove_refusal(name) {
+            return Err(fault);
+        }
+        let name = String::from_str(self.alloc, name)?;
+        self.change(WorldChange::File(TableChange::Remove(name)))
+    }
+
+    /// Sets a variable. Refusals come in the order `BadName`, `TextTooLong`. A refusal changes nothing; `Memory`
+    /// is answered only where nothing else refuses.
+    /// (this project's profile)
+    pub fn put_env(&mut self, name: &str, text: &str) -> Result<(), WorldFault>
+        ensures ok { OnOk result (Becomes (with_env self.old.now name.now text.now) self.old self.new) }
+        ensures answer { IsAnswer (refusals.put_refusal name.now text.now) result }
+        ensures err { OnErr result (self.new ≡ self.old) }
+    {
+        if let Some(fault) = put_refusal(name, text) {
+            return Err(fault);
+        }
+        let name = String::from_str(self.alloc, name)?;
+        let text = String::from_str(self.alloc, text)?;
+        self.change(WorldChange::Env(TableChange::Put(name, text)))
+    }
+
+    /// Removes a variable. Refusals come in the order `BadName`, `Absent`. A refusal changes nothing; `Memory`
+    /// is answered only where nothing else refuses.
+    /// (this project's profile)
+    pub fn remove_env(&mut self, name: &str) -> Result<(), WorldFault>
+        ensures ok { OnOk result (Becomes (without_env self.old.now name.now) self.old self.new) }
+        ensures answer { IsAnswer (remove_refusal (finite.get self.old.now.env) name.now) result }
+        ensures err { OnErr result (self.new ≡ self.old) }
+    {
+        if let Some(fault) = self.world.env.remove_refusal(name) {
+            return Err(fault);
+        }
+        let name = String::from_str(self.alloc, name)?;
+        self.change(WorldChange::Env(TableChange::Remove(name)))
+    }
+
+    /// Sets a value of the innermost layer, which hides outer ones of its name while the layer lasts.
+    /// Refusals come in the order `BadName`, `TextTooLong`. A refusal changes nothing; `Memory`
+    /// is answered only where nothing else refuses.
+    /// (behave's documentation: context layers)
+    pub fn set_value(&mut self, name: &str, text: &str) -> Result<(), WorldFault>
+        requires { 0 < depth self.old }
+        ensures ok { OnOk result (Becomes (with_value self.old.now name.now text.now) self.old self.new) }
+        ensures answer { IsAnswer (refusals.put_refusal name.now text.now) result }
+        ensures err { OnErr result (self.new ≡ self.old) }
+    {
+        if let Some(fault) = put_refusal(name, text) {
+            return Err(fault);
+        }
+        let name = String::from_str(self.alloc, name)?;
+        let text = String::from_str(self.alloc, text)?;
+        let layer = self.depth();
+        self.change(WorldChange::Value(ValueChange::Set(layer, name, text)))
+    }
+
+    /// Deletes a value of the innermost layer. Refusals come in the order `BadName`, `Absent` (no layer
+    /// has it), `OtherLayer` (outer layers alone have it). A refusal changes nothing; `Memory`
+    /// is answered only where nothing else refuses.
+    /// (behave's documentation: context layers)
+    pub fn delete_value(&mut self, name: &str) -> Result<(), WorldFault>
+        requires { 0 < depth self.old }
+        ensures ok { OnOk result (Becomes (without_value self.old.now name.now) self.old self.new) }
+        ensures answer { IsAnswer (delete_refusal (state_of self.old.now) name.now) result }
+        ensures err { OnErr result (self.new ≡ self.old) }
+    {
+        let layer = self.depth();
+        if let Some(fault) = self.world.values.delete_refusal(layer, name) {
+            return Err(fault);
+        }
+        let name = String::from_str(self.alloc, name)?;
+        self.change(WorldChange::Value(ValueChange::Delete(layer, name)))
+    }
+
+    /// The text of a file, if there is one of this name. It takes no memory.
+    pub fn file(&self, name: &str) -> Option<&str>
+        ensures { option_copied result ≡ finite.get self.now.now.files name.now }
+    {
+        self.world.files.get(name)
+    }
+
+    /// The text of a variable, if there is one of this name. It takes no memory.
+    pub fn env(&self, name: &str) -> Option<&str>
+        ensures { option_copied result ≡ finite.get self.now.now.env name.now }
+    {
+        self.world.env.get(name)
+    }
+
+    /// The value that is seen under this name, if there is one. It takes no memory.
+    /// (behave's documentation: context layers)
+    pub fn value(&self, name: &str) -> Option<&str>
+        ensures { option_copied result ≡ see (state_of self.now.now) name.now }
+    {
+        self.world.values.get(self.depth, name)
+    }
+
+    /// Files, variables and seen values, sorted by name.
+    pub fn listing(&self) -> Result<Listing, AllocError>
+        ensures { IfOk result (IsListing (state_of self.now.now)) }
+    {
+        self.world.listing(self.alloc, self.depth)
+    }
+}
+
+/// Whatever is done in a layer, by changes, refused ones among them, and by inner layers that end, its end
+/// gives back the contents at its beginning, and leaves the layers further out as they were.
+/// (behave's documentation: context layers)
+pub fn layers_give_back()
+    ensures { LayersGiveBack }
+{}
+
+/// What each change of the contents is to the plain state.
+/// (behave's documentation: context layers)
+pub fn changes_are_of_state()
+    ensures { ChangesAreOfState }
+{}

@@ -1,0 +1,167 @@
+//! Rows of cells by name, each a text or absent. Each change can be undone.
+ghost use Rattle.std.specs.Prelude.{◌≡◌, ℕ, List, [], ◌<◌, length, MatchOption, None, Some, OnOk, OnErr, IfOk, IfErr, IfSome, IfNone, is_none, true, false, option_map, option_copied, string_bytes, slice_index_or, slice_set};
+ghost use Rattle.std.specs.FinMap as finite;
+ghost use Rattle.gk_world.specs.Slots.{map_at, with_cell, cells_of, name_at, Writes, IsPlace, IsMissing, IsAt, IsNew};
+ghost use Rattle.gk_world.specs.Cells.{cell_at};
+ghost use Rattle.gk_world.specs.Slots.{slots_of};
+ghost use Rattle.gk_world.specs.Slots.{HasCell, Fits, undone};
+
+use crate::cells::Cells;
+use crate::world_fault::WorldFault;
+use indexmap::IndexMap;
+use std::alloc::Global;
+use std::marker::Model;
+
+/// The inverse of one change of one row. (this project's profile)
+#[derive(Drop)]
+pub enum SlotUndo {
+    /// The row at a place had this in a cell.
+    Restore(usize, usize, Option<String>),
+    /// The row at a place is new, and has its only text in this cell.
+    Created(usize, usize),
+}
+
+/// Rows in the order in which their names came. A row stays, where all of its cells are absent.
+#[derive(Drop)]
+pub struct Slots<C: Cells> {
+    rows: IndexMap<String, C>,
+}
+
+impl<C: Cells> Model for Slots<C> {
+    ghost use Rattle.std.specs.Prelude.{List};
+    ghost use Rattle.gk_world.specs.Cells.{Slot};
+    ghost use Rattle.gk_world.specs.Slots.{slots_of};
+
+    ghost Value = { List Slot };
+
+    ghost view = { λ s. slots_of C.cells s.rows.entries };
+}
+
+impl<C: Cells> Slots<C> {
+    pub fn new(alloc: Global) -> Self
+        ensures { result ≡ [] }
+    {
+        Slots {
+            rows: IndexMap::new(alloc),
+        }
+    }
+
+    /// The place of a name's row.
+    fn place(&self, name: &str) -> Option<usize>
+        ensures { MatchOption result (IsNew name.now self.now) (λ i. IsAt name.now self.now i) }
+    {
+        self.rows.get_index_of(name)
+    }
+
+    /// What is in a cell of the row at a place.
+    fn cell(&self, place: usize, cell: usize) -> Option<&str>
+        requires place { place < length self.now }
+        requires cell { cell < C.width }
+        ensures { option_copied result ≡ cell_at cell (cells_of self.now place) }
+    {
+        self.rows[place].text(cell)
+    }
+
+    /// Puts a text, or none, into a cell of the row at a place.
+    fn write(&mut self, place: usize, cell: usize, text: Option<String>) -> SlotUndo
+        requires first { IsPlace (name_at self.old place) self.old place }
+        requires cell { cell < C.width }
+        ensures writes { (name : List ℕ) → IsPlace name self.old place → Writes name cell (option_map string_bytes text) self.old self.new }
+        ensures set { self.new ≡ with_cell self.old place cell (option_map string_bytes text) }
+        ensures fits { Fits C.width result self.new }
+        ensures before { undone result self.new ≡ self.old }
+    {
+        let cells = &mut self.rows[place];
+        let old = cells.replace(cell, text);
+        SlotUndo::Restore(place, cell, old)
+    }
+
+    /// Adds a row, as the last, with its only text in a cell.
+    fn push(&mut self, name: String, cell: usize, text: String) -> Result<SlotUndo, WorldFault>
+        requires missing { IsMissing (string_bytes name) self.old }
+        requires cell { cell < C.width }
+        ensures writes { OnOk result (Writes (string_bytes name) cell (Some (string_bytes text)) self.old self.new) }
+        ensures fits { IfOk result (λ u. Fits C.width u self.new) }
+        ensures before { IfOk result (λ u. undone u self.new ≡ self.old) }
+        ensures err { OnErr result (self.new ≡ self.old) }
+        ensures memory { IfErr result (λ e. e ≡ WorldFault.Memory) }
+    {
+        let place = self.rows.len();
+        self.rows.insert(name, C::only(cell, text))?;
+        Ok(SlotUndo::Created(place, cell))
+    }
+
+    /// How many rows there are.
+    pub fn len(&self) -> usize
+        ensures { result ≡ length self.now }
+    {
+        self.rows.len()
+    }
+
+    /// The name of the row at a place.
+    pub fn name(&self, place: usize) -> &str
+        requires { place < length self.now }
+        ensures { result.now ≡ name_at self.now place }
+    {
+        match self.rows.get_index(place) {
+            Some((name, _)) => name.as_str(),
+            None => "",
+        }
+    }
+
+    /// The text in a cell of a name.
+    pub fn text(&self, name: &str, cell: usize) -> Option<&str>
+        requires { cell < C.width }
+        ensures { option_copied result ≡ finite.get (map_at cell self.now) name.now }
+    {
+        match self.place(name) {
+            Some(place) => self.cell(place, cell),
+            None => None,
+        }
+    }
+
+    /// Sets the text in a cell of a name. A name without a row gets one, which is the last.
+    pub fn put(&mut self, name: String, cell: usize, text: String) -> Result<SlotUndo, WorldFault>
+        requires { cell < C.width }
+        ensures writes { OnOk result (Writes (string_bytes name) cell (Some (string_bytes text)) self.old self.new) }
+        ensures fits { IfOk result (λ u. Fits C.width u self.new) }
+        ensures before { IfOk result (λ u. undone u self.new ≡ self.old) }
+        ensures err { OnErr result (self.new ≡ self.old) }
+        ensures memory { IfErr result (λ e. e ≡ WorldFault.Memory) }
+    {
+        match self.place(name.as_str()) {
+            Some(place) => Ok(self.write(place, cell, Some(text))),
+            None => self.push(name, cell, text),
+        }
+    }
+
+    /// Takes the text out of a cell of a name, if there is one. The row stays.
+    pub fn remove(&mut self, name: &str, cell: usize) -> Option<SlotUndo>
+        requires { cell < C.width }
+        ensures writes { IfSome result (λ _. Writes name.now cell None self.old self.new) }
+        ensures fits { IfSome result (λ u. Fits C.width u self.new) }
+        ensures before { IfSome result (λ u. undone u self.new ≡ self.old) }
+        ensures found { IfSome result (λ _. is_none (finite.get (map_at cell self.old) name.now) ≡ false) }
+        ensures absent { IfNone result (is_none (finite.get (map_at cell self.old) name.now) ≡ true) }
+        ensures none { IfNone result (self.new ≡ self.old) }
+    {
+        let place = self.place(name)?;
+        self.cell(place, cell)?;
+        Some(self.write(place, cell, None))
+    }
+
+    /// Takes a change back. It takes no memory.
+    pub fn undo(&mut self, undo: SlotUndo)
+        requires { Fits C.width undo self.old }
+        ensures { self.new ≡ undone undo self.old }
+    {
+        match undo {
+            SlotUndo::Restore(place, cell, old) => {
+                self.write(place, cell, old);
+            }
+            SlotUndo::Created(_, _) => {
+                self.rows.pop();
+            }
+        }
+    }
+}

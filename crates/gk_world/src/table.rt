@@ -1,0 +1,167 @@
+//! A table of texts by name, as of files or of variables.
+ghost use Rattle.std.specs.Prelude.{◌≡◌, ℕ, List, [], ◌++◌, IfOk, IfErr, OnOk, OnErr, MatchOption, None, Some, option_copied};
+ghost use Rattle.std.specs.FinMap as finite;
+ghost use Rattle.gk_world.specs.Slots.{map_at};
+ghost use Rattle.gk_world.specs.Listing.{Lists};
+ghost use Rattle.gk_world.specs.Refusals as refusals;
+ghost use Rattle.gk_world.specs.Slots.{Fits, undone};
+ghost use Rattle.gk_world.specs.Table.{Steps, Refuses};
+
+use crate::limits::{is_bad_name, is_too_long, joined, put_refusal};
+use crate::listing::{note, sorted};
+use crate::reversible::Reversible;
+use crate::slots::{SlotUndo, Slots};
+use crate::world_fault::WorldFault;
+use std::alloc::{AllocError, Global};
+use std::collections::BTreeMap;
+use std::marker::Model;
+
+/// A change of a table. (this project's profile)
+#[derive(Drop)]
+pub enum TableChange {
+    /// This name has this text.
+    Put(String, String),
+    /// The text of this name has this at its end.
+    Append(String, String),
+    /// This name has no text.
+    Remove(String),
+}
+
+/// Texts by name, as of files or of variables. A removed name keeps its place. (this project's profile)
+#[derive(Drop)]
+pub struct Table {
+    alloc: Global,
+    slots: Slots<Option<String>>,
+}
+
+impl Model for Table {
+    ghost use Rattle.std.specs.Prelude.{List};
+    ghost use Rattle.gk_world.specs.Cells.{Slot};
+
+    ghost Value = { List Slot };
+
+    ghost view = { λ t. t.slots };
+}
+
+impl Table {
+    /// A table without names. It takes no memory.
+    pub fn new(alloc: Global) -> Self
+        ensures { result ≡ [] }
+    {
+        Table {
+            alloc,
+            slots: Slots::new(alloc),
+        }
+    }
+
+    /// The text of a name, if it has one. It takes no memory.
+    pub fn get(&self, name: &str) -> Option<&str>
+        ensures { option_copied result ≡ finite.get (map_at 0 self.now) name.now }
+    {
+        self.slots.text(name, 0)
+    }
+
+    /// Why the text of a name can't have more at its end, if there is a reason.
+    pub fn append_refusal(&self, name: &str, more: &str) -> Option<WorldFault>
+        ensures { let refusal = refusals.append_refusal (finite.get (map_at 0 self.now)) name.now more.now in MatchOption result (refusal ≡ None) (refusals.IsFault refusal) }
+    {
+        if is_bad_name(name) {
+            return Some(WorldFault::BadName);
+        }
+        let Some(text) = self.get(name) else {
+            return Some(WorldFault::Absent);
+        };
+        if is_too_long(text, more) {
+            return Some(WorldFault::TextTooLong);
+        }
+        None
+    }
+
+    /// Why a name can't be removed, if there is a reason.
+    pub fn remove_refusal(&self, name: &str) -> Option<WorldFault>
+        ensures { let refusal = refusals.remove_refusal (finite.get (map_at 0 self.now)) name.now in MatchOption result (refusal ≡ None) (refusals.IsFault refusal) }
+    {
+        if is_bad_name(name) {
+            return Some(WorldFault::BadName);
+        }
+        if self.get(name).is_none() {
+            return Some(WorldFault::Absent);
+        }
+        None
+    }
+
+    /// The names that have a text, with it, sorted by name.
+    pub fn listing(&self, alloc: Global) -> Result<Vec<(String, String)>, AllocError>
+        ensures { IfOk result (λ pairs. Lists (finite.get (map_at 0 self.now)) pairs.items) }
+    {
+        let mut texts = BTreeMap::new(alloc);
+        for place in 0..self.slots.len() {
+            let name = self.slots.name(place);
+            note(alloc, &mut texts, name, self.slots.text(name, 0))?;
+        }
+        sorted(alloc, texts)
+    }
+}
+
+impl Reversible for Table {
+    type Change = TableChange;
+
+    type Undo = SlotUndo;
+
+    ghost use Rattle.std.specs.Prelude.{List};
+    ghost use Rattle.gk_world.specs.Cells.{Slot};
+    ghost use Rattle.gk_world.specs.Slots.{Fits, undone};
+    ghost use Rattle.gk_world.specs.Table.{Steps, Refuses};
+
+    ghost Slots = { List Slot };
+
+    ghost slots = { λ s. s };
+
+    ghost fits = { Fits 1 };
+
+    ghost undone = { undone };
+
+    ghost stepped = { Steps };
+
+    ghost refuses = { Refuses };
+
+    fn apply(&mut self, change: TableChange) -> Result<SlotUndo, WorldFault>
+        ensures fits { IfOk result (λ u. Fits 1 u self.new) }
+        ensures before { IfOk result (λ u. undone u self.new ≡ self.old) }
+        ensures done { OnOk result (Steps change self.old self.new) }
+        ensures err { OnErr result (self.new ≡ self.old) }
+        ensures refused { IfErr result (Refuses change self.old) }
+    {
+        match change {
+            TableChange::Put(name, text) => {
+                if let Some(fault) = put_refusal(&name, &text) {
+                    return Err(fault);
+                }
+                self.slots.put(name, 0, text)
+            }
+            TableChange::Append(name, more) => {
+                if let Some(fault) = self.append_refusal(&name, &more) {
+                    return Err(fault);
+                }
+                let Some(text) = self.slots.text(&name, 0) else {
+                    return Err(WorldFault::Absent);
+                };
+                let text = joined(self.alloc, text, &more)?;
+                self.slots.put(name, 0, text)
+            }
+            TableChange::Remove(name) => {
+                if let Some(fault) = self.remove_refusal(&name) {
+                    return Err(fault);
+                }
+                match self.slots.remove(&name, 0) {
+                    Some(undo) => Ok(undo),
+                    None => Err(WorldFault::Absent),
+                }
+            }
+        }
+    }
+
+    fn undo(&mut self, undo: SlotUndo) {
+        self.slots.undo(undo);
+    }
+}

@@ -1,0 +1,154 @@
+//! Values by name, in layers.
+ghost use Rattle.std.specs.Prelude.{◌≡◌, ℕ, ◌≤◌, List, [], IfOk, IfErr, OnOk, OnErr, MatchOption, None, Some, option_copied};
+ghost use Rattle.std.specs.FinMap as finite;
+ghost use Rattle.gk_world.specs.State.{see};
+ghost use Rattle.gk_world.specs.Listing.{Lists};
+ghost use Rattle.gk_world.specs.Refusals as refusals;
+ghost use Rattle.gk_world.specs.Slots.{Fits, undone};
+ghost use Rattle.gk_world.specs.Values.{Steps, Refuses, IsLayer, layer_of, state_at};
+
+use crate::cells::LAYERS;
+use crate::limits::{is_bad_name, put_refusal};
+use crate::listing::{note, sorted};
+use crate::reversible::Reversible;
+use crate::slots::{SlotUndo, Slots};
+use crate::world_fault::WorldFault;
+use std::alloc::{AllocError, Global};
+use std::collections::BTreeMap;
+use std::marker::Model;
+
+/// A change of the values of a layer, which is counted from 1 at the outermost. Cells of inner layers
+/// aren't looked at. (behave's documentation: context layers)
+#[derive(Drop)]
+pub enum ValueChange {
+    /// In this layer this name has this text.
+    Set(usize, String, String),
+    /// In this layer this name has no text.
+    Delete(usize, String),
+}
+
+/// Values by name, each with a cell for each layer. A name keeps its place.
+#[derive(Drop)]
+pub struct Values {
+    slots: Slots<[Option<String>; LAYERS]>,
+}
+
+impl Model for Values {
+    ghost use Rattle.std.specs.Prelude.{List};
+    ghost use Rattle.gk_world.specs.Cells.{Slot};
+
+    ghost Value = { List Slot };
+
+    ghost view = { λ v. v.slots };
+}
+
+impl Values {
+    /// Values without names. It takes no memory.
+    pub fn new(alloc: Global) -> Self
+        ensures { result ≡ [] }
+    {
+        Values {
+            slots: Slots::new(alloc),
+        }
+    }
+
+    /// The value that is seen in the innermost of so many layers, if there is one. It takes no memory.
+    pub fn get(&self, layers: usize, name: &str) -> Option<&str>
+        requires { layers ≤ LAYERS }
+        ensures { option_copied result ≡ see (state_at layers self.now) name.now }
+    {
+        for layer in (0..layers).rev() {
+            if let Some(text) = self.slots.text(name, layer) {
+                return Some(text);
+            }
+        }
+        None
+    }
+
+    /// Why a name can't be deleted in the innermost of so many layers, if there is a reason.
+    pub fn delete_refusal(&self, layers: usize, name: &str) -> Option<WorldFault>
+        requires { IsLayer layers }
+        ensures { let refusal = refusals.delete_refusal (state_at layers self.now) name.now in MatchOption result (refusal ≡ None) (refusals.IsFault refusal) }
+    {
+        if is_bad_name(name) {
+            return Some(WorldFault::BadName);
+        }
+        if self.get(layers, name).is_none() {
+            return Some(WorldFault::Absent);
+        }
+        if self.slots.text(name, layers - 1).is_none() {
+            return Some(WorldFault::OtherLayer);
+        }
+        None
+    }
+
+    /// The names that have a value in one of so many layers, with the value that is seen, sorted by name.
+    pub fn listing(&self, alloc: Global, layers: usize) -> Result<Vec<(String, String)>, AllocError>
+        requires { layers ≤ LAYERS }
+        ensures { IfOk result (λ pairs. Lists (see (state_at layers self.now)) pairs.items) }
+    {
+        let mut texts = BTreeMap::new(alloc);
+        for place in 0..self.slots.len() {
+            let name = self.slots.name(place);
+            note(alloc, &mut texts, name, self.get(layers, name))?;
+        }
+        sorted(alloc, texts)
+    }
+}
+
+impl Reversible for Values {
+    type Change = ValueChange;
+
+    type Undo = SlotUndo;
+
+    ghost use Rattle.std.specs.Prelude.{List};
+    ghost use Rattle.gk_world.specs.Cells.{Slot};
+    ghost use Rattle.gk_world.specs.Slots.{Fits, undone};
+    ghost use Rattle.gk_world.specs.declared.cells.TheConstants.{LAYERS};
+    ghost use Rattle.gk_world.specs.Values.{Steps, Refuses, IsLayer, layer_of};
+
+    ghost Slots = { List Slot };
+
+    ghost slots = { λ s. s };
+
+    ghost fits = { Fits LAYERS };
+
+    ghost undone = { undone };
+
+    ghost stepped = { Steps };
+
+    ghost refuses = { Refuses };
+
+    ghost can_apply = { λ c. IsLayer (layer_of c) };
+
+    fn apply(&mut self, change: ValueChange) -> Result<SlotUndo, WorldFault>
+        requires { IsLayer (layer_of change) }
+        ensures fits { IfOk result (λ u. Fits LAYERS u self.new) }
+        ensures before { IfOk result (λ u. undone u self.new ≡ self.old) }
+        ensures done { OnOk result (Steps change self.old self.new) }
+        ensures err { OnErr result (self.new ≡ self.old) }
+        ensures refused { IfErr result (Refuses change self.old) }
+    {
+        match change {
+            ValueChange::Set(layer, name, text) => {
+                if let Some(fault) = put_refusal(&name, &text) {
+                    return Err(fault);
+                }
+                self.slots.put(name, layer - 1, text)
+            }
+            ValueChange::Delete(layer, name) => {
+                if let Some(fault) = self.delete_refusal(layer, &name) {
+                    return Err(fault);
+                }
+                match self.slots.remove(&name, layer - 1) {
+                    Some(undo) => Ok(undo),
+                    None => Err(WorldFault::OtherLayer),
+                }
+            }
+        }
+    }
+
+    fn undo(&mut self, undo: SlotUndo) {
+        self.slots.undo(undo);
+    }
+}
