@@ -1,0 +1,300 @@
+-- What the world's changes and answers are to the table of actions.
+use Rattle.std.specs.Prelude.{⊤, ℤ, pos, ◌+ℤ◌, not, ◌==◌, String, string_bytes, FitsSigned, cond, nat_eq, option_map, ◌&&◌, Option, Some, None, Result, Ok, Err, OnOk, OnErr, bytes_eq, map, unwrap_or, is_none}
+use Rattle.std.specs.FinMap as finite
+use Rattle.std.specs.FinMap.{get-insert, get-remove}
+use Rattle.std.specs.Option.{option_copied}
+use Rattle.std.specs.Str.Parse.{signed_digits_value}
+use Rattle.std.specs.Fmt.{signed_decimal}
+use Rattle.std.proofs.Common.{◌≢◌, ◌≤◌, Vec, Global, vec_len, get_or, drop-cons, add-one, w64, ◌≡◌, ◌⊎◌, inl, inr, ℕ, suc, ◌+◌, ◌<◌, Bool, true, false, List, [], ◌∷◌, length, drop, refl, sym, ap, subst, ◌∙◌, arith, rules}
+use Rattle.std.proofs.lemmas.Bool.{eqb-true}
+use Rattle.std.proofs.lemmas.Bool.Decides.{Decides-ltb}
+use Rattle.std.proofs.lemmas.List.{length-map, drop_all}
+use Rattle.std.proofs.lemmas.Fmt.{length_signed_le}
+use Rattle.std.proofs.lemmas.Cmp.{nat_list_cmp_total}
+use Rattle.std.proofs.lemmas.Map.Text.{is_eq-slice_cmp}
+use Rattle.gk_world.specs.declared.world_fault.WorldFault.{WorldFault}
+use Rattle.gk_world.specs.declared.world_fault.WorldFault.TheVariants as faults
+use Rattle.gk_world.specs.Contents.{Texts, Contents}
+use Rattle.gk_world.specs.State.{State, Map, with_text, without, laid, see, state_of}
+use Rattle.gk_world.specs.Refusals.{first_true, IsAnswer, IsFault, joined, is_bad_name, is_too_long}
+use Rattle.gk_world.specs.Sandbox as changes
+use Rattle.gk_world.specs.Sandbox.{SandboxValue, Becomes}
+use Rattle.gk_run.specs.declared.results.Outcome.{Outcome}
+use Rattle.gk_run.specs.declared.results.Outcome.TheVariants as outcomes
+use Rattle.gk_run.specs.declared.results.Reason.{Reason}
+use Rattle.gk_run.specs.declared.results.Reason.TheVariants as reasons
+use Rattle.gk_run.proofs.NumbersLemmas.{not_so, second_of, in_range_fits}
+use Rattle.gk_steps.specs.declared.action.Action.{Action}
+use Rattle.gk_steps.specs.Finding.{LibraryValue, FoundValue, action_of}
+use Rattle.gk_run.specs.Numbers.{is_number, number_of, is_in_range}
+use Rattle.gk_gherkin.specs.Feature.{BlockValue, texts}
+use Rattle.gk_run.specs.Acting.{Given, given, table, act, changes_nothing, write_row, write_rows, have_two_cells, Done, add_number, is_pass, and_then, set_own, passes, fails, unless, unless_for, with_T, absent, differs, reason_of, outcome_of, IsExactly, IsDone, IsActed, KeepsLayers, IsText, HasText, IsNumber, lacks, not_number, differs_from, with_file, without_file, with_env, without_env, with_own, without_own}
+
+-- a map with a text put in
+inserted : (m : Texts) (name text : List ℕ) → finite.get (finite.insert m name text) ≡ with_text (finite.get m) name text
+inserted m name text i other = (get-insert nat_list_cmp_total m name text other ∙ ap (λ b. cond b (Some text) (finite.get m other)) (is_eq-slice_cmp other name)) i
+
+-- a map with a name taken out
+removed : (m : Texts) (name : List ℕ) → finite.get (finite.remove m name) ≡ without (finite.get m) name
+removed m name i other = (get-remove nat_list_cmp_total m name other ∙ ap (λ b. cond b None (finite.get m other)) (is_eq-slice_cmp other name)) i
+
+-- changes of the contents are changes of the plain state
+pub file_put : (c : Contents) (name text : List ℕ) → state_of (changes.with_file c name text) ≡ with_file (state_of c) name text
+file_put c name text = ap (λ (m : Map). let s : State = state_of c in record s { files = m }) (inserted c.files name text)
+
+pub file_removed : (c : Contents) (name : List ℕ) → state_of (changes.without_file c name) ≡ without_file (state_of c) name
+file_removed c name = ap (λ (m : Map). let s : State = state_of c in record s { files = m }) (removed c.files name)
+
+pub env_put : (c : Contents) (name text : List ℕ) → state_of (changes.with_env c name text) ≡ with_env (state_of c) name text
+env_put c name text = ap (λ (m : Map). let s : State = state_of c in record s { env = m }) (inserted c.env name text)
+
+pub env_removed : (c : Contents) (name : List ℕ) → state_of (changes.without_env c name) ≡ without_env (state_of c) name
+env_removed c name = ap (λ (m : Map). let s : State = state_of c in record s { env = m }) (removed c.env name)
+
+value_put_in : (c : Contents) (values : List Texts) → c.values ≡ values → 0 < length values → (name text : List ℕ) → state_of (changes.with_value c name text) ≡ with_own (state_of c) name text
+value_put_in c [] e some name text = let never : ⊥ = omega (arith, some) in absurd never
+value_put_in c (v ∷ vs) e some name text = rw e (ap (λ (m : Map). let s : State = record { files = finite.get c.files; env = finite.get c.env; outer = laid vs; own = m } in s) (inserted v name text))
+
+pub value_put : (c : Contents) → 0 < length c.values → (name text : List ℕ) → state_of (changes.with_value c name text) ≡ with_own (state_of c) name text
+value_put c some name text = value_put_in c c.values refl some name text
+
+value_removed_in : (c : Contents) (values : List Texts) → c.values ≡ values → 0 < length values → (name : List ℕ) → state_of (changes.without_value c name) ≡ without_own (state_of c) name
+value_removed_in c [] e some name = let never : ⊥ = omega (arith, some) in absurd never
+value_removed_in c (v ∷ vs) e some name = rw e (ap (λ (m : Map). let s : State = record { files = finite.get c.files; env = finite.get c.env; outer = laid vs; own = m } in s) (removed v name))
+
+pub value_removed : (c : Contents) → 0 < length c.values → (name : List ℕ) → state_of (changes.without_value c name) ≡ without_own (state_of c) name
+value_removed c some name = value_removed_in c c.values refl some name
+
+-- the world's tests with the reasons of their faults
+abbrev pub reasons_of : List (Bool × WorldFault) → List (Bool × Reason)
+reasons_of ws = map (λ w. (w.0, reason_of w.1)) ws
+
+first_reason : (ws : List (Bool × WorldFault)) → first_true (reasons_of ws) ≡ option_map reason_of (first_true ws)
+first_reason [] = refl
+first_reason ((true, fault) ∷ ws) = refl
+first_reason ((false, fault) ∷ ws) = first_reason ws
+
+carried : (s : State) (ws : List (Bool × WorldFault)) (after new : State) → first_true ws ≡ None → new ≡ after → IsExactly (unless s (reasons_of ws) after) outcomes.Passed new
+carried s ws after new none e = let f : first_true (reasons_of ws) ≡ None = first_reason ws ∙ ap (option_map reason_of) none in rw f (refl, e)
+
+failed : (s : State) (ws : List (Bool × WorldFault)) (after : State) (fault : WorldFault) → first_true ws ≡ Some fault → IsExactly (unless s (reasons_of ws) after) (outcomes.Failed (reason_of fault)) s
+failed s ws after fault why = let f : first_true (reasons_of ws) ≡ Some (reason_of fault) = first_reason ws ∙ ap (option_map reason_of) why in rw f (refl, refl)
+
+-- a refused change
+refused : (s : State) (ws : List (Bool × WorldFault)) (after : State) (fault : WorldFault) → IsFault (first_true ws) fault → IsDone (unless s (reasons_of ws) after) (outcome_of {A = ⊤} (Err fault)) s
+refused s ws after faults.Memory why = tt
+refused s ws after faults.Absent why = failed s ws after faults.Absent why
+refused s ws after faults.TextTooLong why = failed s ws after faults.TextTooLong why
+refused s ws after faults.BadName why = failed s ws after faults.BadName why
+refused s ws after faults.OtherLayer why = failed s ws after faults.OtherLayer why
+
+acted_so : (ws : List (Bool × WorldFault)) (r : Result ⊤ WorldFault) (old new : SandboxValue) (changed : Contents) (after : State)
+    → OnOk r (Becomes changed old new) → IsAnswer (first_true ws) r → OnErr r (new ≡ old) → state_of changed ≡ after
+    → IsActed (unless (state_of old.now) (reasons_of ws) after) old (outcome_of r) new
+acted_so ws (Ok x) old new changed after ok answer err e = record { carried_out = carried (state_of old.now) ws after (state_of new.now) answer (ap state_of ok.contents ∙ e); layers = record { saved = ok.layers; marks = ok.marks } }
+acted_so ws (Err fault) old new changed after ok answer err e =
+    let P : SandboxValue → Type 0 = λ v. IsActed (unless (state_of old.now) (reasons_of ws) after) old (outcome_of {A = ⊤} (Err fault)) v in
+    subst P (sym err) (record { carried_out = refused (state_of old.now) ws after fault answer; layers = record { saved = refl; marks = refl } })
+
+-- a change of the world by one call
+pub acted : (ws : List (Bool × WorldFault)) (r : Result ⊤ WorldFault) (o : Outcome) (old new : SandboxValue) (changed : Contents) (after : State) → o ≡ outcome_of r
+    → OnOk r (Becomes changed old new) → IsAnswer (first_true ws) r → OnErr r (new ≡ old) → state_of changed ≡ after
+    → IsActed (unless (state_of old.now) (reasons_of ws) after) old o new
+acted ws r o old new changed after is ok answer err e =
+    let P : Outcome → Type 0 = λ p. IsActed (unless (state_of old.now) (reasons_of ws) after) old p new in
+    subst P (sym is) (acted_so ws r old new changed after ok answer err e)
+
+-- a text at the end of a file's
+pub file_extended : (c : Contents) (name more : List ℕ) → state_of (changes.with_more c name more) ≡ with_file (state_of c) name (joined (finite.get c.files) name more)
+file_extended c name more = file_put c name (joined (finite.get c.files) name more)
+
+-- the world's tests for each of its changes
+abbrev pub put_tests : List ℕ → List ℕ → List (Bool × WorldFault)
+put_tests name text = (is_bad_name name, faults.BadName) ∷ (is_too_long text, faults.TextTooLong) ∷ []
+
+abbrev pub append_tests : Map → List ℕ → List ℕ → List (Bool × WorldFault)
+append_tests files name more = (is_bad_name name, faults.BadName) ∷ (is_none (files name), faults.Absent) ∷ (is_too_long (joined files name more), faults.TextTooLong) ∷ []
+
+abbrev pub remove_tests : Map → List ℕ → List (Bool × WorldFault)
+remove_tests held name = (is_bad_name name, faults.BadName) ∷ (is_none (held name), faults.Absent) ∷ []
+
+abbrev pub delete_tests : State → List ℕ → List (Bool × WorldFault)
+delete_tests s name = (is_bad_name name, faults.BadName) ∷ (is_none (see s name), faults.Absent) ∷ (is_none (s.own name), faults.OtherLayer) ∷ []
+
+-- an action that changes nothing is carried out as well
+exact_done : (done : Done) (o : Outcome) (s : State) → IsExactly done o s → IsDone done o s
+exact_done done outcomes.Passed s h = h
+exact_done done (outcomes.Failed why) s h = h
+exact_done done outcomes.Memory s h = tt
+
+pub unchanged : (done : Done) (old : SandboxValue) (o : Outcome) → IsExactly done o (state_of old.now) → IsActed done old o old
+unchanged done old o h = record { carried_out = exact_done done o (state_of old.now) h; layers = record { saved = refl; marks = refl } }
+
+-- the text that is held, by its look-up
+pub text_checked : (held looked : Option (List ℕ)) (text : Option (List ℕ)) (o : Outcome) (s : State) → held ≡ looked → IsText held text o
+    → IsExactly (with_T s text (λ t. unless s (absent looked ∷ differs looked t ∷ []) s)) o s
+text_checked held looked text o s e h = let P : Option (List ℕ) → Type 0 = λ x. IsText x text o in subst P e h s
+
+pub part_checked : (held looked : Option (List ℕ)) (text : Option (List ℕ)) (o : Outcome) (s : State) → held ≡ looked → HasText held text o
+    → IsExactly (with_T s text (λ t. unless s (absent looked ∷ lacks looked t ∷ []) s)) o s
+part_checked held looked text o s e h = let P : Option (List ℕ) → Type 0 = λ x. HasText x text o in subst P e h s
+
+pub number_checked : (held looked : Option (List ℕ)) (n : ℤ) (o : Outcome) (s : State) → held ≡ looked → IsNumber held n o
+    → IsExactly (unless s (absent looked ∷ not_number looked ∷ differs_from looked n ∷ []) s) o s
+number_checked held looked n o s e h = let P : Option (List ℕ) → Type 0 = λ x. IsNumber x n o in subst P e h s
+
+-- an action in two parts, of which the first passed
+pub part_passes : (this : Done) (next : State → Done) (old mid new : SandboxValue) (written o : Outcome) → written ≡ outcomes.Passed → IsActed this old written mid → IsActed (next (state_of mid.now)) mid o new
+    → IsActed (and_then this (next this.state)) old o new
+part_passes this next old mid new written o is h k =
+    let W : Outcome → Type 0 = λ w. IsActed this old w mid in
+    let first : IsActed this old outcomes.Passed mid = subst W is h in
+    let P : State → Type 0 = λ s. IsActed (next s) mid o new in
+    let second : IsActed (next this.state) mid o new = subst P first.carried_out.1 k in
+    let Q : Done → Type 0 = λ d. IsDone d o (state_of new.now) in
+    let e : next this.state ≡ and_then this (next this.state) = ap (λ p. cond (is_pass p) (next this.state) this) first.carried_out.0 in
+    record { carried_out = subst Q e second.carried_out; layers = record { saved = second.layers.saved ∙ first.layers.saved; marks = second.layers.marks ∙ first.layers.marks } }
+
+-- an action in two parts, which ended with the first
+pub part_ends : (this next : Done) (old new : SandboxValue) (o : Outcome) → (o ≡ outcomes.Passed → ⊥) → IsActed this old o new → IsActed (and_then this next) old o new
+part_ends this next old new outcomes.Passed never h = absurd (never refl)
+part_ends this next old new outcomes.Memory never h = record { carried_out = tt; layers = h.layers }
+part_ends this next old new (outcomes.Failed why) never h =
+    let Q : Done → Type 0 = λ d. IsDone d (outcomes.Failed why) (state_of new.now) in
+    let e : this ≡ and_then this next = ap (λ p. cond (is_pass p) next this) h.carried_out.0 in
+    record { carried_out = subst Q e h.carried_out; layers = h.layers }
+
+-- a number's text is short
+short_number : (z : ℤ) (text : List ℕ) → FitsSigned w64 z → text ≡ signed_decimal z → is_too_long text ≡ false
+short_number z text fits e =
+    let few = length_signed_le 19 z (omega (arith, fits.sfits)) fits.sfits in
+    let same = ap (λ (bs : List ℕ). length bs) e in
+    not_so (is_too_long text) (1048576 < length text) ((Decides-ltb 1048576 (length text)).0) (λ more. omega (arith, few, same, more))
+
+pub number_set : (s : State) (name text : List ℕ) (z : ℤ) → is_bad_name name ≡ false → FitsSigned w64 z → text ≡ signed_decimal z → set_own s name text ≡ passes (with_own s name (signed_decimal z))
+number_set s name text z good fits e =
+    let short = short_number z text fits e in
+    let a = ap (λ (b : Bool). unless s ((b, reasons.BadName) ∷ (is_too_long text, reasons.TextTooLong) ∷ []) (with_own s name text)) good in
+    let b = ap (λ (b : Bool). unless s ((false, reasons.BadName) ∷ (b, reasons.TextTooLong) ∷ []) (with_own s name text)) short in
+    a ∙ b ∙ ap (λ (bs : List ℕ). passes (with_own s name bs)) e
+
+pub number_acted : (s : State) (name text : List ℕ) (z : ℤ) (old new : SandboxValue) (o : Outcome) → is_bad_name name ≡ false → FitsSigned w64 z → text ≡ signed_decimal z
+    → IsActed (set_own s name text) old o new → IsActed (passes (with_own s name (signed_decimal z))) old o new
+number_acted s name text z old new o good fits e h = let P : Done → Type 0 = λ d. IsActed d old o new in subst P (number_set s name text z good fits e) h
+
+-- a row's cells, as they lie in memory
+abbrev pub RowInMemory : Type 0
+RowInMemory = Vec (String Global) Global
+
+abbrev pub cells : RowInMemory → List (List ℕ)
+cells row = texts row.items
+
+-- the rows that are left, with the first of them
+rows_left : (rows : List RowInMemory) (i : ℕ) (row : RowInMemory) → i < length rows → row ≡ get_or rows i row → drop i rows ≡ row ∷ drop (i + 1) rows
+rows_left rows i row some is =
+    let a = drop-cons rows i row some in
+    let b = ap (λ r. r ∷ drop (suc i) rows) (sym is) in
+    let c = ap (λ n. row ∷ drop n rows) (sym (add-one i)) in
+    a ∙ b ∙ c
+
+-- a row that was written, before the others
+pub row_passed : (rows : List RowInMemory) (i : ℕ) (row : RowInMemory) (held : List (String Global)) (old mid new : SandboxValue) (written o : Outcome) → i < length rows → row ≡ get_or rows i row → held ≡ row.items
+    → written ≡ outcomes.Passed → IsActed (write_row (state_of old.now) (texts held)) old written mid
+    → IsActed (write_rows (state_of mid.now) (map (λ row. texts row.items) (drop (i + 1) rows))) mid o new
+    → IsActed (write_rows (state_of old.now) (map (λ row. texts row.items) (drop i rows))) old o new
+row_passed rows i row held old mid new written o some is items passed h k =
+    let P : List (String Global) → Type 0 = λ cs. IsActed (write_row (state_of old.now) (texts cs)) old written mid in
+    let Q : List RowInMemory → Type 0 = λ rs. IsActed (write_rows (state_of old.now) (map (λ row. texts row.items) rs)) old o new in
+    subst Q (sym (rows_left rows i row some is))
+    (part_passes (write_row (state_of old.now) (cells row)) (λ s. write_rows s (map (λ row. texts row.items) (drop (i + 1) rows))) old mid new written o passed (subst P items h) k)
+
+-- a row that ended the writing
+pub row_ended : (rows : List RowInMemory) (i : ℕ) (row : RowInMemory) (held : List (String Global)) (old new : SandboxValue) (o : Outcome) → i < length rows → row ≡ get_or rows i row → held ≡ row.items
+    → (o ≡ outcomes.Passed → ⊥) → IsActed (write_row (state_of old.now) (texts held)) old o new
+    → IsActed (write_rows (state_of old.now) (map (λ row. texts row.items) (drop i rows))) old o new
+row_ended rows i row held old new o some is items never h =
+    let P : List (String Global) → Type 0 = λ cs. IsActed (write_row (state_of old.now) (texts cs)) old o new in
+    let Q : List RowInMemory → Type 0 = λ rs. IsActed (write_rows (state_of old.now) (map (λ row. texts row.items) rs)) old o new in
+    subst Q (sym (rows_left rows i row some is))
+    (part_ends (write_row (state_of old.now) (cells row)) (write_rows ((write_row (state_of old.now) (cells row)).state) (map (λ row. texts row.items) (drop (i + 1) rows))) old new o never (subst P items h))
+
+-- no row is left
+pub rows_end : (rows : List RowInMemory) (i : ℕ) (s : SandboxValue) → length rows ≤ i → IsActed (write_rows (state_of s.now) (map (λ row. texts row.items) (drop i rows))) s outcomes.Passed s
+rows_end rows i s none =
+    let Q : List RowInMemory → Type 0 = λ rs. IsActed (write_rows (state_of s.now) (map (λ row. texts row.items) rs)) s outcomes.Passed s in
+    subst Q (sym (drop_all i rows none)) (record { carried_out = (refl, refl); layers = record { saved = refl; marks = refl } })
+
+-- a row of two cells, before the others
+pub two_more : (rows : List RowInMemory) (i : ℕ) (row : RowInMemory) → i < length rows → row ≡ get_or rows i row → vec_len row ≡ 2
+    → have_two_cells (map (λ row. texts row.items) (drop i rows)) ≡ have_two_cells (map (λ row. texts row.items) (drop (i + 1) rows))
+two_more rows i row some is two =
+    let a = ap (λ (rs : List RowInMemory). have_two_cells (map (λ row. texts row.items) rs)) (rows_left rows i row some is) in
+    let b = length-map row.items string_bytes ∙ sym row.ok.0 ∙ two in
+    let c = ap (λ n. (n == 2) && have_two_cells (map (λ row. texts row.items) (drop (i + 1) rows))) b in
+    a ∙ c
+
+-- a row of another number of cells
+pub two_less : (rows : List RowInMemory) (i : ℕ) (row : RowInMemory) → i < length rows → row ≡ get_or rows i row → vec_len row ≢ 2
+    → have_two_cells (map (λ row. texts row.items) (drop i rows)) ≡ false
+two_less rows i row some is other =
+    let a = ap (λ (rs : List RowInMemory). have_two_cells (map (λ row. texts row.items) rs)) (rows_left rows i row some is) in
+    let e = length-map row.items string_bytes in
+    let far = not_so (length (cells row) == 2) (length (cells row) ≡ 2) (eqb-true (length (cells row)) 2) (λ same. other (row.ok.0 ∙ sym e ∙ same)) in
+    let c = ap (λ b. b && have_two_cells (map (λ row. texts row.items) (drop (i + 1) rows))) far in
+    a ∙ c
+
+pub two_end : (rows : List RowInMemory) (i : ℕ) → length rows ≤ i → have_two_cells (map (λ row. texts row.items) (drop i rows)) ≡ true
+two_end rows i none = ap (λ (rs : List RowInMemory). have_two_cells (map (λ row. texts row.items) rs)) (drop_all i rows none)
+
+-- a sum that no `i64` has
+pub not_in_range : (z : ℤ) → (FitsSigned w64 z → ⊥) → is_in_range z ≡ false
+not_in_range z never = not_so (is_in_range z) (FitsSigned w64 z) (in_range_fits z) never
+
+abbrev sum_row : State → List ℕ → ℤ → Bool → Option ℤ → Done
+sum_row s name n bad number = let sum = unwrap_or number (pos 0) +ℤ n in
+    unless s ((bad, reasons.BadName) ∷ (false, reasons.Absent) ∷ (is_none number, reasons.NotNumber) ∷ (not (is_in_range sum), reasons.OutOfRange) ∷ []) (with_own s name (signed_decimal sum))
+
+out_of_range_row : (s : State) (name text : List ℕ) (n m : ℤ) → is_bad_name name ≡ false → number_of text ≡ Some m → is_in_range (m +ℤ n) ≡ false
+    → sum_row s name n (is_bad_name name) (number_of text) ≡ fails s reasons.OutOfRange
+out_of_range_row s name text n m good number far =
+    let a = ap (λ b. sum_row s name n b (number_of text)) good in
+    let b = ap (λ k. sum_row s name n false k) number in
+    let c = ap (λ b. unless_for s (first_true ((not b, reasons.OutOfRange) ∷ [])) (with_own s name (signed_decimal (m +ℤ n)))) far in
+    a ∙ b ∙ c
+
+failed_acted : (old : SandboxValue) (why : Reason) → IsActed (fails (state_of old.now) why) old (outcomes.Failed why) old
+failed_acted old why = record { carried_out = (refl, refl); layers = record { saved = refl; marks = refl } }
+
+pub out_of_range_acted : (old : SandboxValue) (name text : List ℕ) (looked : Option (List ℕ)) (n m : ℤ) → is_bad_name name ≡ false → Some text ≡ looked → number_of text ≡ Some m → is_in_range (m +ℤ n) ≡ false
+    → IsActed (add_number (state_of old.now) name looked n) old (outcomes.Failed reasons.OutOfRange) old
+out_of_range_acted old name text looked n m good is number far =
+    let P : Option (List ℕ) → Type 0 = λ x. IsActed (add_number (state_of old.now) name x n) old (outcomes.Failed reasons.OutOfRange) old in
+    let Q : Done → Type 0 = λ d. IsActed d old (outcomes.Failed reasons.OutOfRange) old in
+    subst P is (subst Q (sym (out_of_range_row (state_of old.now) name text n m good number far)) (failed_acted old reasons.OutOfRange))
+
+abbrev option_fits : Option ℤ → Type 0
+option_fits None = ⊤
+option_fits (Some z) = FitsSigned w64 z
+
+number_fits_in : (b : Bool) (v m : ℤ) → (b ≡ true → FitsSigned w64 v) → cond b (Some v) None ≡ Some m → FitsSigned w64 m
+number_fits_in true v m fits e = let P : Option ℤ → Type 0 = λ x. option_fits x in subst P e (fits refl)
+number_fits_in false v m fits e = let never : ⊥ = cc in absurd never
+
+-- a text that is a number has one in range
+pub number_fits : (text : List ℕ) (m : ℤ) → number_of text ≡ Some m → FitsSigned w64 m
+number_fits text m e = number_fits_in (is_number text) (signed_digits_value 10 text) m (λ yes. in_range_fits (signed_digits_value 10 text) (second_of _ (is_in_range (signed_digits_value 10 text)) yes)) e
+
+-- the row of a step's action
+act_row : (library : LibraryValue) (f : FoundValue) (block : BlockValue) (s : State) (action : Action) (g : Given) → action ≡ action_of library f → g ≡ given library f block → table action g s ≡ act library f block s
+unfolding act
+act_row library f block s action g e h = ap (λ a. table a g s) e ∙ ap (λ g. table (action_of library f) g s) h
+
+pub act_done : (library : LibraryValue) (f : FoundValue) (block : BlockValue) (old new : SandboxValue) (action : Action) (g : Given) (o : Outcome) → action ≡ action_of library f → g ≡ given library f block
+    → IsActed (table action g (state_of old.now)) old o new → IsDone (act library f block (state_of old.now)) o (state_of new.now)
+act_done library f block old new action g o e h k =
+    let P : Done → Type 0 = λ d. IsDone d o (state_of new.now) in subst P (act_row library f block (state_of old.now) action g e h) k.carried_out
+
+pub act_exact : (library : LibraryValue) (f : FoundValue) (block : BlockValue) (old new : SandboxValue) (action : Action) (g : Given) (o : Outcome) → action ≡ action_of library f → g ≡ given library f block
+    → (changes_nothing action ≡ true → IsExactly (table action g (state_of old.now)) o (state_of new.now)) → changes_nothing (action_of library f) ≡ true → IsExactly (act library f block (state_of old.now)) o (state_of new.now)
+act_exact library f block old new action g o e h k same =
+    let P : Done → Type 0 = λ d. IsExactly d o (state_of new.now) in subst P (act_row library f block (state_of old.now) action g e h) (k (ap (λ a. changes_nothing a) e ∙ same))

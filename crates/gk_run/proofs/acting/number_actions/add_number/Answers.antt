@@ -1,0 +1,20 @@
+use Rattle.std.specs.Option.{option_copied}
+use Rattle.std.specs.Prelude.{ℤ, ◌+ℤ◌, FitsSigned}
+use Rattle.std.proofs.Common.{rules, ◌≡◌, ◌∙◌, ap, sym, subst, Some, w64, to_z, of_z}
+use Rattle.std.proofs.Math.Facts.{to_z-of_z}
+use Rattle.gk_run.specs.Numbers.{number_of}
+use Rattle.gk_run.proofs.ActingLemmas.{out_of_range_acted, not_in_range, number_fits}
+use Rattle.gk_run.proofs.acting.number_actions.add_number.Goals as goal
+
+pub returns-in_default-checked_add : goal.returns-in_default-checked_add
+returns-in_default-checked_add c =
+    let n = c.args.arguments.now.number in
+    let m = c.in-Some-number_of.number in
+    let text = c.in-Some.held.now in
+    let is : number_of text ≡ Some m = sym c.number_of.ensures ∙ c.in-Some-number_of.is in
+    let n_fits : FitsSigned w64 n = search rules in
+    let m_fits : FitsSigned w64 m = number_fits text m is in
+    let A : ℤ → Type 0 = λ z. FitsSigned w64 (z +ℤ n) in
+    let B : ℤ → Type 0 = λ z. FitsSigned w64 (to_z w64 (of_z w64 m) +ℤ z) in
+    let never : FitsSigned w64 (m +ℤ n) → ⊥ = λ fits. c.in_default-checked_add.ensures (subst B (sym (to_z-of_z n_fits)) (subst A (sym (to_z-of_z m_fits)) fits)) in
+    out_of_range_acted c.args.sandbox.now c.args.arguments.now.name.now text _ n m (sym c.is_bad_name.ensures ∙ c.if-is_bad_name.false) (ap option_copied (sym c.in-Some.is) ∙ c.value.ensures) is (not_in_range (m +ℤ n) never)

@@ -1,0 +1,344 @@
+-- What an action does to the plain state, and its outcome.
+use Rattle.std.specs.Prelude.{◌≡◌, map, Result, Ok, Err, option_copied, ℕ, ℤ, pos, ◌+ℤ◌, Bool, true, false, cond, not, ◌&&◌, ◌==◌, List, [], ◌∷◌, length, Option, Some, None, codes, bytes_eq, is_some, is_none, unwrap_or, drop}
+use Rattle.std.specs.Ordering.{int_eq}
+use Rattle.std.specs.Fmt.{signed_decimal}
+use Rattle.std.specs.List.{list_all}
+use Rattle.std.specs.Option.{option_or}
+use Rattle.gk_gherkin.specs.Feature.{BlockValue, Empty, Text, Table, block_value}
+use Rattle.gk_steps.specs.declared.action.Action.{Action}
+use Rattle.gk_steps.specs.declared.action.Action.TheVariants as actions
+use Rattle.gk_gherkin.specs.declared.feature.Block.{Block}
+use Rattle.gk_steps.specs.declared.finding.Found.{Found}
+use Rattle.gk_steps.specs.declared.library.Library.{Library}
+use Rattle.gk_steps.specs.Finding.{LibraryValue, FoundValue, library_value, found_value, action_of, text_field, number_field}
+use Rattle.gk_world.specs.declared.world_fault.WorldFault.{WorldFault}
+use Rattle.gk_world.specs.declared.world_fault.WorldFault.TheVariants as faults
+use Rattle.gk_world.specs.State.{State, with_text, without, see, state_of}
+use Rattle.gk_world.specs.Refusals.{first_true, is_bad_name, is_too_long, joined}
+use Rattle.gk_world.specs.Sandbox.{SandboxValue}
+use Rattle.gk_run.specs.declared.acting.Arguments.{Arguments}
+use Rattle.gk_run.specs.Numbers.{number_of, is_in_range, stands_in}
+use Rattle.gk_run.specs.declared.results.Reason.{Reason}
+use Rattle.gk_run.specs.declared.results.Reason.TheVariants as reasons
+use Rattle.gk_run.specs.declared.results.Outcome.{Outcome}
+use Rattle.gk_run.specs.declared.results.Outcome.TheVariants as outcomes
+
+-- What an action leaves: the state and its outcome.
+pub record Done : Type 0 where
+  pub state : State
+  pub outcome : Outcome
+
+-- What an action is called with: the fields that it uses, T, the text that it works with, and the step's block.
+pub record Given : Type 0 where
+  pub name : List ℕ
+  pub to : List ℕ
+  pub number : ℤ
+  pub text : Option (List ℕ)
+  pub block : BlockValue
+
+-- The text of a doc string. (Cucumber's Gherkin reference: doc strings)
+abbrev pub doc_string : BlockValue → Option (List ℕ)
+doc_string (Text text) = Some text
+doc_string Empty = None
+doc_string (Table rows) = None
+
+-- The arguments of a step. T is the field `text` where the pattern has it, else the step's doc string, else there is none. (this project's profile)
+abbrev pub given : LibraryValue → FoundValue → BlockValue → Given
+given library found block = record {
+  name = unwrap_or (text_field library found (codes "name")) [];
+  to = unwrap_or (text_field library found (codes "to")) [];
+  number = unwrap_or (number_field library found (codes "n")) (pos 0);
+  text = option_or (text_field library found (codes "text")) (doc_string block);
+  block = block;
+}
+
+-- An action passes, and leaves this state.
+abbrev pub passes : State → Done
+passes s = record { state = s; outcome = outcomes.Passed }
+
+-- An action fails for a reason, and leaves this state.
+abbrev pub fails : State → Reason → Done
+fails s why = record { state = s; outcome = outcomes.Failed why }
+
+-- An action that fails where there is a reason, and else passes with a new state.
+abbrev pub unless_for : State → Option Reason → State → Done
+unless_for s None new = passes new
+unless_for s (Some why) new = fails s why
+
+-- The same of reasons with their tests, of which the first that holds is answered. (this project's profile)
+abbrev pub unless : State → List (Bool × Reason) → State → Done
+unless s tests new = unless_for s (first_true tests) new
+
+-- An action that works with T fails without one before anything else. (this project's profile)
+abbrev pub with_T : State → Option (List ℕ) → (List ℕ → Done) → Done
+with_T s None action = fails s reasons.NoText
+with_T s (Some text) action = action text
+
+-- An outcome after which an action goes on.
+abbrev pub is_pass : Outcome → Bool
+is_pass outcomes.Passed = true
+is_pass _ = false
+
+-- A second part of an action, which counts where the first passed. (this project's profile)
+abbrev pub and_then : Done → Done → Done
+and_then this next = cond (is_pass this.outcome) next this
+
+-- The reason of a name without a byte, or with too many. (this project's profile)
+abbrev pub bad_name : List ℕ → Bool × Reason
+bad_name name = (is_bad_name name, reasons.BadName)
+
+-- The reason of a text with too many bytes. (this project's profile)
+abbrev pub too_long : List ℕ → Bool × Reason
+too_long text = (is_too_long text, reasons.TextTooLong)
+
+-- The reason where nothing is held. (this project's profile)
+abbrev pub absent : Option (List ℕ) → Bool × Reason
+absent held = (is_none held, reasons.Absent)
+
+-- The reason where something is held. (this project's profile)
+abbrev pub present : Option (List ℕ) → Bool × Reason
+present held = (is_some held, reasons.Present)
+
+-- Another text than this one, or none.
+abbrev pub is_other : Option (List ℕ) → List ℕ → Bool
+is_other None text = true
+is_other (Some held) text = not (bytes_eq held text)
+
+-- The reason where the text that is held is another. (this project's profile)
+abbrev pub differs : Option (List ℕ) → List ℕ → Bool × Reason
+differs held text = (is_other held text, reasons.Differs)
+
+-- No text is held in which this one stands.
+abbrev pub is_without : Option (List ℕ) → List ℕ → Bool
+is_without None text = true
+is_without (Some held) text = not (stands_in text held)
+
+-- The reason where this text doesn't stand in the one that is held. (this project's profile)
+abbrev pub lacks : Option (List ℕ) → List ℕ → Bool × Reason
+lacks held text = (is_without held text, reasons.Differs)
+
+-- The number that is held. (this project's profile)
+abbrev pub number_held : Option (List ℕ) → Option ℤ
+number_held held = number_of (unwrap_or held [])
+
+-- The reason where what is held isn't a number. (this project's profile)
+abbrev pub not_number : Option (List ℕ) → Bool × Reason
+not_number held = (is_none (number_held held), reasons.NotNumber)
+
+-- The number that is held, plus another. (this project's profile)
+abbrev pub sum_held : Option (List ℕ) → ℤ → ℤ
+sum_held held n = unwrap_or (number_held held) (pos 0) +ℤ n
+
+-- The reason where a sum isn't a signed number of 64 bits. (this project's profile)
+abbrev pub out_of_range : ℤ → Bool × Reason
+out_of_range z = (not (is_in_range z), reasons.OutOfRange)
+
+-- Another number than this one, or none.
+abbrev pub is_other_number : Option ℤ → ℤ → Bool
+is_other_number None n = true
+is_other_number (Some held) n = not (int_eq held n)
+
+-- The reason where the number that is held is another. (this project's profile)
+abbrev pub differs_from : Option (List ℕ) → ℤ → Bool × Reason
+differs_from held n = (is_other_number (number_held held) n, reasons.Differs)
+
+-- The reason where a value is set, but not in the innermost layer. (behave's documentation: context layers)
+abbrev pub other_layer : Option (List ℕ) → Bool × Reason
+other_layer own = (is_none own, reasons.OtherLayer)
+
+-- A file has a text.
+abbrev pub with_file : State → List ℕ → List ℕ → State
+with_file s name text = record s { files = with_text s.files name text }
+
+-- A file is gone.
+abbrev pub without_file : State → List ℕ → State
+without_file s name = record s { files = without s.files name }
+
+-- A variable has a text.
+abbrev pub with_env : State → List ℕ → List ℕ → State
+with_env s name text = record s { env = with_text s.env name text }
+
+-- A variable is gone.
+abbrev pub without_env : State → List ℕ → State
+without_env s name = record s { env = without s.env name }
+
+-- The innermost layer's value is a text. (behave's documentation: context layers)
+abbrev pub with_own : State → List ℕ → List ℕ → State
+with_own s name text = record s { own = with_text s.own name text }
+
+-- The innermost layer's value is gone. (behave's documentation: context layers)
+abbrev pub without_own : State → List ℕ → State
+without_own s name = record s { own = without s.own name }
+
+-- The innermost layer's value is a text, as `set_value` has it. (this project's profile)
+abbrev pub set_own : State → List ℕ → List ℕ → Done
+set_own s name text = unless s (bad_name name ∷ too_long text ∷ []) (with_own s name text)
+
+-- A file has a text, as `write_file` has it. (this project's profile)
+abbrev pub write_file : State → List ℕ → List ℕ → Done
+write_file s name text = unless s (bad_name name ∷ too_long text ∷ []) (with_file s name text)
+
+-- A file is gone, as `remove_file` has it. (this project's profile)
+abbrev pub remove_file : State → List ℕ → Done
+remove_file s name = unless s (bad_name name ∷ absent (s.files name) ∷ []) (without_file s name)
+
+-- A text is written under a new name, and then the old name is removed. (this project's profile)
+abbrev pub put_and_remove : State → List ℕ → List ℕ → List ℕ → Done
+put_and_remove s name to text = let written = write_file s to text in and_then written (remove_file written.state name)
+
+-- A file's text moves to a new name; under its own name it stays. (this project's profile)
+abbrev pub moved : State → List ℕ → List ℕ → Done
+moved s name to = cond (bytes_eq name to) (passes s) (put_and_remove s name to (unwrap_or (s.files name) []))
+
+-- A file under a new name. There has to be one, and the new name has to be a good one. (this project's profile)
+abbrev pub rename_file : State → List ℕ → List ℕ → Done
+rename_file s name to = and_then (unless s (absent (s.files name) ∷ bad_name to ∷ []) s) (moved s name to)
+
+-- The first row of a table of files: its cells are `name` and `text`. (this project's profile)
+abbrev pub is_head : List (List ℕ) → Bool
+is_head (name ∷ text ∷ []) = bytes_eq name (codes "name") && bytes_eq text (codes "text")
+is_head _ = false
+
+-- Rows of a name and a text each. (this project's profile)
+abbrev pub have_two_cells : List (List (List ℕ)) → Bool
+have_two_cells rows = list_all (λ row. length row == 2) rows
+
+-- A table of files. (this project's profile)
+abbrev pub is_files_table : List (List (List ℕ)) → Bool
+is_files_table [] = false
+is_files_table (head ∷ rows) = is_head head && have_two_cells rows
+
+-- A row of a table of files, as a file that is written; a row of a table of files has two cells. (this project's profile)
+abbrev pub write_row : State → List (List ℕ) → Done
+write_row s (name ∷ text ∷ []) = write_file s name text
+write_row s _ = fails s reasons.BadTable
+
+-- Each row in turn; the first refused row ends it, and earlier rows stay. (this project's profile)
+abbrev pub write_rows : State → List (List (List ℕ)) → Done
+write_rows s [] = passes s
+write_rows s (row ∷ rows) = let written = write_row s row in and_then written (write_rows written.state rows)
+
+-- The rows after the first of a table of files; nothing is written where the block is no such table. (this project's profile)
+abbrev pub write_table : State → BlockValue → Done
+write_table s Empty = fails s reasons.NoTable
+write_table s (Text text) = fails s reasons.NoTable
+write_table s (Table rows) = cond (is_files_table rows) (write_rows s (drop 1 rows)) (fails s reasons.BadTable)
+
+-- The innermost layer's value is the number that is held plus another, in decimal. (this project's profile)
+abbrev pub add_number : State → List ℕ → Option (List ℕ) → ℤ → Done
+add_number s name held n = let sum = sum_held held n in unless s (bad_name name ∷ absent held ∷ not_number held ∷ out_of_range sum ∷ []) (with_own s name (signed_decimal sum))
+
+-- The table of the actions, row by row: T where the action works with it, the reasons for which it fails, in their order, and the state that it else leaves. (this project's profile)
+abbrev pub table : Action → Given → State → Done
+table actions.WriteFile g s = with_T s g.text (λ text. write_file s g.name text)
+table actions.AppendFile g s = with_T s g.text (λ text. unless s (bad_name g.name ∷ absent (s.files g.name) ∷ too_long (joined s.files g.name text) ∷ []) (with_file s g.name (joined s.files g.name text)))
+table actions.RemoveFile g s = remove_file s g.name
+table actions.RenameFile g s = rename_file s g.name g.to
+table actions.WriteFiles g s = write_table s g.block
+table actions.FileExists g s = unless s (absent (s.files g.name) ∷ []) s
+table actions.FileAbsent g s = unless s (present (s.files g.name) ∷ []) s
+table actions.FileIs g s = with_T s g.text (λ text. unless s (absent (s.files g.name) ∷ differs (s.files g.name) text ∷ []) s)
+table actions.FileContains g s = with_T s g.text (λ text. unless s (absent (s.files g.name) ∷ lacks (s.files g.name) text ∷ []) s)
+table actions.SetEnv g s = with_T s g.text (λ text. unless s (bad_name g.name ∷ too_long text ∷ []) (with_env s g.name text))
+table actions.RemoveEnv g s = unless s (bad_name g.name ∷ absent (s.env g.name) ∷ []) (without_env s g.name)
+table actions.EnvIs g s = with_T s g.text (λ text. unless s (absent (s.env g.name) ∷ differs (s.env g.name) text ∷ []) s)
+table actions.EnvAbsent g s = unless s (present (s.env g.name) ∷ []) s
+table actions.SetValue g s = with_T s g.text (λ text. set_own s g.name text)
+table actions.DeleteValue g s = unless s (bad_name g.name ∷ absent (see s g.name) ∷ other_layer (s.own g.name) ∷ []) (without_own s g.name)
+table actions.ValueIs g s = with_T s g.text (λ text. unless s (absent (see s g.name) ∷ differs (see s g.name) text ∷ []) s)
+table actions.ValueAbsent g s = unless s (present (see s g.name) ∷ []) s
+table actions.SetNumber g s = unless s (bad_name g.name ∷ []) (with_own s g.name (signed_decimal g.number))
+table actions.AddNumber g s = add_number s g.name (see s g.name) g.number
+table actions.NumberIs g s = unless s (absent (see s g.name) ∷ not_number (see s g.name) ∷ differs_from (see s g.name) g.number ∷ []) s
+table actions.Pass g s = passes s
+table actions.Fail g s = fails s reasons.Asked
+
+-- What an action leaves: its row of the table. A failed action keeps the changes that it made before. (this project's profile)
+unfoldable pub act : LibraryValue → FoundValue → BlockValue → State → Done
+act library found block s = table (action_of library found) (given library found block) s
+
+-- The actions that change nothing: their rows leave the state as it is. They take no memory. (this project's profile)
+abbrev pub changes_nothing : Action → Bool
+changes_nothing actions.FileExists = true
+changes_nothing actions.FileAbsent = true
+changes_nothing actions.FileIs = true
+changes_nothing actions.FileContains = true
+changes_nothing actions.EnvIs = true
+changes_nothing actions.EnvAbsent = true
+changes_nothing actions.ValueIs = true
+changes_nothing actions.ValueAbsent = true
+changes_nothing actions.NumberIs = true
+changes_nothing actions.Pass = true
+changes_nothing actions.Fail = true
+changes_nothing _ = false
+
+-- An action was carried out: this is its outcome, and this the state that it left. (this project's profile)
+abbrev pub IsExactly : Done → Outcome → State → Type 0
+IsExactly done outcome new = (outcome ≡ done.outcome) × (new ≡ done.state)
+
+-- An action was carried out, or memory was refused in it; then nothing is said of the state. (this project's profile)
+abbrev pub IsDone : Done → Outcome → State → Type 0
+IsDone done outcomes.Memory new = Unit {0}
+IsDone done outcome new = IsExactly done outcome new
+
+-- What the action of a found step leaves, as the program holds the library, what was found and the block. (this project's profile)
+abbrev pub act_of : Library → Found → Block → State → Done
+act_of library found block s = act (library_value library) (found_value found) (block_value block) s
+
+-- An action that changes nothing was carried out: memory is not an outcome of it. (this project's profile)
+abbrev pub IsExact : Library → Found → Done → Outcome → State → Type 0
+IsExact library found done outcome new = changes_nothing (action_of (library_value library) (found_value found)) ≡ true → IsExactly done outcome new
+
+-- The open layers stay as they are: what the end of each gives back, and how many changes were recorded when each began. (behave's documentation: context layers)
+pub record KeepsLayers (old new : SandboxValue) : Type 0 where
+  pub saved : new.saved ≡ old.saved
+  pub marks : new.marks ≡ old.marks
+
+-- Proof machinery, from here on: what the code's calls do.
+
+-- What an `Arguments` says.
+abbrev pub given_value : Arguments → Given
+given_value a = record { name = a.name.now; to = a.to.now; number = a.number; text = option_copied a.text; block = block_value a.block.now }
+
+-- A refusal of the world as a reason; memory has none, and is never looked up here.
+abbrev pub reason_of : WorldFault → Reason
+reason_of faults.Absent = reasons.Absent
+reason_of faults.TextTooLong = reasons.TextTooLong
+reason_of faults.BadName = reasons.BadName
+reason_of faults.OtherLayer = reasons.OtherLayer
+reason_of faults.Memory = reasons.Absent
+
+-- The answer of a change of the world as an outcome.
+abbrev pub outcome_of : {A : Type 0} → Result A WorldFault → Outcome
+outcome_of (Ok x) = outcomes.Passed
+outcome_of (Err faults.Memory) = outcomes.Memory
+outcome_of (Err fault) = outcomes.Failed (reason_of fault)
+
+-- An action was carried out in a sandbox, or memory was refused in it; the open layers stay as they are.
+pub record IsActed (done : Done) (old : SandboxValue) (outcome : Outcome) (new : SandboxValue) : Type 0 where
+  pub carried_out : IsDone done outcome (state_of new.now)
+  pub layers : KeepsLayers old new
+
+-- An action that changes nothing has this outcome at every state.
+abbrev pub IsOutcome : (State → Done) → Outcome → Type 0
+IsOutcome row outcome = (s : State) → IsExactly (row s) outcome s
+
+-- Something has to be held.
+abbrev pub IsHeld : Option (List ℕ) → Outcome → Type 0
+IsHeld held = IsOutcome (λ s. unless s (absent held ∷ []) s)
+
+-- Nothing may be held.
+abbrev pub IsNotHeld : Option (List ℕ) → Outcome → Type 0
+IsNotHeld held = IsOutcome (λ s. unless s (present held ∷ []) s)
+
+-- The text that is held has to be T.
+abbrev pub IsText : Option (List ℕ) → Option (List ℕ) → Outcome → Type 0
+IsText held text = IsOutcome (λ s. with_T s text (λ t. unless s (absent held ∷ differs held t ∷ []) s))
+
+-- T has to stand in the text that is held.
+abbrev pub HasText : Option (List ℕ) → Option (List ℕ) → Outcome → Type 0
+HasText held text = IsOutcome (λ s. with_T s text (λ t. unless s (absent held ∷ lacks held t ∷ []) s))
+
+-- The number that is held has to be this one.
+abbrev pub IsNumber : Option (List ℕ) → ℤ → Outcome → Type 0
+IsNumber held n = IsOutcome (λ s. unless s (absent held ∷ not_number held ∷ differs_from held n ∷ []) s)

@@ -1,0 +1,35 @@
+-- A feature's cases with the choice among them.
+use Rattle.std.specs.Prelude.{◌≡◌, ℕ, Bool, List, map, zip, length, string_bytes}
+use Rattle.gk_gherkin.specs.Feature.{texts}
+use Rattle.gk_select.specs.declared.case.Case.{Case}
+use Rattle.gk_select.specs.Case.{CaseValue, case_value}
+use Rattle.gk_run.specs.declared.chosen.Chosen.{Chosen}
+
+-- A case, and whether it is selected. (behave's documentation: `--tags`; this project's profile: `--line`)
+pub record MemberValue : Type 0 where
+  pub scenario : CaseValue
+  pub selected : Bool
+
+-- A feature with its cases, and the name of the source that it was read from.
+pub record ChosenValue : Type 0 where
+  pub source : List ℕ
+  pub name : List ℕ
+  pub line : ℕ
+  pub tags : List (List ℕ)
+  pub members : List MemberValue
+
+-- What a case and its choice say.
+abbrev pub member_of : Case → Bool → MemberValue
+member_of case selected = record { scenario = case_value case; selected = selected }
+
+-- Cases, each with whether it is selected.
+abbrev pub members_of : List Case → List Bool → List MemberValue
+members_of cases selected = map (λ p. member_of p.0 p.1) (zip cases selected)
+
+-- What a `Chosen` says.
+abbrev pub chosen_value : Chosen → ChosenValue
+chosen_value c = record { source = string_bytes c.source; name = string_bytes c.name; line = c.line; tags = texts c.tags.items; members = members_of c.cases.items c.selected.items }
+
+-- Of each case it is known whether it is selected.
+abbrev pub IsPaired : Chosen → Type 0
+IsPaired c = length c.selected.items ≡ length c.cases.items

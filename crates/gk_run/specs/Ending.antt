@@ -1,0 +1,54 @@
+-- How steps end.
+use Rattle.std.specs.Prelude.{Bool, true, false, cond, List, Option, Some, None}
+use Rattle.std.specs.List.{list_any}
+use Rattle.gk_run.specs.declared.results.Status.{Status}
+use Rattle.gk_run.specs.declared.results.Status.TheVariants as statuses
+use Rattle.gk_run.specs.declared.results.Reason.{Reason}
+use Rattle.gk_run.specs.declared.results.Outcome.{Outcome}
+use Rattle.gk_run.specs.declared.results.Outcome.TheVariants as outcomes
+use Rattle.gk_run.specs.declared.results.Mark.{Mark}
+use Rattle.gk_run.specs.declared.results.Mark.TheVariants.{Acted, Undefined, Skipped, Untested}
+use Rattle.gk_run.specs.declared.ending.Ending.{Ending}
+use Rattle.gk_run.specs.declared.ending.Ending.TheVariants as endings
+
+-- The status that a step has by what became of it. (behave's documentation: the statuses of steps; this project's profile: memory)
+abbrev pub status_of_mark : Mark → Status
+status_of_mark (Acted outcomes.Passed) = statuses.Passed
+status_of_mark (Acted (outcomes.Failed why)) = statuses.Failed
+status_of_mark (Acted outcomes.Memory) = statuses.Memory
+status_of_mark Undefined = statuses.Undefined
+status_of_mark Skipped = statuses.Skipped
+status_of_mark Untested = statuses.Untested
+
+-- The reason of a step that failed.
+abbrev pub reason_of_mark : Mark → Option Reason
+reason_of_mark (Acted (outcomes.Failed why)) = Some why
+reason_of_mark _ = None
+
+-- Failed or undefined.
+abbrev pub is_bad_mark : Mark → Bool
+is_bad_mark (Acted (outcomes.Failed why)) = true
+is_bad_mark Undefined = true
+is_bad_mark _ = false
+
+-- Memory was refused there.
+abbrev pub is_memory_mark : Mark → Bool
+is_memory_mark (Acted outcomes.Memory) = true
+is_memory_mark _ = false
+
+-- How steps end: memory where memory was refused in one, else failed where one failed or is undefined, else passed. (this project's profile)
+abbrev pub ended_of : List Mark → Ending
+ended_of marks = cond (list_any is_memory_mark marks) endings.Memory (cond (list_any is_bad_mark marks) endings.Failed endings.Passed)
+
+-- How one step ends that was carried out, or that no entry matches.
+abbrev pub ending_of_turn : Option Outcome → Ending
+ending_of_turn None = endings.Failed
+ending_of_turn (Some outcomes.Passed) = endings.Passed
+ending_of_turn (Some (outcomes.Failed why)) = endings.Failed
+ending_of_turn (Some outcomes.Memory) = endings.Memory
+
+-- The verdict of a scenario whose steps end so. (this project's profile)
+abbrev pub verdict_status : Ending → Status
+verdict_status endings.Passed = statuses.Passed
+verdict_status endings.Failed = statuses.Failed
+verdict_status endings.Memory = statuses.Memory

@@ -1,0 +1,11 @@
+-- What running feature files answers, in reading order. A definition whose comment names no source is this project's profile, or a word that the others use.
+pub mod Results
+pub mod Numbers
+pub mod Acting
+pub mod Ending
+pub mod Walk
+pub mod Section
+pub mod Alone
+pub mod Chosen
+pub mod Judged
+pub mod Running

@@ -1,0 +1,78 @@
+-- What running answers, without where it lies in memory.
+use Rattle.std.specs.Prelude.{ℕ, Bool, true, false, List, map, Option, string_bytes}
+use Rattle.gk_run.specs.declared.results.Status.{Status}
+use Rattle.gk_run.specs.declared.results.Status.TheVariants as statuses
+use Rattle.gk_run.specs.declared.results.Reason.{Reason}
+use Rattle.gk_run.specs.declared.results.StepResult.{StepResult}
+use Rattle.gk_run.specs.declared.results.CaseResult.{CaseResult}
+use Rattle.gk_run.specs.declared.results.FeatureResult.{FeatureResult}
+
+-- The result of a step: its status, and where it failed the reason. (this project's profile)
+pub record StepRow : Type 0 where
+  pub keyword : List ℕ
+  pub text : List ℕ
+  pub line : ℕ
+  pub status : Status
+  pub reason : Option Reason
+
+-- The result of a case: its verdict and its steps. (this project's profile)
+pub record CaseRow : Type 0 where
+  pub keyword : List ℕ
+  pub name : List ℕ
+  pub line : ℕ
+  pub status : Status
+  pub steps : List StepRow
+
+-- The result of a feature: its verdict and its cases, in file order. (this project's profile)
+pub record FeatureRow : Type 0 where
+  pub source : List ℕ
+  pub name : List ℕ
+  pub line : ℕ
+  pub status : Status
+  pub cases : List CaseRow
+
+-- The results of a run: its features in order. (this project's profile)
+pub record Results : Type 0 where
+  pub features : List FeatureRow
+
+-- What a `StepResult` says.
+abbrev pub step_row : StepResult → StepRow
+step_row r = record { keyword = string_bytes r.keyword; text = string_bytes r.text; line = r.line; status = r.status; reason = r.reason }
+
+-- What a `CaseResult` says.
+abbrev pub case_row : CaseResult → CaseRow
+case_row r = record { keyword = string_bytes r.keyword; name = string_bytes r.name; line = r.line; status = r.status; steps = map step_row r.steps.items }
+
+-- What a `FeatureResult` says.
+abbrev pub feature_row : FeatureResult → FeatureRow
+feature_row r = record { source = string_bytes r.source; name = string_bytes r.name; line = r.line; status = r.status; cases = map case_row r.cases.items }
+
+-- The status passed.
+abbrev pub is_passed : Status → Bool
+is_passed statuses.Passed = true
+is_passed _ = false
+
+-- The status failed.
+abbrev pub is_failed : Status → Bool
+is_failed statuses.Failed = true
+is_failed _ = false
+
+-- The status skipped.
+abbrev pub is_skipped : Status → Bool
+is_skipped statuses.Skipped = true
+is_skipped _ = false
+
+-- The status undefined.
+abbrev pub is_undefined : Status → Bool
+is_undefined statuses.Undefined = true
+is_undefined _ = false
+
+-- The status untested.
+abbrev pub is_untested : Status → Bool
+is_untested statuses.Untested = true
+is_untested _ = false
+
+-- The status memory.
+abbrev pub is_memory : Status → Bool
+is_memory statuses.Memory = true
+is_memory _ = false

@@ -1,0 +1,203 @@
+//! What a step's action does.
+ghost use Rattle.std.specs.Prelude.{◌≡◌, ◌<◌, true, option_copied};
+ghost use Rattle.gk_gherkin.specs.Feature.{block_value};
+ghost use Rattle.gk_steps.specs.Finding.{library_value, found_value};
+ghost use Rattle.gk_world.specs.State.{state_of};
+ghost use Rattle.gk_world.specs.Sandbox.{depth};
+ghost use Rattle.gk_world.specs.Refusals as refusals;
+ghost use Rattle.gk_run.specs.Acting as words;
+ghost use Rattle.gk_run.specs.Acting.{given, given_value, table, act_of, changes_nothing, IsDone, IsExactly, IsExact, IsActed, KeepsLayers, IsHeld, IsNotHeld, IsText, HasText};
+
+mod file_actions;
+mod number_actions;
+#[cfg(test)]
+mod tests;
+mod value_actions;
+mod variable_actions;
+
+use crate::numbers::stands_in;
+use crate::results::{Outcome, Reason};
+use file_actions::{
+    append_file, file_absent, file_contains, file_exists, file_is, remove_file, rename_file,
+    write_file, write_files,
+};
+use gk_gherkin::Block;
+use gk_steps::{Action, Found, Library};
+use gk_world::{LONGEST_NAME, Sandbox, WorldFault};
+use number_actions::{add_number, number_is, set_number};
+use std::alloc::Global;
+use value_actions::{delete_value, set_value, value_absent, value_is};
+use variable_actions::{env_absent, env_is, remove_env, set_env};
+
+/// What an action works with.
+#[derive(Clone, Copy)]
+pub struct Arguments<'a> {
+    /// The field `name`.
+    pub name: &'a str,
+    /// The field `to`.
+    pub to: &'a str,
+    /// The field `n`.
+    pub number: i64,
+    /// The field `text`, else the step's doc string.
+    pub text: Option<&'a str>,
+    /// What stands under the step.
+    pub block: &'a Block,
+}
+
+// A change of the world as an outcome.
+fn outcome_of(answer: Result<(), WorldFault>) -> Outcome
+    ensures { result ≡ words.outcome_of answer }
+{
+    match answer {
+        Ok(()) => Outcome::Passed,
+        Err(WorldFault::Absent) => Outcome::Failed(Reason::Absent),
+        Err(WorldFault::TextTooLong) => Outcome::Failed(Reason::TextTooLong),
+        Err(WorldFault::BadName) => Outcome::Failed(Reason::BadName),
+        Err(WorldFault::OtherLayer) => Outcome::Failed(Reason::OtherLayer),
+        Err(WorldFault::Memory) => Outcome::Memory,
+    }
+}
+
+// A name without a byte, or with too many.
+fn is_bad_name(name: &str) -> bool
+    ensures { result ≡ refusals.is_bad_name name.now }
+{
+    name.is_empty() || name.len() > LONGEST_NAME
+}
+
+// Whether something is held.
+fn exists(held: Option<&str>) -> Outcome
+    ensures { IsHeld (option_copied held.entry) result }
+{
+    match held {
+        Some(_) => Outcome::Passed,
+        None => Outcome::Failed(Reason::Absent),
+    }
+}
+
+// Whether nothing is held.
+fn is_absent(held: Option<&str>) -> Outcome
+    ensures { IsNotHeld (option_copied held.entry) result }
+{
+    match held {
+        Some(_) => Outcome::Failed(Reason::Present),
+        None => Outcome::Passed,
+    }
+}
+
+// Whether T is held.
+fn is_text(held: Option<&str>, text: Option<&str>) -> Outcome
+    ensures { IsText (option_copied held.entry) (option_copied text.entry) result }
+{
+    let Some(text) = text else {
+        return Outcome::Failed(Reason::NoText);
+    };
+    let Some(held) = held else {
+        return Outcome::Failed(Reason::Absent);
+    };
+    if held == text {
+        Outcome::Passed
+    } else {
+        Outcome::Failed(Reason::Differs)
+    }
+}
+
+// Whether a text is held in which T stands.
+fn has_text(held: Option<&str>, text: Option<&str>) -> Outcome
+    ensures { HasText (option_copied held.entry) (option_copied text.entry) result }
+{
+    let Some(text) = text else {
+        return Outcome::Failed(Reason::NoText);
+    };
+    let Some(held) = held else {
+        return Outcome::Failed(Reason::Absent);
+    };
+    if stands_in(text, held) {
+        Outcome::Passed
+    } else {
+        Outcome::Failed(Reason::Differs)
+    }
+}
+
+// The text of a doc string.
+fn doc_string(block: &Block) -> Option<&str>
+    ensures { option_copied result ≡ words.doc_string (block_value block.now) }
+{
+    match block {
+        Block::Text(text) => Some(text.as_str()),
+        _ => None,
+    }
+}
+
+// What a step's action works with.
+fn arguments_of<'a>(library: &Library, found: &'a Found, block: &'a Block) -> Arguments<'a>
+    ensures { given_value result ≡ given (library_value library.now) (found_value found.now) (block_value block.now) }
+{
+    Arguments {
+        name: library.text(found, "name").unwrap_or(""),
+        to: library.text(found, "to").unwrap_or(""),
+        number: library.number(found, "n").unwrap_or(0),
+        text: library.text(found, "text").or(doc_string(block)),
+        block,
+    }
+}
+
+// Carries out an action.
+fn perform(
+    alloc: Global,
+    sandbox: &mut Sandbox,
+    action: Action,
+    arguments: &Arguments<'_>,
+) -> Outcome
+    requires { 0 < depth sandbox.old }
+    ensures acted { IsActed (table action (given_value arguments.now) (state_of sandbox.old.now)) sandbox.old result sandbox.new }
+    ensures exact { changes_nothing action ≡ true → IsExactly (table action (given_value arguments.now) (state_of sandbox.old.now)) result (state_of sandbox.new.now) }
+{
+    match action {
+        Action::WriteFile => write_file(sandbox, arguments),
+        Action::AppendFile => append_file(sandbox, arguments),
+        Action::RemoveFile => remove_file(sandbox, arguments),
+        Action::RenameFile => rename_file(alloc, sandbox, arguments),
+        Action::WriteFiles => write_files(sandbox, arguments),
+        Action::FileExists => file_exists(sandbox, arguments),
+        Action::FileAbsent => file_absent(sandbox, arguments),
+        Action::FileIs => file_is(sandbox, arguments),
+        Action::FileContains => file_contains(sandbox, arguments),
+        Action::SetEnv => set_env(sandbox, arguments),
+        Action::RemoveEnv => remove_env(sandbox, arguments),
+        Action::EnvIs => env_is(sandbox, arguments),
+        Action::EnvAbsent => env_absent(sandbox, arguments),
+        Action::SetValue => set_value(sandbox, arguments),
+        Action::DeleteValue => delete_value(sandbox, arguments),
+        Action::ValueIs => value_is(sandbox, arguments),
+        Action::ValueAbsent => value_absent(sandbox, arguments),
+        Action::SetNumber => set_number(alloc, sandbox, arguments),
+        Action::AddNumber => add_number(alloc, sandbox, arguments),
+        Action::NumberIs => number_is(sandbox, arguments),
+        Action::Pass => Outcome::Passed,
+        Action::Fail => Outcome::Failed(Reason::Asked),
+    }
+}
+
+/// Carries out the action of a step that was found in a library, with the step's block.
+///
+/// The outcome is `Passed`, `Failed` with the first of the action's reasons that holds, or `Memory`,
+/// which comes only where a growth was refused, and never for an action that changes nothing. An
+/// action that fails midway keeps what it did before: rows of `write_files` before the refused one
+/// stay. At `Memory` nothing is said of what the sandbox holds now; the end of the layer gives back
+/// what was there as it began. (this project's profile)
+pub fn act(
+    alloc: Global,
+    sandbox: &mut Sandbox,
+    library: &Library,
+    found: &Found,
+    block: &Block,
+) -> Outcome
+    requires begun { 0 < depth sandbox.old }
+    ensures done { IsDone (act_of library.now found.now block.now (state_of sandbox.old.now)) result (state_of sandbox.new.now) }
+    ensures exact { IsExact library.now found.now (act_of library.now found.now block.now (state_of sandbox.old.now)) result (state_of sandbox.new.now) }
+    ensures layers { KeepsLayers sandbox.old sandbox.new }
+{
+    let arguments = arguments_of(library, found, block);
+    perform(alloc, sandbox, library.action(found), &arguments)
+}

@@ -1,0 +1,166 @@
+//! Actions on files.
+ghost use Rattle.std.specs.Prelude.{◌≡◌, map};
+ghost use Rattle.gk_gherkin.specs.Feature.{texts};
+ghost use Rattle.gk_steps.specs.declared.action.Action.TheVariants as actions;
+ghost use Rattle.gk_world.specs.State.{state_of};
+ghost use Rattle.gk_run.specs.Acting as words;
+ghost use Rattle.gk_run.specs.Acting.{given_value, table, IsExactly, IsActed};
+
+use crate::acting::{Arguments, exists, has_text, is_absent, is_bad_name, is_text, outcome_of};
+use crate::results::{Outcome, Reason};
+use gk_gherkin::Block;
+use gk_world::Sandbox;
+use std::alloc::{AllocError, Global};
+
+// A file has a text.
+fn put(sandbox: &mut Sandbox, name: &str, text: &str) -> Outcome
+    ensures { IsActed (words.write_file (state_of sandbox.old.now) name.now text.now) sandbox.old result sandbox.new }
+{
+    outcome_of(sandbox.put_file(name, text))
+}
+
+// A file is gone.
+fn remove(sandbox: &mut Sandbox, name: &str) -> Outcome
+    ensures { IsActed (words.remove_file (state_of sandbox.old.now) name.now) sandbox.old result sandbox.new }
+{
+    outcome_of(sandbox.remove_file(name))
+}
+
+pub fn write_file(sandbox: &mut Sandbox, arguments: &Arguments<'_>) -> Outcome
+    ensures { IsActed (table actions.WriteFile (given_value arguments.now) (state_of sandbox.old.now)) sandbox.old result sandbox.new }
+{
+    match arguments.text {
+        None => Outcome::Failed(Reason::NoText),
+        Some(text) => put(sandbox, arguments.name, text),
+    }
+}
+
+pub fn append_file(sandbox: &mut Sandbox, arguments: &Arguments<'_>) -> Outcome
+    ensures { IsActed (table actions.AppendFile (given_value arguments.now) (state_of sandbox.old.now)) sandbox.old result sandbox.new }
+{
+    match arguments.text {
+        None => Outcome::Failed(Reason::NoText),
+        Some(text) => outcome_of(sandbox.append_file(arguments.name, text)),
+    }
+}
+
+pub fn remove_file(sandbox: &mut Sandbox, arguments: &Arguments<'_>) -> Outcome
+    ensures { IsActed (table actions.RemoveFile (given_value arguments.now) (state_of sandbox.old.now)) sandbox.old result sandbox.new }
+{
+    remove(sandbox, arguments.name)
+}
+
+// A text is written under the new name, and then the old name is removed.
+fn put_and_remove(sandbox: &mut Sandbox, name: &str, to: &str, text: &str) -> Outcome
+    ensures { IsActed (words.put_and_remove (state_of sandbox.old.now) name.now to.now text.now) sandbox.old result sandbox.new }
+{
+    let written = put(sandbox, to, text);
+    match written {
+        Outcome::Passed => remove(sandbox, name),
+        _ => written,
+    }
+}
+
+pub fn rename_file(alloc: Global, sandbox: &mut Sandbox, arguments: &Arguments<'_>) -> Outcome
+    ensures { IsActed (table actions.RenameFile (given_value arguments.now) (state_of sandbox.old.now)) sandbox.old result sandbox.new }
+{
+    let Some(held) = sandbox.file(arguments.name) else {
+        return Outcome::Failed(Reason::Absent);
+    };
+    if is_bad_name(arguments.to) {
+        return Outcome::Failed(Reason::BadName);
+    }
+    if arguments.name == arguments.to {
+        return Outcome::Passed;
+    }
+    match String::from_str(alloc, held) {
+        Err(AllocError) => Outcome::Memory,
+        Ok(text) => put_and_remove(sandbox, arguments.name, arguments.to, text.as_str()),
+    }
+}
+
+// Whether a row is `name`, `text`.
+fn is_head(row: &[String]) -> bool
+    ensures { result ≡ words.is_head (texts row.now) }
+{
+    match row {
+        [name, text] => name.as_str() == "name" && text.as_str() == "text",
+        _ => false,
+    }
+}
+
+// Whether each row has two cells.
+fn have_two_cells(rows: &[Vec<String>]) -> bool
+    ensures { result ≡ words.have_two_cells (map (λ row. texts row.items) rows.now) }
+{
+    'rows: for row in rows {
+        if row.len() != 2 {
+            return false;
+        }
+    }
+    true
+}
+
+// A row as a file that is written.
+fn write_row(sandbox: &mut Sandbox, row: &[String]) -> Outcome
+    ensures { IsActed (words.write_row (state_of sandbox.old.now) (texts row.now)) sandbox.old result sandbox.new }
+{
+    match row {
+        [name, text] => put(sandbox, name.as_str(), text.as_str()),
+        _ => Outcome::Failed(Reason::BadTable),
+    }
+}
+
+// Each row in turn as a file that is written.
+fn write_rows(sandbox: &mut Sandbox, rows: &[Vec<String>]) -> Outcome
+    ensures { IsActed (words.write_rows (state_of sandbox.old.now) (map (λ row. texts row.items) rows.now)) sandbox.old result sandbox.new }
+{
+    'rows: for row in rows {
+        let written = write_row(sandbox, row);
+        match written {
+            Outcome::Passed => {}
+            _ => return written,
+        }
+    }
+    Outcome::Passed
+}
+
+pub fn write_files(sandbox: &mut Sandbox, arguments: &Arguments<'_>) -> Outcome
+    ensures { IsActed (table actions.WriteFiles (given_value arguments.now) (state_of sandbox.old.now)) sandbox.old result sandbox.new }
+{
+    let Block::Table(rows) = arguments.block else {
+        return Outcome::Failed(Reason::NoTable);
+    };
+    let Some((head, rows)) = rows.split_first() else {
+        return Outcome::Failed(Reason::BadTable);
+    };
+    if is_head(head) && have_two_cells(rows) {
+        write_rows(sandbox, rows)
+    } else {
+        Outcome::Failed(Reason::BadTable)
+    }
+}
+
+pub fn file_exists(sandbox: &Sandbox, arguments: &Arguments<'_>) -> Outcome
+    ensures { IsExactly (table actions.FileExists (given_value arguments.now) (state_of sandbox.now.now)) result (state_of sandbox.now.now) }
+{
+    exists(sandbox.file(arguments.name))
+}
+
+pub fn file_absent(sandbox: &Sandbox, arguments: &Arguments<'_>) -> Outcome
+    ensures { IsExactly (table actions.FileAbsent (given_value arguments.now) (state_of sandbox.now.now)) result (state_of sandbox.now.now) }
+{
+    is_absent(sandbox.file(arguments.name))
+}
+
+pub fn file_is(sandbox: &Sandbox, arguments: &Arguments<'_>) -> Outcome
+    ensures { IsExactly (table actions.FileIs (given_value arguments.now) (state_of sandbox.now.now)) result (state_of sandbox.now.now) }
+{
+    is_text(sandbox.file(arguments.name), arguments.text)
+}
+
+pub fn file_contains(sandbox: &Sandbox, arguments: &Arguments<'_>) -> Outcome
+    ensures { IsExactly (table actions.FileContains (given_value arguments.now) (state_of sandbox.now.now)) result (state_of sandbox.now.now) }
+{
+    has_text(sandbox.file(arguments.name), arguments.text)
+}

@@ -1,0 +1,110 @@
+//! What running answers.
+
+/// The status of a step, a scenario or a feature. A step has any of them; a scenario or a feature is
+/// never undefined. (behave's documentation: the statuses of steps; this project's profile: memory)
+#[derive(Clone, Copy, Debug, PartialEq, Eq)]
+pub enum Status {
+    /// A step passed; no step of a scenario failed or is undefined; a scenario of a feature passed and
+    /// none failed.
+    Passed,
+    /// A step's action failed; a step of a scenario failed or is undefined; a scenario of a feature
+    /// failed.
+    Failed,
+    /// A step comes after the one that ended its scenario, or its scenario isn't selected; no scenario
+    /// of a feature passed, and none failed.
+    Skipped,
+    /// No entry of the library matches a step.
+    Undefined,
+    /// A step comes after one in which memory was refused.
+    Untested,
+    /// Memory was refused.
+    Memory,
+}
+
+/// Why an action fails. (this project's profile)
+#[derive(Clone, Copy, Debug, PartialEq, Eq)]
+pub enum Reason {
+    /// There is no such file, variable or value.
+    Absent,
+    /// There is such a file, variable or value.
+    Present,
+    /// The text or the number is another.
+    Differs,
+    /// The text has more bytes than `gk_world::LONGEST_TEXT`.
+    TextTooLong,
+    /// The name has no byte, or more bytes than `gk_world::LONGEST_NAME`.
+    BadName,
+    /// The value was set in an outer layer alone.
+    OtherLayer,
+    /// The step has no text: its pattern has no field `text`, and it has no doc string.
+    NoText,
+    /// The step has no table.
+    NoTable,
+    /// The table isn't one of names and texts.
+    BadTable,
+    /// The value isn't a number.
+    NotNumber,
+    /// The sum isn't a signed number of 64 bits.
+    OutOfRange,
+    /// The step's action is `fail`.
+    Asked,
+}
+
+/// How an action ended.
+#[derive(Clone, Copy, Debug, PartialEq, Eq)]
+pub enum Outcome {
+    /// It did what it does.
+    Passed,
+    /// It failed for this reason.
+    Failed(Reason),
+    /// Memory was refused in it.
+    Memory,
+}
+
+/// What became of a step.
+#[derive(Clone, Copy, Debug, PartialEq, Eq)]
+pub enum Mark {
+    /// Its action was carried out, with this outcome; or memory was refused while it was looked up.
+    Acted(Outcome),
+    /// No entry of the library matches it.
+    Undefined,
+    /// It isn't carried out, as an earlier step ended the scenario or the scenario isn't selected.
+    Skipped,
+    /// It comes after a step in which memory was refused.
+    Untested,
+}
+
+/// The results of running could not be reserved: memory was refused.
+#[derive(Clone, Copy, Debug, PartialEq, Eq)]
+pub struct NoRoom;
+
+/// The result of a step.
+#[derive(Debug, Drop)]
+pub struct StepResult {
+    pub keyword: String,
+    pub text: String,
+    pub line: u32,
+    pub status: Status,
+    /// Why it failed, where its status is `Failed`.
+    pub reason: Option<Reason>,
+}
+
+/// The result of a scenario, or of one row of an outline.
+#[derive(Debug, Drop)]
+pub struct CaseResult {
+    pub keyword: String,
+    pub name: String,
+    pub line: u32,
+    pub status: Status,
+    pub steps: Vec<StepResult>,
+}
+
+/// The result of a feature, with the name of the source that it was read from.
+#[derive(Debug, Drop)]
+pub struct FeatureResult {
+    pub source: String,
+    pub name: String,
+    pub line: u32,
+    pub status: Status,
+    pub cases: Vec<CaseResult>,
+}
