@@ -1,0 +1,2 @@
+pub mod SummaryLemmas
+pub mod PushLemmas

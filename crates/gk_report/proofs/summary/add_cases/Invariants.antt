@@ -1,0 +1,8 @@
+use Rattle.std.proofs.Common.{◌≡◌, drop, map, fold}
+use Rattle.gk_run.specs.Results.{case_row}
+use Rattle.gk_report.specs.Summary.{one_case_more}
+use Rattle.gk_report.proofs.summary.add_cases.Given as goal
+
+abbrev pub invariant-loop-case : goal.invariant-loop-case
+invariant-loop-case l =
+    fold one_case_more l.summary (map case_row (drop l.case-index l.cases)) ≡ fold one_case_more l.initial.summary (map case_row l.cases)

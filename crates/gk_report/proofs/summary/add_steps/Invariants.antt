@@ -1,0 +1,8 @@
+use Rattle.std.proofs.Common.{◌≡◌, drop, map, fold}
+use Rattle.gk_run.specs.Results.{step_row}
+use Rattle.gk_report.specs.Summary.{one_status_more}
+use Rattle.gk_report.proofs.summary.add_steps.Given as goal
+
+abbrev pub invariant-loop-step : goal.invariant-loop-step
+invariant-loop-step l =
+    fold one_status_more l.counts (map (λ s. s.status) (map step_row (drop l.step-index l.steps))) ≡ fold one_status_more l.initial.counts (map (λ s. s.status) (map step_row l.steps))

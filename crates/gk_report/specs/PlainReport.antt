@@ -1,0 +1,72 @@
+-- The lines of the report.
+use Rattle.std.specs.Prelude.{ℕ, cond, ◌==◌, List, [], ◌++◌, flat_map, Option, Some, None, codes}
+use Rattle.std.specs.Fmt.{decimal}
+use Rattle.gk_run.specs.declared.results.Status.{Status}
+use Rattle.gk_run.specs.declared.results.Reason.{Reason}
+use Rattle.gk_report.specs.declared.summary.Counts.{Counts}
+use Rattle.gk_report.specs.declared.summary.Summary.{Summary}
+use Rattle.gk_run.specs.Results.{StepRow, CaseRow, FeatureRow, Results}
+use Rattle.gk_report.specs.Summary.{summary_of}
+use Rattle.gk_report.specs.ReportTexts.{status_text, reason_text, one_line, line_feed}
+
+-- A line's text, three dots, and a status.
+unfoldable pub status_line : List ℕ → List ℕ → List ℕ
+status_line text verdict = text ++ codes " ... " ++ verdict ++ line_feed
+
+-- The status of a step, with the reason of one that failed.
+abbrev pub step_verdict : Status → Option Reason → List ℕ
+step_verdict status None = status_text status
+step_verdict status (Some why) = status_text status ++ codes ": " ++ reason_text why
+
+-- The line of a step. (this project's profile)
+unfoldable pub step_line : StepRow → List ℕ
+step_line s = status_line (codes "    " ++ s.keyword ++ codes " " ++ one_line s.text) (step_verdict s.status s.reason)
+
+-- The line of a scenario's heading. (this project's profile)
+unfoldable pub case_line : CaseRow → List ℕ
+case_line c = status_line (codes "  " ++ c.keyword ++ codes ": " ++ one_line c.name) (status_text c.status)
+
+-- The lines of a scenario.
+abbrev pub case_lines : CaseRow → List ℕ
+case_lines c = case_line c ++ flat_map step_line c.steps
+
+-- The line of a feature's heading. (this project's profile)
+unfoldable pub feature_line : FeatureRow → List ℕ
+feature_line f = status_line (codes "Feature: " ++ one_line f.name) (status_text f.status)
+
+-- The part of a feature: its line, its scenarios, an empty line. (this project's profile)
+abbrev pub plain_part : FeatureRow → List ℕ
+plain_part f = feature_line f ++ flat_map case_lines f.cases ++ line_feed
+
+-- The plural's `s`, which one doesn't have.
+abbrev pub plural : ℕ → List ℕ
+plural n = cond (n == 1) [] (codes "s")
+
+-- A comma, a number and a word.
+unfoldable pub counted : ℕ → List ℕ → List ℕ
+counted n word = codes ", " ++ decimal n ++ codes " " ++ word
+
+-- The same, where the number isn't 0.
+abbrev pub counted_if_any : ℕ → List ℕ → List ℕ
+counted_if_any n word = cond (n == 0) [] (counted n word)
+
+-- How many passed, and of what.
+abbrev pub passed_part : List ℕ → ℕ → List ℕ
+passed_part noun n = decimal n ++ codes " " ++ noun ++ plural n ++ codes " passed"
+
+-- A line of counts. (behave's documentation: summary; this project's profile: untested and memory)
+unfoldable pub count_line : List ℕ → Counts → List ℕ → List ℕ
+count_line noun c undefined =
+    passed_part noun c.passed ++ counted c.failed (codes "failed") ++ counted c.skipped (codes "skipped")
+    ++ undefined ++ counted_if_any c.untested (codes "untested") ++ counted_if_any c.memory (codes "memory") ++ line_feed
+
+-- The closing lines. (behave's documentation: summary; this project's profile)
+unfoldable pub closing_lines : Summary → List ℕ
+closing_lines s =
+    count_line (codes "feature") s.features []
+    ++ count_line (codes "scenario") s.scenarios []
+    ++ count_line (codes "step") s.steps (counted s.steps.undefined (codes "undefined"))
+
+-- The report of a list of results: the parts of the features in order, and the closing lines. (this project's profile)
+abbrev pub report : Results → List ℕ
+report results = flat_map plain_part results.features ++ closing_lines (summary_of results.features)

@@ -1,0 +1,42 @@
+-- The texts of the report.
+use Rattle.std.specs.Prelude.{ℕ, cond, ◌==◌, List, [], ◌∷◌, codes, flat_map}
+use Rattle.gk_run.specs.declared.results.Status.{Status}
+use Rattle.gk_run.specs.declared.results.Status.TheVariants as statuses
+use Rattle.gk_run.specs.declared.results.Reason.{Reason}
+use Rattle.gk_run.specs.declared.results.Reason.TheVariants as reasons
+
+-- A status as it is printed. (behave's documentation: the statuses of steps; this project's profile: memory)
+unfoldable pub status_text : Status → List ℕ
+status_text statuses.Passed = codes "passed"
+status_text statuses.Failed = codes "failed"
+status_text statuses.Skipped = codes "skipped"
+status_text statuses.Undefined = codes "undefined"
+status_text statuses.Untested = codes "untested"
+status_text statuses.Memory = codes "memory"
+
+-- A reason as it is printed. (this project's profile)
+unfoldable pub reason_text : Reason → List ℕ
+reason_text reasons.Absent = codes "absent"
+reason_text reasons.Present = codes "present"
+reason_text reasons.Differs = codes "differs"
+reason_text reasons.TextTooLong = codes "text too long"
+reason_text reasons.BadName = codes "bad name"
+reason_text reasons.OtherLayer = codes "other layer"
+reason_text reasons.NoText = codes "no text"
+reason_text reasons.NoTable = codes "no table"
+reason_text reasons.BadTable = codes "bad table"
+reason_text reasons.NotNumber = codes "not a number"
+reason_text reasons.OutOfRange = codes "out of range"
+reason_text reasons.Asked = codes "fail step"
+
+-- A byte of a name or a text as it is printed: a line feed as a backslash and `n`. (this project's profile)
+abbrev pub byte_text : ℕ → List ℕ
+byte_text byte = cond (byte == 10) (92 ∷ 110 ∷ []) (byte ∷ [])
+
+-- A name or a text on one line. (this project's profile)
+unfoldable pub one_line : List ℕ → List ℕ
+one_line text = flat_map byte_text text
+
+-- The end of a line.
+abbrev pub line_feed : List ℕ
+line_feed = 10 ∷ []

@@ -1,0 +1,100 @@
+-- What a report counts, and the status that a run ends with.
+use Rattle.std.specs.Prelude.{◌≡◌, ℕ, ◌+◌, ◌-◌, ◌^◌, ◌||◌, min, cond, nat_lt, Bool, List, [], ◌∷◌, ◌++◌, map, flat_map, fold, count_by}
+use Rattle.std.specs.List.{list_any}
+use Rattle.gk_run.specs.declared.results.Status.{Status}
+use Rattle.gk_run.specs.declared.results.Status.TheVariants as statuses
+use Rattle.gk_report.specs.declared.summary.Counts.{Counts}
+use Rattle.gk_report.specs.declared.summary.Summary.{Summary}
+use Rattle.gk_run.specs.Results.{CaseRow, FeatureRow, Results, is_passed, is_failed, is_skipped, is_undefined, is_untested, is_memory}
+
+-- The greatest number that a count can be.
+abbrev pub greatest : ℕ
+greatest = 2 ^ 64 - 1
+
+-- How many statuses of a list pass a test; the count stops rising at the greatest number. (this project's profile)
+abbrev pub count_of : (Status → Bool) → List Status → ℕ
+count_of test statuses = min greatest (count_by test statuses)
+
+-- The counts of each status in a list.
+abbrev pub counts_of : List Status → Counts
+counts_of statuses = record {
+  passed = count_of is_passed statuses;
+  failed = count_of is_failed statuses;
+  skipped = count_of is_skipped statuses;
+  undefined = count_of is_undefined statuses;
+  untested = count_of is_untested statuses;
+  memory = count_of is_memory statuses;
+}
+
+-- The verdicts of the features.
+abbrev pub feature_statuses : List FeatureRow → List Status
+feature_statuses rows = map (λ (f : FeatureRow). f.status) rows
+
+-- The verdicts of the scenarios of a feature.
+abbrev pub case_statuses : FeatureRow → List Status
+case_statuses f = map (λ (c : CaseRow). c.status) f.cases
+
+-- The verdicts of all scenarios.
+abbrev pub scenario_statuses : List FeatureRow → List Status
+scenario_statuses rows = flat_map case_statuses rows
+
+-- The statuses of the steps of a scenario.
+abbrev pub statuses_of_case : CaseRow → List Status
+statuses_of_case c = map (λ s. s.status) c.steps
+
+-- The statuses of the steps of a feature.
+abbrev pub statuses_of_feature : FeatureRow → List Status
+statuses_of_feature f = flat_map statuses_of_case f.cases
+
+-- The statuses of all steps of all scenarios. (behave's documentation: summary)
+abbrev pub step_statuses : List FeatureRow → List Status
+step_statuses rows = flat_map statuses_of_feature rows
+
+-- The counts over a list of results. (behave's documentation: summary)
+abbrev pub summary_of : List FeatureRow → Summary
+summary_of rows = record { features = counts_of (feature_statuses rows); scenarios = counts_of (scenario_statuses rows); steps = counts_of (step_statuses rows) }
+
+-- Every verdict.
+abbrev pub verdicts : List FeatureRow → List Status
+verdicts rows = feature_statuses rows ++ scenario_statuses rows
+
+-- The status of a run: 4 where one of these is memory; else 1 where one is failed or a step is undefined; else 0. (this project's profile)
+abbrev pub status_of : List FeatureRow → ℕ
+status_of rows =
+    cond (list_any is_memory (verdicts rows)) 4
+    (cond (list_any is_failed (verdicts rows) || list_any is_undefined (step_statuses rows)) 1 0)
+
+-- The status that a run with these results ends with. (this project's profile)
+abbrev pub status : Results → ℕ
+status results = status_of results.features
+
+-- Of whatever results this is the summary, the number is their status.
+abbrev pub IsStatusOf : Summary → ℕ → Type 0
+IsStatusOf summary number = (rows : List FeatureRow) → summary ≡ summary_of rows → number ≡ status_of rows
+
+-- Proof machinery from here on: counting one status after the other. One more, up to the greatest number.
+abbrev pub raised : ℕ → ℕ
+raised n = min (n + 1) greatest
+
+-- The counts after one status more.
+abbrev pub one_status_more : Counts → Status → Counts
+one_status_more c statuses.Passed = record c { passed = raised c.passed }
+one_status_more c statuses.Failed = record c { failed = raised c.failed }
+one_status_more c statuses.Skipped = record c { skipped = raised c.skipped }
+one_status_more c statuses.Undefined = record c { undefined = raised c.undefined }
+one_status_more c statuses.Untested = record c { untested = raised c.untested }
+one_status_more c statuses.Memory = record c { memory = raised c.memory }
+
+-- The summary after one scenario more.
+abbrev pub one_case_more : Summary → CaseRow → Summary
+one_case_more s c = record s { scenarios = one_status_more s.scenarios c.status; steps = fold one_status_more s.steps (statuses_of_case c) }
+
+-- The summary after one feature more.
+abbrev pub one_feature_more : Summary → FeatureRow → Summary
+one_feature_more s f = fold one_case_more (record s { features = one_status_more s.features f.status }) f.cases
+
+-- The status by the counts.
+abbrev pub status_by : Summary → ℕ
+status_by s =
+    cond (nat_lt 0 s.features.memory || nat_lt 0 s.scenarios.memory) 4
+    (cond ((nat_lt 0 s.features.failed || nat_lt 0 s.scenarios.failed) || nat_lt 0 s.steps.undefined) 1 0)

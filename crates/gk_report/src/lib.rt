@@ -1,0 +1,12 @@
+//! The report of a run. The results of its features come in; the report's text and the status that
+//! the run ends with go out.
+#![tactic(auto)]
+
+mod plain_report;
+mod summary;
+
+pub use plain_report::report_of;
+pub use summary::{Counts, Summary, summarize};
+
+#[cfg(test)]
+mod tests;

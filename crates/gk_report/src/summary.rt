@@ -1,0 +1,129 @@
+//! What the report counts, and the status that a run ends with.
+ghost use Rattle.std.specs.Prelude.{◌≡◌, [], map, fold};
+ghost use Rattle.gk_run.specs.Results.{step_row, case_row, feature_row};
+ghost use Rattle.gk_report.specs.Summary as spec;
+ghost use Rattle.gk_report.specs.Summary.{summary_of, one_status_more, one_case_more};
+
+use gk_run::{CaseResult, FeatureResult, Status, StepResult};
+
+/// Counts by status, each at most the greatest `u64`.
+#[derive(Clone, Copy, Debug, PartialEq, Eq)]
+pub struct Counts {
+    pub passed: u64,
+    pub failed: u64,
+    pub skipped: u64,
+    pub undefined: u64,
+    pub untested: u64,
+    pub memory: u64,
+}
+
+impl Counts {
+    ghost use Rattle.gk_report.specs.Summary.{counts_of, one_status_more};
+
+    // No status yet.
+    fn new() -> Counts
+        ensures { result ≡ counts_of [] }
+    {
+        Counts {
+            passed: 0,
+            failed: 0,
+            skipped: 0,
+            undefined: 0,
+            untested: 0,
+            memory: 0,
+        }
+    }
+
+    // One status more.
+    fn add(&mut self, status: Status)
+        ensures { self.new ≡ one_status_more self.old status }
+    {
+        match status {
+            Status::Passed => self.passed = self.passed.saturating_add(1),
+            Status::Failed => self.failed = self.failed.saturating_add(1),
+            Status::Skipped => self.skipped = self.skipped.saturating_add(1),
+            Status::Undefined => self.undefined = self.undefined.saturating_add(1),
+            Status::Untested => self.untested = self.untested.saturating_add(1),
+            Status::Memory => self.memory = self.memory.saturating_add(1),
+        }
+    }
+}
+
+/// Counts of features, scenarios and steps.
+#[derive(Clone, Copy, Debug, PartialEq, Eq)]
+pub struct Summary {
+    pub features: Counts,
+    pub scenarios: Counts,
+    pub steps: Counts,
+}
+
+impl Summary {
+    ghost use Rattle.gk_report.specs.Summary.{summary_of, one_feature_more, IsStatusOf};
+
+    // Nothing yet.
+    fn new() -> Summary
+        ensures { result ≡ summary_of [] }
+    {
+        Summary {
+            features: Counts::new(),
+            scenarios: Counts::new(),
+            steps: Counts::new(),
+        }
+    }
+
+    // One feature more, with its scenarios and their steps.
+    fn add(&mut self, feature: &FeatureResult)
+        ensures { self.new ≡ one_feature_more self.old (feature_row feature.now) }
+    {
+        self.features.add(feature.status);
+        add_cases(self, feature.cases.as_slice());
+    }
+
+    /// The status that the run ends with: 4 where a verdict is memory, else 1 where one is failed or a
+    /// step is undefined, else 0. Takes no memory. (this project's profile)
+    pub fn status(&self) -> u8
+        ensures { IsStatusOf self.now result }
+    {
+        status_by(self)
+    }
+}
+
+fn status_by(summary: &Summary) -> u8
+    ensures { result ≡ spec.status_by summary.now }
+{
+    if summary.features.memory > 0 || summary.scenarios.memory > 0 {
+        return 4;
+    }
+    if summary.features.failed > 0 || summary.scenarios.failed > 0 || summary.steps.undefined > 0 {
+        return 1;
+    }
+    0
+}
+
+fn add_steps(counts: &mut Counts, steps: &[StepResult])
+    ensures { counts.new ≡ fold one_status_more counts.old (map (λ s. s.status) (map step_row steps.now)) }
+{
+    for step in steps {
+        counts.add(step.status);
+    }
+}
+
+fn add_cases(summary: &mut Summary, cases: &[CaseResult])
+    ensures { summary.new ≡ fold one_case_more summary.old (map case_row cases.now) }
+{
+    for case in cases {
+        summary.scenarios.add(case.status);
+        add_steps(&mut summary.steps, case.steps.as_slice());
+    }
+}
+
+/// The counts over a list of results. Takes no memory. (behave's documentation: summary)
+pub fn summarize(results: &[FeatureResult]) -> Summary
+    ensures { result ≡ summary_of (map feature_row results.now) }
+{
+    let mut summary = Summary::new();
+    for feature in results {
+        summary.add(feature);
+    }
+    summary
+}
