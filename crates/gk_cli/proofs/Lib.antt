@@ -1,15 +1,6 @@
-mod TextsLemmas
-mod MatchingLemmas
-mod FindingLemmas
-mod PartsLemmas
-mod EntriesLemmas
-mod RunningLemmas
-mod JudgedLemmas
-mod Nothing
-mod SourcesLemmas
-mod WritingLemmas
-mod ReadingLemmas
-mod SummaryLemmas
-mod CommandLemmas
-mod OneList
-mod WorkedReports
+pub mod CountedLemmas
+pub mod SourceLemmas
+pub mod ArgumentsLemmas
+pub mod WorkedArguments
+pub mod InputsLemmas
+pub mod FeaturesLemmas

@@ -1,26 +1,7 @@
--- What a run of feature files may answer and write, in reading order. A definition whose comment names no source is this project's profile, or a word that the others use.
-pub mod Contents
-pub mod State
-pub mod Refusals
-pub mod Sandbox
-pub mod Parting
-pub mod Patterns
-pub mod Finding
-pub mod Actions
-pub mod Rows
-pub mod Walk
-pub mod Alone
-pub mod Judged
-pub mod Turns
-pub mod Sources
-pub mod Unread
-pub mod Counting
-pub mod Reading
-pub mod Words
-pub mod Summary
-pub mod Status
-pub mod Plain
-pub mod Report
-pub mod Adding
-pub mod Headline
-pub mod CommandLine
+-- What a whole run may answer and write, in reading order. A definition whose comment names no source is this project's profile, or a word that the others use.
+pub mod Arguments
+pub mod Counted
+pub mod Source
+pub mod Inputs
+pub mod RunFault
+pub mod Suite

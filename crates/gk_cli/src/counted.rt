@@ -1,52 +1,62 @@
-//! A reader or a writer whose failures are counted, and writing a text whole.
+//! A reader or a writer whose calls are counted, and writing bytes whole.
 ghost use Rattle.std.specs.Prelude.{◌≡◌, ◌≤◌, ◌+◌, length, OnOk, OnErr};
 ghost use Rattle.std.specs.Io.KnownBytes.{Appends};
-ghost use Rattle.gk_cli.specs.Counting.{inner_of, calls_of, failures_of, one_more, IsFrontWritten};
+ghost use Rattle.gk_cli.specs.Counted.{inner_of, calls_of, flushes_of, failures_of, one_more, IsPrefixWritten};
 
 use std::io;
 use std::io::{Read, Write};
 
-/// Passes the calls of a reader or a writer on, and counts them, and those that failed.
+/// Passes the calls of a reader or a writer on. Counts them, the flushes apart from the others, and counts
+/// those that failed. Each count stops rising at `u64::MAX`. (this project's profile)
 #[derive(Debug, Drop)]
 pub struct Counted<T> {
     inner: T,
     calls: u64,
+    flushes: u64,
     failures: u64,
 }
 
 impl<T> Counted<T> {
-    ghost use Rattle.gk_cli.specs.Counting.{inner_of, calls_of, failures_of};
+    ghost use Rattle.gk_cli.specs.Counted.{inner_of, calls_of, flushes_of, failures_of};
 
     /// Counts the calls of `inner` from 0 on. Takes no memory.
     pub fn new(inner: T) -> Counted<T>
         ensures inner { inner_of result ≡ inner }
         ensures calls { calls_of result ≡ 0 }
+        ensures flushes { flushes_of result ≡ 0 }
         ensures failures { failures_of result ≡ 0 }
     {
         Counted {
             inner,
             calls: 0,
+            flushes: 0,
             failures: 0,
         }
     }
 
-    /// How many calls of `read` and `write` there were. The count stops rising at `u64::MAX`. Takes no
-    /// memory.
+    /// How many calls of `read` and `write` there were. Takes no memory.
     pub fn calls(&self) -> u64
         ensures { result ≡ calls_of self.now }
     {
         self.calls
     }
 
-    /// How many calls failed, among them each write that took no byte of a piece that isn't empty. The
-    /// count stops rising at `u64::MAX`. Takes no memory.
+    /// How many calls of `flush` there were. Takes no memory.
+    pub fn flushes(&self) -> u64
+        ensures { result ≡ flushes_of self.now }
+    {
+        self.flushes
+    }
+
+    /// How many calls failed, among them each write that took no byte of a piece that isn't empty. Takes
+    /// no memory.
     pub fn failures(&self) -> u64
         ensures { result ≡ failures_of self.now }
     {
         self.failures
     }
 
-    /// The reader or writer itself.
+    /// The reader or writer itself. Takes no memory.
     pub fn inner(&self) -> &T
         ensures { result.now ≡ inner_of self.now }
     {
@@ -58,7 +68,7 @@ impl<W: Write> Write for Counted<W> {
     ghost use Rattle.std.specs.Prelude.{◌≡◌};
     ghost use Rattle.std.specs.Io.{WritesAtMost};
     ghost use Rattle.std.specs.Io.KnownBytes.{Keeps, WriteAppends};
-    ghost use Rattle.gk_cli.specs.Counting.{inner_of, calls_of, failures_of, one_more, counted_write, counted_flush};
+    ghost use Rattle.gk_cli.specs.Counted.{inner_of, calls_of, flushes_of, failures_of, one_more, counted_write, counted_flush};
 
     ghost contents = { λ c. W.contents (inner_of c) };
 
@@ -66,6 +76,7 @@ impl<W: Write> Write for Counted<W> {
         ensures bound { WritesAtMost result buf.now }
         ensures bytes { WriteAppends (W.contents (inner_of self.old)) (W.contents (inner_of self.new)) result buf.now }
         ensures calls { calls_of self.new ≡ one_more (calls_of self.old) }
+        ensures flushes { flushes_of self.new ≡ flushes_of self.old }
         ensures failures { failures_of self.new ≡ counted_write result buf.now (failures_of self.old) }
     {
         self.calls = self.calls.saturating_add(1);
@@ -87,8 +98,10 @@ impl<W: Write> Write for Counted<W> {
     fn flush(&mut self) -> io::Result<()>
         ensures bytes { Keeps (W.contents (inner_of self.old)) (W.contents (inner_of self.new)) }
         ensures calls { calls_of self.new ≡ calls_of self.old }
+        ensures flushes { flushes_of self.new ≡ one_more (flushes_of self.old) }
         ensures failures { failures_of self.new ≡ counted_flush result (failures_of self.old) }
     {
+        self.flushes = self.flushes.saturating_add(1);
         let flushed = self.inner.flush();
         if flushed.is_err() {
             self.failures = self.failures.saturating_add(1);
@@ -101,7 +114,7 @@ impl<R: Read> Read for Counted<R> {
     ghost use Rattle.std.specs.Prelude.{◌≡◌};
     ghost use Rattle.std.specs.Io.{ReadsAtMost};
     ghost use Rattle.std.specs.Io.KnownBytes.{ReadConsumes};
-    ghost use Rattle.gk_cli.specs.Counting.{inner_of, calls_of, failures_of, one_more, counted_read};
+    ghost use Rattle.gk_cli.specs.Counted.{inner_of, calls_of, flushes_of, failures_of, one_more, counted_read};
 
     ghost remaining = { λ c. R.remaining (inner_of c) };
 
@@ -109,6 +122,7 @@ impl<R: Read> Read for Counted<R> {
         ensures bound { ReadsAtMost result buf.new }
         ensures bytes { ReadConsumes (R.remaining (inner_of self.old)) (R.remaining (inner_of self.new)) result buf.new }
         ensures calls { calls_of self.new ≡ one_more (calls_of self.old) }
+        ensures flushes { flushes_of self.new ≡ flushes_of self.old }
         ensures failures { failures_of self.new ≡ counted_read result (failures_of self.old) }
     {
         self.calls = self.calls.saturating_add(1);
@@ -121,18 +135,21 @@ impl<R: Read> Read for Counted<R> {
 }
 
 /// The writer failed, or took no byte of a piece: a failure was counted.
-#[derive(Debug, Drop)]
+#[derive(Clone, Copy, Debug, PartialEq, Eq, Drop)]
 pub struct NotWritten;
 
-/// Writes all the bytes. Each turn has at least one byte taken, or ends with `NotWritten`; then a front of
-/// the bytes was written. (this project's profile)
+/// Writes all the bytes, and flushes nothing. Each turn offers all that is left and has at least one byte
+/// taken, or ends with `NotWritten`; then a prefix of the bytes was written. A writer that failed isn't asked
+/// again. Takes no memory. (this project's profile)
 pub fn write_whole<W: Write>(out: &mut Counted<W>, bytes: &[u8]) -> Result<(), NotWritten>
     ensures ok { OnOk result (Appends (W.contents (inner_of out.old)) (W.contents (inner_of out.new)) bytes.now) }
     ensures quiet { OnOk result (failures_of out.new ≡ failures_of out.old) }
-    ensures cut { OnErr result (IsFrontWritten (W.contents (inner_of out.old)) (W.contents (inner_of out.new)) bytes.now) }
+    ensures cut { OnErr result (IsPrefixWritten (W.contents (inner_of out.old)) (W.contents (inner_of out.new)) bytes.now) }
+    // One failure ends it: no second call follows one that failed.
     ensures failed { OnErr result (failures_of out.new ≡ one_more (failures_of out.old)) }
     // The writer is called no more often than there are bytes.
     ensures turns { calls_of out.new ≤ calls_of out.old + length bytes.now }
+    ensures unflushed { flushes_of out.new ≡ flushes_of out.old }
 {
     let mut done = 0;
     while done < bytes.len() {
@@ -144,3 +161,6 @@ pub fn write_whole<W: Write>(out: &mut Counted<W>, bytes: &[u8]) -> Result<(), N
     }
     Ok(())
 }
+
+#[cfg(test)]
+mod tests;

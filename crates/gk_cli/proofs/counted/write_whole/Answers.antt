@@ -1,12 +1,13 @@
 use Rattle.std.proofs.Common.{rules, arith}
 use Rattle.std.proofs.lemmas.Grind.{common_steps}
-use Rattle.gk_cli.proofs.WritingLemmas.{Appends-front}
+use Rattle.gk_cli.proofs.CountedLemmas.{Appends-after}
 use Rattle.gk_cli.proofs.counted.write_whole.Goals as goal
 
 pub loop-done-preserved : goal.loop-done-preserved
 loop-done-preserved g c = record {
   within = search rules;
-  written = Appends-front _ _ _ c.args.bytes.now c.loop-done.done c.in-Ok.n c.loop-done.invariant.written c.in-Ok.ensures.bytes;
+  written = Appends-after _ _ _ c.args.bytes.now c.loop-done.done c.in-Ok.n c.loop-done.invariant.written c.in-Ok.ensures.bytes;
   quiet = grind (arith, common_steps);
   turns = search rules;
+  unflushed = search rules;
 }

@@ -8,6 +8,7 @@ invariant-loop-done g l = record {
   written : Appends (g.W.Write.contents l.fn.out.inner) (g.W.Write.contents l.out.inner) (take l.done l.bytes);
   quiet : l.out.failures ≡ l.fn.out.failures;
   turns : l.out.calls ≤ l.fn.out.calls + l.done;
+  unflushed : l.out.flushes ≡ l.fn.out.flushes;
 }
 
 abbrev pub decreases-loop-done : goal.decreases-loop-done

@@ -1,7 +1,7 @@
 use Rattle.std.proofs.Common.{◌≡◌, ◌≤◌, ◌+◌, ◌-◌, vec_len}
 use Rattle.std.specs.Io.KnownBytes.{Consumes}
-use Rattle.gk_gherkin.specs.declared.line.TheConstants.{LIMIT}
-use Rattle.gk_cli.specs.Counting.{inner_of, calls_of, failures_of}
+use Rattle.gk_gherkin.specs.declared.lines.TheConstants.{LIMIT}
+use Rattle.gk_cli.specs.Counted.{inner_of, calls_of, failures_of}
 use Rattle.gk_cli.proofs.source.read_source.Given as goal
 
 abbrev pub invariant-loop-piece : goal.invariant-loop-piece

@@ -1,65 +1,63 @@
-use Rattle.std.proofs.Common.{◌≡◌, ◌≢◌, ◌++◌, ℕ, List, flat_map, map, string_bytes, ap, sym, subst, rules, ◌∙◌}
-use Rattle.std.specs.Io.KnownBytes.{Appends}
-use Rattle.gk_gherkin.specs.Grammar.{HasOneReading}
-use Rattle.gk_cli.specs.Contents.{Contents}
-use Rattle.gk_cli.specs.Rows.{FeatureRow, feature_row}
-use Rattle.gk_cli.specs.Finding.{default_entries}
-use Rattle.gk_cli.specs.Judged.{SourceFeatureValue, Judged, plain_results, has_memory}
-use Rattle.gk_cli.specs.Sources.{SourceValue, AreRead, source_value, source_feature_value}
-use Rattle.gk_cli.specs.Counting.{inner_of}
-use Rattle.gk_cli.specs.Plain.{plain_part, closing_lines}
-use Rattle.gk_cli.specs.Report.{report}
-use Rattle.gk_cli.specs.Status.{status_of}
-use Rattle.gk_cli.specs.Summary.{summary_of}
-use Rattle.gk_cli.specs.Adding.{status_by}
-use Rattle.gk_cli.specs.Headline.{IsTold}
-use Rattle.gk_cli.proofs.SourcesLemmas.{same_features}
-use Rattle.gk_cli.proofs.OneList.{one_list, no_memory}
-use Rattle.gk_cli.proofs.SummaryLemmas.{status_counted}
-use Rattle.gk_cli.proofs.suite.run_suite.Given as given
+use Rattle.std.proofs.Common.{◌≡◌, ℕ, List, map, option_map, string_bytes, ap, sym, subst, rules, ◌∙◌}
+use Rattle.gk_run.specs.Judged.{has_memory}
+use Rattle.gk_report.specs.PlainReport.{report}
+use Rattle.gk_report.specs.Summary.{status}
+use Rattle.gk_cli.specs.Counted.{IsPrefixWritten}
+use Rattle.gk_cli.specs.Source.{source_value}
+use Rattle.gk_cli.specs.Inputs.{request_of, inputs_value}
+use Rattle.gk_cli.specs.Suite.{Device, device_of, results_of, run_with, IsReported}
+use Rattle.gk_cli.proofs.FeaturesLemmas.{no_memory, only_list, reported_by}
 use Rattle.gk_cli.proofs.suite.run_suite.Goals as goal
 
--- Of the judged lists of some sources, the plain one alone has a status other than 4.
-only_list : (sources : List SourceValue) (contents : Contents) (answer : ℕ) → answer ≢ 4 → HasOneReading → (features : List SourceFeatureValue) → AreRead sources features →
-    (others : List SourceFeatureValue) (rows : List FeatureRow) → AreRead sources others → Judged default_entries contents others rows → answer ≡ status_of rows → rows ≡ plain_results default_entries contents features
-only_list sources contents answer other one features read others rows also judged answered =
-    one_list default_entries contents others rows judged (no_memory rows (λ four. other (answered ∙ four)))
-    ∙ ap (plain_results default_entries contents) (same_features one sources others features also read)
+pub returns-in-Ok-write_whole-clause-reported : goal.returns-in-Ok-write_whole-clause-reported
+returns-in-Ok-write_whole-clause-reported g c =
+    let results = results_of c.in-Ok-run_features.results.items in
+    let items : c.as_slice.result.now ≡ c.in-Ok-run_features.results.items = c.as_slice.ensures.value in
+    let written : c.as_bytes.result.now ≡ string_bytes c.in-Ok-finish.finished.report = search rules in
+    let whole : c.as_bytes.result.now ≡ report results = written ∙ c.in-Ok-finish.ensures.report ∙ ap (λ rs. report (results_of rs)) items in
+    let answered : c.in-Ok-finish.finished.status ≡ status results = c.in-Ok-finish.ensures.status ∙ ap (λ rs. status (results_of rs)) items in
+    (results, reported_by results whole c.in-Ok-write_whole.ensures.ok answered)
 
-told : (g : given.Over) (c : goal.After-drop-results-in-Ok-write_whole g) →
-    IsTold (map source_value c.args.sources.now) c.args.sandbox.now.now (g.W.Write.contents (inner_of c.args.out.now)) (g.W.Write.contents (inner_of c.write_whole.new.out))
-    c.status.result (map feature_row c.in-Ok-run_features.results.items)
-told g c =
-    let results = map feature_row c.in-Ok-run_features.results.items in
-    let counted : c.as_slice.result.now ≡ c.in-Ok-run_features.results.items = search rules in
-    let told : c.as_slice-2.result.now ≡ c.in-Ok-run_features.results.items = search rules in
-    let summed = c.summarize-summary.ensures ∙ ap (λ rs. summary_of (map feature_row rs)) counted in
-    let bytes : c.as_bytes.result.now ≡ string_bytes c.in-Ok-report_of.report = search rules in
-    let whole : c.as_bytes.result.now ≡ report results =
-    bytes ∙ c.in-Ok-report_of.ensures ∙ ap (λ rs. flat_map plain_part (map feature_row rs) ++ closing_lines c.summarize-summary.result) told
-    ∙ ap (λ s. flat_map plain_part results ++ closing_lines s) summed in
-    record {
-      features = map source_feature_value c.in-Ok.features.items;
-      read = c.in-Ok.ensures.read;
-      judged = c.in-Ok-run_features.ensures.rows;
-      written = subst (Appends (g.W.Write.contents (inner_of c.args.out.now)) (g.W.Write.contents (inner_of c.write_whole.new.out))) whole c.in-Ok-write_whole.ensures.ok;
-      answered = c.status.ensures ∙ ap status_by summed ∙ status_counted results;
-    }
-
-pub returns-in-Ok-write_whole-clause-told : goal.returns-in-Ok-write_whole-clause-told
-returns-in-Ok-write_whole-clause-told g c = (map feature_row c.in-Ok-run_features.results.items, told g c)
+pub returns-in-Ok-write_whole-clause-judged : goal.returns-in-Ok-write_whole-clause-judged
+returns-in-Ok-write_whole-clause-judged g c =
+    let results = results_of c.in-Ok-run_features.results.items in
+    let items : c.as_slice.result.now ≡ c.in-Ok-run_features.results.items = c.as_slice.ensures.value in
+    let written : c.as_bytes.result.now ≡ string_bytes c.in-Ok-finish.finished.report = search rules in
+    let whole : c.as_bytes.result.now ≡ report results = written ∙ c.in-Ok-finish.ensures.report ∙ ap (λ rs. report (results_of rs)) items in
+    let answered : c.in-Ok-finish.finished.status ≡ status results = c.in-Ok-finish.ensures.status ∙ ap (λ rs. status (results_of rs)) items in
+    (results, reported_by results whole c.in-Ok-write_whole.ensures.ok answered, record { inputs = inputs_value c.in-Ok.inputs; read = c.in-Ok.ensures.read; judged = c.in-Ok-run_features.ensures.rows })
 
 pub returns-in-Ok-write_whole-clause-plain : goal.returns-in-Ok-write_whole-clause-plain
 returns-in-Ok-write_whole-clause-plain g c = λ other.
-    let known = told g c in
-    let results = map feature_row c.in-Ok-run_features.results.items in
-    let unmarked = no_memory results (λ four. other (known.answered ∙ four)) in
-    let same = one_list default_entries c.args.sandbox.now.now known.features results known.judged unmarked in
+    let request = request_of c.args.options.now (option_map (λ bytes. bytes.now) c.args.library) (map source_value c.args.sources.now) in
+    let contents = c.args.sandbox.now.now in
+    let inputs = inputs_value c.in-Ok.inputs in
+    let results = results_of c.in-Ok-run_features.results.items in
+    let items : c.as_slice.result.now ≡ c.in-Ok-run_features.results.items = c.as_slice.ensures.value in
+    let written : c.as_bytes.result.now ≡ string_bytes c.in-Ok-finish.finished.report = search rules in
+    let whole : c.as_bytes.result.now ≡ report results = written ∙ c.in-Ok-finish.ensures.report ∙ ap (λ rs. report (results_of rs)) items in
+    let answered : c.in-Ok-finish.finished.status ≡ status results = c.in-Ok-finish.ensures.status ∙ ap (λ rs. status (results_of rs)) items in
+    let unmarked = no_memory results (λ four. other (answered ∙ four)) in
+    let same = c.without_memory_there_is_one_list.ensures (run_with inputs) contents inputs.features results c.in-Ok-run_features.ensures.rows unmarked in
     record {
-      features = known.features;
-      read = known.read;
-      written = subst (λ rows. Appends (g.W.Write.contents (inner_of c.args.out.now)) (g.W.Write.contents (inner_of c.write_whole.new.out)) (report rows)) same known.written;
-      answered = known.answered ∙ ap status_of same;
+      inputs = inputs;
+      read = c.in-Ok.ensures.read;
+      reported = subst (IsReported _ _ c.in-Ok-finish.finished.status) same (reported_by results whole c.in-Ok-write_whole.ensures.ok answered);
       unmarked = ap has_memory (sym same) ∙ unmarked;
-      only = only_list _ _ _ other c.reading_is_unique.ensures known.features known.read;
+      only = only_list c.inputs_are_unique.ensures c.without_memory_there_is_one_list.ensures request contents c.in-Ok-finish.finished.status other inputs c.in-Ok.ensures.read;
     }
+
+pub returns-clause-fault : goal.returns-clause-fault
+returns-clause-fault g c =
+    let results = results_of c.in-Ok-run_features.results.items in
+    let items : c.as_slice.result.now ≡ c.in-Ok-run_features.results.items = c.as_slice.ensures.value in
+    let written : c.as_bytes.result.now ≡ string_bytes c.in-Ok-finish.finished.report = search rules in
+    let whole : c.as_bytes.result.now ≡ report results = written ∙ c.in-Ok-finish.ensures.report ∙ ap (λ rs. report (results_of rs)) items in (
+      results,
+      record {
+        judged = record { inputs = inputs_value c.in-Ok.inputs; read = c.in-Ok.ensures.read; judged = c.in-Ok-run_features.ensures.rows };
+        written = subst (IsPrefixWritten _ _) whole c.in-Err-write_whole.ensures.cut;
+        failed = c.in-Err-write_whole.ensures.failed;
+        unflushed = c.write_whole.ensures.unflushed;
+      },
+    )

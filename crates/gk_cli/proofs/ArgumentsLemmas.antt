@@ -1,0 +1,381 @@
+-- The command that reads the arguments, and what its matches hold.
+use Rattle.std.proofs.Common.{◌≡◌, ◌≢◌, ◌⊎◌, ◌∙◌, ◌<◌, ◌≤◌, ◌&&◌, ◌||◌, ◌==◌, ◌+◌, ◌++◌, ap, ap₂, sym, subst, refl, inl, inr, arith, zero, suc, ℕ, Bool, true, false, not, List, [], ◌∷◌, length, map, codes, drop, take, is_some, get_or, Option, Some, None, Result, Ok, Err}
+use Rattle.std.specs.Prelude.{cond, find, option_map, unwrap_or, IsErrAnd, IsSomeAnd}
+use Rattle.std.specs.List.{All, Any, slice_index_or, list_all}
+use Rattle.std.specs.Str.{bytes_eq}
+use Rattle.std.specs.Str.Parse.{ParsesUnsigned}
+use Rattle.std.specs.Borrow.{Bor}
+use Rattle.std.proofs.lemmas.List.{append-nil, append_assoc, drop_all, get_or-map, length-map, map_push, take_all}
+use Rattle.std.proofs.lemmas.List.Elements.{All-nil, All-map, All-push}
+use Rattle.std.proofs.lemmas.Bool.Decides.{nat_tests}
+use Rattle.std.proofs.lemmas.Grind.{common_steps}
+use Rattle.std.proofs.lemmas.Slice.Eq.{bytes_eq-Decides}
+use Rattle.clap.specs.Words.{Accepts, AddsArg, App, BuildsOrBreaks, BuildsTo, HasKind, HasMatchesOf, IsAmong, IsParsed, IsParsedFrom, IsPlainArg, IsUnsignedIn, Row, Rule, Text, app_of, args_of, fault_of, found_of, groups_of, has_subcommand, is_broken, is_present, is_simple, is_simple_and_free, kind_of, matched_of, matches_of, new_app, raw_values, rows_of, rule_of, with_rule}
+use Rattle.clap.specs.Facts.{Entry, EntryPasses, IsFilledEntry, PassesArg, ValuesPass, least_values, parser_of_value, unwrap_or_range}
+use Rattle.clap.specs.Walk.{action_of, is_append, is_empty, is_simple_arg, row_of}
+use Rattle.clap.specs.Simple.{built, is_buildable}
+use Rattle.clap.specs.declared.builder.action.ArgAction.TheVariants.{Set}
+use Rattle.clap.specs.declared.builder.arg.Arg.{Arg}
+use Rattle.clap.specs.declared.builder.command.Command.{Command}
+use Rattle.clap.specs.declared.builder.command.Command.TheViews.{out-Command as fields_of}
+use Rattle.clap.specs.declared.builder.value_parser.ValueParser.{ValueParser}
+use Rattle.clap.specs.declared.builder.value_parser.ValueParser.TheVariants.{Unsigned}
+use Rattle.clap.specs.declared.parser.matches.ArgMatches.{ArgMatches}
+use Rattle.clap.specs.declared.parser.matches.Found.{Found}
+use Rattle.clap.specs.declared.parser.matches.MatchedArg.{MatchedArg}
+use Rattle.clap.proofs.CallerLemmas.{added_plain, entry_by_id, present_has_entry, required_present}
+use Rattle.clap.specs.declared.error.Error.{Error}
+use Rattle.gk_cli.specs.Arguments.{HasRule, IsAskedBy, IsCommand, IsFaultBy, IsLineNumber, PairValue, SaysArguments, SaysMatches, SaysVariables, command, cut_at_equals, faults_in, files_rule, found_in, has_equals, line_number, values_of}
+use Rattle.gk_cli.specs.declared.arguments.Words.{Words}
+use Rattle.gk_cli.specs.declared.arguments.WordsFault.{WordsFault}
+use Rattle.gk_cli.specs.declared.arguments.WordsFault.TheVariants.{Usage, Env, Memory}
+
+-- what some value is known to be
+pub some_is : {X : Type 0} (o : Option X) (x : X) → IsSomeAnd o (λ y. y ≡ x) → o ≡ Some x
+some_is None x h = absurd h
+some_is (Some y) x h = ap Some h
+
+-- ---- the command
+
+-- a new command
+pub begins : (name : Text) (c : Command) → app_of c ≡ new_app name → args_of c ≡ [] → groups_of c ≡ []
+    → (fields_of c).has_globals ≡ false → (fields_of c).subcommand_negates_reqs ≡ false → IsCommand (new_app name) c
+begins name c app args groups local demands = record {
+  app = app;
+  plain = (subst (All IsPlainArg) (sym args) (All-nil IsPlainArg), groups);
+  local = local;
+  demands = demands;
+}
+
+-- an argument is added
+pub adds : (a : App) (r : Rule) (old new : Command) (x : Arg) → IsCommand a old → HasRule r x → AddsArg old x new → IsCommand (with_rule a r) new
+adds a r old new x is has added = record {
+  app = added.shape has.local ∙ ap₂ with_rule is.app has.same;
+  plain = added_plain old new x added is.plain has.plain;
+  local = added.globals ∙ (ap (λ b. b || x.global) is.local ∙ ap (λ b. false || b) has.local);
+  demands = added.negates ∙ is.demands;
+}
+
+-- the command as clap leaves it: as it was, or filled in
+abbrev IsLeft : Command → Type 0
+IsLeft c = (app_of c ≡ command) ⊎ (app_of c ≡ built command)
+
+left_of : (old new : Command) → IsCommand command old → BuildsOrBreaks old new → (is_broken new ≡ true → ⊥) → IsLeft new
+left_of old new is after whole = elim after [
+  | inl broken ↦ absurd (whole broken)
+  | inr h ↦ elim h.2 [
+    | inl same ↦ inl (same ∙ is.app)
+    | inr full ↦ inr (full (ap is_buildable is.app) ∙ ap built is.app)
+  ]
+]
+
+-- ---- tests on its arguments
+
+both : (a b : Bool) → (a && b) ≡ true → (a ≡ true) × (b ≡ true)
+both true b h = (refl, h)
+both false b h = absurd cc
+
+unless : (a b : Bool) → (not a || b) ≡ true → a ≡ true → b ≡ true
+unless true b h e = h
+unless false b h e = absurd cc
+
+-- a test that each argument passes is passed by the one at a place
+tested : (test : Rule → Bool) (xs : List Arg) (k : ℕ) (x : Arg) → k < length xs → slice_index_or xs k x ≡ x → list_all test (map rule_of xs) ≡ true → test (rule_of x) ≡ true
+tested test [] k x lt at h = absurd (omega arith)
+tested test (y ∷ ys) zero x lt at h = subst (λ z. test (rule_of z) ≡ true) at (both (test (rule_of y)) (list_all test (map rule_of ys)) h).0
+tested test (y ∷ ys) (suc k) x lt at h = tested test ys k x (omega arith) at (both (test (rule_of y)) (list_all test (map rule_of ys)) h).1
+
+left_passes : (test : Rule → Bool) (c : Command) → IsLeft c → list_all test command.top.rules ≡ true → list_all test (built command).top.rules ≡ true
+    → list_all test (map rule_of (args_of c)) ≡ true
+left_passes test c (inl h) here later = ap (λ (a : App). list_all test a.top.rules) h ∙ here
+left_passes test c (inr h) here later = ap (λ (a : App). list_all test a.top.rules) h ∙ later
+
+-- ---- the files have a value
+
+abbrev files_test : Rule → Bool
+files_test r = not (bytes_eq r.id (codes "files")) || (r.is_simple && ((unwrap_or_range r.range).start_inclusive == 1 && is_append (action_of r)))
+
+no_delimiter : (a : Arg) → is_simple_arg a ≡ true → is_some a.val_delim ≡ false
+no_delimiter a h = go (is_empty a.overrides.items) (is_empty a.default_vals_ifs.items) (is_empty a.groups.items) (is_some a.val_delim) _ h
+  where
+    go : (x y z d rest : Bool) → (x && (y && (z && (not d && rest)))) ≡ true → d ≡ false
+    go true true true false rest h = refl
+    go true true true true rest h = cc
+    go true true false d rest h = cc
+    go true false z d rest h = cc
+    go false y z d rest h = cc
+
+one_least : (a : Arg) → (least_values a == 1) ≡ true → least_values a ≡ 1
+one_least a h = go (least_values a) h
+  where
+    go : (n : ℕ) → (n == 1) ≡ true → n ≡ 1
+    go n h = grind (arith, nat_tests)
+
+-- a use of the files gives at least one value, without a delimiter, and adds it
+abbrev IsFilesArg : Arg → Type 0
+IsFilesArg a = (least_values a ≡ 1) × (is_some a.val_delim ≡ false) × (is_append (unwrap_or a.action Set) ≡ true)
+
+named_files : (c : Command) → IsLeft c → (k : ℕ) (x : Arg) → k < length (args_of c) → slice_index_or (args_of c) k x ≡ x
+    → bytes_eq x.id.now (codes "files") ≡ true → IsFilesArg x
+named_files c left k x lt at same =
+    let test = unless (bytes_eq x.id.now (codes "files")) _ (tested files_test (args_of c) k x lt at (left_passes files_test c left refl refl)) same in
+    let simple = both (is_simple_arg x) _ test in
+    let rest = both (least_values x == 1) _ simple.1 in
+    (one_least x rest.0, no_delimiter x simple.0, rest.1)
+
+-- an entry of the files has a value
+has_values : (c : Command) (e : Entry) → IsLeft c → groups_of c ≡ [] → bytes_eq e.0.now (codes "files") ≡ true
+    → IsFilledEntry c e → 0 < length e.1.vals.items
+has_values c e left groups same filled =
+    let id : e.0.now ≡ codes "files" = (bytes_eq-Decides _ _).0 same in
+    elim filled [
+      | inl h ↦ elim h.1 [
+        | inl none ↦ absurd cc
+        | inr some ↦
+            let bad : 0 < 0 = rw groups at some in
+            absurd (omega arith)
+      ]
+      | inr (inl h) ↦ h
+      | inr (inr (inl h)) ↦
+          let a = named_files c left h.1.0 h.1.1 h.1.2 h.1.3 (rw id at h.1.4.0) in
+          let bad : false ≡ true = rw h.1.4.1 at a.2 in
+          absurd cc
+      | inr (inr (inr h)) ↦
+          let a = named_files c left h.0 h.1 h.2 h.3 (rw id at h.4.0) in
+          elim h.4.1 [
+            | inl least ↦ absurd (omega (arith, a.0, least))
+            | inr some ↦
+                let bad : false ≡ true = sym a.1 ∙ some in
+                absurd cc
+          ]
+    ]
+
+first_rule : (x : Arg) (xs : List Arg) (r : Rule) (rs : List Rule) → map rule_of (x ∷ xs) ≡ r ∷ rs → rule_of x ≡ r
+first_rule x xs r rs e = cc
+
+first_arg : (xs : List Arg) (r : Rule) (rs : List Rule) → map rule_of xs ≡ r ∷ rs → (a : Arg) × (rule_of a ≡ r) × (slice_index_or xs 0 a ≡ a) × (0 < length xs)
+first_arg [] r rs h = absurd cc
+first_arg (x ∷ xs) r rs h = (x, first_rule x xs r rs h, refl, omega arith)
+
+-- the files were given
+given_files : (old : Command) (m : ArgMatches) → IsCommand command old → IsParsedFrom old m → is_some (matched_of (found_of m) (codes "files")) ≡ true
+given_files old m is p =
+    let first = first_arg (args_of old) files_rule _ (ap (λ (a : App). a.top.rules) is.app) in
+    let a = first.0 in
+    let required : (slice_index_or (args_of old) 0 a).required ≡ true = ap (λ (x : Arg). x.required) first.2 ∙ ap (λ (r : Rule). r.required) first.1 in
+    let id : (slice_index_or (args_of old) 0 a).id.now ≡ codes "files" = ap (λ (x : Arg). x.id.now) first.2 ∙ ap (λ (r : Rule). r.id) first.1 in
+    let present = required_present old m p is.plain is.local is.demands 0 a first.3 required in
+    present_has_entry (found_of m) (codes "files") (subst (λ id. is_present (found_of m) id ≡ true) id present)
+
+-- ---- what the matches hold
+
+-- an entry's values, by its row
+all_rows : (xs : List Entry) (id : Text) → option_map (λ r. r.values) (find (λ r. bytes_eq r.id id) (map row_of xs))
+    ≡ option_map raw_values (option_map (λ e. e.1) (find (λ e. bytes_eq e.0.now id) xs))
+all_rows [] id = refl
+all_rows (x ∷ xs) id = go (bytes_eq x.0.now id) (all_rows xs id)
+  where
+    go : (b : Bool) → option_map (λ r. r.values) (find (λ r. bytes_eq r.id id) (map row_of xs))
+        ≡ option_map raw_values (option_map (λ e. e.1) (find (λ e. bytes_eq e.0.now id) xs))
+        → option_map (λ r. r.values) (cond b (Some (row_of x)) (find (λ r. bytes_eq r.id id) (map row_of xs)))
+        ≡ option_map raw_values (option_map (λ e. e.1) (cond b (Some x) (find (λ e. bytes_eq e.0.now id) xs)))
+    go true e = refl
+    go false e = e
+
+-- the values of a name, by its entry
+pub values_are : (f : Found) (id : Text) → values_of id (rows_of f) ≡ unwrap_or (option_map raw_values (matched_of f id)) []
+values_are f id = ap (λ o. unwrap_or o []) (all_rows f.entries.items id)
+
+-- the values of a getter's answer, or none
+pub read_out : (o : Option (Bor (List (Bor Text)))) (d r : Bor (List (Bor Text))) → r ≡ unwrap_or o d → d.now ≡ []
+    → map (λ v. v.now) r.now ≡ unwrap_or (option_map (λ s. map (λ v. v.now) s.now) o) []
+read_out None d r e none = ap (λ (b : Bor (List (Bor Text))). map (λ v. v.now) b.now) e ∙ ap (map (λ v. v.now)) none
+read_out (Some x) d r e none = ap (λ (b : Bor (List (Bor Text))). map (λ v. v.now) b.now) e
+
+-- and so the values that the code takes
+pub taken : (f : Found) (id : Text) (o : Option (Bor (List (Bor Text)))) (d r : Bor (List (Bor Text))) → r ≡ unwrap_or o d → d.now ≡ []
+    → option_map (λ s. map (λ v. v.now) s.now) o ≡ option_map raw_values (matched_of f id) → map (λ v. v.now) r.now ≡ values_of id (rows_of f)
+taken f id o d r e none got = read_out o d r e none ∙ ap (λ x. unwrap_or x []) got ∙ sym (values_are f id)
+
+-- ---- the lines
+
+abbrev is_line_parser : ValueParser → Bool
+is_line_parser (Unsigned low high) = (low == 1) && (high == 4294967295)
+is_line_parser _ = false
+
+abbrev line_test : Rule → Bool
+line_test r = not (bytes_eq r.id (codes "line")) || is_line_parser (parser_of_value r.parser)
+
+within : (low high : ℕ) (text : Text) → ((low == 1) && (high == 4294967295)) ≡ true → IsUnsignedIn low high text → IsLineNumber text
+within low high text test h =
+    let tests = both (low == 1) (high == 4294967295) test in
+    let least : low ≡ 1 = is low 1 tests.0 in
+    let most : high ≡ 4294967295 = is high 4294967295 tests.1 in
+    subst (λ n. IsUnsignedIn 1 n text) most (subst (λ n. IsUnsignedIn n high text) least h)
+  where
+    is : (a b : ℕ) → (a == b) ≡ true → a ≡ b
+    is a b h = grind (arith, nat_tests)
+
+accepts_line : (ignore : Bool) (p : ValueParser) (text : Text) → is_line_parser p ≡ true → Accepts ignore p text → IsLineNumber text
+accepts_line ignore (Unsigned low high) text test h = within low high text test h
+accepts_line ignore _ text test h = absurd cc
+
+passes_line : (c : Command) → IsLeft c → (text : Text) → PassesArg c (codes "line") text → IsLineNumber text
+passes_line c left text h =
+    let x = h.1 in
+    let test = unless (bytes_eq x.id.now (codes "line")) _ (tested line_test (args_of c) h.0 x h.2 h.3 (left_passes line_test c left refl refl)) h.4.0 in
+    accepts_line x.ignore_case (parser_of_value x.value_parser) text test h.4.1
+
+entry_lines : (c : Command) (e : Entry) → IsLeft c → groups_of c ≡ [] → bytes_eq e.0.now (codes "line") ≡ true → EntryPasses c e → All IsLineNumber (raw_values e.1)
+entry_lines c e left groups same passes =
+    let id : e.0.now ≡ codes "line" = (bytes_eq-Decides _ _).0 same in
+    elim passes.0 [
+      | inl group ↦ elim (passes.3 group) [
+        | inl none ↦ absurd cc
+        | inr some ↦
+            let bad : 0 < 0 = rw groups at some in
+            absurd (omega arith)
+      ]
+      | inr h ↦ All-map IsLineNumber (λ s. s.now) e.1.vals.items (λ k d lt. passes_line c left (slice_index_or e.1.vals.items k d).now (rw id at (h k d lt)))
+    ]
+
+lines_pass : (c : Command) (f : Found) → IsLeft c → groups_of c ≡ [] → ValuesPass c f → All IsLineNumber (values_of (codes "line") (rows_of f))
+lines_pass c f left groups passes = rw (values_are f (codes "line")) (go (matched_of f (codes "line")) refl)
+  where
+    go : (o : Option MatchedArg) → matched_of f (codes "line") ≡ o → All IsLineNumber (unwrap_or (option_map raw_values o) [])
+    go None e = All-nil IsLineNumber
+    go (Some x) e =
+        let got = entry_by_id (EntryPasses c) f.entries.items (codes "line") x passes e in
+        subst (λ (a : MatchedArg). All IsLineNumber (raw_values a)) got.1 (entry_lines c got.0 left groups got.2 got.3)
+
+-- each `--line` of a parse that succeeds is a line's number
+pub found_lines : (old new : Command) (m : ArgMatches) → IsCommand command old → (is_broken new ≡ true → ⊥) → BuildsOrBreaks old new → BuildsTo old new
+    → ((fields_of new).has_globals ≡ false → IsParsed new (found_of m) (has_subcommand m)) → All IsLineNumber (values_of (codes "line") (rows_of (found_of m)))
+found_lines old new m is whole after from parsed =
+    let all = parsed (from.globals ∙ is.local) in
+    let plain = from.plain is.plain in
+    lines_pass new (found_of m) (left_of old new is after whole) plain.1 all.values
+
+positive : (texts : List Text) → All IsLineNumber texts → All (λ n. 1 ≤ n) (map line_number texts)
+positive texts h = All-map (λ n. 1 ≤ n) line_number texts (λ k d lt. (h k d lt).2)
+
+-- the number of a text that was accepted is read
+pub unread : (text : Text) {E : Type 0} (e : E) → IsLineNumber text → ParsesUnsigned 32 10 text (Err e) → ⊥
+unread text e h refused = refused (h.0, omega (arith, h.3))
+
+pub line_at : (texts : List (Bor Text)) (i : ℕ) (d : Bor Text) → All IsLineNumber (map (λ t. t.now) texts) → i < length texts → IsLineNumber (get_or texts i d).now
+line_at texts i d h lt =
+    let less : i < length (map {A = Bor Text} {B = Text} (λ t. t.now) texts) = rw length-map lt in
+    subst IsLineNumber (get_or-map {X = Bor Text} {Y = Text} (λ t. t.now) texts i d [] lt) (h i [] less)
+
+-- ---- the variables
+
+-- what holds of the texts so far, and of one more
+pub one_more : (P : Text → Type 0) (texts : List (Bor Text)) (i : ℕ) (d : Bor Text) → i < length texts → All P (map (λ t. t.now) (take i texts)) → P (get_or texts i d).now
+    → All P (map (λ t. t.now) (take (i + 1) texts))
+one_more P texts i d lt before here =
+    let more : take (i + 1) texts ≡ take i texts ++ get_or texts i d ∷ [] = grind (arith, common_steps) in
+    subst (λ xs. All P (map (λ t. t.now) xs)) (sym more) (subst (All P) (sym (map_push (λ t. t.now) (take i texts) (get_or texts i d))) (All-push P (map (λ t. t.now) (take i texts)) (get_or texts i d).now before here))
+
+pub one_pair : {X : Type 0} (f : X → PairValue) (done more : List X) (v : X) (texts : List (Bor Text)) (i : ℕ) (d : Bor Text) → i < length texts → more ≡ done ++ v ∷ [] → f v ≡ cut_at_equals (get_or texts i d).now
+    → (all : List PairValue) → map f done ++ map cut_at_equals (map (λ t. t.now) (drop i texts)) ≡ all
+    → map f more ++ map cut_at_equals (map (λ t. t.now) (drop (i + 1) texts)) ≡ all
+one_pair f done more v texts i d lt grown same all before =
+    let split : drop i texts ≡ get_or texts i d ∷ drop (i + 1) texts = grind (arith, common_steps) in
+    let rest = map cut_at_equals (map (λ (t : Bor Text). t.now) (drop (i + 1) texts)) in
+    ap (λ l. map f l ++ rest) grown ∙ ap (λ l. l ++ rest) (map_push f done v) ∙ append_assoc (map f done) (f v ∷ []) rest
+    ∙ ap (λ x. map f done ++ x ∷ rest) same ∙ ap (λ l. map f done ++ map cut_at_equals (map (λ (t : Bor Text). t.now) l)) (sym split) ∙ before
+
+pub all_pairs : {X : Type 0} (f : X → PairValue) (done : List X) (texts : List (Bor Text)) (i : ℕ) → length texts ≤ i
+    → map f done ++ map cut_at_equals (map (λ t. t.now) (drop i texts)) ≡ map cut_at_equals (map (λ t. t.now) texts)
+    → All (λ text. has_equals text ≡ true) (map (λ t. t.now) (take i texts))
+    → All (λ text. has_equals text ≡ true) (map (λ t. t.now) texts) × (map f done ≡ map cut_at_equals (map (λ t. t.now) texts))
+all_pairs f done texts i le cut equals = (
+  subst (λ xs. All (λ text. has_equals text ≡ true) (map (λ t. t.now) xs)) (take_all i texts le) equals,
+  sym (append-nil (map f done)) ∙ ap (λ xs. map f done ++ map cut_at_equals (map (λ (t : Bor Text). t.now) xs)) (sym (drop_all i texts le)) ∙ cut,
+)
+
+-- what the variables' fault says of the answer
+pub says_variables : (rows : List Row) (texts : List Text) (e : WordsFault) (r : Result Words WordsFault) → texts ≡ values_of (codes "env") rows
+    → SaysVariables texts (Err e) → IsErrAnd r (λ f. f ≡ e) → SaysMatches rows r
+says_variables rows texts e (Ok w) is says by = absurd by
+says_variables rows texts (Usage x) (Err f) is says by = absurd says
+says_variables rows texts Env (Err f) is says by = subst (λ g. SaysMatches rows (Err g)) (sym by) (subst (Any (λ text. has_equals text ≡ false)) is says)
+says_variables rows texts Memory (Err f) is says by = subst (λ g. SaysMatches rows (Err g)) (sym by) tt
+
+-- ---- the files of a parse that succeeds
+
+some_files : (old new : Command) (m : ArgMatches) → IsCommand command old → IsLeft new → BuildsTo old new
+    → ((fields_of new).has_globals ≡ false → IsParsed new (found_of m) (has_subcommand m))
+    → values_of (codes "files") (rows_of (found_of m)) ≢ []
+some_files old new m is left from parsed =
+    let p : IsParsedFrom old m = record { built = new; from = from; parsed = parsed } in
+    let all = parsed (from.globals ∙ is.local) in
+    let plain = from.plain is.plain in
+    rw (values_are (found_of m) (codes "files")) (go (matched_of (found_of m) (codes "files")) refl (given_files old m is p) all plain.1)
+  where
+    no_text : (vs : List (Bor Text)) → 0 < length vs → map (λ s. s.now) vs ≡ [] → ⊥
+    no_text [] lt e = absurd (omega arith)
+    no_text (v ∷ vs) lt e = absurd cc
+
+    go : (o : Option MatchedArg) → matched_of (found_of m) (codes "files") ≡ o → is_some (matched_of (found_of m) (codes "files")) ≡ true
+        → IsParsed new (found_of m) (has_subcommand m) → groups_of new ≡ []
+        → unwrap_or (option_map raw_values o) [] ≢ []
+    go None e some all groups =
+        let bad : false ≡ true = rw e at some in
+        absurd cc
+    go (Some x) e some all groups =
+        let got = entry_by_id (EntryPasses new) (found_of m).entries.items (codes "files") x all.values e in
+        let same : got.0.1 ≡ x = got.1 in
+        no_text x.vals.items (subst (λ (a : MatchedArg). 0 < length a.vals.items) same (has_values new got.0 left groups got.2 got.3.1))
+
+no_files : {X : Type 0} (f : X → Text) (xs : List X) → map f xs ≢ [] → xs ≢ []
+no_files f xs none e = none (ap (map f) e)
+
+simple : is_simple command ≡ true
+simple = refl
+
+simple_and_free : is_simple_and_free command ≡ true
+simple_and_free = refl
+
+-- what a parse that succeeds says of the answer that was made of it
+pub says_found : (arguments : List Text) (old new : Command) (m : ArgMatches) (r : Result Words WordsFault) → IsCommand command old
+    → (is_broken new ≡ true → ⊥) → BuildsOrBreaks old new → BuildsTo old new
+    → ((fields_of new).has_globals ≡ false → IsParsed new (found_of m) (has_subcommand m))
+    → HasMatchesOf (app_of old) arguments m
+    → (is_simple_and_free (app_of old) ≡ true → fault_of (app_of old) arguments ≡ [])
+    → SaysMatches (rows_of (found_of m)) r → SaysArguments arguments r
+says_found arguments old new m r is whole after from parsed matches kinds says = go r says
+  where
+    faultless : faults_in arguments ≡ []
+    faultless = ap (λ a. fault_of a arguments) (sym is.app) ∙ kinds (ap is_simple_and_free is.app ∙ simple_and_free)
+
+    rows : rows_of (found_of m) ≡ found_in arguments
+    rows = (matches (ap is_simple is.app ∙ simple)).0 ∙ ap (λ a. matches_of a arguments) is.app
+
+    go : (r : Result Words WordsFault) → SaysMatches (rows_of (found_of m)) r → SaysArguments arguments r
+    go (Ok w) says =
+        let some = some_files old new m is (left_of old new is after whole) from parsed in
+        let lines = found_lines old new m is whole after from parsed in (
+          faultless,
+          subst (λ x. IsAskedBy x w) rows says,
+          λ none. some (sym says.files ∙ ap (map _) none),
+          subst (All (λ n. 1 ≤ n)) (sym says.lines) (positive _ lines),
+        )
+    go (Err (Usage e)) says = absurd says
+    go (Err Env) says = (faultless, subst (λ x. SaysMatches x (Err Env)) rows says)
+    go (Err Memory) says = tt
+
+-- what a parse that fails says of the answer that it leads to
+pub says_fault : (arguments : List Text) (old : Command) (e : Error) (r : Result Words WordsFault) → IsCommand command old
+    → (is_simple_and_free (app_of old) ≡ true → HasKind (fault_of (app_of old) arguments) e)
+    → IsErrAnd r (λ f. IsFaultBy e f) → SaysArguments arguments r
+says_fault arguments old e (Ok w) is kinds by = absurd by
+says_fault arguments old e (Err (Usage f)) is kinds by =
+    let kind : HasKind (faults_in arguments) e = subst (λ a. HasKind (fault_of a arguments) e) is.app (kinds (ap is_simple_and_free is.app ∙ simple_and_free)) in
+    elim kind [
+      | inl memory ↦ absurd (by.1 memory)
+      | inr among ↦ subst (λ (x : Error). IsAmong (kind_of x) (faults_in arguments)) (sym by.0) among
+    ]
+says_fault arguments old e (Err Env) is kinds by = absurd by
+says_fault arguments old e (Err Memory) is kinds by = tt

@@ -1,0 +1,203 @@
+-- Inputs, one after another, and that they are determined.
+use Rattle.std.proofs.Common.{◌≡◌, ◌≢◌, ◌⊎◌, inl, inr, ℕ, suc, zero, ◌+◌, ◌<◌, Bool, List, [], ◌∷◌, ◌++◌, map, take, drop, length, get_or, Option, Some, None, refl, ap, sym, subst, ◌∙◌, arith, add-one}
+use Rattle.std.specs.Prelude.{slice_get}
+use Rattle.std.specs.List.{AllByRecursion}
+use Rattle.gk_gherkin.specs.declared.read_fault.ReadFault.{ReadFault}
+use Rattle.gk_gherkin.specs.declared.read_fault.ReadFault.TheVariants as read_faults
+use Rattle.gk_gherkin.specs.Lines.{lines_of, IsText}
+use Rattle.gk_gherkin.specs.Feature.{FeatureValue}
+use Rattle.gk_gherkin.specs.Grammar.{Reads, HasOneReading}
+use Rattle.gk_select.specs.declared.case.Case.{Case}
+use Rattle.gk_select.specs.declared.select_fault.SelectFault.{SelectFault}
+use Rattle.gk_select.specs.declared.select_fault.SelectFault.TheVariants as select_faults
+use Rattle.gk_select.specs.Case.{CaseValue, case_value}
+use Rattle.gk_select.specs.TagRules.{AlternativeValue, ReadsTags}
+use Rattle.gk_select.specs.Choice.{is_chosen}
+use Rattle.gk_steps.specs.declared.library_fault.LibraryFault.{LibraryFault}
+use Rattle.gk_steps.specs.declared.library_fault.LibraryFault.TheVariants as library_faults
+use Rattle.gk_steps.specs.Finding.{LibraryValue}
+use Rattle.gk_steps.specs.DefaultFile.{default_text}
+use Rattle.gk_steps.specs.LibraryFile.{LibraryReadingIsUnique}
+use Rattle.gk_steps.specs.LibraryFault.{LibraryFaultSays}
+use Rattle.gk_run.specs.Chosen.{MemberValue, ChosenValue, members_of}
+use Rattle.gk_cli.specs.Source.{SourceValue}
+use Rattle.gk_cli.specs.Inputs.{Request, Inputs, AreRules, IsLibrary, member_by, with_reading, chosen_of, HasRoom, AreRead, AreInputs, HasBadTags, HasFault, HasTooMany, IsFirstUnread}
+use Rattle.gk_cli.specs.declared.run_fault.RunFault.{RunFault}
+use Rattle.gk_cli.specs.declared.run_fault.RunFault.TheVariants.{Read, Library, Select, Write, Memory}
+use Rattle.gk_cli.specs.RunFault.{IsUnread, SaysTags, SaysLibrary, SaysSourceAt, SaysSources, read_fault_at, select_fault_at, tags_fault, library_fault, SaysExpansion}
+use Rattle.gk_cli.specs.Suite.{InputsAreUnique}
+
+-- The element at a place, as a loop has it.
+pub at_place : {A B : Type 0} (f : A → B) (xs : List A) (i : ℕ) (x : A) → i < length xs → x ≡ get_or xs i x → slice_get (map f xs) i ≡ Some (f x)
+at_place f [] i x less is = absurd (omega arith)
+at_place f (y ∷ ys) zero x less is = ap (λ z. Some (f z)) (sym is)
+at_place f (y ∷ ys) (suc i) x less is = at_place f ys i x (omega arith) is
+
+same_some : {A : Type 0} (x y : A) → ◌≡◌ {A = Option A} (Some x) (Some y) → x ≡ y
+same_some x y e = cc
+
+-- One element more of a list.
+pub take_one : {A : Type 0} (xs : List A) (i : ℕ) (x : A) → slice_get xs i ≡ Some x → take (i + 1) xs ≡ take i xs ++ x ∷ []
+take_one xs i x is = ap (λ n. take n xs) (add-one i) ∙ go xs i x is where
+  go : {A : Type 0} (xs : List A) (i : ℕ) (x : A) → slice_get xs i ≡ Some x → take (suc i) xs ≡ take i xs ++ x ∷ []
+  go [] i x is = let no : ⊥ = cc in absurd no
+  go (y ∷ ys) zero x is = ap (λ z. z ∷ []) (same_some y x is)
+  go (y ∷ ys) (suc i) x is = ap (λ t. y ∷ t) (go ys i x is)
+
+-- A list, cut at a place.
+pub cut_at : {A : Type 0} (xs : List A) (i : ℕ) (x : A) → slice_get xs i ≡ Some x → xs ≡ take i xs ++ x ∷ drop (suc i) xs
+cut_at [] i x is = let no : ⊥ = cc in absurd no
+cut_at (y ∷ ys) zero x is = ap (λ z. z ∷ ys) (same_some y x is)
+cut_at (y ∷ ys) (suc i) x is = ap (λ t. y ∷ t) (cut_at ys i x is)
+
+-- The cases of a feature, each with whether it is chosen.
+pub members_chosen : (chooses : CaseValue → Bool) (cs : List Case) → members_of cs (map (λ (c : Case). chooses (case_value c)) cs) ≡ map (member_by chooses) (map case_value cs)
+members_chosen chooses [] = refl
+members_chosen chooses (c ∷ cs) = ap (λ ms. member_by chooses (case_value c) ∷ ms) (members_chosen chooses cs)
+
+-- A feature, by its source and its members.
+pub chosen_again : {source source' name : List ℕ} {line : ℕ} {tags : List (List ℕ)} {members members' : List MemberValue} → source ≡ source' → members ≡ members' →
+    let one : ChosenValue = record { source = source; name = name; line = line; tags = tags; members = members } in
+    let other : ChosenValue = record { source = source'; name = name; line = line; tags = tags; members = members' } in
+    one ≡ other
+chosen_again a b = cc
+
+-- One element more, of which it holds.
+pub all_push : {X : Type 0} (P : X → Type 0) (xs : List X) (x : X) → AllByRecursion P xs → P x → AllByRecursion P (xs ++ x ∷ [])
+all_push P [] x all h = (h, tt)
+all_push P (y ∷ ys) x all h = (all.0, all_push P ys x all.1 h)
+
+-- One text of tags more.
+pub rules_one : (ts : List (List ℕ)) (rs : List (List AlternativeValue)) (t : List ℕ) (r : List AlternativeValue) → AreRules ts rs → ReadsTags t r → AreRules (ts ++ t ∷ []) (rs ++ r ∷ [])
+rules_one [] rs t r none reads = (r, [], reads, refl, ap (λ x. x ++ r ∷ []) none)
+rules_one (x ∷ ts) rs t r h reads = (h.0, h.1 ++ r ∷ [], h.2, rules_one ts h.1 t r h.3 reads, ap (λ x. x ++ r ∷ []) h.4)
+
+with_more : (chooses : CaseValue → Bool) (name : List ℕ) (reading : Option FeatureValue) (others more : List ChosenValue) →
+    with_reading chooses name reading others ++ more ≡ with_reading chooses name reading (others ++ more)
+with_more chooses name None others more = refl
+with_more chooses name (Some f) others more = refl
+
+-- One source more.
+pub read_one : (chooses : CaseValue → Bool) (ss : List SourceValue) (fs : List ChosenValue) (s : SourceValue) (reading : Option FeatureValue) →
+    AreRead chooses ss fs → IsText s.bytes → Reads (lines_of s.bytes) reading → HasRoom reading → AreRead chooses (ss ++ s ∷ []) (fs ++ with_reading chooses s.name reading [])
+read_one chooses [] fs s reading none text reads room = (reading, [], text, reads, room, refl, ap (λ x. x ++ with_reading chooses s.name reading []) none)
+read_one chooses (x ∷ ss) fs s reading h text reads room = (
+  h.0,
+  h.1 ++ with_reading chooses s.name reading [],
+  h.2,
+  h.3,
+  h.4,
+  read_one chooses ss h.1 s reading h.5 text reads room,
+  ap (λ x. x ++ with_reading chooses s.name reading []) h.6 ∙ with_more chooses x.name h.0 h.1 (with_reading chooses s.name reading []),
+)
+
+-- The fault of one source, named as it is.
+pub read_fault_said : (input : ℕ) (fault : ReadFault) (bytes : List ℕ) → HasFault fault bytes → SaysSourceAt input bytes (read_fault_at input fault)
+read_fault_said input read_faults.Memory bytes h = tt
+read_fault_said input read_faults.TooLong bytes h = (refl, h, λ e. cc)
+read_fault_said input (read_faults.NotUtf8 n) bytes h = (refl, h, λ e. cc)
+read_fault_said input (read_faults.Unexpected n) bytes h = (refl, h, λ e. cc)
+read_fault_said input (read_faults.BadTag n) bytes h = (refl, h, λ e. cc)
+read_fault_said input (read_faults.CellCount n) bytes h = (refl, h, λ e. cc)
+read_fault_said input (read_faults.UnclosedText n) bytes h = (refl, h, λ e. cc)
+read_fault_said input (read_faults.TagsAtEnd n) bytes h = (refl, h, λ e. cc)
+read_fault_said input (read_faults.Language n) bytes h = (refl, h, λ e. cc)
+read_fault_said input (read_faults.BadRow n) bytes h = (refl, h, λ e. cc)
+
+pub select_fault_said : (input : ℕ) (fault : SelectFault) (bytes : List ℕ) (f : FeatureValue) → IsText bytes → Reads (lines_of bytes) (Some f) → SaysExpansion f fault → SaysSourceAt input bytes (select_fault_at input fault)
+select_fault_said input select_faults.TooMany bytes f text reads h = (refl, (f, text, reads, h))
+select_fault_said input select_faults.BadTagText bytes f text reads h = h
+select_fault_said input select_faults.Memory bytes f text reads h = tt
+
+-- The first source that doesn't read is named, or memory was refused.
+pub first_unread : (chooses : CaseValue → Bool) (sources : List SourceValue) (features : List ChosenValue) (input : ℕ) (source : SourceValue) (fault : RunFault) →
+    AreRead chooses (take input sources) features → slice_get sources input ≡ Some source → SaysSourceAt input source.bytes fault → SaysSources chooses sources fault
+first_unread chooses sources features input source (Read i fault) read place h =
+    subst (λ n. SaysSources chooses sources (Read n fault)) (sym h.0) (record { before = features; read = read; source = source; place = place; unread = h.1 }, h.2)
+first_unread chooses sources features input source (Select (Some i) select_faults.TooMany) read place h =
+    subst (λ n. SaysSources chooses sources (Select (Some n) select_faults.TooMany)) (sym h.0) (record { before = features; read = read; source = source; place = place; unread = h.1 })
+first_unread chooses sources features input source (Select (Some i) select_faults.BadTagText) read place h = h
+first_unread chooses sources features input source (Select (Some i) select_faults.Memory) read place h = h
+first_unread chooses sources features input source (Select None fault) read place h = h
+first_unread chooses sources features input source (Library fault) read place h = h
+first_unread chooses sources features input source Write read place h = h
+first_unread chooses sources features input source Memory read place h = tt
+
+-- The first text that spells no rule is there, or memory was refused.
+pub tags_said : (tags : List (List ℕ)) (i : ℕ) (text : List ℕ) (rules : List (List AlternativeValue)) (fault : SelectFault) → slice_get tags i ≡ Some text → AreRules (take i tags) rules →
+    (fault ≡ select_faults.Memory) ⊎ ((fault ≡ select_faults.BadTagText) × ((rule : List AlternativeValue) → ReadsTags text rule → ⊥)) → SaysTags tags fault
+tags_said tags i text rules fault place read (inl memory) = subst (SaysTags tags) (sym memory) tt
+tags_said tags i text rules fault place read (inr bad) =
+    subst (SaysTags tags) (sym bad.0) (record { before = take i tags; text = text; after = drop (suc i) tags; whole = cut_at tags i text place; rules = rules; read = read; bad = bad.1 })
+
+-- The fault of the texts of tags.
+pub tags_unread : (r : Request) (fault : SelectFault) → SaysTags r.tags fault → IsUnread r (tags_fault fault)
+tags_unread r select_faults.TooMany h = h
+tags_unread r select_faults.BadTagText h = h
+tags_unread r select_faults.Memory h = tt
+
+-- The fault of a library file that was given.
+pub says_library : (bytes : List ℕ) (fault : LibraryFault) → LibraryFaultSays fault bytes → SaysLibrary (Some bytes) fault
+says_library bytes library_faults.Memory h = tt
+says_library bytes library_faults.TooLong h = (bytes, refl, h)
+says_library bytes (library_faults.NotUtf8 n) h = (bytes, refl, h)
+says_library bytes (library_faults.BadType n) h = (bytes, refl, h)
+says_library bytes (library_faults.BadPattern n) h = (bytes, refl, h)
+says_library bytes (library_faults.UnknownAction n) h = (bytes, refl, h)
+says_library bytes (library_faults.MissingField n) h = (bytes, refl, h)
+says_library bytes (library_faults.FieldKind n) h = (bytes, refl, h)
+says_library bytes (library_faults.Ambiguous n) h = (bytes, refl, h)
+
+-- The same, after the texts of tags.
+pub library_unread : (r : Request) (rules : List (List AlternativeValue)) (fault : LibraryFault) → AreRules r.tags rules → SaysLibrary r.library fault → IsUnread r (library_fault fault)
+library_unread r rules library_faults.Memory tags h = tt
+library_unread r rules library_faults.TooLong tags h = record { rules = rules; tags = tags; bytes = h.0; given = h.1; says = h.2; named = λ e. cc }
+library_unread r rules (library_faults.NotUtf8 n) tags h = record { rules = rules; tags = tags; bytes = h.0; given = h.1; says = h.2; named = λ e. cc }
+library_unread r rules (library_faults.BadType n) tags h = record { rules = rules; tags = tags; bytes = h.0; given = h.1; says = h.2; named = λ e. cc }
+library_unread r rules (library_faults.BadPattern n) tags h = record { rules = rules; tags = tags; bytes = h.0; given = h.1; says = h.2; named = λ e. cc }
+library_unread r rules (library_faults.UnknownAction n) tags h = record { rules = rules; tags = tags; bytes = h.0; given = h.1; says = h.2; named = λ e. cc }
+library_unread r rules (library_faults.MissingField n) tags h = record { rules = rules; tags = tags; bytes = h.0; given = h.1; says = h.2; named = λ e. cc }
+library_unread r rules (library_faults.FieldKind n) tags h = record { rules = rules; tags = tags; bytes = h.0; given = h.1; says = h.2; named = λ e. cc }
+library_unread r rules (library_faults.Ambiguous n) tags h = record { rules = rules; tags = tags; bytes = h.0; given = h.1; says = h.2; named = λ e. cc }
+
+-- The fault of a source, after the texts of tags and the library.
+pub sources_unread : (r : Request) (rules : List (List AlternativeValue)) (entries : LibraryValue) (fault : RunFault) →
+    AreRules r.tags rules → IsLibrary r.library entries → SaysSources (is_chosen rules r.lines) r.sources fault → IsUnread r fault
+sources_unread r rules entries (Read i fault) tags library h = (record { rules = rules; tags = tags; entries = entries; library = library; first = h.0 }, h.1)
+sources_unread r rules entries (Select (Some i) select_faults.TooMany) tags library h = record { rules = rules; tags = tags; entries = entries; library = library; first = h }
+sources_unread r rules entries (Select (Some i) select_faults.BadTagText) tags library h = h
+sources_unread r rules entries (Select (Some i) select_faults.Memory) tags library h = h
+sources_unread r rules entries (Select None select_faults.TooMany) tags library h = h
+sources_unread r rules entries (Select None select_faults.BadTagText) tags library h = absurd h
+sources_unread r rules entries (Select None select_faults.Memory) tags library h = h
+sources_unread r rules entries (Library fault) tags library h = absurd h
+sources_unread r rules entries Write tags library h = h
+sources_unread r rules entries Memory tags library h = tt
+
+abbrev pub OneRule : Type 0
+OneRule = (text : List ℕ) (a b : List AlternativeValue) → ReadsTags text a → ReadsTags text b → a ≡ b
+
+same_rules : OneRule → (ts : List (List ℕ)) (rs qs : List (List AlternativeValue)) → AreRules ts rs → AreRules ts qs → rs ≡ qs
+same_rules one [] rs qs a b = a ∙ sym b
+same_rules one (t ∷ ts) rs qs (rule, others, reads, rest, is) (rule', others', reads', rest', is') =
+    is ∙ ap (λ r. r ∷ others) (one t rule rule' reads reads') ∙ ap (λ x. rule' ∷ x) (same_rules one ts others others' rest rest') ∙ sym is'
+
+same_features : HasOneReading → (chooses : CaseValue → Bool) (ss : List SourceValue) (fs gs : List ChosenValue) → AreRead chooses ss fs → AreRead chooses ss gs → fs ≡ gs
+same_features one chooses [] fs gs f g = f ∙ sym g
+same_features one chooses (s ∷ ss) fs gs (reading, others, text, reads, room, rest, is) (reading', others', text', reads', room', rest', is') =
+    is ∙ ap (λ r. with_reading chooses s.name r others) (one (lines_of s.bytes) reading reading' reads reads')
+    ∙ ap (with_reading chooses s.name reading') (same_features one chooses ss others others' rest rest') ∙ sym is'
+
+same_library : LibraryReadingIsUnique → (file : Option (List ℕ)) (a b : LibraryValue) → IsLibrary file a → IsLibrary file b → a ≡ b
+same_library one None a b h g = one (lines_of default_text) a b h g
+same_library one (Some bytes) a b h g = one (lines_of bytes) a b h.1 g.1
+
+both : {l l' : LibraryValue} {fs fs' : List ChosenValue} → l ≡ l' → fs ≡ fs' → let one : Inputs = record { library = l; features = fs } in let other : Inputs = record { library = l'; features = fs' } in one ≡ other
+both a b = cc
+
+-- What is asked for reads in one way only.
+pub unique : HasOneReading → OneRule → LibraryReadingIsUnique → InputsAreUnique
+unique reading rule library r one other a b =
+    let same = same_rules rule r.tags a.rules b.rules a.tags b.tags in
+    both (same_library library r.library one.library other.library a.library b.library)
+    (same_features reading (is_chosen a.rules r.lines) r.sources one.features other.features a.features (subst (λ rules. AreRead (is_chosen rules r.lines) r.sources other.features) (sym same) b.features))

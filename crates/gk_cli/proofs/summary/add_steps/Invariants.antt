@@ -1,8 +1,0 @@
-use Rattle.std.proofs.Common.{◌≡◌, drop, map, fold}
-use Rattle.gk_cli.specs.Rows.{step_row}
-use Rattle.gk_cli.specs.Adding.{one_status_more}
-use Rattle.gk_cli.proofs.summary.add_steps.Given as goal
-
-abbrev pub invariant-loop-step : goal.invariant-loop-step
-invariant-loop-step l =
-    fold one_status_more l.counts (map (λ s. s.status) (map step_row (drop l.step-index l.steps))) ≡ fold one_status_more l.initial.counts (map (λ s. s.status) (map step_row l.steps))

@@ -1,0 +1,145 @@
+-- What the arguments of the command line ask for.
+use Rattle.std.specs.Prelude.{◌≡◌, ◌≢◌, ◌≤◌, ◌==◌, ℕ, Bool, List, [], true, false, Some, Result, Ok, Err, codes, string_bytes, map, option_map, unwrap_or}
+use Rattle.std.specs.List.{All, Any, after_first, before_first}
+use Rattle.std.specs.Str.Parse.{digits_value, without_leading_plus}
+use Rattle.std.specs.Prelude.{String, Vec}
+use Rattle.std.specs.declared.alloc.Global.{Global}
+use Rattle.clap.specs.Lexer.{has_byte, usize_max}
+use Rattle.clap.specs.Words.{IsPlainArg, IsUnsignedIn, Kinds, IsAmong, App, IsPlain, Row, Rule, Text, all_of, app_of, fault_of, first_of, kind_of, matches_of, new_app, new_rule, rule_of, with_rule}
+use Rattle.clap.specs.declared.builder.action.ArgAction.TheVariants.{Append, Set}
+use Rattle.clap.specs.declared.builder.arg.Arg.{Arg}
+use Rattle.clap.specs.declared.builder.command.Command.{Command}
+use Rattle.clap.specs.declared.builder.command.Command.TheViews.{out-Command as fields_of}
+use Rattle.clap.specs.declared.builder.value_parser.ValueParser.TheVariants.{Unsigned}
+use Rattle.clap.specs.declared.error.Error.{Error}
+use Rattle.clap.specs.declared.error.kind.ErrorKind.TheVariants.{OutOfMemory}
+use Rattle.gk_cli.specs.declared.arguments.Words.{Words}
+use Rattle.gk_cli.specs.declared.arguments.WordsFault.{WordsFault}
+use Rattle.gk_cli.specs.declared.arguments.WordsFault.TheVariants.{Usage, Env, Memory}
+
+-- The files: at least one, in as many places as one likes. (this project's profile)
+abbrev pub files_rule : Rule
+files_rule = record (new_rule (codes "files")) {
+  action = Some Append;
+  range = Some (record { start_inclusive = 1; end_inclusive = usize_max });
+  value_names = 1;
+  required = true;
+}
+
+-- The option `--tags T`, as often as one likes. (behave's documentation: command line arguments)
+abbrev pub tags_rule : Rule
+tags_rule = record (new_rule (codes "tags")) { long = Some (codes "tags"); action = Some Append; value_names = 1 }
+
+-- The option `--line N`, as often as one likes, where N fits a `u32` and isn't 0. (this project's profile)
+abbrev pub line_rule : Rule
+line_rule = record (new_rule (codes "line")) {
+  long = Some (codes "line");
+  action = Some Append;
+  parser = Some (Unsigned 1 4294967295);
+  value_names = 1;
+}
+
+-- The option `--library FILE`, once at most. (this project's profile)
+abbrev pub library_rule : Rule
+library_rule = record (new_rule (codes "library")) { long = Some (codes "library"); action = Some Set; value_names = 1 }
+
+-- The option `--env NAME=VALUE`, as often as one likes. (this project's profile)
+abbrev pub env_rule : Rule
+env_rule = record (new_rule (codes "env")) { long = Some (codes "env"); action = Some Append; value_names = 1 }
+
+-- The command: its name, the files and the options. Help is clap's own. (this project's profile)
+abbrev pub command : App
+command = with_rule (with_rule (with_rule (with_rule (with_rule (new_app (codes "gherkin_run")) files_rule) tags_rule) line_rule) library_rule) env_rule
+
+-- The faults that clap finds in the arguments, a request for help among them: those of the first step that fails. (this project's profile)
+abbrev pub faults_in : List Text → Kinds
+faults_in arguments = fault_of command arguments
+
+-- What clap finds in the arguments, of which the first is the program's name. (this project's profile)
+abbrev pub found_in : List Text → List Row
+found_in arguments = matches_of command arguments
+
+-- The values of one option or of the files, in order. (this project's profile)
+abbrev pub values_of : Text → List Row → List Text
+values_of id rows = unwrap_or (all_of id rows) []
+
+-- A text that spells a line's number. (this project's profile)
+abbrev pub IsLineNumber : Text → Type 0
+IsLineNumber text = IsUnsignedIn 1 4294967295 text
+
+-- The number that it spells, in decimal digits after a plus or none. (this project's profile)
+abbrev pub line_number : Text → ℕ
+line_number text = digits_value 10 (without_leading_plus text)
+
+-- A name and a text. (this project's profile)
+pub record PairValue : Type 0 where
+  pub name : Text
+  pub text : Text
+
+-- What a pair of strings says. (this project's profile)
+abbrev pub pair_value : String Global × String Global → PairValue
+pair_value pair = record { name = string_bytes pair.0; text = string_bytes pair.1 }
+
+-- A text has an `=`, which is byte 61. (this project's profile)
+abbrev pub has_equals : Text → Bool
+has_equals text = has_byte 61 text
+
+-- A text cut at its first `=`. (this project's profile)
+abbrev pub cut_at_equals : Text → PairValue
+cut_at_equals text = record { name = before_first (λ b. b == 61) text; text = after_first (λ b. b == 61) text }
+
+-- The variable that a text of `--env` names; a text without `=` names none. (this project's profile)
+abbrev pub SaysVariable : Text → Result (String Global × String Global) WordsFault → Type 0
+SaysVariable text (Ok variable) = (has_equals text ≡ true) × (pair_value variable ≡ cut_at_equals text)
+SaysVariable text (Err Env) = has_equals text ≡ false
+SaysVariable text (Err Memory) = Unit {0}
+SaysVariable text (Err (Usage e)) = ⊥
+
+-- The variables that some texts of `--env` name: the first text without `=` is a fault. (this project's profile)
+abbrev pub SaysVariables : List Text → Result (Vec (String Global × String Global) Global) WordsFault → Type 0
+SaysVariables texts (Ok variables) = All (λ text. has_equals text ≡ true) texts × (map pair_value variables.items ≡ map cut_at_equals texts)
+SaysVariables texts (Err Env) = Any (λ text. has_equals text ≡ false) texts
+SaysVariables texts (Err Memory) = Unit {0}
+SaysVariables texts (Err (Usage e)) = ⊥
+
+-- What is asked for is what clap found. (this project's profile)
+pub record IsAskedBy (rows : List Row) (w : Words) : Type 0 where
+  pub files : map string_bytes w.files.items ≡ values_of (codes "files") rows
+  pub tags : map string_bytes w.options.tags.items ≡ values_of (codes "tags") rows
+  pub lines : w.options.lines.items ≡ map line_number (values_of (codes "line") rows)
+  pub library : option_map string_bytes w.library ≡ first_of (codes "library") rows
+  pub variables : map pair_value w.env.items ≡ map cut_at_equals (values_of (codes "env") rows)
+  pub cut : All (λ text. has_equals text ≡ true) (values_of (codes "env") rows)
+
+-- What is asked for, from what clap found; `Env` comes where an `--env` has no `=`. (this project's profile)
+abbrev pub SaysMatches : List Row → Result Words WordsFault → Type 0
+SaysMatches rows (Ok w) = IsAskedBy rows w
+SaysMatches rows (Err (Usage e)) = ⊥
+SaysMatches rows (Err Env) = Any (λ text. has_equals text ≡ false) (values_of (codes "env") rows)
+SaysMatches rows (Err Memory) = Unit {0}
+
+-- Arguments without a fault give what clap finds in them, a file at least and no line 0; `Usage` has one of clap's faults and comes before `Env`; `Memory` may come in place of any answer. (this project's profile)
+abbrev pub SaysArguments : List Text → Result Words WordsFault → Type 0
+SaysArguments arguments (Ok w) = (faults_in arguments ≡ []) × IsAskedBy (found_in arguments) w × (w.files.items ≢ []) × All (λ n. 1 ≤ n) w.options.lines.items
+SaysArguments arguments (Err (Usage e)) = IsAmong (kind_of e) (faults_in arguments)
+SaysArguments arguments (Err Env) = (faults_in arguments ≡ []) × SaysMatches (found_in arguments) (Err Env)
+SaysArguments arguments (Err Memory) = Unit {0}
+
+-- Proof machinery: an argument of clap's has this rule, and excludes nothing. (this project's profile)
+pub record HasRule (rule : Rule) (a : Arg) : Type 0 where
+  pub same : rule_of a ≡ rule
+  pub plain : IsPlainArg a
+  pub local : a.global ≡ false
+
+-- Proof machinery: clap's command so far is that one, nothing in it excludes anything, and a subcommand lifts no demand. (this project's profile)
+pub record IsCommand (wanted : App) (c : Command) : Type 0 where
+  pub app : app_of c ≡ wanted
+  pub plain : IsPlain c
+  pub local : (fields_of c).has_globals ≡ false
+  pub demands : (fields_of c).subcommand_negates_reqs ≡ false
+
+-- What becomes of an error of clap's: out of memory is a fault of its own. (this project's profile)
+abbrev pub IsFaultBy : Error → WordsFault → Type 0
+IsFaultBy e (Usage f) = (f ≡ e) × (kind_of e ≢ OutOfMemory)
+IsFaultBy e Env = ⊥
+IsFaultBy e Memory = kind_of e ≡ OutOfMemory

@@ -1,0 +1,45 @@
+-- Readers and writers whose calls and failures are counted.
+use Rattle.std.specs.Prelude.{◌≤◌, ℕ, zero, suc, ◌+◌, ◌-◌, ◌^◌, min, List, [], ◌∷◌, length, take, Option, Result, Ok, Err}
+use Rattle.std.specs.Io.KnownBytes.{Appends}
+use Rattle.gk_cli.specs.declared.counted.Counted.{Counted}
+
+-- The reader or writer whose calls are counted. (this project's profile)
+abbrev pub inner_of : {T : Type 0} → Counted T → T
+inner_of c = c.inner
+
+-- The count of its calls of `read` and `write`. (this project's profile)
+abbrev pub calls_of : {T : Type 0} → Counted T → ℕ
+calls_of c = c.calls
+
+-- The count of its calls of `flush`. (this project's profile)
+abbrev pub flushes_of : {T : Type 0} → Counted T → ℕ
+flushes_of c = c.flushes
+
+-- The count of its failures. (this project's profile)
+abbrev pub failures_of : {T : Type 0} → Counted T → ℕ
+failures_of c = c.failures
+
+-- One more, up to the greatest `u64`. (this project's profile)
+abbrev pub one_more : ℕ → ℕ
+one_more n = min (n + 1) (2 ^ 64 - 1)
+
+-- The count of failures after a write: one that took no byte of a piece that isn't empty has failed. (this project's profile)
+abbrev pub counted_write : {E : Type 0} → Result ℕ E → List ℕ → ℕ → ℕ
+counted_write (Ok zero) [] n = n
+counted_write (Ok zero) (b ∷ bs) n = one_more n
+counted_write (Ok (suc k)) bs n = n
+counted_write (Err e) bs n = one_more n
+
+-- The count of failures after a read. (this project's profile)
+abbrev pub counted_read : {E : Type 0} → Result ℕ E → ℕ → ℕ
+counted_read (Ok k) n = n
+counted_read (Err e) n = one_more n
+
+-- The count of failures after a flush. (this project's profile)
+abbrev pub counted_flush : {E : Type 0} → Result (Unit {0}) E → ℕ → ℕ
+counted_flush (Ok u) n = n
+counted_flush (Err e) n = one_more n
+
+-- A prefix of the bytes was written. (this project's profile)
+abbrev pub IsPrefixWritten : Option (List ℕ) → Option (List ℕ) → List ℕ → Type 0
+IsPrefixWritten old new bytes = (n : ℕ) × (n ≤ length bytes) × Appends old new (take n bytes)

@@ -1,0 +1,125 @@
+-- What a run is asked for, and which inputs that spells.
+use Rattle.std.specs.Prelude.{◌≡◌, ◌≤◌, ℕ, Bool, List, [], ◌∷◌, ◌++◌, map, take, slice_get, Option, Some, None, string_bytes}
+use Rattle.std.specs.List.{AllByRecursion}
+use Rattle.gk_gherkin.specs.declared.read_fault.ReadFault.{ReadFault}
+use Rattle.gk_gherkin.specs.Lines.{lines_of, IsText}
+use Rattle.gk_gherkin.specs.Feature.{FeatureValue, texts}
+use Rattle.gk_gherkin.specs.Grammar.{Reads}
+use Rattle.gk_gherkin.specs.ReadFault.{FaultSays, FeatureFault}
+use Rattle.gk_select.specs.Case.{CaseValue}
+use Rattle.gk_select.specs.Expansion.{cases, step_count, step_limit, HasTooManySteps}
+use Rattle.gk_select.specs.TagRules.{AlternativeValue, ReadsTags}
+use Rattle.gk_select.specs.Choice.{is_chosen}
+use Rattle.gk_steps.specs.LibraryFile.{ReadsLibrary}
+use Rattle.gk_steps.specs.DefaultFile.{default_text}
+use Rattle.gk_steps.specs.Finding.{LibraryValue, library_value}
+use Rattle.gk_run.specs.declared.chosen.Chosen.{Chosen}
+use Rattle.gk_run.specs.Chosen.{MemberValue, ChosenValue, chosen_value, IsPaired}
+use Rattle.gk_cli.specs.declared.arguments.Options.{Options}
+use Rattle.gk_cli.specs.declared.inputs.ReadInputs.{ReadInputs}
+use Rattle.gk_cli.specs.Source.{SourceValue}
+
+-- What a run is asked for: the texts of tags, the lines, the bytes of a library file or none, and the sources.
+pub record Request : Type 0 where
+  pub tags : List (List ℕ)
+  pub lines : List ℕ
+  pub library : Option (List ℕ)
+  pub sources : List SourceValue
+
+-- What options, a library file and sources ask for.
+abbrev pub request_of : Options → Option (List ℕ) → List SourceValue → Request
+request_of options library sources = record { tags = texts options.tags.items; lines = options.lines.items; library = library; sources = sources }
+
+-- The inputs as they read: the library, and the sources' features with their cases and the choice among them.
+pub record Inputs : Type 0 where
+  pub library : LibraryValue
+  pub features : List ChosenValue
+
+-- The texts of tags spell these rules, one each, in order. (behave's documentation: tag expressions)
+abbrev pub AreRules : List (List ℕ) → List (List AlternativeValue) → Type 0
+AreRules [] rules = rules ≡ []
+AreRules (text ∷ more) rules = (rule : List AlternativeValue) × (others : List (List AlternativeValue)) × ReadsTags text rule × AreRules more others × (rules ≡ rule ∷ others)
+
+-- The library file spells these entries; where none is given, the default library does. (this project's profile)
+abbrev pub IsLibrary : Option (List ℕ) → LibraryValue → Type 0
+IsLibrary None entries = ReadsLibrary (lines_of default_text) entries
+IsLibrary (Some bytes) entries = IsText bytes × ReadsLibrary (lines_of bytes) entries
+
+-- A case, with whether it is chosen.
+abbrev pub member_by : (CaseValue → Bool) → CaseValue → MemberValue
+member_by chooses case = record { scenario = case; selected = chooses case }
+
+-- A feature from a source, with its cases and the choice among them.
+abbrev pub chosen_of : (CaseValue → Bool) → List ℕ → FeatureValue → ChosenValue
+chosen_of chooses source f = record { source = source; name = f.name; line = f.line; tags = f.tags; members = map (member_by chooses) (cases f) }
+
+-- The feature of a source before others; a source without one counts nowhere. (this project's profile)
+abbrev pub with_reading : (CaseValue → Bool) → List ℕ → Option FeatureValue → List ChosenValue → List ChosenValue
+with_reading chooses source None others = others
+with_reading chooses source (Some f) others = chosen_of chooses source f ∷ others
+
+-- The cases of what a source reads as have no more steps than the limit. (this project's profile)
+abbrev pub HasRoom : Option FeatureValue → Type 0
+HasRoom None = Unit {0}
+HasRoom (Some f) = step_count f ≤ step_limit
+
+-- The sources read as these features: each source's bytes are a text whose lines have a reading with room, and the features are theirs, in order.
+abbrev pub AreRead : (CaseValue → Bool) → List SourceValue → List ChosenValue → Type 0
+AreRead chooses [] features = features ≡ []
+AreRead chooses (s ∷ ss) features =
+    (reading : Option FeatureValue) × (others : List ChosenValue)
+    × IsText s.bytes × Reads (lines_of s.bytes) reading × HasRoom reading × AreRead chooses ss others × (features ≡ with_reading chooses s.name reading others)
+
+-- What is asked for reads as these inputs.
+pub record AreInputs (r : Request) (inputs : Inputs) : Type 0 where
+  pub rules : List (List AlternativeValue)
+  pub tags : AreRules r.tags rules
+  pub library : IsLibrary r.library inputs.library
+  pub features : AreRead (is_chosen rules r.lines) r.sources inputs.features
+
+-- A text of tags is the first that spells no rule. (this project's profile)
+pub record HasBadTags (tags : List (List ℕ)) : Type 0 where
+  pub before : List (List ℕ)
+  pub text : List ℕ
+  pub after : List (List ℕ)
+  pub whole : tags ≡ before ++ text ∷ after
+  pub rules : List (List AlternativeValue)
+  pub read : AreRules before rules
+  pub bad : (rule : List AlternativeValue) → ReadsTags text rule → ⊥
+
+-- The source at a place, from 0, is the first that doesn't read, and this is said of its bytes. (this project's profile)
+pub record IsFirstUnread (chooses : CaseValue → Bool) (sources : List SourceValue) (input : ℕ) (Unread : List ℕ → Type 0) : Type 0 where
+  pub before : List ChosenValue
+  pub read : AreRead chooses (take input sources) before
+  pub source : SourceValue
+  pub place : slice_get sources input ≡ Some source
+  pub unread : Unread source.bytes
+
+-- The same, where the texts of tags and the library read. (this project's profile)
+pub record StopsAtSource (r : Request) (input : ℕ) (Unread : List ℕ → Type 0) : Type 0 where
+  pub rules : List (List AlternativeValue)
+  pub tags : AreRules r.tags rules
+  pub entries : LibraryValue
+  pub library : IsLibrary r.library entries
+  pub first : IsFirstUnread (is_chosen rules r.lines) r.sources input Unread
+
+-- The fault of a feature file is said of these bytes.
+abbrev pub HasFault : ReadFault → List ℕ → Type 0
+HasFault fault bytes = FaultSays FeatureFault fault bytes
+
+-- These bytes spell a feature whose cases have more steps than the limit. (this project's profile)
+abbrev pub HasTooMany : List ℕ → Type 0
+HasTooMany bytes = (f : FeatureValue) × IsText bytes × Reads (lines_of bytes) (Some f) × HasTooManySteps f
+
+-- What a `ReadInputs` says.
+abbrev pub inputs_value : ReadInputs → Inputs
+inputs_value inputs = record { library = library_value inputs.library; features = map chosen_value inputs.features.items }
+
+-- Proof machinery: a source reads, and its feature stands after the others.
+pub record IsReadOnto (chooses : CaseValue → Bool) (source : SourceValue) (old new : List Chosen) : Type 0 where
+  pub reading : Option FeatureValue
+  pub text : IsText source.bytes
+  pub reads : Reads (lines_of source.bytes) reading
+  pub room : HasRoom reading
+  pub added : map chosen_value new ≡ map chosen_value old ++ with_reading chooses source.name reading []
+  pub paired : AllByRecursion IsPaired old → AllByRecursion IsPaired new

@@ -1,0 +1,93 @@
+-- What each fault of a run says.
+use Rattle.std.specs.Prelude.{◌≡◌, ◌≢◌, ℕ, Bool, List, Option, Some, None}
+use Rattle.gk_gherkin.specs.declared.read_fault.ReadFault.{ReadFault}
+use Rattle.gk_gherkin.specs.declared.read_fault.ReadFault.TheVariants as read_faults
+use Rattle.gk_select.specs.declared.select_fault.SelectFault.{SelectFault}
+use Rattle.gk_select.specs.declared.select_fault.SelectFault.TheVariants as select_faults
+use Rattle.gk_gherkin.specs.Feature.{FeatureValue}
+use Rattle.gk_select.specs.Case.{CaseValue}
+use Rattle.gk_select.specs.Expansion.{HasTooManySteps}
+use Rattle.gk_select.specs.TagRules.{AlternativeValue}
+use Rattle.gk_steps.specs.declared.library_fault.LibraryFault.{LibraryFault}
+use Rattle.gk_steps.specs.declared.library_fault.LibraryFault.TheVariants as library_faults
+use Rattle.gk_steps.specs.LibraryFault.{LibraryFaultSays}
+use Rattle.gk_cli.specs.declared.run_fault.RunFault.{RunFault}
+use Rattle.gk_cli.specs.declared.run_fault.RunFault.TheVariants.{Read, Library, Select, Write, Memory}
+use Rattle.gk_cli.specs.Source.{SourceValue}
+use Rattle.gk_cli.specs.Inputs.{Request, AreRules, HasBadTags, IsFirstUnread, StopsAtSource, HasFault, HasTooMany}
+
+-- A library file doesn't read, where the texts of tags do. (this project's profile)
+pub record StopsAtLibrary (r : Request) (fault : LibraryFault) : Type 0 where
+  pub rules : List (List AlternativeValue)
+  pub tags : AreRules r.tags rules
+  pub bytes : List ℕ
+  pub given : r.library ≡ Some bytes
+  pub says : LibraryFaultSays fault bytes
+  pub named : fault ≢ library_faults.Memory
+
+-- What is asked for doesn't read, and this is why; refused memory says nothing of it. (this project's profile)
+abbrev pub IsUnread : Request → RunFault → Type 0
+IsUnread r (Read input fault) = StopsAtSource r input (HasFault fault) × (fault ≢ read_faults.Memory)
+IsUnread r (Library fault) = StopsAtLibrary r fault
+IsUnread r (Select None select_faults.BadTagText) = HasBadTags r.tags
+IsUnread r (Select (Some input) select_faults.TooMany) = StopsAtSource r input HasTooMany
+IsUnread r (Select input fault) = ⊥
+IsUnread r Write = ⊥
+IsUnread r Memory = Unit {0}
+
+-- The status of a run that ended with a fault. (this project's profile)
+abbrev pub status_of_fault : RunFault → ℕ
+status_of_fault Memory = 4
+status_of_fault (Select None fault) = 2
+status_of_fault fault = 3
+
+-- Proof machinery: the same of the texts of tags alone.
+abbrev pub SaysTags : List (List ℕ) → SelectFault → Type 0
+SaysTags tags select_faults.BadTagText = HasBadTags tags
+SaysTags tags select_faults.TooMany = ⊥
+SaysTags tags select_faults.Memory = Unit {0}
+
+-- Proof machinery: the same of the library alone.
+abbrev pub SaysLibrary : Option (List ℕ) → LibraryFault → Type 0
+SaysLibrary library library_faults.Memory = Unit {0}
+SaysLibrary library fault = (bytes : List ℕ) × (library ≡ Some bytes) × LibraryFaultSays fault bytes
+
+-- Proof machinery: the same of the sources alone.
+abbrev pub SaysSources : (CaseValue → Bool) → List SourceValue → RunFault → Type 0
+SaysSources chooses sources (Read input fault) = IsFirstUnread chooses sources input (HasFault fault) × (fault ≢ read_faults.Memory)
+SaysSources chooses sources (Select (Some input) select_faults.TooMany) = IsFirstUnread chooses sources input HasTooMany
+SaysSources chooses sources Memory = Unit {0}
+SaysSources chooses sources fault = ⊥
+
+-- Proof machinery: the same of one source.
+abbrev pub SaysSourceAt : ℕ → List ℕ → RunFault → Type 0
+SaysSourceAt place bytes (Read input fault) = (input ≡ place) × HasFault fault bytes × (fault ≢ read_faults.Memory)
+SaysSourceAt place bytes (Select (Some input) select_faults.TooMany) = (input ≡ place) × HasTooMany bytes
+SaysSourceAt place bytes Memory = Unit {0}
+SaysSourceAt place bytes fault = ⊥
+
+-- Proof machinery: why the cases of a feature aren't listed.
+abbrev pub SaysExpansion : FeatureValue → SelectFault → Type 0
+SaysExpansion f select_faults.TooMany = HasTooManySteps f
+SaysExpansion f select_faults.BadTagText = ⊥
+SaysExpansion f select_faults.Memory = Unit {0}
+
+-- Proof machinery: the fault of a source at a place, where its bytes don't read.
+abbrev pub read_fault_at : ℕ → ReadFault → RunFault
+read_fault_at input read_faults.Memory = Memory
+read_fault_at input fault = Read input fault
+
+-- Proof machinery: the fault of a source at a place, whose cases aren't listed.
+abbrev pub select_fault_at : ℕ → SelectFault → RunFault
+select_fault_at input select_faults.Memory = Memory
+select_fault_at input fault = Select (Some input) fault
+
+-- Proof machinery: the fault of the texts of tags.
+abbrev pub tags_fault : SelectFault → RunFault
+tags_fault select_faults.Memory = Memory
+tags_fault fault = Select None fault
+
+-- Proof machinery: the fault of the library.
+abbrev pub library_fault : LibraryFault → RunFault
+library_fault library_faults.Memory = Memory
+library_fault fault = Library fault

@@ -1,0 +1,239 @@
+//! The arguments of the command line.
+ghost use Rattle.std.specs.Prelude.{◌≡◌, map, IfOk, codes, option_map, string_bytes};
+ghost use Rattle.std.specs.List.{All};
+ghost use Rattle.clap.specs.Words.{found_of, rows_of};
+ghost use Rattle.gk_cli.specs.Arguments.{files_rule, tags_rule, line_rule, library_rule, env_rule, command, HasRule, IsCommand, values_of, IsLineNumber, line_number, SaysVariable, SaysVariables, SaysMatches, SaysArguments};
+
+use clap::builder::ValueParser;
+use clap::error::ErrorKind;
+use clap::{Arg, ArgAction, ArgMatches, Command};
+use std::alloc::{AllocError, AllocFailed, Global};
+use thiserror::Error;
+
+/// Which scenarios run.
+#[derive(Debug, Drop)]
+pub struct Options {
+    /// The texts of `--tags`, in order. All of them have to hold; none chooses every scenario.
+    pub tags: Vec<String>,
+    /// The numbers of `--line`, in order, each at least 1. One of them has to be a scenario's; none chooses
+    /// every scenario.
+    pub lines: Vec<u32>,
+}
+
+/// What the arguments of the command line ask for.
+#[derive(Debug, Drop)]
+pub struct Words {
+    pub options: Options,
+    /// The library file, in place of the default library.
+    pub library: Option<String>,
+    /// The names and values of `--env`, in order.
+    pub env: Vec<(String, String)>,
+    /// The feature files, in the order of the arguments; at least one.
+    pub files: Vec<String>,
+}
+
+/// Why the arguments give nothing to run.
+#[derive(Debug, Drop, Error)]
+pub enum WordsFault {
+    /// A mistake in the arguments, or a request for help. The text is clap's own.
+    #[error("{0}")]
+    Usage(clap::Error),
+    /// The value of an `--env` has no `=`.
+    #[error("bad --env")]
+    Env,
+    /// A growth of memory was refused.
+    #[error("out of memory")]
+    Memory,
+}
+
+impl From<AllocError> for WordsFault {
+    ghost use Rattle.std.specs.Prelude.{◌≡◌};
+    ghost use Rattle.gk_cli.specs.declared.arguments.WordsFault.TheVariants.{Memory};
+
+    ghost from_gives = { λ _ e. e ≡ Memory };
+
+    fn from(_e: AllocError) -> WordsFault {
+        WordsFault::Memory
+    }
+}
+
+impl<T: Drop> From<AllocFailed<T>> for WordsFault {
+    ghost use Rattle.std.specs.Prelude.{◌≡◌};
+    ghost use Rattle.gk_cli.specs.declared.arguments.WordsFault.TheVariants.{Memory};
+
+    ghost from_gives = { λ _ e. e ≡ Memory };
+
+    fn from(_e: AllocFailed<T>) -> WordsFault {
+        WordsFault::Memory
+    }
+}
+
+impl From<clap::Error> for WordsFault {
+    ghost use Rattle.gk_cli.specs.Arguments.{IsFaultBy};
+
+    ghost from_gives = { IsFaultBy };
+
+    fn from(e: clap::Error) -> WordsFault {
+        if e.kind() == ErrorKind::OutOfMemory {
+            WordsFault::Memory
+        } else {
+            WordsFault::Usage(e)
+        }
+    }
+}
+
+fn files_arg<'a>(alloc: Global) -> Arg<'a>
+    ensures { HasRule files_rule result }
+{
+    Arg::new(alloc, "files")
+        .value_name("FILE")
+        .help("Feature files, run in this order")
+        .required(true)
+        .num_args(1..)
+        .action(ArgAction::Append)
+}
+
+fn tags_arg<'a>(alloc: Global) -> Arg<'a>
+    ensures { HasRule tags_rule result }
+{
+    Arg::new(alloc, "tags")
+        .long("tags")
+        .value_name("T")
+        .help("Run only scenarios whose tags fit T, as ~@slow,@db; each --tags has to fit")
+        .action(ArgAction::Append)
+}
+
+fn line_arg<'a>(alloc: Global) -> Arg<'a>
+    ensures { HasRule line_rule result }
+{
+    Arg::new(alloc, "line")
+        .long("line")
+        .value_name("N")
+        .help("Run only the scenarios at line N of a file; of several lines, one has to fit")
+        .value_parser(ValueParser::unsigned(1, 4_294_967_295))
+        .action(ArgAction::Append)
+}
+
+fn library_arg<'a>(alloc: Global) -> Arg<'a>
+    ensures { HasRule library_rule result }
+{
+    Arg::new(alloc, "library")
+        .long("library")
+        .value_name("FILE")
+        .help("Take the steps from FILE in place of the default library")
+        .action(ArgAction::Set)
+}
+
+fn env_arg<'a>(alloc: Global) -> Arg<'a>
+    ensures { HasRule env_rule result }
+{
+    Arg::new(alloc, "env")
+        .long("env")
+        .value_name("NAME=VALUE")
+        .help("Set a variable before the run; of equal names the last counts")
+        .action(ArgAction::Append)
+}
+
+// The command that reads the arguments.
+fn command_of<'a>(alloc: Global) -> Result<Command<'a>, AllocError>
+    ensures { IfOk result (IsCommand command) }
+{
+    Command::new(alloc, "gherkin_run")
+        .about("Runs the scenarios of feature files")
+        .arg(files_arg(alloc))?
+        .arg(tags_arg(alloc))?
+        .arg(line_arg(alloc))?
+        .arg(library_arg(alloc))?
+        .arg(env_arg(alloc))
+}
+
+fn copied(alloc: Global, texts: &[&str]) -> Result<Vec<String>, AllocError>
+    ensures { IfOk result (λ copies. map string_bytes copies.items ≡ map (λ text. text.now) texts.now) }
+{
+    let mut copies = Vec::new(alloc);
+    for text in texts {
+        copies.push(String::from_str(alloc, text)?)?;
+    }
+    Ok(copies)
+}
+
+fn numbers(alloc: Global, texts: &[&str]) -> Result<Vec<u32>, AllocError>
+    requires { All IsLineNumber (map (λ text. text.now) texts.now) }
+    ensures { IfOk result (λ numbers. numbers.items ≡ map line_number (map (λ text. text.now) texts.now)) }
+{
+    let mut numbers = Vec::new(alloc);
+    for text in texts {
+        match text.parse::<u32>() {
+            Ok(number) => numbers.push(number)?,
+            Err(_) => unreachable!(),
+        }
+    }
+    Ok(numbers)
+}
+
+// The name and the text of a variable, cut at the first `=`.
+fn variable(alloc: Global, text: &str) -> Result<(String, String), WordsFault>
+    ensures { SaysVariable text.now result }
+{
+    match text.split_once('=') {
+        Some((name, value)) => Ok((
+            String::from_str(alloc, name)?,
+            String::from_str(alloc, value)?,
+        )),
+        None => Err(WordsFault::Env),
+    }
+}
+
+fn variables(alloc: Global, texts: &[&str]) -> Result<Vec<(String, String)>, WordsFault>
+    ensures { SaysVariables (map (λ text. text.now) texts.now) result }
+{
+    let mut variables = Vec::new(alloc);
+    for text in texts {
+        variables.push(variable(alloc, text)?)?;
+    }
+    Ok(variables)
+}
+
+fn copied_text(alloc: Global, text: Option<&str>) -> Result<Option<String>, AllocError>
+    ensures { IfOk result (λ copy. option_map string_bytes copy ≡ option_map (λ text. text.now) text.entry) }
+{
+    match text {
+        Some(text) => Ok(Some(String::from_str(alloc, text)?)),
+        None => Ok(None),
+    }
+}
+
+fn words_of(alloc: Global, matches: &ArgMatches) -> Result<Words, WordsFault>
+    requires { All IsLineNumber (values_of (codes "line") (rows_of (found_of matches.now))) }
+    ensures { SaysMatches (rows_of (found_of matches.now)) result }
+{
+    let files = copied(alloc, matches.get_strs("files").unwrap_or(&[]))?;
+    let tags = copied(alloc, matches.get_strs("tags").unwrap_or(&[]))?;
+    let lines = numbers(alloc, matches.get_strs("line").unwrap_or(&[]))?;
+    let library = copied_text(alloc, matches.get_str("library"))?;
+    let env = variables(alloc, matches.get_strs("env").unwrap_or(&[]))?;
+    let options = Options { tags, lines };
+    Ok(Words {
+        options,
+        library,
+        env,
+        files,
+    })
+}
+
+/// Reads the arguments of the command line, of which the first is the program's name. `--tags T`,
+/// `--line N` (1 to 4,294,967,295) and `--env NAME=VALUE` may stand several times, `--library FILE` once.
+/// Every other argument that begins with no `-` or is `-` alone, and every argument after the first `--`, is
+/// a feature file; there has to be one. Options and files stand in any order, and `--opt=value` is the same
+/// as `--opt value`. `--help` and `-h` ask for help, and answer `Usage` with the exit code 0. A mistake is
+/// `Usage`, and comes before `Env`; `Memory` may come in place of any answer. (this project's profile)
+pub fn read_words(alloc: Global, words: &[String]) -> Result<Words, WordsFault>
+    ensures { SaysArguments (map string_bytes words.now) result }
+{
+    let mut command = command_of(alloc)?;
+    let matches = command.try_get_matches_from_mut(words)?;
+    words_of(alloc, &matches)
+}
+
+#[cfg(test)]
+mod tests;

@@ -1,0 +1,218 @@
+//! Reading what a run is asked for: the rules of tags, the step library, and the features with their cases
+//! and the choice among them.
+ghost use Rattle.std.specs.Prelude.{◌≡◌, map, option_map, IfOk, IfErr, OnOk, Some};
+ghost use Rattle.std.specs.List.{AllByRecursion};
+ghost use Rattle.gk_gherkin.specs.Feature.{feature_value, texts};
+ghost use Rattle.gk_select.specs.Case.{case_value};
+ghost use Rattle.gk_select.specs.Choice.{chosen_by};
+ghost use Rattle.gk_select.specs.Expansion.{IsExpandable};
+ghost use Rattle.gk_select.specs.TagRules.{tag_rule_value};
+ghost use Rattle.gk_steps.specs.Finding.{library_value};
+ghost use Rattle.gk_run.specs.Chosen.{chosen_value, IsPaired};
+ghost use Rattle.gk_cli.specs.Source.{source_value};
+ghost use Rattle.gk_cli.specs.Inputs as spec;
+ghost use Rattle.gk_cli.specs.Inputs.{request_of, AreRules, IsLibrary, AreRead, AreInputs, IsReadOnto, inputs_value};
+ghost use Rattle.gk_cli.specs.RunFault as faults;
+ghost use Rattle.gk_cli.specs.RunFault.{IsUnread, SaysTags, SaysLibrary, SaysExpansion, SaysSourceAt, SaysSources};
+
+use crate::arguments::Options;
+use crate::run_fault::RunFault;
+use crate::source::Source;
+use gk_gherkin::{Feature, ReadFault, read_feature};
+use gk_run::Chosen;
+use gk_select::{
+    Case, Choice, SelectFault, TagRule, expand, read_features_are_expandable, read_tags,
+};
+use gk_steps::{Library, LibraryFault, default_library, read_library};
+use std::alloc::{AllocError, Global};
+
+/// What a run is asked for, as it reads.
+#[derive(Debug, Drop)]
+pub struct ReadInputs {
+    pub library: Library,
+    pub features: Vec<Chosen>,
+}
+
+fn read_rules(alloc: Global, tags: &[String]) -> Result<Vec<TagRule>, SelectFault>
+    ensures rules { IfOk result (λ rules. AreRules (texts tags.now) (map tag_rule_value rules.items)) }
+    ensures fault { IfErr result (λ e. SaysTags (texts tags.now) e) }
+{
+    let mut rules = Vec::new(alloc);
+    for text in tags {
+        let rule = match read_tags(alloc, text.as_str()) {
+            Ok(rule) => rule,
+            Err(fault) => return Err(fault),
+        };
+        rules.push(rule)?;
+    }
+    Ok(rules)
+}
+
+fn tags_fault(fault: SelectFault) -> RunFault
+    ensures { result ≡ faults.tags_fault fault }
+{
+    match fault {
+        SelectFault::Memory => RunFault::Memory,
+        _ => RunFault::Select { input: None, fault },
+    }
+}
+
+fn read_step_library(alloc: Global, library: Option<&[u8]>) -> Result<Library, LibraryFault>
+    ensures read { IfOk result (λ l. IsLibrary (option_map (λ bytes. bytes.now) library.entry) (library_value l)) }
+    ensures fault { IfErr result (λ e. SaysLibrary (option_map (λ bytes. bytes.now) library.entry) e) }
+{
+    match library {
+        Some(bytes) => read_library(alloc, bytes),
+        None => Ok(default_library(alloc)?),
+    }
+}
+
+fn library_fault(fault: LibraryFault) -> RunFault
+    ensures { result ≡ faults.library_fault fault }
+{
+    match fault {
+        LibraryFault::Memory => RunFault::Memory,
+        _ => RunFault::Library(fault),
+    }
+}
+
+fn copied_lines(alloc: Global, lines: &[u32]) -> Result<Vec<u32>, AllocError>
+    ensures { IfOk result (λ copy. copy.items ≡ lines.now) }
+{
+    let mut copy = Vec::new(alloc);
+    copy.extend_from_slice(lines)?;
+    Ok(copy)
+}
+
+// For each case whether it is chosen.
+fn selections(alloc: Global, choice: &Choice, cases: &[Case]) -> Result<Vec<bool>, AllocError>
+    ensures { IfOk result (λ selected. selected.items ≡ map (λ c. chosen_by choice.now (case_value c)) cases.now) }
+{
+    let mut selected = Vec::new(alloc);
+    for case in cases {
+        selected.push(choice.chooses(case))?;
+    }
+    Ok(selected)
+}
+
+fn chosen_of(
+    alloc: Global,
+    choice: &Choice,
+    source: &str,
+    feature: Feature,
+) -> Result<Chosen, SelectFault>
+    requires { IsExpandable (feature_value feature) }
+    ensures chosen { IfOk result (λ c. chosen_value c ≡ spec.chosen_of (chosen_by choice.now) source.now (feature_value feature)) }
+    ensures paired { IfOk result (λ c. IsPaired c) }
+    ensures fault { IfErr result (λ e. SaysExpansion (feature_value feature) e) }
+    ensures room { OnOk result (spec.HasRoom (Some (feature_value feature))) }
+{
+    let cases = expand(alloc, &feature)?;
+    let selected = selections(alloc, choice, cases.as_slice())?;
+    let source = String::from_str(alloc, source)?;
+    let Feature {
+        name,
+        line,
+        tags,
+        background: _,
+        scenarios: _,
+        rules: _,
+    } = feature;
+    Ok(Chosen {
+        source,
+        name,
+        line,
+        tags,
+        cases,
+        selected,
+    })
+}
+
+fn read_fault_at(input: usize, fault: ReadFault) -> RunFault
+    ensures { result ≡ faults.read_fault_at input fault }
+{
+    match fault {
+        ReadFault::Memory => RunFault::Memory,
+        _ => RunFault::Read { input, fault },
+    }
+}
+
+fn select_fault_at(input: usize, fault: SelectFault) -> RunFault
+    ensures { result ≡ faults.select_fault_at input fault }
+{
+    match fault {
+        SelectFault::Memory => RunFault::Memory,
+        _ => RunFault::Select {
+            input: Some(input),
+            fault,
+        },
+    }
+}
+
+// Reads the source at a place, and adds its feature after those of other sources, if it has one.
+fn read_onto(
+    alloc: Global,
+    choice: &Choice,
+    input: usize,
+    source: &Source,
+    features: &mut Vec<Chosen>,
+) -> Result<(), RunFault>
+    ensures ok { OnOk result (IsReadOnto (chosen_by choice.now) (source_value source.now) features.old.items features.new.items) }
+    ensures fault { IfErr result (λ e. SaysSourceAt input source.now.bytes.items e) }
+{
+    let feature = match read_feature(alloc, source.bytes.as_slice()) {
+        Ok(Some(feature)) => feature,
+        Ok(None) => return Ok(()),
+        Err(fault) => return Err(read_fault_at(input, fault)),
+    };
+    // No code runs here: the law says that what was read can be expanded.
+    read_features_are_expandable();
+    let chosen = match chosen_of(alloc, choice, source.name.as_str(), feature) {
+        Ok(chosen) => chosen,
+        Err(fault) => return Err(select_fault_at(input, fault)),
+    };
+    features.push(chosen)?;
+    Ok(())
+}
+
+fn read_sources(alloc: Global, choice: &Choice, sources: &[Source]) -> Result<Vec<Chosen>, RunFault>
+    ensures read { IfOk result (λ features. AreRead (chosen_by choice.now) (map source_value sources.now) (map chosen_value features.items)) }
+    ensures paired { IfOk result (λ features. AllByRecursion IsPaired features.items) }
+    ensures fault { IfErr result (λ e. SaysSources (chosen_by choice.now) (map source_value sources.now) e) }
+{
+    let mut features = Vec::new(alloc);
+    for (input, source) in sources.iter().enumerate() {
+        if let Err(fault) = read_onto(alloc, choice, input, source, &mut features) {
+            return Err(fault);
+        }
+    }
+    Ok(features)
+}
+
+/// Reads what a run is asked for: first the texts of tags, then the library, then each source in turn. An
+/// error names the first that doesn't read.
+pub fn read_inputs(
+    alloc: Global,
+    options: &Options,
+    library: Option<&[u8]>,
+    sources: &[Source],
+) -> Result<ReadInputs, RunFault>
+    ensures read { IfOk result (λ inputs. AreInputs (request_of options.now (option_map (λ bytes. bytes.now) library.entry) (map source_value sources.now)) (inputs_value inputs)) }
+    ensures paired { IfOk result (λ inputs. AllByRecursion IsPaired inputs.features.items) }
+    ensures fault { IfErr result (λ e. IsUnread (request_of options.now (option_map (λ bytes. bytes.now) library.entry) (map source_value sources.now)) e) }
+{
+    let rules = match read_rules(alloc, options.tags.as_slice()) {
+        Ok(rules) => rules,
+        Err(fault) => return Err(tags_fault(fault)),
+    };
+    let lines = copied_lines(alloc, options.lines.as_slice())?;
+    let choice = Choice::new(rules, lines);
+    let library = match read_step_library(alloc, library) {
+        Ok(library) => library,
+        Err(fault) => return Err(library_fault(fault)),
+    };
+    match read_sources(alloc, &choice, sources) {
+        Ok(features) => Ok(ReadInputs { library, features }),
+        Err(fault) => Err(fault),
+    }
+}

@@ -1,0 +1,67 @@
+//! Why a run ended without its whole report.
+ghost use Rattle.std.specs.Prelude.{◌≡◌};
+
+use gk_gherkin::ReadFault;
+use gk_select::SelectFault;
+use gk_steps::LibraryFault;
+use std::alloc::{AllocError, AllocFailed};
+
+/// Why a run ended without its whole report. Where more than one fault could be named, the first is: the
+/// texts of tags come first, then the library, then each source in turn. (this project's profile)
+#[derive(Clone, Copy, Debug, PartialEq, Eq)]
+pub enum RunFault {
+    /// The source at place `input`, from 0, is the first that doesn't read, for this reason. Nothing was
+    /// written.
+    Read {
+        input: usize,
+        fault: ReadFault,
+    },
+    /// The library file doesn't read, for this reason. Nothing was written.
+    Library(LibraryFault),
+    /// `BadTagText`, without an input: a text of tags spells no rule. `TooMany`: the cases of the source at
+    /// place `input`, from 0, have too many steps. Nothing was written.
+    Select {
+        input: Option<usize>,
+        fault: SelectFault,
+    },
+    /// The writer failed in this call, or took no byte of a piece. A prefix of the report was written.
+    Write,
+    /// A growth of memory was refused outside the steps of a scenario. Nothing was written.
+    Memory,
+}
+
+impl RunFault {
+    ghost use Rattle.gk_cli.specs.RunFault.{status_of_fault};
+
+    /// The status that a program ends with: 4 where memory was refused, 2 for a text of tags that spells no
+    /// rule, and else 3. Takes no memory. (this project's profile)
+    pub fn status(&self) -> u8
+        ensures { result ≡ status_of_fault self.now }
+    {
+        match self {
+            RunFault::Memory => 4,
+            RunFault::Select { input: None, .. } => 2,
+            _ => 3,
+        }
+    }
+}
+
+impl From<AllocError> for RunFault {
+    ghost use Rattle.gk_cli.specs.declared.run_fault.RunFault.TheVariants.{Memory};
+
+    ghost from_gives = { λ _ e. e ≡ Memory };
+
+    fn from(_e: AllocError) -> RunFault {
+        RunFault::Memory
+    }
+}
+
+impl<T: Drop> From<AllocFailed<T>> for RunFault {
+    ghost use Rattle.gk_cli.specs.declared.run_fault.RunFault.TheVariants.{Memory};
+
+    ghost from_gives = { λ _ e. e ≡ Memory };
+
+    fn from(_e: AllocFailed<T>) -> RunFault {
+        RunFault::Memory
+    }
+}
