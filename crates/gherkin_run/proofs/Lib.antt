@@ -1,2 +1,4 @@
-mod SuiteLemmas
+-- Lemmas.
+mod FaultLemmas
 mod FilesLemmas
+mod ProgramLemmas

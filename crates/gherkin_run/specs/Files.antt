@@ -1,19 +1,25 @@
 -- What reading the files answers.
-use Rattle.std.specs.Prelude.{◌≡◌, List, ℕ, string_bytes}
+use Rattle.std.specs.Prelude.{◌≡◌, ◌<◌, List, ℕ, length, Option, string_bytes, IfSome}
+use Rattle.gk_gherkin.specs.Lines.{limit}
+use Rattle.gk_cli.specs.Counted.{one_more}
 use Rattle.gk_cli.specs.declared.source.Source.{Source}
 use Rattle.gherkin_run.specs.declared.fault.Fault.{Fault}
-use Rattle.gherkin_run.specs.declared.fault.Fault.TheVariants.{NotUtf8, Usage, CannotRead, TooLong, Read, Write, Memory}
+use Rattle.gherkin_run.specs.declared.fault.Fault.TheVariants.{CannotRead, TooLong, Memory}
 
--- The name of a source.
+-- The name of a source. (this project's profile)
 abbrev pub name_of : Source → List ℕ
 name_of source = string_bytes source.name
 
--- A fault of reading that names this file, or want of memory.
+-- Why a source of this name was not read from a reader with these bytes: the reader failed once, has too many bytes, or memory ran out. (this project's profile)
+abbrev pub SaysSourceFault : List ℕ → Option (List ℕ) → ℕ → ℕ → Fault → Type 0
+SaysSourceFault name bytes before after (CannotRead other) = (string_bytes other ≡ name) × (after ≡ one_more before)
+SaysSourceFault name bytes before after (TooLong other) = (string_bytes other ≡ name) × (after ≡ before) × IfSome bytes (λ all. limit < length all)
+SaysSourceFault name bytes before after Memory = after ≡ before
+SaysSourceFault name bytes before after _ = ⊥
+
+-- A fault of reading that names this file, or out of memory. (this project's profile)
 abbrev pub IsFileFault : List ℕ → Fault → Type 0
 IsFileFault name (CannotRead other) = string_bytes other ≡ name
 IsFileFault name (TooLong other) = string_bytes other ≡ name
 IsFileFault name Memory = Unit {0}
-IsFileFault name NotUtf8 = ⊥
-IsFileFault name (Usage error) = ⊥
-IsFileFault name (Read other fault) = ⊥
-IsFileFault name Write = ⊥
+IsFileFault name _ = ⊥

@@ -1,5 +1,4 @@
--- What the program tells and answers.
-pub mod Faults
-pub mod Asked
+-- What the program reports and answers.
+pub mod Fault
 pub mod Files
-pub mod Suite
+pub mod Program

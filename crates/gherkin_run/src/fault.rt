@@ -1,24 +1,34 @@
 //! Why the program ends without a report, in one line and a status.
 ghost use Rattle.std.specs.Prelude.{◌≡◌};
-ghost use Rattle.gherkin_run.specs.Faults.{line_of, status_of};
+ghost use Rattle.gherkin_run.specs.Fault.{row_of, line_of};
 
 use gk_gherkin::ReadFault;
+use gk_steps::LibraryFault;
 use std::alloc::{AllocError, AllocFailed};
 use std::fmt;
 
-/// Why the program ends without a whole report. A file is named as its word on the command line.
+/// Why the program ends without a whole report. A file is named as its argument on the command line. (this
+/// project's profile)
 #[derive(Debug, Drop)]
 pub enum Fault {
-    /// A word isn't UTF-8.
+    /// An argument isn't UTF-8.
     NotUtf8,
-    /// A mistake in the words. The text is clap's own.
+    /// A mistake in the arguments. The text is clap's own.
     Usage(clap::Error),
+    /// An `--env` has no `=`, a bad name, or a text too long.
+    Env,
     /// The file can't be opened or read.
     CannotRead { name: String },
     /// The file is longer than a source may be.
     TooLong { name: String },
-    /// The file is no feature file: a line can't stand where it stands, or the bytes aren't UTF-8.
+    /// The library file is no step library.
+    Library { name: String, fault: LibraryFault },
+    /// The file is no feature file.
     Read { name: String, fault: ReadFault },
+    /// The scenarios of the file have more than 1,000,000 steps.
+    TooMany { name: String },
+    /// A text of `--tags` is no rule of tags.
+    BadTags,
     /// Standard output took no more.
     Write,
     /// A growth of memory was refused.
@@ -28,12 +38,13 @@ pub enum Fault {
 impl Fault {
     /// The status that the program ends with. (this project's profile)
     pub fn status(&self) -> u8
-        ensures { result ≡ status_of self.now }
+        ensures { result ≡ (row_of self.now).status }
     {
         match self {
-            Fault::NotUtf8 | Fault::Usage(_) => 2,
+            Fault::NotUtf8 | Fault::Usage(_) | Fault::Env | Fault::BadTags => 2,
             Fault::CannotRead { .. } | Fault::TooLong { .. } => 3,
-            Fault::Read { .. } | Fault::Write => 3,
+            Fault::Library { .. } | Fault::Read { .. } => 3,
+            Fault::TooMany { .. } | Fault::Write => 3,
             Fault::Memory => 4,
         }
     }
@@ -59,7 +70,7 @@ impl<T: Drop> From<AllocFailed<T>> for Fault {
     }
 }
 
-// Writes the line that a fault is told by, without its line feed.
+// Writes the line of a fault, without its line feed.
 impl fmt::Display for Fault {
     ghost output = { line_of };
 
@@ -67,14 +78,22 @@ impl fmt::Display for Fault {
         match self {
             Fault::NotUtf8 => f.write_str("gherkin_run: not UTF-8"),
             Fault::Usage(error) => write!(f, "{error}"),
+            Fault::Env => f.write_str("gherkin_run: bad --env"),
             Fault::CannotRead { name } => write!(f, "gherkin_run: {name}: cannot read"),
-            Fault::TooLong { name } => {
-                write!(f, "gherkin_run: {name}: longer than 16777216 bytes")
+            Fault::TooLong { name } => write!(f, "gherkin_run: {name}: longer than 16777216 bytes"),
+            Fault::Library { name, fault } => {
+                let text = fault.text();
+                match fault.line() {
+                    Some(line) => write!(f, "gherkin_run: {name}:{line}: {text}"),
+                    None => write!(f, "gherkin_run: {name}: {text}"),
+                }
             }
             Fault::Read { name, fault } => match fault.line() {
                 Some(line) => write!(f, "gherkin_run: {name}:{line}: {fault}"),
                 None => write!(f, "gherkin_run: {name}: {fault}"),
             },
+            Fault::TooMany { name } => write!(f, "gherkin_run: {name}: more than 1000000 steps"),
+            Fault::BadTags => f.write_str("gherkin_run: bad tag expression"),
             Fault::Write => f.write_str("gherkin_run: cannot write"),
             Fault::Memory => f.write_str("gherkin_run: out of memory"),
         }

@@ -1,31 +1,49 @@
 //! Reading the files.
-ghost use Rattle.std.specs.Prelude.{◌≡◌, ◌≤◌, ◌++◌, map, IfOk, IfErr, vec_len, string_bytes};
+ghost use Rattle.std.specs.Prelude.{◌≡◌, ◌≤◌, map, IfOk, IfErr, IfSome, option_map, vec_len, string_bytes};
 ghost use Rattle.std.specs.List.{Any};
-ghost use Rattle.gherkin_run.specs.Files.{IsFileFault, name_of};
+ghost use Rattle.gk_cli.specs.Counted.{inner_of, failures_of};
+ghost use Rattle.gherkin_run.specs.Files.{IsFileFault, SaysSourceFault, name_of};
 
 use crate::fault::Fault;
 use gk_cli::{Counted, Source, SourceFault, read_source};
 use gk_gherkin::LIMIT;
+use std::alloc::Global;
+use std::io::Read;
 use std::rt::Files;
 use std::{fs, io};
+
+/// A source of this name with all the bytes of the reader. A reader that fails is `CannotRead`, one with more
+/// bytes than `gk_gherkin::LIMIT` is `TooLong`. (this project's profile)
+pub fn source_of<R: Read>(
+    alloc: Global,
+    name: String,
+    reader: &mut Counted<R>,
+) -> Result<Source, Fault>
+    ensures named { IfOk result (λ source. name_of source ≡ string_bytes name) }
+    ensures whole { IfOk result (λ source. IfSome (R.remaining (inner_of reader.old)) (λ bytes. source.bytes.items ≡ bytes)) }
+    ensures within { IfOk result (λ source. vec_len source.bytes ≤ LIMIT) }
+    ensures quiet { IfOk result (λ source. failures_of reader.new ≡ failures_of reader.old) }
+    ensures fault { IfErr result (SaysSourceFault (string_bytes name) (R.remaining (inner_of reader.old)) (failures_of reader.old) (failures_of reader.new)) }
+{
+    match read_source(alloc, reader) {
+        Ok(bytes) => Ok(Source { name, bytes }),
+        Err(SourceFault::Device) => Err(Fault::CannotRead { name }),
+        Err(SourceFault::TooLong) => Err(Fault::TooLong { name }),
+        Err(SourceFault::Memory) => Err(Fault::Memory),
+    }
+}
 
 fn read_file<R: Files + AllocGlobal>(rt: &R, name: String) -> Result<Source, Fault>
     ensures named { IfOk result (λ source. name_of source ≡ string_bytes name) }
     ensures within { IfOk result (λ source. vec_len source.bytes ≤ LIMIT) }
     ensures fault { IfErr result (IsFileFault (string_bytes name)) }
 {
-    let file = match fs::open(rt, name.as_str()) {
-        Ok(file) => file,
+    match fs::open(rt, name.as_str()) {
+        Ok(file) => source_of(rt.alloc(), name, &mut Counted::new(file)),
         Err(error) => match error.kind() {
-            io::ErrorKind::OutOfMemory => return Err(Fault::Memory),
-            _ => return Err(Fault::CannotRead { name }),
+            io::ErrorKind::OutOfMemory => Err(Fault::Memory),
+            _ => Err(Fault::CannotRead { name }),
         },
-    };
-    match read_source(rt.alloc(), &mut Counted::new(file)) {
-        Ok(bytes) => Ok(Source { name, bytes }),
-        Err(SourceFault::Device) => Err(Fault::CannotRead { name }),
-        Err(SourceFault::TooLong) => Err(Fault::TooLong { name }),
-        Err(SourceFault::Memory) => Err(Fault::Memory),
     }
 }
 
@@ -40,4 +58,22 @@ pub fn read_files<R: Files + AllocGlobal>(rt: &R, names: Vec<String>) -> Result<
         sources.push(source)?;
     }
     Ok(sources)
+}
+
+/// Reads the library file whole, where one is named.
+pub fn read_library_file<R: Files + AllocGlobal>(
+    rt: &R,
+    name: Option<String>,
+) -> Result<Option<Source>, Fault>
+    ensures named { IfOk result (λ source. option_map name_of source ≡ option_map string_bytes name) }
+    ensures fault { IfErr result (λ fault. IfSome name (λ name. IsFileFault (string_bytes name) fault)) }
+    ensures unnamed { name ≡ None → result ≡ Ok None }
+{
+    match name {
+        Some(name) => match read_file(rt, name) {
+            Ok(source) => Ok(Some(source)),
+            Err(fault) => Err(fault),
+        },
+        None => Ok(None),
+    }
 }

@@ -1,0 +1,227 @@
+-- A run whose output is flushed, the program's faults for those of the run, and variables one after another.
+use Rattle.std.proofs.Common.{◌≡◌, ◌≢◌, ◌⊎◌, ◌∙◌, ◌+◌, ◌-◌, ◌^◌, ◌<◌, ◌≤◌, ◌++◌, ap, sym, subst, refl, inl, inr, arith, suc, ℕ, List, [], ◌∷◌, length, map, take, drop, get_or, Option, Some, None, Result, Ok, Err, add-one}
+use Rattle.std.specs.Prelude.{IfErr, IfOk, IsSome, String, is_some, option_map, string_bytes}
+use Rattle.std.specs.declared.alloc.Global.{Global}
+use Rattle.std.specs.List.{All, Any}
+use Rattle.std.specs.Io.KnownBytes.{Appends, Keeps}
+use Rattle.std.proofs.lemmas.Option.{slice_get-map, slice_get_read, slice_get_within}
+use Rattle.std.proofs.lemmas.List.{append-nil, drop_all, get_or-map, length-map, map_push, take_all}
+use Rattle.std.proofs.lemmas.List.Elements.{All-push}
+use Rattle.std.proofs.Math.Seq.{drop-cons, take-suc}
+use Rattle.gk_world.specs.Contents.{Contents, nothing_yet}
+use Rattle.gk_world.specs.Refusals.{IsFault}
+use Rattle.gk_world.specs.Sandbox.{SandboxValue, new_sandbox, with_env}
+use Rattle.gk_world.specs.declared.world_fault.WorldFault.{WorldFault}
+use Rattle.gk_world.specs.declared.world_fault.WorldFault.TheVariants as world
+use Rattle.gk_select.specs.declared.select_fault.SelectFault.TheVariants as select
+use Rattle.gk_cli.specs.Arguments.{PairValue, pair_value}
+use Rattle.gk_cli.specs.Counted.{one_more}
+use Rattle.gk_cli.specs.Inputs.{Request, request_of}
+use Rattle.gk_cli.specs.Source.{SourceValue, source_value}
+use Rattle.gk_cli.specs.declared.source.Source.{Source}
+use Rattle.gk_cli.specs.Suite.{Device, IsUntouched, JudgedReport, Plain, SaysFault}
+use Rattle.gk_cli.specs.declared.arguments.Options.{Options}
+use Rattle.gk_cli.specs.declared.arguments.Words.{Words}
+use Rattle.gk_cli.specs.declared.run_fault.RunFault.{RunFault}
+use Rattle.gk_cli.specs.declared.run_fault.RunFault.TheVariants as run
+use Rattle.gherkin_run.specs.Files.{IsFileFault, name_of}
+use Rattle.gherkin_run.specs.Program.{AreGiven, IsFaultOfGiven, IsFaultOfRun, IsFaultOfVariable, IsGiven, IsNamed, IsRefused, IsRun, IsUnflushed, IsWithin, SaysCalls, SaysProgram, SaysSuite, SaysVariables, contents_given, library_bytes, request_given, with_variables}
+use Rattle.gherkin_run.specs.declared.fault.Fault.{Fault}
+use Rattle.gherkin_run.specs.declared.fault.Fault.TheVariants.{NotUtf8, Usage, Env, CannotRead, TooLong, Library, Read, TooMany, BadTags, Write, Memory}
+
+-- ---- a flush after a run
+
+kept : (a b c : Option (List ℕ)) (bytes : List ℕ) → Appends a b bytes → Keeps b c → Appends a c bytes
+kept None b c bytes h k = tt
+kept (Some x) None c bytes h k = absurd h
+kept (Some x) (Some y) None bytes h k = absurd k
+kept (Some x) (Some y) (Some z) bytes h k = k ∙ h
+
+pub judged_kept : (r : Request) (c : Contents) (old mid new : Device) (answer : ℕ) → JudgedReport r c old mid answer → Keeps mid.bytes new.bytes → JudgedReport r c old new answer
+judged_kept r c old mid new answer judged k = (
+  judged.0,
+  record { written = kept old.bytes mid.bytes new.bytes _ judged.1.written k; answered = judged.1.answered },
+  judged.2,
+)
+
+pub plain_kept : (r : Request) (c : Contents) (old mid new : Device) (answer : ℕ) → Plain r c old mid answer → Keeps mid.bytes new.bytes → Plain r c old new answer
+plain_kept r c old mid new answer plain k other =
+    let p = plain other in
+    record {
+      inputs = p.inputs;
+      read = p.read;
+      reported = record { written = kept old.bytes mid.bytes new.bytes _ p.reported.written k; answered = p.reported.answered };
+      unmarked = p.unmarked;
+      only = p.only;
+    }
+
+-- a device that isn't called
+pub untouched : (d : Device) → IsUntouched d d
+untouched d = record { written = nothing d.bytes; calls = refl; flushes = refl; failures = refl }
+  where
+    nothing : (bytes : Option (List ℕ)) → Appends bytes bytes []
+    nothing None = tt
+    nothing (Some x) = sym (append-nil x)
+
+-- ---- a fault of the run
+
+-- the source that is taken out of a place
+pub taken_out : {X : Type 0} (f : X → SourceValue) (xs : List X) (i : ℕ) (x : X) → i < length (map f xs) → x ≡ get_or xs i x → IsNamed (map f xs) i (f x).name
+taken_out f xs i x within is =
+    let many = length-map xs f in
+    let lt : i < length xs = omega (arith, within, many) in
+    (f x, slice_get-map f xs i ∙ ap (option_map f) (slice_get_read xs (length xs) i x refl lt is), refl)
+
+some_library : (library : Option SourceValue) (bytes : List ℕ) → library_bytes library ≡ Some bytes → IsSome library
+some_library None bytes e = absurd cc
+some_library (Some s) bytes e = refl
+
+pub within : (options : Options) (library : Option SourceValue) (sources : List SourceValue) (c : Contents) (old new : Device) (by : RunFault)
+    → SaysFault (request_of options (library_bytes library) sources) c old new by → IsWithin library sources by
+within options library sources c old new (run.Read input fault) says = slice_get_within sources input says.0.0.first.source says.0.0.first.place
+within options library sources c old new (run.Library fault) says = some_library library says.0.bytes says.0.given
+within options library sources c old new (run.Select None select.BadTagText) says = tt
+within options library sources c old new (run.Select None select.TooMany) says = absurd says.0
+within options library sources c old new (run.Select None select.Memory) says = absurd says.0
+within options library sources c old new (run.Select (Some input) select.TooMany) says = slice_get_within sources input says.0.first.source says.0.first.place
+within options library sources c old new (run.Select (Some input) select.BadTagText) says = absurd says.0
+within options library sources c old new (run.Select (Some input) select.Memory) says = absurd says.0
+within options library sources c old new run.Write says = tt
+within options library sources c old new run.Memory says = tt
+
+pub fewer : (a b : ℕ) → a < 2 ^ 64 - 1 → b ≡ one_more a → a < b
+fewer a b room e = omega (arith, e)
+
+pub calls_of_run : (r : Request) (c : Contents) (old new : Device) (library : Option SourceValue) (sources : List SourceValue) (by : RunFault) (fault : Fault)
+    → old.failures < 2 ^ 64 - 1 → IsFaultOfRun library sources by fault → SaysFault r c old new by → SaysCalls old new fault
+calls_of_run r c old new library sources run.Write Write room is says = fewer old.failures new.failures room says.1.failed
+calls_of_run r c old new library sources run.Write _ room is says = absurd is
+calls_of_run r c old new library sources run.Memory Memory room is says = says.1
+calls_of_run r c old new library sources run.Memory _ room is says = absurd is
+calls_of_run r c old new library sources (run.Read input f) (Read name g) room is says = says.1
+calls_of_run r c old new library sources (run.Read input f) _ room is says = absurd is
+calls_of_run r c old new library sources (run.Library f) (Library name g) room is says = says.1
+calls_of_run r c old new library sources (run.Library f) _ room is says = absurd is
+calls_of_run r c old new library sources (run.Select (Some input) f) (TooMany name) room is says = says.1
+calls_of_run r c old new library sources (run.Select (Some input) f) _ room is says = absurd is
+calls_of_run r c old new library sources (run.Select None f) BadTags room is says = says.1
+calls_of_run r c old new library sources (run.Select None f) _ room is says = absurd is
+
+-- ---- variables
+
+pub put_more : {X : Type 0} (f : X → PairValue) (xs : List X) (i : ℕ) (x : X) (old new all : Contents) → i < length xs → x ≡ get_or xs i x → new ≡ with_env old (f x).name (f x).text
+    → with_variables old (map f (drop i xs)) ≡ all → with_variables new (map f (drop (i + 1) xs)) ≡ all
+put_more f xs i x old new all lt is put before =
+    let split : drop i xs ≡ x ∷ drop (i + 1) xs = drop-cons xs i x lt ∙ ap (λ y. y ∷ drop (suc i) xs) (sym is) ∙ ap (λ n. x ∷ drop n xs) (sym (add-one i)) in
+    ap (λ c. with_variables c (map f (drop (i + 1) xs))) put ∙ (sym (ap (λ l. with_variables old (map f l)) split) ∙ before)
+
+pub good_more : {X : Type 0} (P : PairValue → Type 0) (f : X → PairValue) (xs : List X) (i : ℕ) (x : X) → i < length xs → x ≡ get_or xs i x → P (f x) → All P (map f (take i xs)) → All P (map f (take (i + 1) xs))
+good_more P f xs i x lt is here before =
+    let more : take (i + 1) xs ≡ take i xs ++ x ∷ [] = ap (λ n. take n xs) (add-one i) ∙ take-suc xs i x lt ∙ ap (λ y. take i xs ++ y ∷ []) (sym is) in
+    subst (λ l. All P (map f l)) (sym more) (subst (All P) (sym (map_push f (take i xs) x)) (All-push P (map f (take i xs)) (f x) before here))
+
+pub all_put : {X : Type 0} (f : X → PairValue) (xs : List X) (i : ℕ) (c all : Contents) → length xs ≤ i → with_variables c (map f (drop i xs)) ≡ all → c ≡ all
+all_put f xs i c all le before = ap (λ l. with_variables c (map f l)) (sym (drop_all i xs le)) ∙ before
+
+pub all_good : {X : Type 0} (P : PairValue → Type 0) (f : X → PairValue) (xs : List X) (i : ℕ) → length xs ≤ i → All P (map f (take i xs)) → All P (map f xs)
+all_good P f xs i le good = subst (λ l. All P (map f l)) (take_all i xs le) good
+
+-- what a refusal says of the program's fault
+pub refused : (variables : List PairValue) (old new : SandboxValue) (refusal : Option WorldFault) (by : WorldFault) (fault : Fault) → IsFault refusal by → IsFaultOfVariable by fault
+    → (IsSome refusal → Any IsRefused variables) → SaysVariables variables old new (Err fault)
+refused variables old new refusal world.Memory fault h is any = subst (λ x. SaysVariables variables old new (Err x)) (sym is) tt
+refused variables old new refusal world.Absent fault h is any = subst (λ x. SaysVariables variables old new (Err x)) (sym is) (any (ap is_some h))
+refused variables old new refusal world.TextTooLong fault h is any = subst (λ x. SaysVariables variables old new (Err x)) (sym is) (any (ap is_some h))
+refused variables old new refusal world.BadName fault h is any = subst (λ x. SaysVariables variables old new (Err x)) (sym is) (any (ap is_some h))
+refused variables old new refusal world.OtherLayer fault h is any = subst (λ x. SaysVariables variables old new (Err x)) (sym is) (any (ap is_some h))
+
+pub bad_here : {X : Type 0} (P : PairValue → Type 0) (f : X → PairValue) (xs : List X) (i : ℕ) (x : X) → i < length xs → x ≡ get_or xs i x → P (f x) → Any P (map f xs)
+bad_here P f xs i x lt is here =
+    let less : i < length (map f xs) = rw length-map lt in
+    (i, f x, less, get_or-map f xs i x (f x) lt ∙ ap f (sym is), here)
+
+-- ---- a fault of a file
+
+pub from_files : (w : Words) (old new : Device) (fault : Fault) → Any (λ name. IsFileFault (string_bytes name) fault) w.files.items → SaysProgram w old new fault
+from_files w old new (CannotRead other) h = inr h
+from_files w old new (TooLong other) h = inr h
+from_files w old new Memory h = tt
+from_files w old new _ h = absurd h.4
+
+-- ---- a fault of the run of the files
+
+abbrev IsSuiteFault : Fault → Type 0
+IsSuiteFault NotUtf8 = ⊥
+IsSuiteFault (Usage e) = ⊥
+IsSuiteFault Env = ⊥
+IsSuiteFault (CannotRead name) = ⊥
+IsSuiteFault (TooLong name) = ⊥
+IsSuiteFault _ = Unit {0}
+
+suite_fault : (library : Option SourceValue) (sources : List SourceValue) (by : RunFault) (fault : Fault) → IsFaultOfRun library sources by fault → IsSuiteFault fault
+suite_fault library sources run.Write Write is = tt
+suite_fault library sources run.Write _ is = absurd is
+suite_fault library sources run.Memory Memory is = tt
+suite_fault library sources run.Memory _ is = absurd is
+suite_fault library sources (run.Read input f) (Read name g) is = tt
+suite_fault library sources (run.Read input f) _ is = absurd is
+suite_fault library sources (run.Library f) (Library name g) is = tt
+suite_fault library sources (run.Library f) _ is = absurd is
+suite_fault library sources (run.Select (Some input) f) (TooMany name) is = tt
+suite_fault library sources (run.Select (Some input) f) _ is = absurd is
+suite_fault library sources (run.Select None f) BadTags is = tt
+suite_fault library sources (run.Select None f) _ is = absurd is
+
+suite_named : (library : Option SourceValue) (sources : List SourceValue) (r : Request) (c : Contents) (old new : Device) (fault : Fault) → SaysSuite library sources r c old new fault → IsSuiteFault fault
+suite_named library sources r c old new fault (inl says) = suite_fault library sources says.0 fault says.1
+suite_named library sources r c old new fault (inr unflushed) = subst IsSuiteFault (sym unflushed.named) tt
+
+of_given : (w : Words) (old new : Device) (fault : Fault) → IsSuiteFault fault → IsFaultOfGiven w old new fault → SaysProgram w old new fault
+of_given w old new (Library name f) is h = h
+of_given w old new (Read name f) is h = h
+of_given w old new (TooMany name) is h = h
+of_given w old new BadTags is h = h
+of_given w old new Write is h = h
+of_given w old new Memory is h = tt
+of_given w old new _ is h = absurd is
+
+pub of_suite : (w : Words) (library : Option SourceValue) (sources : List SourceValue) (old new : Device) (fault : Fault) → AreGiven w library sources
+    → SaysSuite library sources (request_given w library sources) (contents_given w) old new fault → SaysProgram w old new fault
+of_suite w library sources old new fault given says =
+    of_given w old new fault (suite_named library sources _ _ old new fault says) record { library = library; sources = sources; given = given; says = says }
+
+-- ---- the run of the files
+
+names_of : (xs : List Source) → map (λ s. s.name) (map source_value xs) ≡ map name_of xs
+names_of [] = refl
+names_of (x ∷ xs) = ap (λ l. name_of x ∷ l) (names_of xs)
+
+name_given : (library : Option Source) → option_map (λ s. s.name) (option_map source_value library) ≡ option_map name_of library
+name_given None = refl
+name_given (Some x) = refl
+
+pub are_given : (w : Words) (library : Option Source) (sources : List Source) → option_map name_of library ≡ option_map string_bytes w.library → map name_of sources ≡ map string_bytes w.files.items
+    → AreGiven w (option_map source_value library) (map source_value sources)
+are_given w library sources l s = record { files = names_of sources ∙ s; library_file = name_given library ∙ l }
+
+-- the contents after the variables are put into a new sandbox
+pub put_in : (w : Words) (start : SandboxValue) (c : Contents) (variables : List (String Global × String Global)) → c ≡ with_variables start.now (map pair_value variables) → start ≡ new_sandbox → variables ≡ w.env.items
+    → c ≡ contents_given w
+put_in w start c variables put new same =
+    put ∙ ap (λ s. with_variables s.now (map pair_value variables)) new ∙ ap (λ xs. with_variables nothing_yet (map pair_value xs)) same
+
+pub runs : (w : Words) (library : Option SourceValue) (sources : List SourceValue) (old new : Device) (c : Contents) (r : Result ℕ Fault) → AreGiven w library sources → c ≡ contents_given w
+    → IfOk r (λ status. JudgedReport (request_given w library sources) c old new status) → IfOk r (λ status. Plain (request_given w library sources) c old new status) → IfOk r (IsRun w old new)
+runs w library sources old new c (Err e) given is judged plain = tt
+runs w library sources old new c (Ok status) given is judged plain = record {
+  library = library;
+  sources = sources;
+  given = given;
+  judged = subst (λ x. JudgedReport (request_given w library sources) x old new status) is judged;
+  plain = subst (λ x. Plain (request_given w library sources) x old new status) is plain;
+}
+
+pub fails : (w : Words) (library : Option SourceValue) (sources : List SourceValue) (old new : Device) (c : Contents) (r : Result ℕ Fault) → AreGiven w library sources → c ≡ contents_given w
+    → IfErr r (SaysSuite library sources (request_given w library sources) c old new) → IfErr r (SaysProgram w old new)
+fails w library sources old new c (Err e) given is says = of_suite w library sources old new e given (subst (λ x. SaysSuite library sources (request_given w library sources) x old new e) is says)
+fails w library sources old new c (Ok status) given is says = tt

@@ -1,0 +1,29 @@
+use Rattle.std.proofs.Common.{map, subst, sym}
+use Rattle.std.specs.Prelude.{option_map}
+use Rattle.gk_cli.specs.Source.{source_value}
+use Rattle.gk_cli.specs.Suite.{device_of}
+use Rattle.gherkin_run.specs.Program.{SaysProgram}
+use Rattle.gherkin_run.proofs.FilesLemmas.{passed_on}
+use Rattle.gherkin_run.proofs.ProgramLemmas.{are_given, fails, from_files, put_in, runs}
+use Rattle.gherkin_run.proofs.program.run_words.Goals as goal
+
+pub returns-in_err-sources-clause-fault : goal.returns-in_err-sources-clause-fault
+returns-in_err-sources-clause-fault g c =
+    let d = device_of (λ w. g.W.Write.contents w) c.args.out.now in
+    passed_on c.from_residual-in_err-sources.result c.from_residual-in_err-sources.ensures.1 (λ fault same. subst (SaysProgram c.args.words d d) (sym same) (from_files c.args.words d d c.in_err-sources.field-0.0 c.in_err-sources.ensures.fault))
+
+pub returns-clause-run : goal.returns-clause-run
+returns-clause-run g c =
+    let library = c.in_ok-library.library in
+    let sources = c.in_ok-sources.sources.items in
+    let given = are_given c.args.words library sources c.in_ok-library.ensures.named c.in_ok-sources.ensures.named in
+    let put = put_in c.args.words c.new-sandbox.result c.put_variables.new.sandbox.now c.as_slice.result.now c.in_ok-put_variables.ensures.0 c.new-sandbox.ensures c.as_slice.ensures.value in
+    runs c.args.words (option_map source_value library) (map source_value sources) _ _ c.put_variables.new.sandbox.now c.run_sources.result given put c.run_sources.ensures.judged c.run_sources.ensures.plain
+
+pub returns-clause-fault : goal.returns-clause-fault
+returns-clause-fault g c =
+    let library = c.in_ok-library.library in
+    let sources = c.in_ok-sources.sources.items in
+    let given = are_given c.args.words library sources c.in_ok-library.ensures.named c.in_ok-sources.ensures.named in
+    let put = put_in c.args.words c.new-sandbox.result c.put_variables.new.sandbox.now c.as_slice.result.now c.in_ok-put_variables.ensures.0 c.new-sandbox.ensures c.as_slice.ensures.value in
+    fails c.args.words (option_map source_value library) (map source_value sources) _ _ c.put_variables.new.sandbox.now c.run_sources.result given put c.run_sources.ensures.fault

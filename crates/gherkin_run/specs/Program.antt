@@ -1,0 +1,175 @@
+-- What the program answers and writes.
+use Rattle.std.specs.Prelude.{◌≡◌, ◌⊎◌, ◌<◌, ℕ, List, [], ◌∷◌, length, map, Option, Some, None, Result, Ok, Err, IsSome, IsSomeAnd, option_map, slice_get, string_bytes}
+use Rattle.std.specs.List.{All, Any}
+use Rattle.clap.specs.Words.{IsAmong, Text, kind_of}
+use Rattle.clap.specs.declared.error.Error.{Error}
+use Rattle.clap.specs.declared.error.kind.ErrorKind.TheVariants.{DisplayHelp, DisplayVersion}
+use Rattle.gk_world.specs.Contents.{Contents, nothing_yet}
+use Rattle.gk_world.specs.Refusals.{put_refusal}
+use Rattle.gk_world.specs.Sandbox.{SandboxValue, with_env}
+use Rattle.gk_world.specs.declared.world_fault.WorldFault.{WorldFault}
+use Rattle.gk_world.specs.declared.world_fault.WorldFault.TheVariants as world
+use Rattle.gk_select.specs.declared.select_fault.SelectFault.TheVariants as select
+use Rattle.gk_cli.specs.Arguments.{PairValue, SaysArguments, faults_in, pair_value}
+use Rattle.gk_cli.specs.Counted.{one_more}
+use Rattle.gk_cli.specs.Inputs.{Request, request_of}
+use Rattle.gk_cli.specs.Source.{SourceValue}
+use Rattle.gk_cli.specs.Suite.{Device, IsUntouched, JudgedReport, Plain, SaysFault}
+use Rattle.gk_cli.specs.declared.arguments.Words.{Words}
+use Rattle.gk_cli.specs.declared.arguments.WordsFault.TheVariants as words
+use Rattle.gk_cli.specs.declared.run_fault.RunFault.{RunFault}
+use Rattle.gk_cli.specs.declared.run_fault.RunFault.TheVariants as run
+use Rattle.gherkin_run.specs.declared.fault.Fault.{Fault}
+use Rattle.gherkin_run.specs.declared.fault.Fault.TheVariants.{NotUtf8, Usage, Env, CannotRead, TooLong, Library, Read, TooMany, BadTags, Write, Memory}
+use Rattle.gherkin_run.specs.declared.program.Asked.{Asked}
+use Rattle.gherkin_run.specs.declared.program.Asked.TheVariants.{Help, Run}
+
+-- The text was asked for, and is no mistake. (this project's profile)
+abbrev pub IsAskedFor : Error → Type 0
+IsAskedFor e = (kind_of e ≡ DisplayHelp) ⊎ (kind_of e ≡ DisplayVersion)
+
+-- A request for help is no mistake, and a mistake is no request for help. (this project's profile)
+abbrev pub SaysError : Error → Result Asked Fault → Type 0
+SaysError e (Ok (Help f)) = IsAskedFor e × (f ≡ e)
+SaysError e (Ok (Run w)) = ⊥
+SaysError e (Err (Usage f)) = (IsAskedFor e → ⊥) × (f ≡ e)
+SaysError e (Err _) = ⊥
+
+-- What some arguments ask for, and what is wrong with them: help is no mistake, and a mistake is no request for help. (this project's profile)
+abbrev pub SaysAsked : List Text → Result Asked Fault → Type 0
+SaysAsked arguments (Ok (Help e)) = IsAskedFor e × IsAmong (kind_of e) (faults_in arguments)
+SaysAsked arguments (Ok (Run w)) = SaysArguments arguments (Ok w)
+SaysAsked arguments (Err (Usage e)) = (IsAskedFor e → ⊥) × IsAmong (kind_of e) (faults_in arguments)
+SaysAsked arguments (Err Env) = SaysArguments arguments (Err words.Env)
+SaysAsked arguments (Err Memory) = Unit {0}
+SaysAsked arguments (Err _) = ⊥
+
+-- What can be wrong before the arguments are read. (this project's profile)
+abbrev pub IsArgumentsFault : Fault → Type 0
+IsArgumentsFault NotUtf8 = Unit {0}
+IsArgumentsFault Memory = Unit {0}
+IsArgumentsFault _ = ⊥
+
+-- Standard output failed, or it was not called at all. (this project's profile)
+abbrev pub SaysCalls : Device → Device → Fault → Type 0
+SaysCalls old new Write = old.failures < new.failures
+SaysCalls old new _ = IsUntouched old new
+
+-- Why help was not written whole. (this project's profile)
+abbrev pub IsHelpFault : Fault → Type 0
+IsHelpFault Write = Unit {0}
+IsHelpFault Memory = Unit {0}
+IsHelpFault _ = ⊥
+
+-- Contents with some variables put in, in order: of equal names the last counts. (this project's profile)
+abbrev pub with_variables : Contents → List PairValue → Contents
+with_variables c [] = c
+with_variables c (v ∷ vs) = with_variables (with_env c v.name v.text) vs
+
+-- A variable that no sandbox takes: a bad name, or a text too long. (this project's profile)
+abbrev pub IsRefused : PairValue → Type 0
+IsRefused v = IsSome (put_refusal v.name v.text)
+
+-- A variable that the sandbox refuses is a mistake in the arguments, out of memory apart. (this project's profile)
+abbrev pub IsFaultOfVariable : WorldFault → Fault → Type 0
+IsFaultOfVariable world.Memory fault = fault ≡ Memory
+IsFaultOfVariable _ fault = fault ≡ Env
+
+-- The variables are in the sandbox, and its layers are as before; or one of them is refused. (this project's profile)
+abbrev pub SaysVariables : List PairValue → SandboxValue → SandboxValue → Result (Unit {0}) Fault → Type 0
+SaysVariables variables old new (Ok u) = (new.now ≡ with_variables old.now variables) × (new.saved ≡ old.saved) × All (λ v. put_refusal v.name v.text ≡ None) variables
+SaysVariables variables old new (Err Env) = Any IsRefused variables
+SaysVariables variables old new (Err Memory) = Unit {0}
+SaysVariables variables old new (Err _) = ⊥
+
+-- The bytes of the library file, where one is named. (this project's profile)
+abbrev pub library_bytes : Option SourceValue → Option (List ℕ)
+library_bytes library = option_map (λ s. s.bytes) library
+
+-- The source at a place has this name. (this project's profile)
+abbrev pub IsNamed : List SourceValue → ℕ → List ℕ → Type 0
+IsNamed sources input name = (source : SourceValue) × (slice_get sources input ≡ Some source) × (name ≡ source.name)
+
+-- What a fault of the run speaks of is there. (this project's profile)
+abbrev pub IsWithin : Option SourceValue → List SourceValue → RunFault → Type 0
+IsWithin library sources (run.Read input fault) = input < length sources
+IsWithin library sources (run.Library fault) = IsSome library
+IsWithin library sources (run.Select (Some input) select.TooMany) = input < length sources
+IsWithin library sources (run.Select None select.BadTagText) = Unit {0}
+IsWithin library sources (run.Select input fault) = ⊥
+IsWithin library sources run.Write = Unit {0}
+IsWithin library sources run.Memory = Unit {0}
+
+-- The program's fault for a fault of the run: the same one, where a file has its name in place of its number. (this project's profile)
+abbrev pub IsFaultOfRun : Option SourceValue → List SourceValue → RunFault → Fault → Type 0
+IsFaultOfRun library sources (run.Read input fault) (Read name same) = (same ≡ fault) × IsNamed sources input (string_bytes name)
+IsFaultOfRun library sources (run.Library fault) (Library name same) = (same ≡ fault) × (option_map (λ s. s.name) library ≡ Some (string_bytes name))
+IsFaultOfRun library sources (run.Select (Some input) fault) (TooMany name) = IsNamed sources input (string_bytes name)
+IsFaultOfRun library sources (run.Select None fault) BadTags = Unit {0}
+IsFaultOfRun library sources run.Write Write = Unit {0}
+IsFaultOfRun library sources run.Memory Memory = Unit {0}
+IsFaultOfRun library sources fault other = ⊥
+
+-- The report was written whole, and then the flush failed. (this project's profile)
+pub record IsUnflushed (request : Request) (contents : Contents) (old new : Device) (fault : Fault) : Type 0 where
+  pub named : fault ≡ Write
+  pub status : ℕ
+  pub written : JudgedReport request contents old new status
+  pub failed : new.failures ≡ one_more old.failures
+
+-- A fault after the files are read: that of the run, or of the flush. (this project's profile)
+abbrev pub SaysSuite : Option SourceValue → List SourceValue → Request → Contents → Device → Device → Fault → Type 0
+SaysSuite library sources request contents old new fault =
+    ((by : RunFault) × IsFaultOfRun library sources by fault × SaysFault request contents old new by)
+    ⊎ IsUnflushed request contents old new fault
+
+-- The sources are those of the files that were given, in order, and of the library file. (this project's profile)
+pub record AreGiven (w : Words) (library : Option SourceValue) (sources : List SourceValue) : Type 0 where
+  pub files : map (λ s. s.name) sources ≡ map string_bytes w.files.items
+  pub library_file : option_map (λ s. s.name) library ≡ option_map string_bytes w.library
+
+-- The contents that a run begins with: the variables alone. (this project's profile)
+abbrev pub contents_given : Words → Contents
+contents_given w = with_variables nothing_yet (map pair_value w.env.items)
+
+-- What the run is asked for. (this project's profile)
+abbrev pub request_given : Words → Option SourceValue → List SourceValue → Request
+request_given w library sources = request_of w.options (library_bytes library) sources
+
+-- What was written and the status are those of one run of the files that were given, with their bytes as they were read. (this project's profile)
+pub record IsRun (w : Words) (old new : Device) (status : ℕ) : Type 0 where
+  pub library : Option SourceValue
+  pub sources : List SourceValue
+  pub given : AreGiven w library sources
+  pub judged : JudgedReport (request_given w library sources) (contents_given w) old new status
+  pub plain : Plain (request_given w library sources) (contents_given w) old new status
+
+-- A file of this name was given. (this project's profile)
+abbrev pub IsGiven : Words → List ℕ → Type 0
+IsGiven w name = IsSomeAnd w.library (λ file. name ≡ string_bytes file) ⊎ Any (λ file. name ≡ string_bytes file) w.files.items
+
+-- A fault of the run of the files that were given. (this project's profile)
+pub record IsFaultOfGiven (w : Words) (old new : Device) (fault : Fault) : Type 0 where
+  pub library : Option SourceValue
+  pub sources : List SourceValue
+  pub given : AreGiven w library sources
+  pub says : SaysSuite library sources (request_given w library sources) (contents_given w) old new fault
+
+-- What each fault says of what was asked for. (this project's profile)
+abbrev pub SaysProgram : Words → Device → Device → Fault → Type 0
+SaysProgram w old new NotUtf8 = ⊥
+SaysProgram w old new (Usage e) = ⊥
+SaysProgram w old new Env = Any IsRefused (map pair_value w.env.items)
+SaysProgram w old new (CannotRead name) = IsGiven w (string_bytes name)
+SaysProgram w old new (TooLong name) = IsGiven w (string_bytes name)
+SaysProgram w old new Memory = Unit {0}
+SaysProgram w old new fault = IsFaultOfGiven w old new fault
+
+-- What was asked for was done: help was shown with status 0, or there was a run. (this project's profile)
+abbrev pub IsDone : Asked → Device → Device → ℕ → Type 0
+IsDone (Help e) old new status = status ≡ 0
+IsDone (Run w) old new status = IsRun w old new status
+
+-- What some arguments ask for was done. (this project's profile)
+abbrev pub IsDoneForSome : Device → Device → ℕ → Type 0
+IsDoneForSome old new status = (arguments : List Text) × (asked : Asked) × SaysAsked arguments (Ok asked) × IsDone asked old new status

@@ -1,0 +1,235 @@
+//! From the arguments to the report.
+ghost use Rattle.std.specs.Prelude.{◌≡◌, ◌<◌, ◌-◌, ◌^◌, map, IfOk, IfErr, OnOk, option_map, string_bytes};
+ghost use Rattle.gk_world.specs.Sandbox.{depth};
+ghost use Rattle.gk_cli.specs.Arguments.{pair_value};
+ghost use Rattle.gk_cli.specs.Counted.{flushes_of, failures_of, one_more};
+ghost use Rattle.gk_cli.specs.Inputs.{request_of};
+ghost use Rattle.gk_cli.specs.Suite.{device_of, JudgedReport, Plain};
+ghost use Rattle.gk_cli.specs.Source.{source_value};
+ghost use Rattle.gherkin_run.specs.Program.{SaysAsked, SaysError, IsHelpFault, IsArgumentsFault, IsFaultOfVariable, SaysVariables, IsWithin, IsFaultOfRun, library_bytes, SaysSuite, SaysCalls, SaysProgram, IsRun, IsDoneForSome};
+
+use crate::fault::Fault;
+use crate::files::{read_files, read_library_file};
+use gk_cli::{
+    Counted, Options, RunFault, Source, Words, WordsFault, read_words, run_suite, write_whole,
+};
+use gk_select::SelectFault;
+use gk_world::{Sandbox, WorldFault};
+use std::alloc::Global;
+use std::io::Write;
+use std::rt::{Env, Files};
+use std::{env, io};
+
+/// What the arguments ask for: help, whose text is clap's own, or a run.
+#[derive(Debug, Drop)]
+pub enum Asked {
+    Help(clap::Error),
+    Run(Words),
+}
+
+// A request for help comes as an error of clap's.
+fn asked_for(error: clap::Error) -> Result<Asked, Fault>
+    ensures { SaysError error result }
+{
+    if error.use_stderr() {
+        Err(Fault::Usage(error))
+    } else {
+        Ok(Asked::Help(error))
+    }
+}
+
+/// What these arguments ask for; the first is the program's name. A mistake is `Usage`, and comes before
+/// `Env`. (this project's profile)
+pub fn asked_by(alloc: Global, arguments: &[String]) -> Result<Asked, Fault>
+    ensures { SaysAsked (map string_bytes arguments.now) result }
+{
+    match read_words(alloc, arguments) {
+        Ok(words) => Ok(Asked::Run(words)),
+        Err(WordsFault::Usage(error)) => asked_for(error),
+        Err(WordsFault::Env) => Err(Fault::Env),
+        Err(WordsFault::Memory) => Err(Fault::Memory),
+    }
+}
+
+fn arguments_of<R: Env + AllocGlobal>(rt: &R) -> Result<Vec<String>, Fault>
+    ensures { IfErr result IsArgumentsFault }
+{
+    match env::args(rt) {
+        Ok(arguments) => Ok(arguments.collect(rt.alloc())?),
+        Err(error) => match error.kind() {
+            io::ErrorKind::OutOfMemory => Err(Fault::Memory),
+            _ => Err(Fault::NotUtf8),
+        },
+    }
+}
+
+/// Writes clap's text for help, and flushes.
+pub fn show_help<W: Write>(
+    alloc: Global,
+    text: &clap::Error,
+    out: &mut Counted<W>,
+) -> Result<u8, Fault>
+    requires room { failures_of out.old < 2 ^ 64 - 1 }
+    ensures well { IfOk result (λ status. status ≡ 0) }
+    ensures quiet { OnOk result (failures_of out.new ≡ failures_of out.old) }
+    ensures flushed { OnOk result (flushes_of out.new ≡ one_more (flushes_of out.old)) }
+    ensures fault { IfErr result IsHelpFault }
+    ensures calls { IfErr result (SaysCalls (device_of (λ w. W.contents w) out.old) (device_of (λ w. W.contents w) out.new)) }
+{
+    let text = format!(in alloc; "{text}")?;
+    match write_whole(out, text.as_bytes()) {
+        Ok(()) => match out.flush() {
+            Ok(()) => Ok(0),
+            Err(_) => Err(Fault::Write),
+        },
+        Err(_) => Err(Fault::Write),
+    }
+}
+
+fn fault_of_variable(fault: WorldFault) -> Fault
+    ensures { IsFaultOfVariable fault result }
+{
+    match fault {
+        WorldFault::Memory => Fault::Memory,
+        _ => Fault::Env,
+    }
+}
+
+/// Puts the variables into the sandbox, in order; of equal names the last counts. A bad name or a text too
+/// long is `Env`. (this project's profile)
+pub fn put_variables(sandbox: &mut Sandbox, variables: &[(String, String)]) -> Result<(), Fault>
+    ensures { SaysVariables (map pair_value variables.now) sandbox.old sandbox.new result }
+{
+    for variable in variables {
+        match sandbox.put_env(variable.0.as_str(), variable.1.as_str()) {
+            Ok(()) => {}
+            Err(fault) => return Err(fault_of_variable(fault)),
+        }
+    }
+    Ok(())
+}
+
+// The program's fault for one of the run: files have their names in place of numbers.
+fn fault_of_run(fault: RunFault, library: Option<Source>, mut sources: Vec<Source>) -> Fault
+    requires { IsWithin (option_map source_value library) (map source_value sources.items) fault }
+    ensures { IsFaultOfRun (option_map source_value library) (map source_value sources.items) fault result }
+{
+    match fault {
+        RunFault::Read { input, fault } => {
+            let source = sources.swap_remove(input);
+            Fault::Read {
+                name: source.name,
+                fault,
+            }
+        }
+        RunFault::Library(fault) => match library {
+            Some(source) => Fault::Library {
+                name: source.name,
+                fault,
+            },
+            None => unreachable!(),
+        },
+        RunFault::Select { input, fault } => match (input, fault) {
+            (Some(input), SelectFault::TooMany) => Fault::TooMany {
+                name: sources.swap_remove(input).name,
+            },
+            (None, SelectFault::BadTagText) => Fault::BadTags,
+            _ => unreachable!(),
+        },
+        RunFault::Write => Fault::Write,
+        RunFault::Memory => Fault::Memory,
+    }
+}
+
+fn bytes_of(library: &Option<Source>) -> Option<&[u8]>
+    ensures { option_map (λ bytes. bytes.now) result ≡ library_bytes (option_map source_value library.now) }
+{
+    match library {
+        Some(source) => Some(source.bytes.as_slice()),
+        None => None,
+    }
+}
+
+/// Runs the suite, and flushes the report. A fault names the file that it comes from. `Write` comes where a
+/// write or the flush failed; then a prefix of the report, or all of it, was written.
+pub fn run_sources<W: Write>(
+    alloc: Global,
+    sandbox: &mut Sandbox,
+    options: &Options,
+    library: Option<Source>,
+    sources: Vec<Source>,
+    out: &mut Counted<W>,
+) -> Result<u8, Fault>
+    requires room { failures_of out.old < 2 ^ 64 - 1 }
+    requires outside { depth sandbox.old ≡ 0 }
+    // What was written and the status are those of one run of these inputs.
+    ensures judged { IfOk result (λ status. JudgedReport (request_of options.now (library_bytes (option_map source_value library)) (map source_value sources.items)) sandbox.old.now
+        (device_of (λ w. W.contents w) out.old) (device_of (λ w. W.contents w) out.new) status) }
+    ensures plain { IfOk result (λ status. Plain (request_of options.now (library_bytes (option_map source_value library)) (map source_value sources.items)) sandbox.old.now
+        (device_of (λ w. W.contents w) out.old) (device_of (λ w. W.contents w) out.new) status) }
+    // A status comes only where the writer did not fail, and was flushed once.
+    ensures quiet { OnOk result (failures_of out.new ≡ failures_of out.old) }
+    ensures flushed { OnOk result (flushes_of out.new ≡ one_more (flushes_of out.old)) }
+    // A fault is that of the run, or the flush failed.
+    ensures fault { IfErr result (SaysSuite (option_map source_value library) (map source_value sources.items) (request_of options.now (library_bytes (option_map source_value library)) (map source_value sources.items)) sandbox.old.now
+        (device_of (λ w. W.contents w) out.old) (device_of (λ w. W.contents w) out.new)) }
+    // Where standard output isn't at fault, it was not called.
+    ensures calls { IfErr result (SaysCalls (device_of (λ w. W.contents w) out.old) (device_of (λ w. W.contents w) out.new)) }
+{
+    let bytes = bytes_of(&library);
+    match run_suite(alloc, sandbox, options, bytes, sources.as_slice(), out) {
+        Ok(status) => match out.flush() {
+            Ok(()) => Ok(status),
+            Err(_) => Err(Fault::Write),
+        },
+        Err(fault) => Err(fault_of_run(fault, library, sources)),
+    }
+}
+
+/// Runs what is asked for: puts the variables into an empty sandbox, reads the library file and the files, and
+/// runs the suite. The first fault in this order ends it.
+pub fn run_words<R: Files + AllocGlobal, W: Write>(
+    rt: &R,
+    words: Words,
+    out: &mut Counted<W>,
+) -> Result<u8, Fault>
+    requires room { failures_of out.old < 2 ^ 64 - 1 }
+    // The files were read under their names, in order, and what was written and the status are those of one run of them.
+    ensures run { IfOk result (λ status. IsRun words (device_of (λ w. W.contents w) out.old) (device_of (λ w. W.contents w) out.new) status) }
+    ensures quiet { OnOk result (failures_of out.new ≡ failures_of out.old) }
+    ensures flushed { OnOk result (flushes_of out.new ≡ one_more (flushes_of out.old)) }
+    ensures fault { IfErr result (SaysProgram words (device_of (λ w. W.contents w) out.old) (device_of (λ w. W.contents w) out.new)) }
+    ensures calls { IfErr result (SaysCalls (device_of (λ w. W.contents w) out.old) (device_of (λ w. W.contents w) out.new)) }
+{
+    let mut sandbox = Sandbox::new(rt.alloc());
+    put_variables(&mut sandbox, words.env.as_slice())?;
+    let library = read_library_file(rt, words.library)?;
+    let sources = read_files(rt, words.files)?;
+    run_sources(
+        rt.alloc(),
+        &mut sandbox,
+        &words.options,
+        library,
+        sources,
+        out,
+    )
+}
+
+/// Runs the program on its arguments. The answer is the status to end with.
+pub fn run<R: Env + Files + AllocGlobal, W: Write>(
+    rt: &R,
+    out: &mut Counted<W>,
+) -> Result<u8, Fault>
+    requires room { failures_of out.old < 2 ^ 64 - 1 }
+    ensures done { IfOk result (IsDoneForSome (device_of (λ w. W.contents w) out.old) (device_of (λ w. W.contents w) out.new)) }
+    ensures quiet { OnOk result (failures_of out.new ≡ failures_of out.old) }
+    ensures flushed { OnOk result (flushes_of out.new ≡ one_more (flushes_of out.old)) }
+    // Where standard output isn't at fault, it was not called.
+    ensures calls { IfErr result (SaysCalls (device_of (λ w. W.contents w) out.old) (device_of (λ w. W.contents w) out.new)) }
+{
+    let arguments = arguments_of(rt)?;
+    match asked_by(rt.alloc(), arguments.as_slice())? {
+        Asked::Help(text) => show_help(rt.alloc(), &text, out),
+        Asked::Run(words) => run_words(rt, words, out),
+    }
+}
