@@ -3,14 +3,15 @@
 # tests/examples.sh [PROGRAM]
 #
 # PROGRAM is the built program; without it, the one that ./run builds.
-# Closes with one line 'N passed, M failed'.
+# Closes with one line 'N passed, M failed'. An example may have arguments of its own, one a line of its
+# file NAME.arguments, which come before the feature file.
 set -eu
 
 . "$(dirname -- "$(readlink -f -- "$0")")/setup.sh"
-# A fault names the file by its word on the command line.
+# A fault names the file by its argument.
 cd "$home"
 
-# Tells which of the three things differs, or nothing.
+# Prints which of the three things differs, or nothing.
 difference() {
     name=$1
     for kind in report fault; do
@@ -28,7 +29,7 @@ difference() {
 for feature in examples/*.feature; do
     name=$(basename "$feature" .feature)
     status=0
-    "$program" "$feature" > "$room/report" 2> "$room/fault" || status=$?
+    run_example "$feature" > "$room/report" 2> "$room/fault" || status=$?
     what=$(difference "$name")
     if [ -z "$what" ]; then
         passed=$((passed + 1))

@@ -1,5 +1,5 @@
 # Read by the scripts of this folder with `.`, not run. Sets `home`, the repository's folder, `program`,
-# the built program (the script's first word, or the one that ./run builds), `room`, a folder that is
+# the built program (the script's first argument, or the one that ./run builds), `room`, a folder that is
 # removed at the end, and the counts `passed` and `failed`.
 home=$(dirname -- "$(dirname -- "$(readlink -f -- "$0")")")
 program=${1:-}
@@ -15,7 +15,24 @@ room=$(mktemp -d)
 trap 'rm -rf "$room"' EXIT
 trap 'exit 1' HUP INT TERM
 # No run takes that long, and none may leave a file of its memory behind.
-ulimit -t 60
+ulimit -t 300
 ulimit -c 0
 passed=0
 failed=0
+# The drivers in Python leave nothing in the repository.
+PYTHONDONTWRITEBYTECODE=1
+export PYTHONDONTWRITEBYTECODE
+
+# Runs the program on an example, with the arguments of its own that it may have, one a line of the file
+# NAME.arguments beside it.
+run_example() (
+    arguments=${1%.feature}.arguments
+    feature=$1
+    set --
+    if [ -e "$arguments" ]; then
+        while IFS= read -r argument; do
+            set -- "$@" "$argument"
+        done < "$arguments"
+    fi
+    exec "$program" "$@" "$feature" < /dev/null
+)

@@ -1,0 +1,485 @@
+#!/usr/bin/env python3
+"""Holds the documents against the repository: documents.py PROGRAM ROOM. Called by tests/documents.sh.
+
+Fails where
+- a document names a clause, file, crate, function, definition or must-fail edit that isn't there;
+- a must-fail edit isn't listed in docs/PROOFS.md, or is listed twice;
+- a relative link leads nowhere, or to a heading that isn't there;
+- a run that a document shows gives something else (a `console` block over the files above it);
+- a definition of specs/ has no comment above it, or a broken one;
+- two crates have modules of the same name;
+- README.md has more than 120 lines;
+- a fault text or a reason of the program has no entry in docs/FAULTS.md, or an entry has no such text;
+- examples/default.steps isn't the built-in library;
+- README.md or a page of docs/ has a word of WORDS; elsewhere such words are counted only.
+"""
+
+import os
+import re
+import subprocess
+import sys
+
+HOME = os.path.dirname(os.path.dirname(os.path.realpath(__file__)))
+# Words that Rust's own documentation doesn't use so.
+WORDS = re.compile(r"\b(front|fronts|behind|tells|told|want of memory)\b", re.IGNORECASE)
+README_LINES = 120
+# The endings of files that pages name.
+SOURCES = (".rt", ".antt", ".py", ".sh", ".awk", ".c", ".feature", ".steps", ".edit", ".arguments", ".report", ".status", ".fault")
+
+
+def read(path):
+    with open(os.path.join(HOME, path), encoding="utf-8") as file:
+        return file.read()
+
+
+def repository_files():
+    """All files of the repository but what is built."""
+    found = []
+    for folder, folders, names in os.walk(HOME):
+        folders[:] = sorted(it for it in folders if it not in (".git", "out", "__pycache__"))
+        found += [os.path.relpath(os.path.join(folder, it), HOME) for it in sorted(names)]
+    return found
+
+
+FILES = repository_files()
+CRATES = [line.split(":")[0] for line in read("crates.txt").splitlines() if line.strip()]
+DOCUMENTS = [it for it in FILES if it.endswith(".md")]
+PAGES = [it for it in DOCUMENTS if it == "README.md" or it.startswith("docs/")]
+
+
+def without_blocks(text):
+    """A page without its fenced blocks; their lines are left empty."""
+    out, inside = [], False
+    for line in text.split("\n"):
+        if line.startswith("```"):
+            inside = not inside
+            out.append("")
+        else:
+            out.append("" if inside else line)
+    return "\n".join(out)
+
+
+# ---- names
+
+def code_names():
+    """Every name that code, definitions and proofs declare."""
+    names = set(CRATES)
+    rust = re.compile(r"\b(?:fn|struct|enum|trait|const|static|type|mod|union)\s+(?:r#)?([A-Za-z_][A-Za-z0-9_]*)")
+    clause = re.compile(r"\b(?:ensures|requires|invariant)\s+([a-z_][a-z0-9_]*)\s*\{")
+    ghost = re.compile(r"\b(from_gives|output)\b")
+    member = re.compile(r"^\s*(?:pub\s+)?([A-Za-z_][A-Za-z0-9_]*)\s*(?:[,({:=]|$)", re.MULTILINE)
+    spec = re.compile(r"^\s*(?:(?:abbrev|unfoldable|ghost)\s+)*(?:pub\s+)?(?:record\s+|data\s+|mod\s+|law\s+|lemma\s+)?([A-Za-z_][A-Za-z0-9_]*)\s*[:({]", re.MULTILINE)
+    header = re.compile(r"^\s*(?:(?:abbrev|unfoldable)\s+)*pub\s+(?:record\s+|data\s+|mod\s+)?([A-Za-z_][A-Za-z0-9_]*)", re.MULTILINE)
+    for path in FILES:
+        names.add(os.path.splitext(os.path.basename(path))[0])
+        if not path.startswith("crates/"):
+            continue
+        if path.endswith((".rt", ".antt")):
+            for literal in re.findall(r'"([^"\n]*)"', read(path)):
+                names.update(re.findall(r"[A-Za-z_][A-Za-z0-9_]*", literal))
+        if path.endswith(".rt"):
+            text = read(path)
+            for pattern in (rust, clause, ghost, member):
+                names.update(pattern.findall(text))
+        elif path.endswith(".antt"):
+            text = read(path)
+            for pattern in (spec, header, member):
+                names.update(pattern.findall(text))
+            names.add(os.path.basename(path)[:-5])
+        elif path.endswith(".edit"):
+            names.add(os.path.basename(path)[:-5])
+    return names
+
+
+# What stands in code style on these pages and is declared nowhere: words of Rust, of Gherkin, of the
+# shell and of the pages' own tables.
+PLAIN_WORDS = set("""
+    Global Memory Option None Result Err Some String Vec ensures requires refl clap indexmap thiserror std rt cc malloc
+    NAME TEXT TO N E R EXAMPLES LINE FILE KEYWORD VERDICT STATUS REASON TYPE PATTERN ACTION h x n main run test given when then step
+    Andorra EU EN en json name text to absent present differs passed failed skipped undefined untested memory
+""".split())
+# The pages for users name words of features and libraries, not of the code: of them only names that can't
+# be anything else are looked up.
+USERS_PAGES = ("docs/GUIDE.md", "docs/FAULTS.md", "examples/README.md", "tests/runs/README.md", "bench/README.md")
+
+
+def members():
+    """The functions, fields and variants of each type of the code, by the type's name."""
+    found = {}
+    for path in FILES:
+        if not re.fullmatch(r"crates/[^/]+/src/.*\.rt", path):
+            continue
+        owner = None
+        for line in read(path).split("\n"):
+            opened = re.match(r"\s*(?:pub(?:\([a-z]+\))? )?(?:impl(?:<.*?>)? (?:[A-Za-z:]+(?:<.*?>)? for )?|struct |enum |trait )"
+                              r"(?:[a-z_]+::)*([A-Z][A-Za-z0-9_]*)", line)
+            if opened and "fn " not in line:
+                owner = opened.group(1)
+                found.setdefault(owner, set())
+            member = re.match(r"\s+(?:pub(?:\([a-z]+\))? )?(?:fn |type )?([A-Za-z_][A-Za-z0-9_]*)\s*[<(:,{;=]|\s+([A-Z][A-Za-z0-9]*)$", line)
+            if member and owner:
+                found[owner].add(member.group(1) or member.group(2))
+    return found
+
+
+def path_is_there(name, page):
+    """Whether a name with a slash or a file's ending is there: from the top, from the page, or in a crate."""
+    name = name.rstrip("/")
+    bases = [HOME, os.path.join(HOME, "crates"), os.path.dirname(os.path.join(HOME, page))]
+    bases += [os.path.join(HOME, "crates", crate) for crate in CRATES]
+    if any(os.path.exists(os.path.join(base, name)) for base in bases):
+        return True
+    if "/" not in name:
+        return any(os.path.basename(it) == name for it in FILES)
+    return False
+
+
+def named_wrongly(page, names, owned):
+    """Names in code style that nothing of the repository has, with their lines."""
+    shown = {kind.split()[1] for _, kind, _ in blocks(page) if len(kind.split()) == 2}
+    for number, line in enumerate(without_blocks(read(page)).split("\n"), 1):
+        for text in re.findall(r"(?<!`)`([^`\n]+)`(?!`)", line):
+            if re.fullmatch(r"\.?[A-Za-z0-9_./-]+", text) and ("/" in text or text.endswith(SOURCES)):
+                if text.startswith(("/", "../")) or text in shown or "NAME" in text:
+                    continue
+                if not path_is_there(text.removeprefix("./"), page):
+                    yield number, f"no file {text}"
+            elif re.fullmatch(r"[A-Za-z_][A-Za-z0-9_]*(::[A-Za-z_][A-Za-z0-9_]*)*(\(\))?", text):
+                for part in text.removesuffix("()").split("::"):
+                    if part in names or part in PLAIN_WORDS:
+                        continue
+                    if page not in USERS_PAGES or "_" in part or "::" in text:
+                        yield number, f"no name {part} (in {text})"
+                owner, _, member = text.removesuffix("()").rpartition("::")
+                if owner in owned and member not in owned[owner]:
+                    yield number, f"no member {member} of {owner}"
+        if "TODO" in line:
+            yield number, "something is left to do"
+
+
+def named_clauses(page):
+    """Each pair 'public call, clause' of a table of docs/PROOFS.md or README.md whose clause isn't there.
+
+    A cell `call`: `clause`, `clause` names clauses of one function."""
+    clauses = clauses_by_function()
+    for number, line in enumerate(without_blocks(read(page)).split("\n"), 1):
+        for call, listed in re.findall(r"`([A-Za-z_][A-Za-z0-9_:]*)`: ((?:`[a-z_][a-z0-9_]*`(?:, | and )?)+)", line):
+            function = call.split("::")[-1]
+            if function not in clauses:
+                yield number, f"no function {call}"
+                continue
+            for clause in re.findall(r"`([a-z_][a-z0-9_]*)`", listed):
+                if clause not in clauses[function]:
+                    yield number, f"no clause {clause} of {call}"
+
+
+def clauses_by_function():
+    """The names of the clauses of each function, by the function's name."""
+    found = {}
+    for path in FILES:
+        if not (path.startswith("crates/") and path.endswith(".rt")):
+            continue
+        function = None
+        for line in read(path).split("\n"):
+            declared = re.search(r"\bfn\s+([A-Za-z_][A-Za-z0-9_]*)", line)
+            if declared:
+                function = declared.group(1)
+                found.setdefault(function, set())
+            clause = re.search(r"^\s*(?:ensures|requires)\s+([a-z_][a-z0-9_]*)\s*\{", line)
+            if clause and function:
+                found[function].add(clause.group(1))
+    return found
+
+
+# ---- must-fail edits
+
+def edits():
+    """The must-fail edits of each crate."""
+    return {crate: sorted(os.path.basename(it)[:-5] for it in FILES
+                          if it.startswith(f"crates/{crate}/must-fail/") and it.endswith(".edit")) for crate in CRATES}
+
+
+def listed_edits():
+    """The edits that docs/PROOFS.md lists, by crate: the first cells of the table below the heading
+    `### Edits of CRATE`."""
+    found, crate = {}, None
+    for line in read("docs/PROOFS.md").split("\n"):
+        heading = re.match(r"#+ (.*)", line)
+        if heading:
+            named = re.fullmatch(r"Edits of `?([a-z_]+)`?", heading.group(1))
+            crate = named.group(1) if named else None
+        elif crate and line.startswith("| `"):
+            found.setdefault(crate, []).extend(re.findall(r"`([a-z0-9_]+)`", line.split("|")[1]))
+    return found
+
+
+def edit_differences():
+    there, listed = edits(), listed_edits()
+    for crate in sorted(set(there) | set(listed)):
+        for name in there.get(crate, []):
+            count = listed.get(crate, []).count(name)
+            if count != 1:
+                yield f"docs/PROOFS.md lists the edit {name} of {crate} {count} times"
+        for name in listed.get(crate, []):
+            if name not in there.get(crate, []):
+                yield f"docs/PROOFS.md lists {name}, which is no edit of {crate}"
+
+
+# ---- links
+
+def anchor(heading):
+    """The name by which a link reaches a heading."""
+    text = re.sub(r"[`*]", "", heading).strip().lower()
+    return re.sub(r"[^\w\- ]", "", text).replace(" ", "-")
+
+
+def anchors(page):
+    return {anchor(it) for it in re.findall(r"^#+ (.*)$", without_blocks(read(page)), re.MULTILINE)}
+
+
+def dead_links(page):
+    for number, line in enumerate(without_blocks(read(page)).split("\n"), 1):
+        for target in re.findall(r"\]\(([^)\s]+)\)", line):
+            if re.match(r"[a-z]+:", target):
+                continue
+            path, _, place = target.partition("#")
+            there = os.path.normpath(os.path.join(os.path.dirname(page), path)) if path else page
+            if not os.path.exists(os.path.join(HOME, there)):
+                yield number, f"a link to {target}, which isn't there"
+            elif place and there.endswith(".md") and place not in anchors(there):
+                yield number, f"a link to {target}, whose heading isn't there"
+
+
+# ---- runs that a page shows
+
+def blocks(page):
+    """The fenced blocks of a page: the line, what stands after the fence, and the text."""
+    number, start, kind, text = 0, None, None, []
+    for line in read(page).split("\n"):
+        number += 1
+        fence = re.match(r"(`{3,})(.*)$", line)
+        if start is None and fence:
+            start, kind, text, marks = number, fence.group(2).strip(), [], fence.group(1)
+        elif start is not None and line.strip() == marks:
+            yield start, kind, "".join(it + "\n" for it in text)
+            start = None
+        elif start is not None:
+            text.append(line)
+
+
+def shown_runs(text):
+    """The commands of a console block, each with what it prints."""
+    command, printed = None, ""
+    for line in text.split("\n")[:-1]:
+        if line.startswith("$ "):
+            if command is not None:
+                yield command, printed
+            command, printed = line[2:], ""
+        else:
+            printed += line + "\n"
+    if command is not None:
+        yield command, printed
+
+
+def run_differences(page, program, room):
+    """Runs what a page shows, over the files that stand above it on the page."""
+    folder = os.path.join(room, page.replace("/", "_"))
+    os.makedirs(folder)
+    with open(os.path.join(folder, "run"), "w", encoding="utf-8") as file:
+        file.write(f'#!/bin/sh\nexec "{program}" "$@"\n')
+    os.chmod(os.path.join(folder, "run"), 0o755)
+    os.symlink(os.path.join(HOME, "examples"), os.path.join(folder, "examples"))
+    for number, kind, text in blocks(page):
+        names = kind.split()
+        if len(names) == 2 and names[0] in ("gherkin", "text"):
+            with open(os.path.join(folder, names[1]), "w", encoding="utf-8") as file:
+                file.write(text)
+        elif kind == "console":
+            status = 0
+            for command, printed in shown_runs(text):
+                if command == "echo $?":
+                    got = f"{status}\n"
+                else:
+                    done = subprocess.run(["sh", "-c", command], cwd=folder, stdin=subprocess.DEVNULL,
+                                          stdout=subprocess.PIPE, stderr=subprocess.STDOUT, timeout=60, check=False)
+                    status, got = done.returncode, done.stdout.decode("utf-8", "backslashreplace")
+                yield number, None if got == printed else f"'{command}' prints something else:\n{got}"
+
+
+# ---- definitions
+
+# A definition: at the beginning of a line, or indented below a common parameter. An indented `pub NAME` is a
+# record's field.
+DEFINITION = re.compile(r"(?:\s*(?:(?:abbrev|unfoldable) )+pub |pub (?!mod\b|use\b)|\s+pub (?=record |data ))(?:record |data )?(\S+)")
+
+
+def broken_comments(path):
+    """The definitions of a file of specs/ without a comment above them, or with a broken one."""
+    lines = read(path).split("\n")
+    for number, line in enumerate(lines):
+        found = DEFINITION.match(line)
+        if not found:
+            continue
+        comment, above = [], number - 1
+        while above >= 0 and lines[above].lstrip().startswith("--"):
+            comment.insert(0, lines[above].strip()[2:].strip())
+            above -= 1
+        trouble = trouble_of(" ".join(comment))
+        if trouble:
+            yield number + 1, f"{found.group(1)}: {trouble}"
+
+
+def trouble_of(comment):
+    """What is wrong with the comment above a definition. Its source may follow in parentheses."""
+    if not comment:
+        return "no comment above it"
+    if not comment[:1].isupper():
+        return "its comment begins without a capital letter"
+    if "  " in comment:
+        return "its comment has two blanks in a row"
+    if not re.search(r"\.(\s*\(.*\))?$", comment):
+        return "its comment has no period at its end"
+    return None
+
+
+# ---- modules
+
+def modules():
+    """The modules of each crate: files and folders of src/, files of specs/ and lemma files of proofs/."""
+    found = {}
+    for path in FILES:
+        parts = path.split("/")
+        if parts[0] != "crates" or len(parts) < 4 or parts[2] not in ("src", "specs", "proofs"):
+            continue
+        if len(parts) > 4:
+            continue
+        name, ending = os.path.splitext(parts[3])
+        if ending in (".rt", ".antt") and name not in ("lib", "main", "tests", "Lib"):
+            found.setdefault((parts[2], name), set()).add(parts[1])
+    return found
+
+
+def shared_modules():
+    for (kind, name), crates in sorted(modules().items()):
+        if len(crates) > 1:
+            yield f"a module {name} is in {kind}/ of {' and of '.join(sorted(crates))}"
+
+
+# ---- faults
+
+STATUSES = {"passed", "failed", "skipped", "undefined", "untested", "memory"}
+
+
+def fault_texts():
+    """The texts of faults and the reasons that the code prints."""
+    texts = set()
+    for path in FILES:
+        if not re.fullmatch(r"crates/[^/]+/src/.*\.rt", path) or path.endswith("/tests.rt"):
+            continue
+        code = re.sub(r"//.*", "", read(path))
+        for pattern in (r'#\[error\("([^"{}]+)"\)\]', r'write_str\("([^"{}]+)"\)', r'=>\s*"([^"{}]+)"',
+                        r'"gherkin_run: (?:\{name\}: )?([^"{}]+)"'):
+            texts.update(it.removeprefix("gherkin_run: ") for it in re.findall(pattern, code))
+    return {it for it in texts if re.fullmatch(r"[A-Za-z][A-Za-z0-9 -]+", it) and it not in STATUSES and "-- @" not in it
+            and (" " in it or it in REASONS_OF_ONE_WORD or it.startswith("bad"))}
+
+
+# Reasons that are one word; other single words in the code are keywords and names.
+REASONS_OF_ONE_WORD = {"absent", "present", "differs"}
+
+
+def fault_differences():
+    """Texts of the code without an entry in docs/FAULTS.md, and entries for texts that the code lacks."""
+    page, texts = read("docs/FAULTS.md"), fault_texts()
+    listed = set(re.findall(r"^\| `([^`]+)` \|", page, re.MULTILINE))
+    for text in sorted(texts - set(re.findall(r"`([^`]+)`", page))):
+        yield f"docs/FAULTS.md has no entry for `{text}`"
+    for text in sorted(listed - texts - STATUSES):
+        yield f"docs/FAULTS.md has an entry for `{text}`, which the program doesn't print"
+
+
+# ---- the built-in library
+
+def library_difference():
+    """Where examples/default.steps isn't the built-in library: the text of the constant DEFAULT_TEXT."""
+    for path in FILES:
+        found = re.search(r'const DEFAULT_TEXT: &str =\s*"((?:[^"\\]|\\.|\\\n)*)";', read(path)) if path.endswith(".rt") else None
+        if found:
+            text = re.sub(r"\\\n\s*", "", found.group(1)).replace("\\n", "\n").replace('\\"', '"')
+            if text != read("examples/default.steps"):
+                yield f"examples/default.steps isn't the text of {path}"
+            return
+    yield "no crate has a constant DEFAULT_TEXT"
+
+
+# ---- words
+
+def counted_words():
+    """Words of WORDS in pages, which are faults, and how many there are elsewhere, by folder."""
+    faults, elsewhere = [], {}
+    for path in FILES:
+        if not path.endswith((".md", ".rt", ".antt", ".sh", ".py", ".awk", ".c")) or path == "tests/documents.py":
+            continue
+        for number, line in enumerate(read(path).split("\n"), 1):
+            # A name in code style is the code's own.
+            line = re.sub(r"`[^`]*`|TODO\([^)]*\)", "", line)
+            if not WORDS.search(line):
+                continue
+            if path in PAGES:
+                faults.append((path, number, f"the word '{WORDS.search(line).group(0)}'"))
+            else:
+                top = "/".join(path.split("/")[:2])
+                elsewhere[top] = elsewhere.get(top, 0) + len(WORDS.findall(line))
+    return faults, elsewhere
+
+
+# ---- all of it
+
+class Tests:
+    def __init__(self):
+        self.passed = self.failed = 0
+
+    def check(self, name, found):
+        """One test: it fails where anything was found."""
+        found = list(found)
+        if found:
+            self.failed += 1
+            print(f"{name}:", *(f"  {it}" for it in found), sep="\n")
+        else:
+            self.passed += 1
+
+
+def lines_of(path, pairs):
+    return [f"{path}:{number}: {text}" for number, text in pairs]
+
+
+def main():
+    program, room = sys.argv[1], sys.argv[2]
+    tests = Tests()
+    names, owned = code_names(), members()
+    for page in DOCUMENTS:
+        tests.check(f"names in {page}", lines_of(page, named_wrongly(page, names, owned)))
+        tests.check(f"links in {page}", lines_of(page, dead_links(page)))
+    for page in PAGES:
+        tests.check(f"clauses in {page}", lines_of(page, named_clauses(page)))
+        for number, difference in run_differences(page, program, room):
+            tests.check(f"{page}:{number}", [difference] if difference else [])
+    tests.check("must-fail edits", edit_differences())
+    for path in FILES:
+        if re.match(r"crates/[^/]+/specs/", path) and path.endswith(".antt"):
+            tests.check(f"comments in {path}", lines_of(path, broken_comments(path)))
+    tests.check("modules of the same name", shared_modules())
+    length = read("README.md").count("\n")
+    tests.check("the length of README.md", [f"{length} lines"] if length > README_LINES else [])
+    tests.check("entries of docs/FAULTS.md", fault_differences())
+    tests.check("the built-in library", library_difference())
+    faults, elsewhere = counted_words()
+    tests.check("words in README.md and docs/", [f"{path}:{number}: {text}" for path, number, text in faults])
+    if elsewhere:
+        print("such words elsewhere: " + ", ".join(f"{count} in {top}" for top, count in sorted(elsewhere.items())))
+    print(f"{tests.passed} passed, {tests.failed} failed")
+    return 1 if tests.failed else 0
+
+
+if __name__ == "__main__":
+    sys.exit(main())

@@ -1,0 +1,185 @@
+#!/usr/bin/env python3
+"""Runs the program on files that nobody would write: hostile_bytes.py PROGRAM ROOM. Called by tests/hostile_bytes.sh.
+
+- Each example whole; each prefix of its feature file and of its library; each of these files with one byte
+  changed, at every place, to a byte of a list, in turn.
+- The lines of all examples and libraries mixed: two files' lines in turn, and random lines of all of them.
+- Random bytes, and random lines that look like Gherkin or like a library.
+- Random options.
+"""
+
+import itertools
+import os
+import random
+import re
+import sys
+import threading
+
+import several
+from refused_memory import Report
+
+# The bytes that stand in place of others: no text, line ends, blanks, the marks of Gherkin and of patterns,
+# and the beginnings and middles of longer characters.
+BYTES = b'\x00\xff\n\r\t :#@*|"`\\<>{}=~,\xc3\xa9\xef\x80'
+CHANGES = 1  # at each place
+RANDOM_FILES = 400
+MIXED_FILES = 800
+RANDOM_OPTIONS = 400
+CHUNK = 2000
+
+FEATURE_LINES = """Feature: a|Feature:|Rule: r|Background:|Scenario: s|Example:|Scenario Outline: o <a>|Scenario Template: t|
+Examples: e|Scenarios:|Given it passes|When it fails|Then the number "n" should be 1|And a file named "<a>" with:|* x|But|
+@t|@a @b #c|@a b|@|# c|# language: en|# language: de|/|| a |/|| a | b |/|| \\| \\n \\\\ |/|| a/|/||| x |/|""\"|```|  ""\"json|\\"\\"\\"|
+text|<a> text|Given these files:|/|| name | text |/|| f | x |/| |\t|\r|\ufefffeature|\u00e9|"""
+LIBRARY_LINES = """step it passes => pass|given a {x} => pass|when a {name} is {text} => set_env|then {n:d} {name} => number_is|
+step {{x}} => fail|step {} => pass|step => pass|and a => pass|step a =>|step a } => pass|# c||step {a}{b}{c}{d}x => pass|
+given {name} => dance|step {name:d} => file_is|step a => b => pass"""
+OPTIONS = ["--tags", "--line", "--env", "--library", "--", "-", "@a", "~@a,b", "@", ",", "a b", "0", "1", "4294967295", "4294967296",
+           "A=b", "=", "A", "a.feature", "l.steps", "no", "", "--tags=@a", "--tags=", "--env=A=b=c", "--line=3", "--help", "--x", "\u00e9",
+           "--library=l.steps", "\udcff"]
+
+
+def lines_of(table):
+    """The lines of a table above: cut at bars, where a bar of a row is written with a slash before it."""
+    return [it.replace("/|", "|").replace("/", "") for it in re.split(r"(?<!/)\|\n?", table)]
+
+
+class Case:
+    """Arguments and files, and what is said of them where the run ends badly."""
+
+    def __init__(self, name, arguments, files):
+        self.name, self.arguments, self.files = name, arguments, files
+        self.may_be_refused = False
+
+
+def changed_to():
+    """The bytes of the list in turn, without end."""
+    return itertools.cycle(BYTES)
+
+
+def changes(name, arguments, files, changed, turn):
+    """One file of a case, each prefix of it, and each byte of it changed."""
+    text = files[changed]
+    for place in range(len(text)):
+        yield Case(f"{name}: the first {place} bytes of {changed}", arguments, {**files, changed: text[:place]})
+        for byte in itertools.islice(turn, CHANGES):
+            other = text[:place] + bytes([byte]) + text[place + 1:]
+            yield Case(f"{name}: {changed} with byte {place} changed to {byte}", arguments, {**files, changed: other})
+
+
+def example_cases():
+    """The examples, whole and changed. Their files stand beside each other, under their own names."""
+    turn = changed_to()
+    for arguments in several.examples():
+        paths = [it for it in arguments if it.startswith("examples/")]
+        files = {os.path.basename(it): several.read(os.path.join(several.HOME, it)) for it in paths}
+        own = [os.path.basename(it) if it in paths else it for it in arguments]
+        yield Case(arguments[-1], own, files)
+        for changed in files:
+            yield from changes(arguments[-1], own, files, changed, turn)
+
+
+def mixed_cases(chance):
+    """Lines of one file mixed into another's."""
+    names = sorted(it for it in os.listdir(several.EXAMPLES) if it.endswith((".feature", ".steps")))
+    texts = {it: several.read(os.path.join(several.EXAMPLES, it)).splitlines(keepends=True) for it in names}
+    features = [it for it in names if it.endswith(".feature")]
+    for number in range(MIXED_FILES):
+        one, other = chance.choice(features), chance.choice(names)
+        mixed = list(texts[one])
+        for _ in range(chance.randrange(1, 4)):
+            mixed.insert(chance.randrange(len(mixed) + 1), chance.choice(texts[other]))
+        if number % 4 == 0:
+            mixed = [line for pair in zip(texts[one], texts[other]) for line in pair]
+        libraries = [line for it in names if it.endswith(".steps") for line in texts[it]]
+        library = chance.sample(libraries, chance.randrange(len(libraries)))
+        if number % 2:
+            yield Case(f"lines of {other} in {one}, {number}", ["a.feature"], {"a.feature": b"".join(mixed)})
+        else:
+            yield Case(f"lines of {other} in {one}, with a library, {number}", ["--library", "l.steps", "a.feature"],
+                       {"a.feature": b"".join(mixed), "l.steps": b"".join(library)})
+
+
+def random_cases(chance):
+    features, libraries = lines_of(FEATURE_LINES), lines_of(LIBRARY_LINES)
+    for number in range(RANDOM_FILES):
+        yield Case(f"random bytes, {number}", ["a.feature"], {"a.feature": chance.randbytes(chance.randrange(1, 400))})
+        lines = ["Feature: f", *chance.choices(features, k=chance.randrange(12))]
+        entries = chance.choices(libraries, k=chance.randrange(6))
+        yield Case(f"random lines, {number}", ["--library", "l.steps", "a.feature"] if number % 2 else ["a.feature"],
+                   {"a.feature": joined(chance, lines), "l.steps": joined(chance, entries)})
+
+
+def joined(chance, lines):
+    return b"".join(it.encode() + (b"\r\n" if chance.random() < 0.1 else b"\n") for it in lines)
+
+
+def option_cases(chance):
+    files = {"a.feature": b"@a\nFeature: f\nScenario: s\nGiven it passes\n", "l.steps": b"step it passes => pass\n"}
+    for number in range(RANDOM_OPTIONS):
+        case = Case(f"random options, {number}", chance.choices(OPTIONS, k=chance.randrange(6)) + ["a.feature"], files)
+        case.may_be_refused = True
+        yield case
+
+
+class Runner:
+    def __init__(self, program, room):
+        self.program, self.room = program, room
+
+    def folder(self):
+        """The folder of this thread."""
+        path = os.path.join(self.room, f"thread{threading.get_ident()}")
+        os.makedirs(path, exist_ok=True)
+        return path
+
+    def trouble(self, case):
+        """What is wrong with a run, or nothing."""
+        folder = self.folder()
+        for name, text in case.files.items():
+            with open(os.path.join(folder, name), "wb") as file:
+                file.write(text)
+        arguments = [os.fsencode(it) for it in case.arguments]
+        status, out, err = several.start(self.program, arguments, folder)
+        if self.ended_well(case, status, out, err):
+            return None
+        return f"{case.name}: status {status}\n  arguments {case.arguments}\n  files {case.files}\n  {out}\n  {err}"
+
+    @staticmethod
+    def ended_well(case, status, out, err):
+        if status in (0, 1):
+            if case.may_be_refused and status == 0 and b"Usage:" in out:
+                return not err
+            return not err and bool(out) and is_report(out)
+        if status == 3:
+            return not out and re.fullmatch(rb"gherkin_run: [^\n]*\n", err) is not None
+        return case.may_be_refused and status == 2 and not out and bool(err)
+
+
+def is_report(text):
+    """Whether a text is a report whose closing lines are the counts of its rows. A line feed in a file's
+    name or text is printed as two characters, so each row is one line."""
+    try:
+        return Report(text).is_read_well()
+    except (ValueError, StopIteration, IndexError):
+        return False
+
+
+def main():
+    runner = Runner(sys.argv[1], sys.argv[2])
+    chance = random.Random(1)
+    cases = itertools.chain(example_cases(), mixed_cases(chance), random_cases(chance), option_cases(chance))
+    passed = failed = 0
+    while chunk := list(itertools.islice(cases, CHUNK)):
+        for trouble in several.on_all_processors(runner.trouble, chunk):
+            if trouble is None:
+                passed += 1
+            else:
+                failed += 1
+                if failed <= 20:
+                    print(trouble)
+    print(f"{passed} passed, {failed} failed")
+    return 1 if failed else 0
+
+
+if __name__ == "__main__":
+    sys.exit(main())

@@ -1,0 +1,455 @@
+"""The large runs of tests/runs.sh: at the limits, near them, and far beyond what a person writes.
+
+Each function below makes one run: the arguments, the input files, and what has to come out. The input
+isn't stored, since it is large. What has to come out is worked out beside it, and not taken from the
+program.
+"""
+
+import os
+import subprocess
+import threading
+
+PATIENCE = 120  # seconds
+FILE_LIMIT = 16_777_216
+TEXT_LIMIT = 1_048_576
+STEPS_LIMIT = 1_000_000
+TOO_LONG = "longer than 16777216 bytes"
+
+
+class Run:
+    """What is run, and what has to come out."""
+
+    def __init__(self, files, status=0, stdout="", stderr="", arguments=None):
+        self.files = files
+        self.arguments = arguments or list(files)
+        self.status = status
+        self.stdout = stdout
+        self.stderr = stderr
+
+
+def counted(noun, passed, failed=0, skipped=0, undefined=None):
+    """One of the closing lines."""
+    plural = "" if passed == 1 else "s"
+    last = "" if undefined is None else f", {undefined} undefined"
+    return f"{passed} {noun}{plural} passed, {failed} failed, {skipped} skipped{last}\n"
+
+
+def closing(features, scenarios, steps):
+    """The closing lines; each of the three is a number passed, or numbers passed, failed, skipped, undefined."""
+    features, scenarios, steps = ((it,) if isinstance(it, int) else it for it in (features, scenarios, steps))
+    return counted("feature", *features) + counted("scenario", *scenarios) + counted("step", *(tuple(steps) + (0, 0, 0))[:4])
+
+
+def passing(feature, scenarios, steps):
+    """The part of a feature whose scenarios, given by their names, pass with the same steps."""
+    below = "".join(f"    {step} ... passed\n" for step in steps)
+    return f"Feature: {feature} ... passed\n" + "".join(f"  Scenario: {name} ... passed\n{below}" for name in scenarios) + "\n"
+
+
+def refused(name, text):
+    return f"gherkin_run: {name}: {text}\n"
+
+
+def many_scenarios():
+    names = [f"s{number}" for number in range(100_000)]
+    steps = ['Given the variable "A" is set to "x"', 'Then the variable "A" should be "x"']
+    text = "Feature: many\n" + "".join(f"Scenario: {name}\n" + "\n".join(steps) + "\n" for name in names)
+    return Run({"a.feature": text}, 0, passing("many", names, steps) + closing(1, 100_000, 200_000))
+
+
+def many_files():
+    files = {f"{number}.feature": f"Feature: f{number}\nScenario: s{number}\nGiven the variable \"V{number}\" should be unset\n"
+             f"And the variable \"V{number}\" is set to \"x\"\n" for number in range(100)}
+    report = "".join(passing(f"f{number}", [f"s{number}"], [f'Given the variable "V{number}" should be unset',
+                                                             f'And the variable "V{number}" is set to "x"'])
+                     for number in range(100))
+    return Run(files, 0, report + closing(100, 100, 200))
+
+
+def many_files_backwards():
+    run = many_files()
+    report = run.stdout[:run.stdout.index("100 features")]
+    parts = report.split("\n\n")[:-1]
+    stdout = "".join(part + "\n\n" for part in reversed(parts)) + closing(100, 100, 200)
+    return Run(run.files, 0, stdout, arguments=list(reversed(run.files)))
+
+
+def fault_of_the_last_of_many_files():
+    files = {f"{number}.feature": "Feature: f\n" for number in range(100)}
+    files["99.feature"] = "Feature: f\nFeature: g\n"
+    return Run(files, 3, "", "gherkin_run: 99.feature:2: unexpected line\n")
+
+
+def many_rules_examples_and_rows():
+    rules = "".join(f"Rule: r{number}\nBackground:\nGiven it passes\nExample: e{number}\n" for number in range(300))
+    parts = "".join(f"Examples: e{number}\n| a |\n| {number} |\n| x |\n" for number in range(300))
+    rows = "".join(
+        f"  Scenario Outline: o -- @{number + 1}.{row} e{number} ... passed\n"
+        f"    Given a file named \"{cell}\" containing \"x\" ... passed\n"
+        for number in range(300) for row, cell in ((1, number), (2, "x")))
+    text = "Feature: f\nScenario Outline: o\nGiven a file named \"<a>\" containing \"x\"\n" + parts + rules
+    report = "Feature: f ... passed\n" + rows + "".join(
+        f"  Example: e{number} ... passed\n    Given it passes ... passed\n" for number in range(300)) + "\n"
+    return Run({"a.feature": text}, 0, report + closing(1, 900, 900))
+
+
+def late_line():
+    text = "Feature: f\nScenario: s\nGiven it passes\n" + "# nothing\n" * 70_000 + "stray\n"
+    return Run({"a.feature": text}, 3, "", "gherkin_run: a.feature:70004: unexpected line\n")
+
+
+def chosen_line(line, blank_lines):
+    """A scenario chosen by its line, which is large."""
+    text = "Feature: f\nScenario: no\nGiven it fails\n" + "\n" * blank_lines + "Scenario: yes\nGiven it passes\n"
+    assert line == 4 + blank_lines
+    report = ("Feature: f ... passed\n  Scenario: no ... skipped\n    Given it fails ... skipped\n"
+              "  Scenario: yes ... passed\n    Given it passes ... passed\n\n")
+    return Run({"a.feature": text}, 0, report + closing(1, (1, 0, 1), (1, 0, 1)), arguments=["--line", str(line), "a.feature"])
+
+
+def chosen_line_65535():
+    return chosen_line(65_535, 65_531)
+
+
+def chosen_line_65536():
+    return chosen_line(65_536, 65_532)
+
+
+def chosen_line_1000000():
+    return chosen_line(1_000_000, 999_996)
+
+
+def longest_file_of_a_comment():
+    return Run({"a.feature": "#" + "x" * (FILE_LIMIT - 1)}, 0, closing(0, 0, 0))
+
+
+def longest_file_of_a_scenario():
+    text = "Feature: f\nScenario: s\nGiven it passes\n"
+    text += "#" * (FILE_LIMIT - len(text) - 1) + "\n"
+    return Run({"a.feature": text}, 0, passing("f", ["s"], ["Given it passes"]) + closing(1, 1, 1))
+
+
+def file_one_byte_too_long():
+    return Run({"a.feature": "#" + "x" * FILE_LIMIT}, 3, "", refused("a.feature", TOO_LONG))
+
+
+def second_file_one_byte_too_long():
+    return Run({"a.feature": "Feature: a\n", "b.feature": "\n" * (FILE_LIMIT + 1)}, 3, "", refused("b.feature", TOO_LONG))
+
+
+def too_long_before_not_utf8():
+    return Run({"a.feature": b"\xff" * (FILE_LIMIT + 1)}, 3, "", refused("a.feature", TOO_LONG))
+
+
+def longest_file_not_utf8():
+    return Run({"a.feature": b"#\n" * (FILE_LIMIT // 2 - 1) + b"#\xff"}, 3, "", f"gherkin_run: a.feature:{FILE_LIMIT // 2}: not UTF-8\n")
+
+
+def longest_library():
+    entry = "step x => pass\n"
+    library = entry + "#" * (FILE_LIMIT - len(entry))
+    return Run({"a.feature": "Feature: f\nScenario: s\nGiven x\n", "l.steps": library}, 0,
+               passing("f", ["s"], ["Given x"]) + closing(1, 1, 1), arguments=["--library", "l.steps", "a.feature"])
+
+
+def library_one_byte_too_long():
+    return Run({"a.feature": "Feature: f\n", "l.steps": "#" * (FILE_LIMIT + 1)}, 3, "", refused("l.steps", TOO_LONG),
+               arguments=["--library", "l.steps", "a.feature"])
+
+
+def longest_texts():
+    """Texts of a file and of a table's cell at the limit and beyond; an append at the limit."""
+    text = "x" * TEXT_LIMIT
+    feature = f'''Feature: f
+Scenario: at the limit
+Given a file named "f" with:
+"""
+{text}
+"""
+Then the file "f" should be:
+"""
+{text}
+"""
+When the file "f" is extended with "x"
+Scenario: it is what it was after that
+Given these files:
+| name | text |
+| g | {text} |
+Then the file "g" should contain:
+"""
+{text}
+"""
+Scenario: beyond the limit
+Given a file named "f" with:
+"""
+{text}x
+"""
+Scenario: beyond the limit in a table
+Given these files:
+| name | text |
+| g | {text}x |
+'''
+    report = '''Feature: f ... failed
+  Scenario: at the limit ... failed
+    Given a file named "f" with: ... passed
+    Then the file "f" should be: ... passed
+    When the file "f" is extended with "x" ... failed: text too long
+  Scenario: it is what it was after that ... passed
+    Given these files: ... passed
+    Then the file "g" should contain: ... passed
+  Scenario: beyond the limit ... failed
+    Given a file named "f" with: ... failed: text too long
+  Scenario: beyond the limit in a table ... failed
+    Given these files: ... failed: text too long
+
+'''
+    return Run({"a.feature": feature}, 1, report + closing((0, 1), (1, 3), (4, 3)))
+
+
+def longest_variable_and_value():
+    text = "x" * TEXT_LIMIT
+    steps = [(f'Given the variable "V" is set to "{text}"', "passed"), (f'Then the variable "V" should be "{text}"', "passed"),
+             (f'Given the value "v" is set to "{text}"', "passed"), (f'Then the value "v" should be "{text}"', "passed"),
+             ('When the number "v" grows by 1', "failed: not a number")]
+    beyond = [(f'Given the variable "V" is set to "{text}x"', "failed: text too long"), ('Then the variable "V" should be unset', "skipped")]
+    also = [(f'Given the value "v" is set to "{text}x"', "failed: text too long"), ('Then the value "v" should be absent', "skipped")]
+    cases = [("a", "failed", steps), ("b", "failed", beyond), ("c", "failed", also)]
+    feature = "Feature: f\n" + "".join(f"Scenario: {name}\n" + "".join(f"{step}\n" for step, _ in rows) for name, _, rows in cases)
+    report = "Feature: f ... failed\n" + "".join(
+        f"  Scenario: {name} ... {verdict}\n" + "".join(f"    {step} ... {status}\n" for step, status in rows)
+        for name, verdict, rows in cases) + "\n"
+    return Run({"a.feature": feature}, 1, report + closing((0, 1), (0, 3), (4, 3, 2)))
+
+
+def text_in_characters_of_more_bytes():
+    """The limit counts bytes: 524,288 characters of two bytes are kept, and one more isn't."""
+    text = "\u00e9" * (TEXT_LIMIT // 2)
+    feature = f'Feature: f\nScenario: s\nGiven a file named "f" with:\n"""\n{text}\n"""\nGiven a file named "g" with:\n"""\n{text}\u00e9\n"""\n'
+    report = ('Feature: f ... failed\n  Scenario: s ... failed\n    Given a file named "f" with: ... passed\n'
+              '    Given a file named "g" with: ... failed: text too long\n\n')
+    return Run({"a.feature": feature}, 1, report + closing((0, 1), (0, 1), (1, 1)))
+
+
+def name_in_characters_of_more_bytes():
+    name = "n" + "\u00e9" * 127
+    steps = [(f'Given a file named "{name}" containing "x"', "passed"), (f'And a file named "n{name}" containing "x"', "failed: bad name")]
+    feature = "Feature: f\nScenario: s\n" + "".join(f"{step}\n" for step, _ in steps)
+    report = "Feature: f ... failed\n  Scenario: s ... failed\n" + "".join(f"    {step} ... {status}\n" for step, status in steps) + "\n"
+    return Run({"a.feature": feature}, 1, report + closing((0, 1), (0, 1), (1, 1)))
+
+
+def outline_of_steps(steps, rows):
+    """An outline of so many steps and rows."""
+    return ("Feature: f\nScenario Outline: o\n" + "Given it passes\n" * steps + "Examples:\n| a |\n" + "| x |\n" * rows)
+
+
+def outline_of_a_million_steps():
+    below = "    Given it passes ... passed\n" * 1000
+    report = "Feature: f ... passed\n" + "".join(
+        f"  Scenario Outline: o -- @1.{row} ... passed\n{below}" for row in range(1, 1001)) + "\n"
+    return Run({"a.feature": outline_of_steps(1000, 1000)}, 0, report + closing(1, 1000, STEPS_LIMIT))
+
+
+def outline_of_more_than_a_million_steps():
+    return Run({"a.feature": outline_of_steps(1000, 1001)}, 3, "", refused("a.feature", "more than 1000000 steps"))
+
+
+def outline_of_a_million_and_one_steps():
+    text = outline_of_steps(1000, 1000) + "Scenario: s\nGiven it passes\n"
+    return Run({"a.feature": text}, 3, "", refused("a.feature", "more than 1000000 steps"))
+
+
+def outline_of_very_many_steps():
+    """5 * 10^11 steps: they are counted and not made."""
+    return Run({"a.feature": outline_of_steps(500_000, 1_000_000)}, 3, "", refused("a.feature", "more than 1000000 steps"))
+
+
+def background_steps_count():
+    text = "Feature: f\nBackground:\n" + "Given it passes\n" * 1000 + "".join(f"Scenario: s{number}\n" for number in range(1001))
+    return Run({"a.feature": text}, 3, "", refused("a.feature", "more than 1000000 steps"))
+
+
+def background_steps_at_the_limit():
+    """Every scenario is unselected, so that the report is all that takes time."""
+    text = "Feature: f\nBackground:\n" + "Given it fails\n" * 1000 + "".join(f"Scenario: s{number}\n" for number in range(1000))
+    below = "    Given it fails ... skipped\n" * 1000
+    report = "Feature: f ... skipped\n" + "".join(f"  Scenario: s{number} ... skipped\n{below}" for number in range(1000)) + "\n"
+    return Run({"a.feature": text}, 0, report + closing((0, 0, 1), (0, 0, 1000), (0, 0, STEPS_LIMIT)),
+               arguments=["--tags", "@no", "a.feature"])
+
+
+def the_limit_of_steps_is_for_each_file():
+    text = outline_of_steps(1000, 600)
+    below = "    Given it passes ... skipped\n" * 1000
+    report = "Feature: f ... skipped\n" + "".join(
+        f"  Scenario Outline: o -- @1.{row} ... skipped\n{below}" for row in range(1, 601)) + "\n"
+    return Run({"a.feature": text, "b.feature": text}, 0, report * 2 + closing((0, 0, 2), (0, 0, 1200), (0, 0, 1_200_000)),
+               arguments=["--line", "1", "a.feature", "b.feature"])
+
+
+def fault_before_the_steps_of_a_later_file():
+    return Run({"a.feature": outline_of_steps(1000, 1001), "b.feature": "stray\n"}, 3, "", refused("a.feature", "more than 1000000 steps"))
+
+
+def long_table():
+    rows = "".join(f"| f{number} | {number} |\n" for number in range(70_000))
+    feature = ('Feature: f\nScenario: s\nGiven these files:\n| name | text |\n' + rows
+               + 'Then the file "f69999" should be "69999"\nAnd the file "f0" should be "0"\nAnd the file "f70000" should not exist\n')
+    steps = ["Given these files:", 'Then the file "f69999" should be "69999"', 'And the file "f0" should be "0"',
+             'And the file "f70000" should not exist']
+    return Run({"a.feature": feature}, 0, passing("f", ["s"], steps) + closing(1, 1, 4))
+
+
+def wide_row():
+    cells = "".join(f" c{number} |" for number in range(100_000))
+    feature = f"Feature: f\nScenario: s\nGiven it passes\n|{cells}\n|{cells}\n|{cells} one more |\n"
+    return Run({"a.feature": feature}, 3, "", "gherkin_run: a.feature:6: row with another number of cells\n")
+
+
+def long_doc_string():
+    lines = "".join(f"line {number}\n" for number in range(80_000))
+    feature = (f'Feature: f\nScenario: s\nGiven a file named "f" with:\n"""\n{lines}"""\n'
+               'Then the file "f" should contain "line 79999"\nAnd the file "f" should contain "80000"\n')
+    report = ('Feature: f ... failed\n  Scenario: s ... failed\n    Given a file named "f" with: ... passed\n'
+              '    Then the file "f" should contain "line 79999" ... passed\n'
+              '    And the file "f" should contain "80000" ... failed: differs\n\n')
+    return Run({"a.feature": feature}, 1, report + closing((0, 1), (0, 1), (2, 1)))
+
+
+def long_names():
+    name = "n" * 1_000_000
+    feature = f"Feature: {name}\nScenario: {name}\nGiven {name}\n"
+    report = f"Feature: {name} ... failed\n  Scenario: {name} ... failed\n    Given {name} ... undefined\n\n"
+    return Run({"a.feature": feature}, 1, report + closing((0, 1), (0, 1), (0, 0, 0, 1)))
+
+
+def many_tags():
+    tags = " ".join(f"@t{number}" for number in range(70_000))
+    feature = f"{tags}\nFeature: f\nScenario: s\nGiven it passes\n"
+    return Run({"a.feature": feature}, 0, passing("f", ["s"], ["Given it passes"]) + closing(1, 1, 1),
+               arguments=["--tags", "@t69999", "--tags", "~@t70000", "a.feature"])
+
+
+def many_options():
+    arguments = [it for number in range(1000) for it in ("--tags", f"~@t{number}")]
+    arguments += [it for number in range(1000, 0, -1) for it in ("--line", str(number))]
+    arguments += [it for number in range(1000) for it in ("--env", f"V{number}={number}")]
+    steps = ['Then the variable "V0" should be "0"', 'And the variable "V999" should be "999"']
+    feature = "Feature: f\nScenario: s\n" + "\n".join(steps) + "\n"
+    return Run({"a.feature": feature}, 0, passing("f", ["s"], steps) + closing(1, 1, 2), arguments=[*arguments, "a.feature"])
+
+
+def long_option():
+    text = "x" * 100_000
+    steps = [f'Then the variable "V" should be "{text}"']
+    feature = "Feature: f\nScenario: s\n" + steps[0] + "\n"
+    return Run({"a.feature": feature}, 0, passing("f", ["s"], steps) + closing(1, 1, 1),
+               arguments=["--env", f"V={text}", "--tags", "~@" + "t" * 100_000, "a.feature"])
+
+
+def many_entries():
+    library = "".join(f"step w{number} {{name}} is {{text}} => set_env\n" for number in range(1000))
+    library += "then {name} = {text} => env_is\n"
+    steps = ["Given w0 A is 1", "Given w999 B is 2", "Then A = 1", "Then B = 2"]
+    feature = "Feature: f\nScenario: s\n" + "\n".join(steps) + "\n"
+    return Run({"a.feature": feature, "l.steps": library}, 0, passing("f", ["s"], steps) + closing(1, 1, 4),
+               arguments=["--library", "l.steps", "a.feature"])
+
+
+def fault_of_the_last_of_many_entries():
+    library = "".join(f"step w{number} {{name}} is {{text}} => set_env\n" for number in range(1000))
+    return Run({"a.feature": "", "l.steps": library + "step w7 {x} is {y} => pass\n"}, 3, "",
+               "gherkin_run: l.steps:1001: ambiguous with an earlier line\n", arguments=["--library", "l.steps", "a.feature"])
+
+
+def hopeless_pattern():
+    """Taking the fields' lengths one after another would not end."""
+    text = "a" * 400 + "y"
+    report = f"Feature: f ... failed\n  Scenario: s ... failed\n    Given {text} ... undefined\n\n"
+    return Run({"a.feature": f"Feature: f\nScenario: s\nGiven {text}\n", "l.steps": "step {a}{b}{c}{d}{e}{f}{g}{h}x => pass\n"},
+               1, report + closing((0, 1), (0, 1), (0, 0, 0, 1)), arguments=["--library", "l.steps", "a.feature"])
+
+
+def hopeless_pattern_of_numbers():
+    text = "1" * 400
+    report = f"Feature: f ... failed\n  Scenario: s ... failed\n    Given {text} ... undefined\n\n"
+    fields = "".join(f"{{n{number}:d}}" for number in range(12))
+    return Run({"a.feature": f"Feature: f\nScenario: s\nGiven {text}\n", "l.steps": f"step {fields} => pass\n"},
+               1, report + closing((0, 1), (0, 1), (0, 0, 0, 1)), arguments=["--library", "l.steps", "a.feature"])
+
+
+RUNS = (many_scenarios, many_files, many_files_backwards, fault_of_the_last_of_many_files, many_rules_examples_and_rows,
+        late_line, chosen_line_65535, chosen_line_65536, chosen_line_1000000, longest_file_of_a_comment,
+        longest_file_of_a_scenario, file_one_byte_too_long, second_file_one_byte_too_long, too_long_before_not_utf8,
+        longest_file_not_utf8, longest_library, library_one_byte_too_long, longest_texts, longest_variable_and_value,
+        text_in_characters_of_more_bytes, name_in_characters_of_more_bytes, outline_of_a_million_steps,
+        outline_of_more_than_a_million_steps, outline_of_a_million_and_one_steps, outline_of_very_many_steps,
+        background_steps_count, background_steps_at_the_limit, the_limit_of_steps_is_for_each_file,
+        fault_before_the_steps_of_a_later_file, long_table, wide_row, long_doc_string, long_names, many_tags, many_options,
+        long_option, many_entries, fault_of_the_last_of_many_entries, hopeless_pattern, hopeless_pattern_of_numbers)
+
+
+def shown(text):
+    text = text.decode("utf-8", "backslashreplace")
+    return repr(text if len(text) <= 600 else text[:300] + " .. " + text[-200:])
+
+
+def first_difference(printed, wanted):
+    """The place of the first byte that differs, and what stands there."""
+    place = next((at for at, (one, other) in enumerate(zip(printed, wanted)) if one != other), min(len(printed), len(wanted)))
+    around = slice(max(0, place - 40), place + 80)
+    return f"from byte {place} on: {shown(printed[around])}, and not {shown(wanted[around])}"
+
+
+def write_files(folder, files):
+    os.makedirs(folder)
+    for name, text in files.items():
+        with open(os.path.join(folder, name), "wb") as file:
+            file.write(text if isinstance(text, bytes) else text.encode())
+
+
+def differences(program, folder, run):
+    """What differs from what has to come out, in words."""
+    try:
+        done = subprocess.run([program, *run.arguments], cwd=folder, stdin=subprocess.DEVNULL, capture_output=True,
+                              timeout=PATIENCE, check=False)
+    except subprocess.TimeoutExpired:
+        return [f"  not ended after {PATIENCE} seconds"]
+    found = []
+    if done.returncode != run.status:
+        found.append(f"  status {done.returncode}, and not {run.status}")
+    for name, printed, wanted in (("stdout", done.stdout, run.stdout), ("stderr", done.stderr, run.stderr)):
+        if printed != wanted.encode():
+            found.append(f"  {name} differs {first_difference(printed, wanted.encode())}")
+    return found
+
+
+def from_a_pipe(program, folder):
+    """The program reads a file that is a pipe, which hands out a few bytes a call."""
+    run = Run({}, 0, passing("f", ["s"], ["Given it passes"]) + closing(1, 1, 1), arguments=["pipe"])
+    os.makedirs(folder)
+    path = os.path.join(folder, "pipe")
+    os.mkfifo(path)
+
+    def feed():
+        with open(path, "wb", buffering=0) as pipe:
+            for byte in b"Feature: f\nScenario: s\nGiven it passes\n":
+                pipe.write(bytes([byte]))
+
+    writer = threading.Thread(target=feed)
+    writer.start()
+    found = differences(program, folder, run)
+    writer.join()
+    return found
+
+
+def results(program, room):
+    """The name of each large run, and what differs from what has to come out."""
+    for make in RUNS:
+        folder = os.path.join(room, make.__name__)
+        run = make()
+        write_files(folder, run.files)
+        yield make.__name__, differences(program, folder, run)
+        for name in run.files:
+            os.remove(os.path.join(folder, name))
+    yield "from_a_pipe", from_a_pipe(program, os.path.join(room, "from_a_pipe"))

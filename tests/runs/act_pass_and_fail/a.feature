@@ -1,0 +1,5 @@
+Feature: pass, fail
+  Scenario: pass
+    Given it passes
+  Scenario: fail
+    Given it fails

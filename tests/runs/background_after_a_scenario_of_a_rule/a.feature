@@ -1,0 +1,5 @@
+Feature: a
+Background:
+Rule: r
+Scenario: s
+Background:

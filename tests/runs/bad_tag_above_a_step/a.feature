@@ -1,0 +1,4 @@
+Feature: a
+Scenario: s
+@a b
+Given it passes

@@ -1,0 +1,3 @@
+	 Feature: 	 a  b 	
+	Scenario:s
+		Given 	 it passes 	

@@ -1,0 +1,10 @@
+Feature: o
+  Scenario Outline: <a>
+    Given <a>
+    Examples:
+      | a |
+      |  |
+      | it passes |
+      | it\npasses |
+      | Given it passes |
+      | # it passes |

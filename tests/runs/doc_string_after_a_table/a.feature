@@ -1,0 +1,5 @@
+Feature: a
+Scenario: s
+Given it passes
+| x |
+"""

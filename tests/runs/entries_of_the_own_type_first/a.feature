@@ -1,0 +1,4 @@
+Feature: l
+  Scenario: s
+    Given a b
+    When a b

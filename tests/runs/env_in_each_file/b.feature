@@ -1,0 +1,3 @@
+Feature: f
+  Scenario: s
+    Then the variable "A" should be "1"

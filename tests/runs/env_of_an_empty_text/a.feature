@@ -1,0 +1,5 @@
+Feature: e
+  Scenario: s
+    Then A is empty
+      """
+      """

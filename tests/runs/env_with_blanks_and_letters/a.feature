@@ -1,0 +1,3 @@
+Feature: e
+  Scenario: s
+    Then the variable " é " should be " ü "

@@ -1,0 +1,5 @@
+Feature: a
+Scenario Outline: s
+Examples:
+text | x |
+| x

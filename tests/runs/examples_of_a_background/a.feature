@@ -1,0 +1,4 @@
+Feature: a
+Background:
+Given it passes
+Examples:

@@ -1,0 +1,2 @@
+Feature: four
+  Scenario: fourth

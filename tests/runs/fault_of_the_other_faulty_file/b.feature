@@ -1,0 +1,3 @@
+Feature: b
+stray
+@x

@@ -1,0 +1,3 @@
+Feature: p
+  Scenario: s
+    Given 5 apples and pears

@@ -1,0 +1,3 @@
+Feature: two
+  Scenario: second
+    Given it fails

@@ -1,0 +1,5 @@
+Feature: a
+  Scenario: s
+    Given
+    And-so on
+    Given it passes

@@ -1,0 +1,2 @@
+#language:EN
+Feature: a

@@ -1,0 +1,3 @@
+
+  #	language :  en-lol  
+Feature: a

@@ -1,0 +1,7 @@
+Feature: a
+Scenario: s
+@x
+
+@y @z
+# end
+

@@ -1,0 +1,3 @@
+Feature: l
+  Scenario: s
+    Given it passes

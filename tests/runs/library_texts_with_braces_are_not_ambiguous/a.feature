@@ -1,0 +1,4 @@
+Feature: p
+  Scenario: s
+    Given {a}
+    Given 5

@@ -1,0 +1,4 @@
+Feature: a
+  Scenario: s
+  Scenario: t
+    Given it fails

@@ -1,0 +1,4 @@
+Feature: b
+
+  Scenario: s
+    Given nothing knows this

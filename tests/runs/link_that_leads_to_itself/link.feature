@@ -1,0 +1,1 @@
+link.feature

@@ -1,0 +1,7 @@
+Feature:
+  Scenario:
+    Given it passes
+  Scenario Outline:
+    Examples:
+      | x |
+      | 1 |

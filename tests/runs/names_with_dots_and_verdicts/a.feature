@@ -1,0 +1,3 @@
+Feature: a ... failed
+  Scenario: s ... memory
+    Given a file named "x ... failed: absent" containing "y"

@@ -1,0 +1,3 @@
+stray
+Feature: a
+ÿ

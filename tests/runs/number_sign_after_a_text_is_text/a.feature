@@ -1,0 +1,3 @@
+Feature: a # b
+  Scenario: s # c
+    Given it passes # d

@@ -1,0 +1,2 @@
+Feature: a
+  Rule: r

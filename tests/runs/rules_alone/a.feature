@@ -1,0 +1,4 @@
+Feature: a
+  Rule: r
+    Scenario: s
+      Given it passes

@@ -1,0 +1,5 @@
+Feature: a
+Rule: r
+Background:
+Given it passes
+Background:

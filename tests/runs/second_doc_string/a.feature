@@ -1,0 +1,7 @@
+Feature: a
+Scenario: s
+Given it passes
+```
+```
+```
+```

@@ -1,0 +1,6 @@
+Feature: a
+  @no
+  Scenario: s
+    Given it passes
+  Scenario: t
+    Given it fails

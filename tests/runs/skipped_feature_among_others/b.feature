@@ -1,0 +1,2 @@
+Feature: y
+  Scenario: s

@@ -1,0 +1,1 @@
+Given it passes

@@ -1,0 +1,7 @@
+Feature: o
+  Scenario Outline: o
+    When <a>
+    And is
+    Examples:
+      | a    |
+      | both |

@@ -1,0 +1,6 @@
+Feature: a
+Scenario: s
+Given it passes
+```
+```
+| x |

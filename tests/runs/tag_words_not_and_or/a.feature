@@ -1,0 +1,5 @@
+Feature: a
+  @and
+  Scenario: s
+  @not
+  Scenario: t

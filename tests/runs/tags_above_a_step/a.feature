@@ -1,0 +1,4 @@
+Feature: a
+Scenario: s
+@x
+Given it passes

@@ -1,0 +1,6 @@
+Feature: a
+Scenario: s
+Examples:
+| x |
+@t
+Background:

@@ -1,0 +1,5 @@
+Feature: a
+  @a	@b#c 	#@d
+  Scenario: s
+  @d
+  Scenario: t

@@ -1,0 +1,6 @@
+Feature: a
+Scenario Outline: s
+Examples:
+| x |
+| 1 |
+text

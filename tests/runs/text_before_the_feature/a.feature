@@ -1,0 +1,2 @@
+hello
+Feature: a

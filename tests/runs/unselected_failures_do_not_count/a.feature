@@ -1,0 +1,7 @@
+Feature: a
+  @no
+  Scenario: s
+    Given it fails
+    And nothing knows this
+  Scenario: t
+    Given it passes

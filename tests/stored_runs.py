@@ -1,0 +1,119 @@
+#!/usr/bin/env python3
+"""Runs the stored runs and the large runs: stored_runs.py PROGRAM ROOM. Called by tests/runs.sh.
+
+tests/runs/README.md says what each file of a stored run means.
+"""
+
+import os
+import subprocess
+import sys
+
+import large_runs
+
+HERE = os.path.dirname(os.path.realpath(__file__))
+RUNS = os.path.join(HERE, "runs")
+PATIENCE = 60  # seconds
+
+
+def content(run, name, otherwise=b""):
+    """The bytes of a file of a run, or those that stand for a file that isn't there."""
+    path = os.path.join(RUNS, run, name)
+    if not os.path.exists(path):
+        return otherwise
+    with open(path, "rb") as file:
+        return file.read()
+
+
+def arguments_of(run):
+    """The arguments of a run, one a line."""
+    return content(run, "arguments").split(b"\n")[:-1]
+
+
+class Stream:
+    """Standard output or standard error of a run, as the file `standard_output` or `standard_error` says:
+    without it the stream is kept, to be compared; `full` is a device without room, `pipe` a pipe that
+    nobody reads any more, `closed` a stream that isn't open."""
+
+    def __init__(self, kind):
+        self.kind = kind
+        self.closed_in_child = kind == b"closed"
+        self.number = subprocess.PIPE
+        if kind == b"full":
+            self.number = os.open("/dev/full", os.O_WRONLY)
+        elif kind == b"pipe":
+            reader, self.number = os.pipe()
+            os.close(reader)
+        elif kind == b"closed":
+            self.number = subprocess.DEVNULL
+
+    def close(self):
+        if self.number >= 0:
+            os.close(self.number)
+
+
+def start(program, run):
+    """Runs the program in the folder of a run; its status and what was kept of its two streams."""
+    out = Stream(content(run, "standard_output").strip())
+    err = Stream(content(run, "standard_error").strip())
+
+    def close_streams():
+        for number, stream in ((1, out), (2, err)):
+            if stream.closed_in_child:
+                os.close(number)
+
+    try:
+        done = subprocess.run([program, *arguments_of(run)], cwd=os.path.join(RUNS, run), stdin=subprocess.DEVNULL,
+                              stdout=out.number, stderr=err.number, preexec_fn=close_streams, timeout=PATIENCE,
+                              check=False)
+    except subprocess.TimeoutExpired:
+        return f"not ended after {PATIENCE} seconds", b"", b""
+    finally:
+        out.close()
+        err.close()
+    return done.returncode, done.stdout or b"", done.stderr or b""
+
+
+def shown(text):
+    """Bytes as a line of a message."""
+    text = text.decode("utf-8", "backslashreplace")
+    return repr(text if len(text) <= 1200 else text[:800] + " .. " + text[-300:])
+
+
+def differences(run, status, stdout, stderr):
+    """What differs from what is stored, in words."""
+    found = []
+    wanted = int(content(run, "status", b"0"))
+    if status != wanted:
+        found.append(f"  status {status}, and not {wanted}")
+    for name, printed in (("stdout", stdout), ("stderr", stderr)):
+        beginning = content(run, name + "_begins", None)
+        wanted = content(run, name) if beginning is None else beginning
+        if printed != wanted and (beginning is None or not printed.startswith(beginning)):
+            found.append(f"  {name} {shown(printed)}\n    and not {shown(wanted)}")
+    return found
+
+
+def main():
+    program, room = sys.argv[1], sys.argv[2]
+    passed = failed = 0
+    for run in sorted(os.listdir(RUNS)):
+        if not os.path.isdir(os.path.join(RUNS, run)):
+            continue
+        found = differences(run, *start(program, run))
+        if found:
+            failed += 1
+            print(f"tests/runs/{run}:", *found, sep="\n")
+        else:
+            passed += 1
+    for name, found in large_runs.results(program, room):
+        if found:
+            failed += 1
+            print(f"large run {name}:", *found, sep="\n")
+        else:
+            passed += 1
+    print(f"{passed} passed, {failed} failed")
+    return 1 if failed else 0
+
+
+if __name__ == "__main__":
+    sys.exit(main())
