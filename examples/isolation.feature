@@ -1,0 +1,24 @@
+# Three scenarios, of which each would disturb the others if anything of it stayed.
+Feature: Isolation
+  Scenario: Writes everything
+    Given these files:
+      | name | text |
+      | f    | one  |
+      | g    | two  |
+    And the variable "V" is set to "one"
+    And the value "v" is set to "one"
+    Then the file "f" should be "one"
+
+  Scenario: Changes everything, and fails
+    Given a file named "f" containing "two"
+    And the file "f" is renamed to "g"
+    And the variable "V" is set to "two"
+    And the number "v" is set to 2
+    When it fails
+    Then the file "g" should be "two"
+
+  Scenario: Sees nothing
+    Then the file "f" should not exist
+    And the file "g" should not exist
+    And the variable "V" should be unset
+    And the value "v" should be absent
