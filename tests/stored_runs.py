@@ -51,6 +51,24 @@ class Stream:
             os.close(self.number)
 
 
+class Link:
+    """The link `link.feature` in the folder of a run, while it runs, where the file `links_to` names its target."""
+
+    def __init__(self, run):
+        self.target = content(run, "links_to").strip()
+        self.path = os.path.join(RUNS, run, "link.feature")
+
+    def __enter__(self):
+        if self.target:
+            if os.path.islink(self.path):
+                os.remove(self.path)
+            os.symlink(self.target, self.path)
+
+    def __exit__(self, *_):
+        if self.target:
+            os.remove(self.path)
+
+
 def start(program, run):
     """Runs the program in the folder of a run; its status and what was kept of its two streams."""
     out = Stream(content(run, "standard_output").strip())
@@ -99,7 +117,8 @@ def main():
     for run in sorted(os.listdir(RUNS)):
         if not os.path.isdir(os.path.join(RUNS, run)):
             continue
-        found = differences(run, *start(program, run))
+        with Link(run):
+            found = differences(run, *start(program, run))
         if found:
             failed += 1
             print(f"tests/runs/{run}:", *found, sep="\n")
