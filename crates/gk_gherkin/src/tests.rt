@@ -1,6 +1,4 @@
-use crate::{
-    Block, Feature, LIMIT, ReadFault, Step, StepType, read_feature, read_lines, trim_back,
-};
+use crate::{Block, Feature, LIMIT, ReadFault, Step, read_feature, read_lines, trim_back};
 use std::alloc::Global;
 use std::fmt::Write as _;
 use std::process::Abort;
@@ -40,52 +38,15 @@ fn lines_end_at_lf_or_crlf(rt: HostRuntime) -> Result<(), Fail> {
     Ok(())
 }
 
-fn check_step(rt: &impl Abort, step: &Step, keyword: &str, step_type: StepType, line: u32) {
-    assert_eq!(rt; step.keyword.as_str(), keyword);
-    assert_eq!(rt; step.step_type, step_type);
-    assert_eq!(rt; step.line, line);
-}
+// What it reads as.
+const SHOWN: &str =
+    "Feature { name: \"one: two\", line: 3, tags: [\"@f\", \"@g\"], background: Some(Background { line: 7, steps: [Step { keyword: \"Given\", step_type: Given, text: \"a\", block: Table([[\"a|b\", \"\"], [\"c\\nd\", \"\\\\\"]]), line: 9 }] }), scenarios: [Scenario { keyword: \"Scenario\", name: \"s\", line: 15, tags: [\"@s\"], steps: [Step { keyword: \"When\", step_type: When, text: \"b\", block: Text(\"x\\n  \\\"\\\"\\\"\\n\\n```\"), line: 17 }, Step { keyword: \"And\", step_type: When, text: \"c\", block: Empty, line: 24 }, Step { keyword: \"But\", step_type: When, text: \"d\", block: Empty, line: 25 }, Step { keyword: \"Then\", step_type: Then, text: \"e\", block: Text(\"\"), line: 26 }, Step { keyword: \"*\", step_type: Then, text: \"f\", block: Empty, line: 29 }], examples: [] }, Scenario { keyword: \"Scenario Outline\", name: \"o\", line: 30, tags: [], steps: [Step { keyword: \"Given\", step_type: Given, text: \"<x>\", block: Empty, line: 31 }], examples: [Examples { name: \"first\", line: 33, tags: [\"@e\"], header: [\"x\"], rows: [Row { line: 36, cells: [\"1\"] }, Row { line: 37, cells: [\"2\"] }] }, Examples { name: \"\", line: 38, tags: [], header: [], rows: [] }] }], rules: [Rule { name: \"r\", line: 40, tags: [\"@r\"], background: Some(Background { line: 41, steps: [] }), scenarios: [Scenario { keyword: \"Example\", name: \"y\", line: 42, tags: [], steps: [], examples: [] }] }] }";
 
 #[test]
 fn reads_each_construct(rt: HostRuntime) -> Result<(), Fail> {
     let feature = read_feature(rt.alloc(), WHOLE.as_bytes())?.ok_or("none")?;
-    assert_eq!(rt; feature.name.as_str(), "one: two");
-    assert_eq!(rt; feature.line, 3);
-    assert_eq!(rt; feature.tags.len(), 2);
-    assert_eq!(rt; feature.tags[1].as_str(), "@g");
-    let background = feature.background.as_ref().ok_or("none")?;
-    assert_eq!(rt; background.line, 7);
-    match &background.steps[0].block {
-        Block::Table(rows) => {
-            assert_eq!(rt; rows.len(), 2);
-            assert_eq!(rt; rows[0][0].as_str(), "a|b");
-            assert_eq!(rt; rows[0][1].as_str(), "");
-            assert_eq!(rt; rows[1][0].as_str(), "c\nd");
-            assert_eq!(rt; rows[1][1].as_str(), "\\");
-        }
-        _ => return Err(Fail::from("no table")),
-    }
-    let scenario = &feature.scenarios[0];
-    assert_eq!(rt; scenario.tags[0].as_str(), "@s");
-    assert_eq!(rt; scenario.steps.len(), 5);
-    match &scenario.steps[0].block {
-        Block::Text(text) => assert_eq!(rt; text.as_str(), "x\n  \"\"\"\n\n```"),
-        _ => return Err(Fail::from("no text")),
-    }
-    check_step(&rt, &scenario.steps[1], "And", StepType::When, 24);
-    check_step(&rt, &scenario.steps[3], "Then", StepType::Then, 26);
-    check_step(&rt, &scenario.steps[4], "*", StepType::Then, 29);
-    let outline = &feature.scenarios[1];
-    assert_eq!(rt; outline.keyword.as_str(), "Scenario Outline");
-    assert_eq!(rt; outline.examples.len(), 2);
-    assert_eq!(rt; outline.examples[0].tags[0].as_str(), "@e");
-    assert_eq!(rt; outline.examples[0].header[0].as_str(), "x");
-    assert_eq!(rt; outline.examples[0].rows[1].line, 37);
-    assert_eq!(rt; outline.examples[0].rows[1].cells[0].as_str(), "2");
-    let rule = &feature.rules[0];
-    assert_eq!(rt; rule.tags[0].as_str(), "@r");
-    assert_eq!(rt; rule.background.is_some(), true);
-    assert_eq!(rt; rule.scenarios[0].keyword.as_str(), "Example");
+    let shown = format!(in rt.alloc(); "{feature:?}")?;
+    assert_eq!(rt; shown.as_str(), SHOWN);
     Ok(())
 }
 
@@ -209,30 +170,68 @@ fn read(alloc: Global, head: &str, part: &str, count: usize) -> Result<Feature, 
     Ok(read_feature(alloc, whole.as_bytes())?.ok_or("none")?)
 }
 
+fn steps_of(feature: &Feature) -> Result<&[Step], Fail> {
+    match feature.scenarios.as_slice().first() {
+        Some(scenario) => Ok(scenario.steps.as_slice()),
+        None => Err(Fail::from("no scenario")),
+    }
+}
+
+fn first_step(feature: &Feature) -> Result<&Step, Fail> {
+    match steps_of(feature)?.first() {
+        Some(step) => Ok(step),
+        None => Err(Fail::from("no step")),
+    }
+}
+
+fn last_line(feature: &Feature) -> Result<u32, Fail> {
+    match steps_of(feature)?.last() {
+        Some(step) => Ok(step.line),
+        None => Err(Fail::from("no step")),
+    }
+}
+
+fn rows_in_examples(feature: &Feature) -> Result<usize, Fail> {
+    match feature.scenarios.as_slice().first() {
+        Some(scenario) => match scenario.examples.as_slice().first() {
+            Some(examples) => Ok(examples.rows.len()),
+            None => Err(Fail::from("no examples")),
+        },
+        None => Err(Fail::from("no scenario")),
+    }
+}
+
+fn cells_in_table(feature: &Feature) -> Result<usize, Fail> {
+    match &first_step(feature)?.block {
+        Block::Table(rows) => match rows.as_slice().first() {
+            Some(row) => Ok(row.len()),
+            None => Err(Fail::from("no row")),
+        },
+        _ => Err(Fail::from("no table")),
+    }
+}
+
 #[test]
 fn reads_many_lines_and_long_ones(rt: HostRuntime) -> Result<(), Fail> {
     let steps = read(rt.alloc(), "Feature: a\nExample:\n", "* x\n", 70_000)?;
-    assert_eq!(rt; steps.scenarios[0].steps.len(), 70_000);
-    assert_eq!(rt; steps.scenarios[0].steps[69_999].line, 70_002);
+    assert_eq!(rt; steps_of(&steps)?.len(), 70_000);
+    assert_eq!(rt; last_line(&steps)?, 70_002);
     let rows = read(
         rt.alloc(),
         "Feature: a\nExample:\nExamples:\n",
         "|a|\n",
         70_000,
     )?;
-    assert_eq!(rt; rows.scenarios[0].examples[0].rows.len(), 69_999);
+    assert_eq!(rt; rows_in_examples(&rows)?, 69_999);
     let long = read(rt.alloc(), "Feature: a\nExample:\n* ", "long", 262_144)?;
-    assert_eq!(rt; long.scenarios[0].steps[0].text.len(), 1_048_576);
+    assert_eq!(rt; first_step(&long)?.text.len(), 1_048_576);
     let cells = read(
         rt.alloc(),
         "Feature: a\nExample:\n* x\n|",
         "\\|\\n|",
         200_000,
     )?;
-    match &cells.scenarios[0].steps[0].block {
-        Block::Table(rows) => assert_eq!(rt; rows[0].len(), 200_000),
-        _ => return Err(Fail::from("no table")),
-    }
+    assert_eq!(rt; cells_in_table(&cells)?, 200_000);
     let mut tags = text(rt.alloc(), "@a ", 300_000)?;
     tags.push_str("\nFeature: a")?;
     let tagged = read_feature(rt.alloc(), tags.as_bytes())?.ok_or("none")?;
