@@ -1,0 +1,13 @@
+@ui
+Feature: Choosing
+  Scenario: plain
+    Given it passes
+  @slow
+  Scenario: slow
+    Given it fails
+  @db
+  Scenario: database
+    Given it passes
+  @slow @db
+  Scenario: slow database
+    Given it passes
