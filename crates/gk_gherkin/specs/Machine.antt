@@ -167,10 +167,22 @@ abbrev pub feature_of : Top → SectionValue → FeatureValue
 feature_of (OfFeature head) section = record { name = head.name; line = head.line; tags = head.tags; background = section.background; scenarios = section.scenarios; rules = [] }
 feature_of (OfRule f head) section = with_rule f (rule_of head section)
 
+-- A scenario that begins after a section, with this keyword and this head. (proof machinery)
+abbrev pub begun_scenario : SectionValue → List ℕ → HeadValue → Open
+begun_scenario section keyword head = Bodied (OfScenario section keyword head) Describing
+
+-- The same by the line of its heading, and the tags above it. (proof machinery)
+abbrev pub scenario_from : SectionValue → List (List ℕ) → LineValue → Open
+scenario_from section tags line = begun_scenario section (heading_keyword line) (head_from tags line)
+
 -- An Examples heading after this scenario, if it is one. (proof machinery)
 abbrev pub examples_after : Option OutlineValue → Top → List (List ℕ) → LineValue → Result Place ReadFault
 examples_after (Some outline) top tags line = Ok (Inside top (Exampled outline.section outline.scenario (head_from tags line) NoRows))
 examples_after None top tags line = Err (Unexpected line.line)
+
+-- The same after an open part. (proof machinery)
+abbrev pub examples_in : Open → Top → List (List ℕ) → LineValue → Result Place ReadFault
+examples_in part top tags line = examples_after (outline_of part) top tags line
 
 -- A heading that takes tags, after these tags. (proof machinery)
 unfoldable pub on_heading : Place → List (List ℕ) → LineValue → Class → Result Place ReadFault
@@ -282,6 +294,10 @@ abbrev pub with_line : Option (List ℕ) → List ℕ → List ℕ
 with_line None text = text
 with_line (Some before) text = before ++ 10 ∷ text
 
+-- The text of a doc string with its next line. (proof machinery)
+abbrev pub text_after : Option (List ℕ) → Fence → ℕ → LineValue → Option (List ℕ)
+text_after content fence column line = Some (with_line content (content_of fence (column - 1) line))
+
 -- The text of a doc string. (proof machinery)
 abbrev pub whole_text : Option (List ℕ) → List ℕ
 whole_text None = []
@@ -322,6 +338,14 @@ on (Tagged place tags last) line Comment = on_comment place (Tagged place tags l
 on (Tagged place tags last) line TagLine = tag_line (tags_of line) place tags line
 on (Tagged place tags last) line class = placed (on_heading place tags line class)
 on (Quoted quote fence column n content) line class = Ok (in_quote (closes fence line) quote fence column n content line)
+
+-- Lines that aren't read in place: tags and fences at a place, any line after tags, and a line that closes a doc string. (proof machinery)
+abbrev pub Changes : State → LineValue → Class → Type 0
+Changes (At place) line TagLine = Unit {0}
+Changes (At place) line (FenceLine fence) = Unit {0}
+Changes (At place) line _ = ⊥
+Changes (Tagged place tags last) line class = Unit {0}
+Changes (Quoted quote fence column n content) line class = closes fence line ≡ true
 
 -- A line. (proof machinery)
 unfoldable pub step : State → LineValue → Read

@@ -1,5 +1,5 @@
 -- The cells of a row.
-use Rattle.std.specs.Prelude.{codes, ◌≡◌, ℕ, ◌==◌, ◌||◌, List, [], ◌∷◌, drop, map, Option, Some, None, option_map, if◌then◌else◌}
+use Rattle.std.specs.Prelude.{codes, ℕ, ◌==◌, ◌||◌, List, [], ◌∷◌, drop, map, Option, Some, None, option_map, if◌then◌else◌}
 use Rattle.gk_gherkin.specs.Lines.{LineValue, trim}
 use Rattle.gk_gherkin.specs.Class.{begins}
 

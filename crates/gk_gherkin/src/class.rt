@@ -43,10 +43,17 @@ pub enum Class {
     Other,
 }
 
+#[tactic(auto, using(crate::proofs::ClassWords::first_differs))]
 pub fn begins(text: &str, word: &str) -> bool
     ensures { result ≡ spec.begins text.now word.now }
 {
-    text.as_bytes().starts_with(word.as_bytes())
+    let text = text.as_bytes();
+    let word = word.as_bytes();
+    if !text.is_empty() && !word.is_empty() && text[0] != word[0] {
+        false
+    } else {
+        text.starts_with(word)
+    }
 }
 
 fn begins_word(text: &str, word: &str) -> bool
@@ -156,24 +163,16 @@ pub fn first_blank(text: &[u8]) -> usize
     text.len()
 }
 
-/// The keyword of a step.
-pub fn step_keyword<'a>(line: &Piece<'a>) -> &'a str
-    ensures { result.now ≡ spec.step_keyword (piece_value line.now) }
-{
-    let text = trim(line.text);
-    let end = first_blank(text.as_bytes());
-    &text[..end]
-}
-
-/// The text of a step: what stands after its keyword, trimmed.
-pub fn step_text<'a>(line: &Piece<'a>) -> &'a str
-    ensures { result.now ≡ spec.step_text (piece_value line.now) }
+/// The keyword of a step, and its text: what stands after the keyword, trimmed.
+pub fn step_parts<'a>(line: &Piece<'a>) -> (&'a str, &'a str)
+    ensures keyword { result.0.now ≡ spec.step_keyword (piece_value line.now) }
+    ensures text { result.1.now ≡ spec.step_text (piece_value line.now) }
 {
     let text = trim(line.text);
     let end = first_blank(text.as_bytes());
     if end < text.len() {
-        trim(&text[end + 1..])
+        (&text[..end], trim(&text[end + 1..]))
     } else {
-        ""
+        (text, "")
     }
 }

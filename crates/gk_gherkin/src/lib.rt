@@ -12,6 +12,7 @@ mod machine;
 mod read_fault;
 mod reader;
 mod rows;
+mod states;
 mod step_types;
 mod tags;
 

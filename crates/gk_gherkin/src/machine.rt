@@ -1,4 +1,5 @@
-//! What was read so far, and how a line goes on from it: the finished parts, and the open part of each depth.
+//! What was read so far, the finished parts and the open part of each depth, and how a line goes on
+//! at a place.
 ghost use Rattle.std.specs.Prelude.{Option, option_map, map, Ok, IfOk, IfErr, ◌≡◌};
 ghost use Rattle.gk_gherkin.specs.Lines.{numbered_from, piece_value, lines_of, IsText};
 ghost use Rattle.gk_gherkin.specs.Feature.{FeatureValue, texts, block_value, step_value, row_value, examples_value, scenario_value, feature_value, rule_value};
@@ -6,8 +7,8 @@ ghost use Rattle.std.specs.String.{string_bytes};
 ghost use Rattle.gk_gherkin.specs.Grammar.{Reads};
 ghost use Rattle.gk_gherkin.specs.ReadFault.{FaultSays, FeatureFault, AnswersOrLacksMemory};
 ghost use Rattle.gk_gherkin.specs.Machine as spec;
-ghost use Rattle.gk_gherkin.specs.Machine.{Gives};
-ghost use Rattle.gk_gherkin.specs.Machine.Views.{head_value, section_value, grid_value, outline_value, top_value, body_value, owner_value, open_value, place_value, quote_value, state_value};
+ghost use Rattle.gk_gherkin.specs.Machine.{Gives, Inside, examples_in};
+ghost use Rattle.gk_gherkin.specs.Machine.Views.{head_value, section_value, grid_value, outline_value, top_value, body_value, owner_value, bodied_value, section_after, open_value, place_value, quote_value, state_value};
 ghost use Rattle.gk_gherkin.specs.StepTypes as types;
 ghost use Rattle.gk_gherkin.specs.Tags as tagging;
 ghost use Rattle.gk_gherkin.specs.Rows as cutting;
@@ -18,19 +19,16 @@ ghost use Rattle.std.specs.Prelude.{◌-◌, ◌≤◌, ◌++◌, length};
 ghost use Rattle.std.specs.Str.Lines.{lines};
 ghost use Rattle.gk_gherkin.specs.Class as words;
 ghost use Rattle.gk_gherkin.specs.declared.read_fault.ReadFault.TheVariants.{Unexpected};
+ghost use Rattle.gk_gherkin.specs.declared.class.Class.TheVariants.{RuleHeading};
 
-use crate::class::{
-    Class, Fence, class_of_line, heading_keyword, heading_name, step_keyword, step_text,
-};
-use crate::doc_strings::{closes, whole_text, with_line};
+use crate::class::{Class, Fence, heading_keyword, heading_name, step_parts};
 use crate::feature::{Background, Block, Examples, Feature, Row, Rule, Scenario, Step, StepType};
-use crate::language::language_of;
 use crate::lines::Piece;
 use crate::read_fault::ReadFault;
 use crate::rows::cells_of;
 use crate::step_types::type_after;
-use crate::tags::tags_of;
 use std::alloc::Global;
+use std::mem;
 
 /// What the heading of a feature, a rule, a scenario or examples says.
 #[derive(Drop)]
@@ -142,7 +140,7 @@ pub enum State {
     },
 }
 
-fn unexpected(line: &Piece<'_>) -> ReadFault
+pub fn unexpected(line: &Piece<'_>) -> ReadFault
     ensures { result ≡ Unexpected line.now.place.line }
 {
     ReadFault::Unexpected {
@@ -164,9 +162,10 @@ fn head_from(alloc: Global, tags: Vec<String>, line: &Piece<'_>) -> Result<Head,
 fn step_from(alloc: Global, before: StepType, line: &Piece<'_>) -> Result<Step, ReadFault>
     ensures { Gives step_value result (Ok (spec.step_from before (piece_value line.now))) }
 {
-    let step_type = type_after(before, step_keyword(line));
-    let keyword = String::from_str(alloc, step_keyword(line))?;
-    let text = String::from_str(alloc, step_text(line))?;
+    let (keyword, text) = step_parts(line);
+    let step_type = type_after(before, keyword);
+    let keyword = String::from_str(alloc, keyword)?;
+    let text = String::from_str(alloc, text)?;
     Ok(Step {
         keyword,
         step_type,
@@ -341,97 +340,168 @@ pub fn feature_of(alloc: Global, top: Top, section: Section) -> Result<Feature, 
     }
 }
 
-fn rule_heading(
+#[inline(never)]
+fn feature_heading(
     alloc: Global,
-    top: Top,
-    part: Open,
+    place: &mut Place,
     tags: Vec<String>,
     line: &Piece<'_>,
-) -> Result<Place, ReadFault>
-    ensures { Gives place_value result (Ok (spec.Inside (spec.OfRule (spec.feature_of (top_value top) (spec.section_of (open_value part))) (spec.head_from (texts tags.items) (piece_value line.now))) spec.Headed)) }
+) -> Result<(), ReadFault>
+    ensures { Gives (λ _. place_value place.new) result (Ok (spec.Inside (spec.OfFeature (spec.head_from (texts tags.items) (piece_value line.now))) spec.Headed)) }
 {
-    let feature = feature_of(alloc, top, section_of(alloc, part)?)?;
     let head = head_from(alloc, tags, line)?;
-    Ok(Place::Inside {
-        top: Top::OfRule { feature, head },
+    *place = Place::Inside {
+        top: Top::OfFeature { head },
         part: Open::Headed,
-    })
+    };
+    Ok(())
 }
 
-fn scenario_heading(
+#[inline(never)]
+#[tactic(auto, unfolding(crate::specs::Machine::on_heading))]
+fn rule_heading(
     alloc: Global,
-    part: Open,
+    place: &mut Place,
     tags: Vec<String>,
     line: &Piece<'_>,
-) -> Result<Open, ReadFault>
-    ensures { Gives open_value result (Ok (spec.Bodied (spec.OfScenario (spec.section_of (open_value part)) (words.heading_keyword (piece_value line.now)) (spec.head_from (texts tags.items) (piece_value line.now))) spec.Describing)) }
+) -> Result<(), ReadFault>
+    ensures { Gives (λ _. place_value place.new) result (spec.on_heading (place_value place.old) (texts tags.items) (piece_value line.now) RuleHeading) }
 {
-    let section = section_of(alloc, part)?;
-    let keyword = String::from_str(alloc, heading_keyword(line))?;
-    let head = head_from(alloc, tags, line)?;
-    Ok(Open::Bodied {
+    match mem::replace(place, Place::Above) {
+        Place::Above => Err(unexpected(line)),
+        Place::Inside { top, part } => {
+            let feature = feature_of(alloc, top, section_of(alloc, part)?)?;
+            let head = head_from(alloc, tags, line)?;
+            *place = Place::Inside {
+                top: Top::OfRule { feature, head },
+                part: Open::Headed,
+            };
+            Ok(())
+        }
+    }
+}
+
+// A scenario's heading after what isn't steps.
+#[inline(never)]
+fn first_scenario(
+    alloc: Global,
+    part: &mut Open,
+    keyword: String,
+    head: Head,
+) -> Result<(), ReadFault>
+    ensures { Gives (λ _. open_value part.new) result (Ok (spec.begun_scenario (spec.section_of (open_value part.old)) (string_bytes keyword) (head_value head))) }
+{
+    let section = section_of(alloc, mem::replace(part, Open::Headed))?;
+    *part = Open::Bodied {
         owner: Owner::OfScenario {
             section,
             keyword,
             head,
         },
         body: Body::Describing,
-    })
+    };
+    Ok(())
 }
 
-fn examples_heading(
+// A scenario's heading after steps.
+fn scenario_after_steps(
     alloc: Global,
-    top: Top,
-    part: Open,
+    owner: &mut Owner,
+    body: &mut Body,
+    keyword: String,
+    head: Head,
+) -> Result<(), ReadFault>
+    ensures { Gives (λ _. bodied_value owner.new body.new) result (Ok (spec.begun_scenario (section_after owner.old body.old) (string_bytes keyword) (head_value head))) }
+{
+    let steps = steps_of(alloc, mem::replace(body, Body::Describing))?;
+    match owner {
+        Owner::OfBackground { line } => {
+            let background = Some(Background { line: *line, steps });
+            let section = Section {
+                background,
+                scenarios: Vec::new(alloc),
+            };
+            *owner = Owner::OfScenario {
+                section,
+                keyword,
+                head,
+            };
+            Ok(())
+        }
+        Owner::OfScenario {
+            section,
+            keyword: before,
+            head: head_before,
+        } => {
+            let keyword = mem::replace(before, keyword);
+            let head = mem::replace(head_before, head);
+            section
+                .scenarios
+                .push(scenario_of(alloc, keyword, head, steps))?;
+            Ok(())
+        }
+    }
+}
+
+fn scenario_heading(
+    alloc: Global,
+    part: &mut Open,
     tags: Vec<String>,
     line: &Piece<'_>,
-) -> Result<Place, ReadFault>
-    ensures { Gives place_value result (spec.examples_after (spec.outline_of (open_value part)) (top_value top) (texts tags.items) (piece_value line.now)) }
+) -> Result<(), ReadFault>
+    ensures { Gives (λ _. open_value part.new) result (Ok (spec.scenario_from (spec.section_of (open_value part.old)) (texts tags.items) (piece_value line.now))) }
 {
-    match outline_of(alloc, part)? {
+    let keyword = String::from_str(alloc, heading_keyword(line))?;
+    let head = head_from(alloc, tags, line)?;
+    match part {
+        Open::Bodied { owner, body } => scenario_after_steps(alloc, owner, body, keyword, head),
+        _ => first_scenario(alloc, part, keyword, head),
+    }
+}
+
+#[inline(never)]
+fn examples_heading(
+    alloc: Global,
+    part: &mut Open,
+    tags: Vec<String>,
+    line: &Piece<'_>,
+) -> Result<(), ReadFault>
+    ensures { (top : spec.Top) → Gives (λ _. Inside top (open_value part.new)) result (examples_in (open_value part.old) top (texts tags.items) (piece_value line.now)) }
+{
+    match outline_of(alloc, mem::replace(part, Open::Headed))? {
         Some(outline) => {
             let head = head_from(alloc, tags, line)?;
-            Ok(Place::Inside {
-                top,
-                part: Open::Exampled {
-                    section: outline.section,
-                    scenario: outline.scenario,
-                    head,
-                    grid: Grid::NoRows,
-                },
-            })
+            *part = Open::Exampled {
+                section: outline.section,
+                scenario: outline.scenario,
+                head,
+                grid: Grid::NoRows,
+            };
+            Ok(())
         }
         None => Err(unexpected(line)),
     }
 }
 
 #[tactic(auto, unfolding(crate::specs::Machine::on_heading))]
-fn on_heading(
+pub fn on_heading(
     alloc: Global,
-    place: Place,
+    place: &mut Place,
     tags: Vec<String>,
     line: &Piece<'_>,
     class: Class,
-) -> Result<Place, ReadFault>
-    ensures { Gives place_value result (spec.on_heading (place_value place) (texts tags.items) (piece_value line.now) class) }
+) -> Result<(), ReadFault>
+    ensures { Gives (λ _. place_value place.new) result (spec.on_heading (place_value place.old) (texts tags.items) (piece_value line.now) class) }
 {
     match place {
         Place::Above => match class {
-            Class::FeatureHeading => Ok(Place::Inside {
-                top: Top::OfFeature {
-                    head: head_from(alloc, tags, line)?,
-                },
-                part: Open::Headed,
-            }),
+            Class::FeatureHeading => feature_heading(alloc, place, tags, line),
             _ => Err(unexpected(line)),
         },
-        Place::Inside { top, part } => match class {
-            Class::RuleHeading => rule_heading(alloc, top, part, tags, line),
-            Class::ScenarioHeading => Ok(Place::Inside {
-                top,
-                part: scenario_heading(alloc, part, tags, line)?,
-            }),
-            Class::ExamplesHeading => examples_heading(alloc, top, part, tags, line),
+        Place::Inside { part, .. } => match class {
+            Class::RuleHeading => rule_heading(alloc, place, tags, line),
+            Class::ScenarioHeading => scenario_heading(alloc, part, tags, line),
+            Class::ExamplesHeading => examples_heading(alloc, part, tags, line),
             _ => Err(unexpected(line)),
         },
     }
@@ -470,49 +540,57 @@ fn width_of(rows: &Vec<Vec<String>>) -> Option<usize>
 }
 
 #[tactic(auto, unfolding(crate::specs::Machine::on_block))]
-fn on_block(alloc: Global, block: Block, line: &Piece<'_>) -> Result<Block, ReadFault>
-    ensures { Gives block_value result (spec.on_block (block_value block) (piece_value line.now)) }
+fn on_block(alloc: Global, block: &mut Block, line: &Piece<'_>) -> Result<(), ReadFault>
+    ensures { Gives (λ _. block_value block.new) result (spec.on_block (block_value block.old) (piece_value line.now)) }
 {
     match block {
         Block::Empty => {
             let cells = on_row(alloc, None, line)?;
             let mut rows = Vec::new(alloc);
             rows.push(cells)?;
-            Ok(Block::Table(rows))
+            *block = Block::Table(rows);
+            Ok(())
         }
         Block::Table(rows) => {
-            let width = width_of(&rows);
+            let width = width_of(rows);
             let cells = on_row(alloc, width, line)?;
-            let mut rows = rows;
             rows.push(cells)?;
-            Ok(Block::Table(rows))
+            Ok(())
         }
         Block::Text(_) => Err(unexpected(line)),
     }
 }
 
 #[tactic(auto, unfolding(crate::specs::Machine::on_grid))]
-fn on_grid(alloc: Global, grid: Grid, line: &Piece<'_>, class: Class) -> Result<Grid, ReadFault>
-    ensures { Gives grid_value result (spec.on_grid (grid_value grid) (piece_value line.now) class) }
+pub fn on_grid(
+    alloc: Global,
+    grid: &mut Grid,
+    line: &Piece<'_>,
+    class: Class,
+) -> Result<(), ReadFault>
+    ensures { Gives (λ _. grid_value grid.new) result (spec.on_grid (grid_value grid.old) (piece_value line.now) class) }
 {
     match grid {
         Grid::NoRows => match class {
-            Class::RowLine => Ok(Grid::Rows {
-                header: on_row(alloc, None, line)?,
-                rows: Vec::new(alloc),
-            }),
-            Class::StepLine | Class::FenceLine(_) | Class::Other => Ok(Grid::NoRows),
+            Class::RowLine => {
+                let header = on_row(alloc, None, line)?;
+                *grid = Grid::Rows {
+                    header,
+                    rows: Vec::new(alloc),
+                };
+                Ok(())
+            }
+            Class::StepLine | Class::FenceLine(_) | Class::Other => Ok(()),
             _ => Err(unexpected(line)),
         },
         Grid::Rows { header, rows } => match class {
             Class::RowLine => {
                 let cells = on_row(alloc, Some(header.len()), line)?;
-                let mut rows = rows;
                 rows.push(Row {
                     line: line.place.line,
                     cells,
                 })?;
-                Ok(Grid::Rows { header, rows })
+                Ok(())
             }
             _ => Err(unexpected(line)),
         },
@@ -520,325 +598,68 @@ fn on_grid(alloc: Global, grid: Grid, line: &Piece<'_>, class: Class) -> Result<
 }
 
 #[tactic(auto, unfolding(crate::specs::Machine::on_body))]
-fn on_body(alloc: Global, body: Body, line: &Piece<'_>, class: Class) -> Result<Body, ReadFault>
-    ensures { Gives body_value result (spec.on_body (body_value body) (piece_value line.now) class) }
+fn on_body(alloc: Global, body: &mut Body, line: &Piece<'_>, class: Class) -> Result<(), ReadFault>
+    ensures { Gives (λ _. body_value body.new) result (spec.on_body (body_value body.old) (piece_value line.now) class) }
 {
     match body {
         Body::Describing => match class {
-            Class::StepLine => Ok(Body::Stepped {
-                steps: Vec::new(alloc),
-                step: step_from(alloc, StepType::Given, line)?,
-            }),
-            Class::RowLine | Class::FenceLine(_) | Class::Other => Ok(Body::Describing),
+            Class::StepLine => {
+                let step = step_from(alloc, StepType::Given, line)?;
+                *body = Body::Stepped {
+                    steps: Vec::new(alloc),
+                    step,
+                };
+                Ok(())
+            }
+            Class::RowLine | Class::FenceLine(_) | Class::Other => Ok(()),
             _ => Err(unexpected(line)),
         },
         Body::Stepped { steps, step } => match class {
             Class::StepLine => {
                 let next = step_from(alloc, step.step_type, line)?;
-                let mut steps = steps;
-                steps.push(step)?;
-                Ok(Body::Stepped { steps, step: next })
+                steps.push(mem::replace(step, next))?;
+                Ok(())
             }
-            Class::RowLine => {
-                let block = on_block(alloc, step.block, line)?;
-                Ok(Body::Stepped {
-                    steps,
-                    step: Step {
-                        keyword: step.keyword,
-                        step_type: step.step_type,
-                        text: step.text,
-                        block,
-                        line: step.line,
-                    },
-                })
-            }
+            Class::RowLine => on_block(alloc, &mut step.block, line),
             _ => Err(unexpected(line)),
         },
     }
 }
 
 #[tactic(auto, unfolding(crate::specs::Machine::on_open))]
-fn on_open(alloc: Global, part: Open, line: &Piece<'_>, class: Class) -> Result<Open, ReadFault>
-    ensures { Gives open_value result (spec.on_open (open_value part) (piece_value line.now) class) }
+fn on_open(alloc: Global, part: &mut Open, line: &Piece<'_>, class: Class) -> Result<(), ReadFault>
+    ensures { Gives (λ _. open_value part.new) result (spec.on_open (open_value part.old) (piece_value line.now) class) }
 {
     match part {
         Open::Headed => match class {
-            Class::BackgroundHeading => Ok(Open::Bodied {
-                owner: Owner::OfBackground {
-                    line: line.place.line,
-                },
-                body: Body::Describing,
-            }),
-            Class::StepLine | Class::RowLine | Class::FenceLine(_) | Class::Other => {
-                Ok(Open::Headed)
+            Class::BackgroundHeading => {
+                *part = Open::Bodied {
+                    owner: Owner::OfBackground {
+                        line: line.place.line,
+                    },
+                    body: Body::Describing,
+                };
+                Ok(())
             }
+            Class::StepLine | Class::RowLine | Class::FenceLine(_) | Class::Other => Ok(()),
             _ => Err(unexpected(line)),
         },
-        Open::Bodied { owner, body } => Ok(Open::Bodied {
-            owner,
-            body: on_body(alloc, body, line, class)?,
-        }),
-        Open::Exampled {
-            section,
-            scenario,
-            head,
-            grid,
-        } => Ok(Open::Exampled {
-            section,
-            scenario,
-            head,
-            grid: on_grid(alloc, grid, line, class)?,
-        }),
+        Open::Bodied { body, .. } => on_body(alloc, body, line, class),
+        Open::Exampled { grid, .. } => on_grid(alloc, grid, line, class),
     }
 }
 
 #[tactic(auto, unfolding(crate::specs::Machine::on_place))]
-fn on_place(alloc: Global, place: Place, line: &Piece<'_>, class: Class) -> Result<Place, ReadFault>
-    ensures { Gives place_value result (spec.on_place (place_value place) (piece_value line.now) class) }
+pub fn on_place(
+    alloc: Global,
+    place: &mut Place,
+    line: &Piece<'_>,
+    class: Class,
+) -> Result<(), ReadFault>
+    ensures { Gives (λ _. place_value place.new) result (spec.on_place (place_value place.old) (piece_value line.now) class) }
 {
     match place {
         Place::Above => Err(unexpected(line)),
-        Place::Inside { top, part } => Ok(Place::Inside {
-            top,
-            part: on_open(alloc, part, line, class)?,
-        }),
-    }
-}
-
-fn check_comment(place: &Place, line: &Piece<'_>) -> Result<(), ReadFault>
-    ensures { (state : spec.State) → Gives (λ _. state) result (spec.on_comment (place_value place.now) state (piece_value line.now)) }
-{
-    match place {
-        Place::Above => match language_of(line) {
-            Some(word) => {
-                if word == "en" {
-                    Ok(())
-                } else {
-                    Err(ReadFault::Language {
-                        line: line.place.line,
-                    })
-                }
-            }
-            None => Ok(()),
-        },
-        Place::Inside { .. } => Ok(()),
-    }
-}
-
-fn tag_line(
-    alloc: Global,
-    place: Place,
-    tags: Vec<String>,
-    line: &Piece<'_>,
-) -> Result<State, ReadFault>
-    ensures { Gives state_value result (spec.tag_line (tagging.tags_of (piece_value line.now)) (place_value place) (texts tags.items) (piece_value line.now)) }
-{
-    match tags_of(alloc, line)? {
-        Some(more) => {
-            let mut tags = tags;
-            let mut more = more;
-            tags.append(&mut more)?;
-            Ok(State::Tagged {
-                place,
-                tags,
-                last: line.place.line,
-            })
-        }
-        None => Err(ReadFault::BadTag {
-            line: line.place.line,
-        }),
-    }
-}
-
-#[tactic(auto, unfolding(crate::specs::Machine::on_place, crate::specs::Machine::on_open, crate::specs::Machine::on_body))]
-fn on_fence(alloc: Global, place: Place, line: &Piece<'_>, fence: Fence) -> Result<State, ReadFault>
-    ensures { Gives state_value result (spec.on_fence (spec.quote_of (place_value place)) (place_value place) (piece_value line.now) fence) }
-{
-    match place {
-        Place::Above => Err(unexpected(line)),
-        Place::Inside { top, part } => match part {
-            Open::Headed => Ok(State::At {
-                place: Place::Inside {
-                    top,
-                    part: Open::Headed,
-                },
-            }),
-            Open::Bodied { owner, body } => match body {
-                Body::Describing => Ok(State::At {
-                    place: Place::Inside {
-                        top,
-                        part: Open::Bodied {
-                            owner,
-                            body: Body::Describing,
-                        },
-                    },
-                }),
-                Body::Stepped { steps, step } => match step.block {
-                    Block::Empty => Ok(State::Quoted {
-                        quote: Quote {
-                            top,
-                            owner,
-                            steps,
-                            step: Step {
-                                keyword: step.keyword,
-                                step_type: step.step_type,
-                                text: step.text,
-                                block: Block::Empty,
-                                line: step.line,
-                            },
-                        },
-                        fence,
-                        column: line.place.column,
-                        line: line.place.line,
-                        content: None,
-                    }),
-                    _ => Err(unexpected(line)),
-                },
-            },
-            Open::Exampled {
-                section,
-                scenario,
-                head,
-                grid,
-            } => Ok(State::At {
-                place: Place::Inside {
-                    top,
-                    part: Open::Exampled {
-                        section,
-                        scenario,
-                        head,
-                        grid: on_grid(alloc, grid, line, Class::FenceLine(fence))?,
-                    },
-                },
-            }),
-        },
-    }
-}
-
-fn after_quote(alloc: Global, quote: Quote, content: Option<String>) -> Place
-    ensures { place_value result ≡ spec.after_quote (quote_value quote) (option_map string_bytes content) }
-{
-    let text = whole_text(alloc, content);
-    let step = quote.step;
-    Place::Inside {
-        top: quote.top,
-        part: Open::Bodied {
-            owner: quote.owner,
-            body: Body::Stepped {
-                steps: quote.steps,
-                step: Step {
-                    keyword: step.keyword,
-                    step_type: step.step_type,
-                    text: step.text,
-                    block: Block::Text(text),
-                    line: step.line,
-                },
-            },
-        },
-    }
-}
-
-#[tactic(auto, unfolding(crate::specs::Machine::on))]
-fn in_quote(
-    alloc: Global,
-    quote: Quote,
-    fence: Fence,
-    column: u32,
-    number: u32,
-    content: Option<String>,
-    line: &Piece<'_>,
-    class: Class,
-) -> Result<State, ReadFault>
-    ensures { Gives state_value result (spec.on (spec.Quoted (quote_value quote) fence column number (option_map string_bytes content)) (piece_value line.now) class) }
-{
-    if closes(fence, line) {
-        Ok(State::At {
-            place: after_quote(alloc, quote, content),
-        })
-    } else {
-        let text = with_line(alloc, content, fence, column, line)?;
-        Ok(State::Quoted {
-            quote,
-            fence,
-            column,
-            line: number,
-            content: Some(text),
-        })
-    }
-}
-
-#[tactic(auto, unfolding(crate::specs::Machine::on))]
-fn at(alloc: Global, place: Place, line: &Piece<'_>, class: Class) -> Result<State, ReadFault>
-    ensures { Gives state_value result (spec.on (spec.At (place_value place)) (piece_value line.now) class) }
-{
-    match class {
-        Class::Blank => Ok(State::At { place }),
-        Class::Comment => {
-            check_comment(&place, line)?;
-            Ok(State::At { place })
-        }
-        Class::TagLine => tag_line(alloc, place, Vec::new(alloc), line),
-        Class::FeatureHeading
-        | Class::RuleHeading
-        | Class::ScenarioHeading
-        | Class::ExamplesHeading => Ok(State::At {
-            place: on_heading(alloc, place, Vec::new(alloc), line, class)?,
-        }),
-        Class::FenceLine(fence) => on_fence(alloc, place, line, fence),
-        _ => Ok(State::At {
-            place: on_place(alloc, place, line, class)?,
-        }),
-    }
-}
-
-#[tactic(auto, unfolding(crate::specs::Machine::on))]
-fn after_tags(
-    alloc: Global,
-    place: Place,
-    tags: Vec<String>,
-    last: u32,
-    line: &Piece<'_>,
-    class: Class,
-) -> Result<State, ReadFault>
-    ensures { Gives state_value result (spec.on (spec.Tagged (place_value place) (texts tags.items) last) (piece_value line.now) class) }
-{
-    match class {
-        Class::Blank => Ok(State::Tagged { place, tags, last }),
-        Class::Comment => {
-            check_comment(&place, line)?;
-            Ok(State::Tagged { place, tags, last })
-        }
-        Class::TagLine => tag_line(alloc, place, tags, line),
-        _ => Ok(State::At {
-            place: on_heading(alloc, place, tags, line, class)?,
-        }),
-    }
-}
-
-#[tactic(auto, unfolding(crate::specs::Machine::step))]
-pub fn next_state(alloc: Global, state: State, line: &Piece<'_>) -> Result<State, ReadFault>
-    ensures { Gives state_value result (spec.step (state_value state) (piece_value line.now)) }
-{
-    match state {
-        State::At { place } => at(alloc, place, line, class_of_line(line)),
-        State::Tagged { place, tags, last } => {
-            after_tags(alloc, place, tags, last, line, class_of_line(line))
-        }
-        State::Quoted {
-            quote,
-            fence,
-            column,
-            line: number,
-            content,
-        } => in_quote(
-            alloc,
-            quote,
-            fence,
-            column,
-            number,
-            content,
-            line,
-            class_of_line(line),
-        ),
+        Place::Inside { part, .. } => on_open(alloc, part, line, class),
     }
 }

@@ -21,8 +21,9 @@ ghost use Rattle.gk_gherkin.specs.declared.read_fault.ReadFault.TheVariants.{Une
 
 use crate::feature::Feature;
 use crate::lines::{LIMIT, piece_from, text_of};
-use crate::machine::{Place, State, feature_of, next_state, section_of};
+use crate::machine::{Place, State, feature_of, section_of};
 use crate::read_fault::ReadFault;
+use crate::states::next_state;
 use std::alloc::Global;
 
 fn run(alloc: Global, text: &str) -> Result<State, ReadFault>
@@ -34,7 +35,7 @@ fn run(alloc: Global, text: &str) -> Result<State, ReadFault>
     };
     let mut number: u32 = 1;
     for part in text.lines() {
-        state = next_state(alloc, state, &piece_from(number, part))?;
+        next_state(alloc, &mut state, &piece_from(number, part))?;
         number += 1;
     }
     Ok(state)

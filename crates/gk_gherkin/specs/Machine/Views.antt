@@ -1,5 +1,5 @@
 -- Proof machinery: what the code's state says. No public contract cites it.
-use Rattle.std.specs.Prelude.{map, option_map}
+use Rattle.std.specs.Prelude.{◌≡◌, ℕ, List, Option, Some, None, Result, Ok, Err, String, map, option_map}
 use Rattle.std.specs.String.{string_bytes}
 use Rattle.gk_gherkin.specs.declared.machine.Head.{Head}
 use Rattle.gk_gherkin.specs.declared.machine.Section.{Section}
@@ -74,3 +74,20 @@ abbrev pub state_value : State → spec.State
 state_value (states.At place) = spec.At (place_value place)
 state_value (states.Tagged place tags last) = spec.Tagged (place_value place) (texts tags.items) last
 state_value (states.Quoted quote fence column line content) = spec.Quoted (quote_value quote) fence column line (option_map string_bytes content)
+
+-- The step at a place that a doc string may stand under, with what is before it; or the place as it is. (proof machinery)
+abbrev pub IsQuote : spec.Place → Result Quote Place → Type 0
+IsQuote place (Ok quote) = spec.quote_of place ≡ Some (quote_value quote)
+IsQuote place (Err other) = (spec.quote_of place ≡ None) × (place_value other ≡ place)
+
+-- What an owner and its body say together. (proof machinery)
+abbrev pub bodied_value : Owner → Body → spec.Open
+bodied_value owner body = spec.Bodied (owner_value owner) (body_value body)
+
+-- What is finished when an owner's body is. (proof machinery)
+abbrev pub section_after : Owner → Body → spec.SectionValue
+section_after owner body = spec.owner_section (owner_value owner) (spec.steps_of (body_value body))
+
+-- What the text of a doc string says so far. (proof machinery)
+abbrev pub content_value : {Z : Type 0} → Option (String Z) → Option (List ℕ)
+content_value content = option_map string_bytes content

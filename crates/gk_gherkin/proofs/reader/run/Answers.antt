@@ -10,23 +10,23 @@ use Rattle.gk_gherkin.specs.Machine as spec
 use Rattle.gk_gherkin.proofs.ReaderLoop.{goes_on, ends, is_done}
 use Rattle.gk_gherkin.proofs.reader.run.Goals as goal
 
-pub returns-in_err-state : goal.returns-in_err-state
-returns-in_err-state c =
+pub returns-in_err-next_state : goal.returns-in_err-next_state
+returns-in_err-next_state c =
     let p = err_from_is_err_and c.from_residual.result c.from_residual.ensures.1 in
     let all = lines c.args.text.now in
     let turn = YieldsList-turn (YieldsList-from_lines c.args.text.now cc) c.loop-part.yielded _ c.loop-part.yielded_by _ _ _ c.in-Some.is c.next.ensures.steps in
-    let fails = subst (λ l. spec.Fails c.in_err-state.field-0.0 (spec.step (state_value c.loop-part.state) l)) c.piece_from.ensures c.in_err-state.ensures in
-    rw (p.1, p.2) (ends (state_value c.loop-part.state) all (length c.loop-part.yielded) c.loop-part.number c.in-Some.part.now (spec.run (spec.At spec.Above) (numbered_from 1 all)) turn.0 turn.1 c.in_err-state.field-0.0 fails c.loop-part.invariant.so_far)
+    let fails = subst (λ l. spec.Fails c.in_err-next_state.field-0.0 (spec.step (state_value c.loop-part.state) l)) c.piece_from.ensures c.in_err-next_state.ensures in
+    rw (p.1, p.2) (ends (state_value c.loop-part.state) all (length c.loop-part.yielded) c.loop-part.number c.in-Some.part.now (spec.run (spec.At spec.Above) (numbered_from 1 all)) turn.0 turn.1 c.in_err-next_state.field-0.0 fails c.loop-part.invariant.so_far)
 
 pub loop-part-preserved : goal.loop-part-preserved
 loop-part-preserved c =
     let all = lines c.args.text.now in
     let turn = YieldsList-turn (YieldsList-from_lines c.args.text.now cc) c.loop-part.yielded _ c.loop-part.yielded_by _ _ _ c.in-Some.is c.next.ensures.steps in
-    let taken = ap (spec.step (state_value c.loop-part.state)) (sym c.piece_from.ensures) ∙ c.in_ok-state.ensures in
-    let goes = goes_on (state_value c.loop-part.state) all (length c.loop-part.yielded) c.loop-part.number c.in-Some.part.now (spec.run (spec.At spec.Above) (numbered_from 1 all)) turn.0 turn.1 (state_value c.in_ok-state.state) taken c.loop-part.invariant.so_far in
+    let taken = ap (spec.step (state_value c.loop-part.state)) (sym c.piece_from.ensures) ∙ c.in_ok-next_state.ensures in
+    let goes = goes_on (state_value c.loop-part.state) all (length c.loop-part.yielded) c.loop-part.number c.in-Some.part.now (spec.run (spec.At spec.Above) (numbered_from 1 all)) turn.0 turn.1 (state_value c.next_state.new.state) taken c.loop-part.invariant.so_far in
     let longer = length_push c.loop-part.yielded c.in-Some.part in
     record {
-      so_far = subst (λ (i : ℕ). spec.run (state_value c.in_ok-state.state) (numbered_from (c.loop-part.number + 1) (drop i all)) ≡ spec.run (spec.At spec.Above) (numbered_from 1 all)) (sym longer) goes;
+      so_far = subst (λ (i : ℕ). spec.run (state_value c.next_state.new.state) (numbered_from (c.loop-part.number + 1) (drop i all)) ≡ spec.run (spec.At spec.Above) (numbered_from 1 all)) (sym longer) goes;
       counted = omega (arith, longer);
     }
 

@@ -1,6 +1,5 @@
-use Rattle.std.proofs.Common.{◌≡◌, ◌≢◌, ◌∷◌, ◌∙◌, ℕ, List, ap, sym, Ok, arith}
+use Rattle.std.proofs.Common.{◌∙◌, ap, sym, Ok, arith}
 use Rattle.std.proofs.lemmas.Str.Pattern.{strip_prefix_char}
-use Rattle.gk_gherkin.specs.Rows.{cells_of}
 use Rattle.gk_gherkin.specs.Lines.{piece_value}
 use Rattle.gk_gherkin.proofs.RowParts.{row_cells, no_row}
 use Rattle.gk_gherkin.proofs.rows.cells_of.Goals as goal

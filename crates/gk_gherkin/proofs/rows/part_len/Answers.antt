@@ -1,4 +1,4 @@
-use Rattle.std.proofs.Common.{◌≡◌, ◌≢◌, ℕ, ◌+◌, ◌==◌, Bool, true, false, List, length, take, drop, get_or, refl, subst, sym, ◌∙◌, arith}
+use Rattle.std.proofs.Common.{◌≡◌, ◌≢◌, ℕ, ◌+◌, ◌==◌, Bool, true, false, length, take, drop, get_or, refl, subst, sym, arith}
 use Rattle.std.proofs.lemmas.Bool.Decides.{nat_tests}
 use Rattle.gk_gherkin.specs.Rows.{parts_of, parts_after}
 use Rattle.gk_gherkin.proofs.RowParts.{into_all, parts_in, next_byte, escaped_byte, other_byte, at_bar, at_end}

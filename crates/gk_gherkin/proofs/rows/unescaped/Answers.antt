@@ -1,4 +1,4 @@
-use Rattle.std.proofs.Common.{rules, ◌≡◌, ◌++◌, ◌∷◌, ◌∙◌, ℕ, List, ap, sym, Ok, arith}
+use Rattle.std.proofs.Common.{rules, ◌≡◌, ◌++◌, ◌∙◌, ℕ, List, ap, sym, Ok}
 use Rattle.std.specs.String.{string_bytes}
 use Rattle.gk_gherkin.specs.Rows.{unescaped}
 use Rattle.gk_gherkin.proofs.RowParts.{to_escape, no_escape_left}

@@ -1,4 +1,4 @@
-use Rattle.std.proofs.Common.{rules, ◌≡◌, ◌≤◌, ◌<◌, ◌-◌, ◌∙◌, ◌++◌, ◌∷◌, [], ◌+◌, ℕ, List, length, take, drop, ap, sym, Ok, arith}
+use Rattle.std.proofs.Common.{rules, ◌≡◌, ◌≤◌, ◌<◌, ◌-◌, ◌∙◌, ◌++◌, ◌∷◌, [], ℕ, List, length, take, drop, ap, sym, Ok, arith}
 use Rattle.std.specs.List.{position_or_len, prefix_len}
 use Rattle.std.specs.String.{string_bytes}
 use Rattle.gk_gherkin.specs.Lines.{is_blank, trim_front, piece_value}

@@ -1,0 +1,268 @@
+//! How a line goes on from a state: in place, but for tags, fences and lines after tags.
+ghost use Rattle.std.specs.Prelude.{Option, option_map, Ok, ◌≡◌};
+ghost use Rattle.gk_gherkin.specs.Lines.{piece_value};
+ghost use Rattle.gk_gherkin.specs.Feature.{texts};
+ghost use Rattle.std.specs.String.{string_bytes};
+ghost use Rattle.gk_gherkin.specs.Machine as spec;
+ghost use Rattle.gk_gherkin.specs.Machine.{Gives};
+ghost use Rattle.gk_gherkin.specs.Machine.Views.{top_value, body_value, owner_value, place_value, quote_value, state_value, content_value, IsQuote};
+ghost use Rattle.gk_gherkin.specs.Tags as tagging;
+ghost use Rattle.gk_gherkin.specs.DocStrings as quoting;
+ghost use Rattle.std.specs.Str.Lines.{lines};
+ghost use Rattle.gk_gherkin.specs.declared.class.Class.TheVariants.{RuleHeading};
+
+use crate::class::{Class, Fence, class_of_line};
+use crate::doc_strings::{closes, whole_text, with_line};
+use crate::feature::{Block, Step};
+use crate::language::language_of;
+use crate::lines::Piece;
+use crate::machine::{Body, Open, Owner, Place, Quote, State, Top, on_heading, on_place};
+use crate::read_fault::ReadFault;
+use crate::tags::tags_of;
+use std::alloc::Global;
+use std::mem;
+
+fn check_comment(place: &Place, line: &Piece<'_>) -> Result<(), ReadFault>
+    ensures { (state : spec.State) → Gives (λ _. state) result (spec.on_comment (place_value place.now) state (piece_value line.now)) }
+{
+    match place {
+        Place::Above => match language_of(line) {
+            Some(word) => {
+                if word == "en" {
+                    Ok(())
+                } else {
+                    Err(ReadFault::Language {
+                        line: line.place.line,
+                    })
+                }
+            }
+            None => Ok(()),
+        },
+        Place::Inside { .. } => Ok(()),
+    }
+}
+
+fn tag_line(
+    alloc: Global,
+    place: Place,
+    tags: Vec<String>,
+    line: &Piece<'_>,
+) -> Result<State, ReadFault>
+    ensures { Gives state_value result (spec.tag_line (tagging.tags_of (piece_value line.now)) (place_value place) (texts tags.items) (piece_value line.now)) }
+{
+    match tags_of(alloc, line)? {
+        Some(more) => {
+            let mut tags = tags;
+            let mut more = more;
+            tags.append(&mut more)?;
+            Ok(State::Tagged {
+                place,
+                tags,
+                last: line.place.line,
+            })
+        }
+        None => Err(ReadFault::BadTag {
+            line: line.place.line,
+        }),
+    }
+}
+
+// The step of a body that a doc string may stand under, with what is before it; or the place as it is.
+fn quote_in(top: Top, owner: Owner, body: Body) -> Result<Quote, Place>
+    ensures { IsQuote (spec.Inside (top_value top) (spec.Bodied (owner_value owner) (body_value body))) result }
+{
+    match body {
+        Body::Describing => Err(Place::Inside {
+            top,
+            part: Open::Bodied { owner, body },
+        }),
+        Body::Stepped { steps, step } => {
+            if let Block::Empty = &step.block {
+                Ok(Quote {
+                    top,
+                    owner,
+                    steps,
+                    step,
+                })
+            } else {
+                let body = Body::Stepped { steps, step };
+                Err(Place::Inside {
+                    top,
+                    part: Open::Bodied { owner, body },
+                })
+            }
+        }
+    }
+}
+
+// The same at a place.
+fn quote_of(place: Place) -> Result<Quote, Place>
+    ensures { IsQuote (place_value place) result }
+{
+    match place {
+        Place::Above => Err(Place::Above),
+        Place::Inside { top, part } => match part {
+            Open::Bodied { owner, body } => quote_in(top, owner, body),
+            _ => Err(Place::Inside { top, part }),
+        },
+    }
+}
+
+#[tactic(auto, unfolding(crate::specs::Machine::on_fence))]
+fn on_fence(alloc: Global, place: Place, line: &Piece<'_>, fence: Fence) -> Result<State, ReadFault>
+    ensures { Gives state_value result (spec.on_fence (spec.quote_of (place_value place)) (place_value place) (piece_value line.now) fence) }
+{
+    match quote_of(place) {
+        Ok(quote) => Ok(State::Quoted {
+            quote,
+            fence,
+            column: line.place.column,
+            line: line.place.line,
+            content: None,
+        }),
+        Err(other) => {
+            let mut place = other;
+            on_place(alloc, &mut place, line, Class::FenceLine(fence))?;
+            Ok(State::At { place })
+        }
+    }
+}
+
+fn after_quote(alloc: Global, quote: Quote, content: Option<String>) -> Place
+    ensures { place_value result ≡ spec.after_quote (quote_value quote) (option_map string_bytes content) }
+{
+    let text = whole_text(alloc, content);
+    let step = quote.step;
+    Place::Inside {
+        top: quote.top,
+        part: Open::Bodied {
+            owner: quote.owner,
+            body: Body::Stepped {
+                steps: quote.steps,
+                step: Step {
+                    keyword: step.keyword,
+                    step_type: step.step_type,
+                    text: step.text,
+                    block: Block::Text(text),
+                    line: step.line,
+                },
+            },
+        },
+    }
+}
+
+fn add_line(
+    alloc: Global,
+    content: &mut Option<String>,
+    fence: Fence,
+    column: u32,
+    line: &Piece<'_>,
+) -> Result<(), ReadFault>
+    ensures { Gives (λ _. content_value content.new) result (Ok (spec.text_after (content_value content.old) fence column (piece_value line.now))) }
+{
+    let before = mem::replace(content, None);
+    *content = Some(with_line(alloc, before, fence, column, line)?);
+    Ok(())
+}
+
+#[tactic(auto, unfolding(crate::specs::Machine::on))]
+fn after_tags(
+    alloc: Global,
+    place: Place,
+    tags: Vec<String>,
+    last: u32,
+    line: &Piece<'_>,
+    class: Class,
+) -> Result<State, ReadFault>
+    ensures { Gives state_value result (spec.on (spec.Tagged (place_value place) (texts tags.items) last) (piece_value line.now) class) }
+{
+    let mut place = place;
+    match class {
+        Class::Blank => Ok(State::Tagged { place, tags, last }),
+        Class::Comment => {
+            check_comment(&place, line)?;
+            Ok(State::Tagged { place, tags, last })
+        }
+        Class::TagLine => tag_line(alloc, place, tags, line),
+        _ => {
+            on_heading(alloc, &mut place, tags, line, class)?;
+            Ok(State::At { place })
+        }
+    }
+}
+
+// A state in the place of another, which is dropped.
+fn put(state: &mut State, next: State)
+    ensures { state.new ≡ next }
+{
+    *state = next;
+}
+
+// Tags or a fence at a place.
+#[tactic(auto, unfolding(crate::specs::Machine::on))]
+fn tags_or_fence(
+    alloc: Global,
+    place: Place,
+    line: &Piece<'_>,
+    class: Class,
+) -> Result<State, ReadFault>
+    requires { spec.Changes (spec.At (place_value place)) (piece_value line.now) class }
+    ensures { Gives state_value result (spec.on (spec.At (place_value place)) (piece_value line.now) class) }
+{
+    match class {
+        Class::TagLine => tag_line(alloc, place, Vec::new(alloc), line),
+        Class::FenceLine(fence) => on_fence(alloc, place, line, fence),
+        _ => Ok(State::At { place }),
+    }
+}
+
+// A line after which it is another of the three states, or after tags.
+#[inline(never)]
+#[tactic(auto, unfolding(crate::specs::Machine::on))]
+fn change(alloc: Global, state: &mut State, line: &Piece<'_>, class: Class) -> Result<(), ReadFault>
+    requires { spec.Changes (state_value state.old) (piece_value line.now) class }
+    ensures { Gives (λ _. state_value state.new) result (spec.on (state_value state.old) (piece_value line.now) class) }
+{
+    let place = Place::Above;
+    let next = match mem::replace(state, State::At { place }) {
+        State::At { place } => tags_or_fence(alloc, place, line, class)?,
+        State::Tagged { place, tags, last } => after_tags(alloc, place, tags, last, line, class)?,
+        State::Quoted { quote, content, .. } => State::At {
+            place: after_quote(alloc, quote, content),
+        },
+    };
+    put(state, next);
+    Ok(())
+}
+
+#[tactic(auto, unfolding(crate::specs::Machine::step, crate::specs::Machine::on))]
+pub fn next_state(alloc: Global, state: &mut State, line: &Piece<'_>) -> Result<(), ReadFault>
+    ensures { Gives (λ _. state_value state.new) result (spec.step (state_value state.old) (piece_value line.now)) }
+{
+    let class = class_of_line(line);
+    match state {
+        State::At { place } => match class {
+            Class::Blank => Ok(()),
+            Class::Comment => check_comment(place, line),
+            Class::FeatureHeading
+            | Class::RuleHeading
+            | Class::ScenarioHeading
+            | Class::ExamplesHeading => on_heading(alloc, place, Vec::new(alloc), line, class),
+            Class::TagLine | Class::FenceLine(_) => change(alloc, state, line, class),
+            _ => on_place(alloc, place, line, class),
+        },
+        State::Tagged { .. } => change(alloc, state, line, class),
+        State::Quoted {
+            fence,
+            column,
+            content,
+            ..
+        } => {
+            if closes(*fence, line) {
+                change(alloc, state, line, class)
+            } else {
+                add_line(alloc, content, *fence, *column, line)
+            }
+        }
+    }
+}
