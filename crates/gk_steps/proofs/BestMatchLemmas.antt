@@ -19,11 +19,11 @@ use Rattle.gk_steps.specs.Matching.{IsSpan, woven, Matches, MatchesNot, IsPrefer
 use Rattle.gk_steps.proofs.MatchingLemmas.{same_prefix, same_back}
 
 -- tests
-and_left : (a b : Bool) → (a && b) ≡ true → a ≡ true
+pub and_left : (a b : Bool) → (a && b) ≡ true → a ≡ true
 and_left true b e = refl
 and_left false b e = let bad : ⊥ = cc in absurd bad
 
-and_right : (a b : Bool) → (a && b) ≡ true → b ≡ true
+pub and_right : (a b : Bool) → (a && b) ≡ true → b ≡ true
 and_right true b e = e
 and_right false b e = let bad : ⊥ = cc in absurd bad
 
@@ -85,13 +85,13 @@ as_result ps text None h = h
 as_result ps text (Some spans) h = (spans, h, refl)
 
 -- a text that begins with a literal is the literal and the rest
-begins_so : (text word : List ℕ) → starts_with nat_eq text word ≡ true → text ≡ word ++ drop (length word) text
+pub begins_so : (text word : List ℕ) → starts_with nat_eq text word ≡ true → text ≡ word ++ drop (length word) text
 begins_so text word h = sym (take-append-drop (length word) text) ∙ ap (λ prefix. prefix ++ drop (length word) text) (sym ((bytes_eq-Decides word (take (length word) text)).0 h))
 
-begins_with_itself : (word rest : List ℕ) → starts_with nat_eq (word ++ rest) word ≡ true
+pub begins_with_itself : (word rest : List ℕ) → starts_with nat_eq (word ++ rest) word ≡ true
 begins_with_itself word rest = (bytes_eq-Decides word (take (length word) (word ++ rest))).1 (sym (take-append_seam word rest))
 
-after_literal : (literal : List ℕ) (ps : List PieceValue) (text rest : List ℕ) (o : Option (List (List ℕ))) → text ≡ literal ++ rest → IsBestResult ps rest o → IsBestResult (Literal literal ∷ ps) text o
+pub after_literal : (literal : List ℕ) (ps : List PieceValue) (text rest : List ℕ) (o : Option (List (List ℕ))) → text ≡ literal ++ rest → IsBestResult ps rest o → IsBestResult (Literal literal ∷ ps) text o
 after_literal literal ps text rest None e h = λ spans m. h spans (record { spans_fit = m.spans_fit; whole = same_back literal literal rest (woven ps spans) (sym e ∙ m.whole) refl })
 after_literal literal ps text rest (Some found) e h = record {
   matches = record { spans_fit = h.matches.spans_fit; whole = e ∙ ap (λ r. literal ++ r) h.matches.whole };

@@ -15,3 +15,5 @@ mod DefaultFileLemmas
 mod WorkedPatterns
 mod DigitLemmas
 mod NumberLemmas
+mod LeftmostLemmas
+mod TypedLemmas

@@ -1,7 +1,7 @@
 -- The ends of a text that a pattern matches.
 use Rattle.std.proofs.Common.{◌≡◌, ℕ, zero, suc, ◌-◌, Bool, true, false, List, [], ◌∷◌, ◌++◌, length, take, drop, map, nat_eq, Option, Some, ap, sym, subst, ◌∙◌, arith, length-append, append_assoc}
 use Rattle.std.specs.Prelude.{slice_get, MatchBool}
-use Rattle.std.specs.List.{ends_with}
+use Rattle.std.specs.List.{starts_with, ends_with}
 use Rattle.std.proofs.Math.Seq.{drop-append_seam}
 use Rattle.std.proofs.lemmas.List.{take-append-drop, append-nil}
 use Rattle.std.proofs.lemmas.Slice.Eq.{bytes_eq-Decides}
@@ -10,6 +10,7 @@ use Rattle.gk_steps.specs.Pattern.{PieceValue, Literal, FieldPiece, piece_value}
 use Rattle.gk_steps.specs.Matching.{Matches, MatchesNot}
 use Rattle.gk_steps.specs.PassingOver.{EndsWithPiece, FitsEnd}
 use Rattle.gk_steps.proofs.MatchingLemmas.{split}
+use Rattle.gk_steps.proofs.BestMatchLemmas.{begins_so, begins_with_itself}
 
 ends_so : (text back : List ℕ) → ends_with nat_eq text back ≡ true → (prefix : List ℕ) × (text ≡ prefix ++ back)
 ends_so text back h =
@@ -24,6 +25,10 @@ ends_itself prefix back =
 pub ends_match : (b : Bool) (text back : List ℕ) → b ≡ ends_with nat_eq text back → MatchBool b ((prefix : List ℕ) × (text ≡ prefix ++ back)) ((prefix : List ℕ) → text ≡ prefix ++ back → ⊥)
 ends_match true text back e = ends_so text back (sym e)
 ends_match false text back e = λ prefix is. let other : false ≡ true = e ∙ ap (λ t. ends_with nat_eq t back) is ∙ ends_itself prefix back in let bad : ⊥ = cc in bad
+
+pub begins_match : (b : Bool) (text front : List ℕ) → b ≡ starts_with nat_eq text front → MatchBool b ((rest : List ℕ) × (text ≡ front ++ rest)) ((rest : List ℕ) → text ≡ front ++ rest → ⊥)
+begins_match true text front e = (drop (length front) text, begins_so text front (sym e))
+begins_match false text front e = λ rest is. let other : false ≡ true = e ∙ ap (λ t. starts_with nat_eq t front) is ∙ begins_with_itself front rest in let bad : ⊥ = cc in bad
 
 pub match_true : (b : Bool) (A B : Type 0) → MatchBool b A B → b ≡ true → A
 match_true true A B h e = h

@@ -50,6 +50,10 @@ pub record IsStepTo (piece : PieceValue) (text : List ℕ) (places : List ℕ) (
   pub rest : slice_index_or below d false ≡ true
   pub takes : Takes piece (part text places c d)
 
+-- The same over a number.
+abbrev pub IsNumberStepTo : List ℕ → List ℕ → List Bool → ℕ → ℕ → Type 0
+IsNumberStepTo text places below c d = IsStepTo (FieldPiece [] Decimal) text places below c d
+
 -- A step that is not after another: a plain field takes as little as it can, the other kind as much as it can.
 abbrev pub IsNotAfter : PieceValue → ℕ → ℕ → Type 0
 IsNotAfter (Literal literal) d e = Unit {0}
@@ -80,6 +84,10 @@ IsLongestTo low piece text places below c (Some d) = IsStepTo piece text places 
 pub record IsPlainRow (size : ℕ) (below : List Bool) (row : List Bool) : Type 0 where
   pub size_is : length row ≡ size
   pub cells : (c : ℕ) → c < size → IsAnyBefore below c (slice_index_or row c false)
+
+-- This is the row with one piece more in front, whatever the pieces of the row below are.
+abbrev pub IsRowOver : PieceValue → List ℕ → List ℕ → List Bool → List Bool → Type 0
+IsRowOver piece text places below row = (ps : List PieceValue) → IsRow ps text places below → IsRow (piece ∷ ps) text places row
 
 -- The rows for the last pieces of a pattern, from none on.
 pub record IsTable (size : ℕ) (ps : List PieceValue) (text : List ℕ) (places : List ℕ) (rows : List (Vec Bool Global)) : Type 0 where

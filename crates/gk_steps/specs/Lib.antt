@@ -9,5 +9,7 @@ pub mod LibraryFault
 pub mod DefaultFile
 pub mod Spelling
 pub mod LibraryLine
+pub mod Typed
 pub mod Columns
+pub mod Leftmost
 pub mod Digits

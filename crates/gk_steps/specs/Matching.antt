@@ -1,6 +1,7 @@
 -- Which texts a pattern matches, and how.
-use Rattle.std.specs.Prelude.{◌≡◌, ◌<◌, ◌⊎◌, ◌&&◌, nat_lt, nat_eq, ℕ, ℤ, pos, negsuc, Bool, true, false, List, [], ◌∷◌, ◌++◌, length, drop, string_bytes, IsUtf8, FitsSigned, Option, Some, None, option_map}
+use Rattle.std.specs.Prelude.{◌≡◌, ◌<◌, ◌⊎◌, ◌&&◌, nat_lt, nat_eq, ℕ, ℤ, pos, negsuc, Bool, true, false, List, [], ◌∷◌, ◌++◌, length, drop, map, string_bytes, Vec, IsUtf8, FitsSigned, Option, Some, None, option_map}
 use Rattle.std.specs.List.{list_all, starts_with}
+use Rattle.std.specs.declared.alloc.Global.{Global}
 use Rattle.std.specs.Char.{is_digit}
 use Rattle.std.specs.Str.{is_utf8}
 use Rattle.std.specs.Int.{w64}
@@ -65,6 +66,10 @@ pub data FieldValue : Type 0 where
 abbrev pub field_value : Field → FieldValue
 field_value (fields.Text text) = TextField (string_bytes text)
 field_value (fields.Number n) = NumberField n
+
+-- What fields say, where there are any.
+abbrev pub fields_said : Option (Vec Field Global) → Option (List FieldValue)
+fields_said found = option_map (λ (fields : Vec Field Global). map field_value fields.items) found
 
 -- What the span of a field says.
 abbrev pub span_value : FieldKind → List ℕ → FieldValue

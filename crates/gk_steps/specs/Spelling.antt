@@ -1,6 +1,6 @@
 -- Proof machinery: reading a pattern from its text, piece by piece.
 use Rattle.std.specs.Prelude.{codes, ◌≡◌, ℕ, Bool, true, false, not, nat_lt, is_some, ◌==◌, ◌||◌, ◌&&◌, IsTrue, List, [], ◌∷◌, ◌++◌, length, flat_map, map, Result, Ok, Err, Vec}
-use Rattle.std.specs.List.{AllByRecursion}
+use Rattle.std.specs.List.{AllByRecursion, list_all}
 use Rattle.std.specs.declared.alloc.Global.{Global}
 use Rattle.gk_steps.specs.declared.pattern.FieldKind.{FieldKind}
 use Rattle.gk_steps.specs.declared.pattern.FieldKind.TheVariants.{Plain, Decimal}
@@ -28,6 +28,10 @@ EndsLiteral (b ∷ c ∷ bs) = (is_brace b ≡ true) × (c ≡ b → ⊥)
 abbrev pub EndsName : List ℕ → Type 0
 EndsName [] = Unit {0}
 EndsName (b ∷ bs) = is_name_byte b ≡ false
+
+-- There is no other name that a text begins with and that ends there.
+abbrev pub IsOnlyName : List ℕ → List ℕ → List ℕ → Type 0
+IsOnlyName text name rest = (other after : List ℕ) → list_all is_name_byte other ≡ true → EndsName after → text ≡ other ++ after → (name ≡ other) × (rest ≡ after)
 
 -- What stands after the name of a field of this kind.
 abbrev pub field_tail : FieldKind → List ℕ
@@ -71,6 +75,10 @@ pub record AddsField (text : List ℕ) (before : List PieceValue) (after : List 
   pub kind : FieldKind
   pub has : HasField text name kind rest
   pub added : after ≡ before ++ FieldPiece name kind ∷ []
+
+-- The same of what pieces say.
+abbrev pub PushesField : List ℕ → List Piece → List Piece → List ℕ → Type 0
+PushesField text before after rest = AddsField text (map piece_value before) (map piece_value after) rest
 
 -- Pieces of which the first, where there is one, is a field.
 abbrev pub BeginWithField : List PieceValue → Type 0

@@ -4,7 +4,7 @@ ghost use Rattle.std.specs.Str.Parse.{signed_digits_value};
 ghost use Rattle.gk_steps.specs.declared.pattern.FieldKind.TheVariants.{Decimal};
 ghost use Rattle.gk_steps.specs.Pattern.{Literal, FieldPiece, piece_value};
 ghost use Rattle.gk_steps.specs.Matching.{IsSpan};
-ghost use Rattle.gk_steps.specs.Columns.{ArePlaces, IsStep, IsStepTo, IsNearest};
+ghost use Rattle.gk_steps.specs.Columns.{ArePlaces, IsStep, IsNumberStepTo, IsNearest};
 
 use crate::pattern::{FieldKind, Piece};
 
@@ -73,7 +73,7 @@ fn is_decimal_step(text: &str, places: &[usize], below: &[bool], column: usize, 
     requires column { column < length places.now }
     requires next { next < column }
     requires width { length below.now ≡ length places.now }
-    ensures { MatchBool result (IsStepTo (FieldPiece [] Decimal) text.now places.now below.now column next) (IsStepTo (FieldPiece [] Decimal) text.now places.now below.now column next → ⊥) }
+    ensures { MatchBool result (IsNumberStepTo text.now places.now below.now column next) (IsNumberStepTo text.now places.now below.now column next → ⊥) }
 {
     below[next] && number_of(&text[places[column]..places[next]]).is_some()
 }

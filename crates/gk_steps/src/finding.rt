@@ -85,7 +85,8 @@ impl Library {
     ) -> Result<Option<Found>, AllocError>
         ensures { IfOk result (λ found. option_map found_value found ≡ spec.found (library_value self.now) step_type text.now) }
     {
-        if let Some(found) = find_of(alloc, &self.entries, Some(step_type), text)? {
+        let typed = &self.entries[..self.typed];
+        if let Some(found) = find_of(alloc, typed, Some(step_type), text)? {
             return Ok(Some(found));
         }
         find_of(alloc, &self.entries, None, text)

@@ -7,6 +7,7 @@ mod columns;
 mod default_file;
 mod digits;
 mod finding;
+mod leftmost;
 mod library;
 mod library_fault;
 mod library_file;

@@ -1,4 +1,6 @@
 //! Step libraries.
+ghost use Rattle.std.specs.Prelude.{◌≡◌, ◌≤◌, length, IsTrue};
+ghost use Rattle.gk_steps.specs.Typed.{are_for_each_from};
 
 use crate::action::Action;
 use crate::pattern::Pattern;
@@ -17,4 +19,30 @@ pub struct Entry {
 #[derive(Debug, Drop)]
 pub struct Library {
     pub entries: Vec<Entry>,
+    // How many entries there are up to the last for steps of one type.
+    pub typed: usize,
+    ghost within: { typed ≤ length entries.items },
+    ghost rest: { IsTrue (are_for_each_from typed entries.items) },
+}
+
+// How many entries there are up to the last for steps of one type.
+fn typed_len(entries: &[Entry]) -> usize
+    ensures within { result ≤ length entries.now }
+    ensures rest { IsTrue (are_for_each_from result entries.now) }
+{
+    let mut typed = entries.len();
+    while typed > 0 && entries[typed - 1].step_type.is_none() {
+        typed -= 1;
+    }
+    typed
+}
+
+impl Library {
+    /// The library of these entries.
+    pub fn new(entries: Vec<Entry>) -> Library
+        ensures { result.entries ≡ entries }
+    {
+        let typed = typed_len(&entries);
+        Library { entries, typed }
+    }
 }

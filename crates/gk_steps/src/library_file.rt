@@ -86,7 +86,7 @@ pub fn read_library(alloc: Global, bytes: &[u8]) -> Result<Library, LibraryFault
 {
     match read_lines(alloc, bytes) {
         Ok(document) => match read_entries(alloc, &document.lines) {
-            Ok(entries) => Ok(Library { entries }),
+            Ok(entries) => Ok(Library::new(entries)),
             Err(fault) => Err(fault),
         },
         Err(fault) => Err(lines_fault(fault)),

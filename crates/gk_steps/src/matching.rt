@@ -1,11 +1,13 @@
 //! A match by a table.
-ghost use Rattle.std.specs.Prelude.{◌≡◌, ◌<◌, ◌≤◌, ◌+◌, ◌*◌, ◌++◌, ℕ, List, length, map, string_bytes, IfOk, OnOk, IsTrue, option_map};
+ghost use Rattle.std.specs.Prelude.{◌≡◌, ◌<◌, ◌≤◌, ◌+◌, ◌*◌, ◌++◌, ℕ, List, length, map, string_bytes, IfOk, OnOk, IsTrue, option_map, Some};
 ghost use Rattle.std.specs.Str.{chars};
-ghost use Rattle.gk_steps.specs.Pattern.{piece_value, pattern_value};
-ghost use Rattle.gk_steps.specs.Matching.{IsSpan, Matches, IsMatchResult, IsBestMatch, MatchesAreDetermined, field_value, span_value, span_values};
+ghost use Rattle.gk_steps.specs.Pattern.{PieceValue, piece_value, pattern_value};
+ghost use Rattle.gk_steps.specs.Matching.{IsSpan, Matches, IsMatchResult, IsBestMatch, MatchesAreDetermined, field_value, fields_said, span_value, span_values};
 ghost use Rattle.gk_steps.specs.Columns.{ArePlaces, IsTable, Takes, values_of};
+ghost use Rattle.gk_steps.specs.Leftmost.{FindsRest};
 
 use crate::columns::{number_of, step};
+use crate::leftmost::{Cut, cut_of};
 use crate::pattern::{Field, FieldKind, Pattern, Piece};
 use crate::places::places_of;
 use crate::table_rows::{Counter, first_row, row_over};
@@ -85,7 +87,7 @@ fn read(
     requires places { ArePlaces text.now places.now }
     requires table { IsTable (length pieces.now + 1) (map piece_value pieces.now) text.now places.now rows.now }
     requires matched { (spans : List (List ℕ)) × Matches (map piece_value pieces.now) text.now spans }
-    ensures { IfOk result (λ fields. (spans : List (List ℕ)) × IsBestMatch (map piece_value pieces.now) text.now spans × (map field_value fields.items ≡ span_values (map piece_value pieces.now) spans)) }
+    ensures { IfOk result (λ fields. IsMatchResult (map piece_value pieces.now) text.now (Some (map field_value fields.items))) }
 {
     let mut fields = Vec::new(alloc);
     let mut column = places.len() - 1;
@@ -138,17 +140,67 @@ impl Pattern {
     }
 }
 
+// The match of the pieces that are left by a table, after the fields so far.
+fn match_rest(
+    alloc: Global,
+    fields: Vec<Field>,
+    left: &[Piece],
+    rest: &str,
+) -> Result<Option<Vec<Field>>, AllocError>
+    ensures { IfOk result (λ found. FindsRest (map field_value fields.items) (map piece_value left.now) rest.now (fields_said found)) }
+{
+    let places = places_of(alloc, rest)?;
+    match match_pieces(alloc, left, rest, &places)? {
+        (Some(others), _) => {
+            let mut fields = fields;
+            let mut others = others;
+            fields.append(&mut others)?;
+            Ok(Some(fields))
+        }
+        (None, _) => Ok(None),
+    }
+}
+
+// A match from the left. From the first piece on whose share depends on the pieces after it, a table is made.
+fn match_from_left(
+    alloc: Global,
+    pieces: &[Piece],
+    text: &str,
+) -> Result<Option<Vec<Field>>, AllocError>
+    ensures { IfOk result (λ found. IsMatchResult (map piece_value pieces.now) text.now (option_map (λ fields. map field_value fields.items) found)) }
+{
+    let mut fields = Vec::new(alloc);
+    let mut left = pieces;
+    let mut rest = text;
+    'pieces: while let Some((piece, after)) = left.split_first() {
+        match cut_of(piece, after, rest) {
+            Cut::At(place) => {
+                push_taken(&mut fields, alloc, piece, &rest[..place])?;
+                left = after;
+                rest = &rest[place..];
+            }
+            Cut::Nowhere => return Ok(None),
+            Cut::Unknown => return match_rest(alloc, fields, left, rest),
+        }
+    }
+    if rest.is_empty() {
+        Ok(Some(fields))
+    } else {
+        Ok(None)
+    }
+}
+
 impl Pattern {
     /// The fields of the preferred match of a text, where there is one. A text that the ends of the pattern
-    /// refuse is passed over without a table.
+    /// refuse is passed over. A table is made only from the first field on whose share depends on more than the
+    /// literal and the plain field after it.
     pub fn matches(&self, alloc: Global, text: &str) -> Result<Option<Vec<Field>>, AllocError>
         ensures { IfOk result (λ found. IsMatchResult (pattern_value self.now) text.now (option_map (λ fields. map field_value fields.items) found)) }
     {
         if !self.can_match(text) {
             return Ok(None);
         }
-        let (found, _) = self.matches_counted(alloc, text)?;
-        Ok(found)
+        match_from_left(alloc, &self.pieces, text)
     }
 }
 

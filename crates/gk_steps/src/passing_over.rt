@@ -4,14 +4,20 @@ ghost use Rattle.gk_steps.specs.Pattern.{piece_value, pattern_value};
 ghost use Rattle.gk_steps.specs.Matching.{MatchesNot};
 ghost use Rattle.gk_steps.specs.PassingOver.{FitsStart, FitsEnd};
 
-use crate::columns::rest_after;
 use crate::pattern::{Pattern, Piece};
 
-// Whether a text ends with another.
-fn ends_with(text: &str, back: &str) -> bool
+/// Whether a text ends with another.
+pub(crate) fn ends_with(text: &str, back: &str) -> bool
     ensures { MatchBool result ((prefix : List ℕ) × (text.now ≡ prefix ++ back.now)) ((prefix : List ℕ) → text.now ≡ prefix ++ back.now → ⊥) }
 {
     text.as_bytes().ends_with(back.as_bytes())
+}
+
+// Whether a text begins with another.
+fn begins_with(text: &str, front: &str) -> bool
+    ensures { MatchBool result ((rest : List ℕ) × (text.now ≡ front.now ++ rest)) ((rest : List ℕ) → text.now ≡ front.now ++ rest → ⊥) }
+{
+    text.as_bytes().starts_with(front.as_bytes())
 }
 
 // Whether the first literal begins the text.
@@ -21,7 +27,7 @@ fn fits_start(pieces: &[Piece], text: &str) -> bool
 {
     match pieces.first() {
         Some(piece) => match piece {
-            Piece::Literal(literal) => rest_after(text, literal).is_some(),
+            Piece::Literal(literal) => begins_with(text, literal),
             Piece::Field { .. } => true,
         },
         None => true,

@@ -6,7 +6,7 @@ ghost use Rattle.gk_steps.specs.declared.pattern_fault.PatternFault.TheVariants.
 ghost use Rattle.gk_steps.specs.Pattern as spec;
 ghost use Rattle.gk_steps.specs.Pattern.{PieceValue, piece_value, pattern_value, spelled_literal, is_name_letter, is_name_byte, SpellsPattern, SpellingIsUnique};
 ghost use Rattle.gk_steps.specs.Spelling as machinery;
-ghost use Rattle.gk_steps.specs.Spelling.{BeginsAtBrace, EndsLiteral, EndsName, HasLiteral, HasField, HasNoField, AddsLiteral, AddsField, IsSpelled, AnswersPieces, field_tail};
+ghost use Rattle.gk_steps.specs.Spelling.{BeginsAtBrace, EndsLiteral, IsOnlyName, HasLiteral, HasField, HasNoField, AddsLiteral, PushesField, IsSpelled, AnswersPieces, field_tail};
 
 use crate::columns::rest_after;
 use crate::pattern::{FieldKind, Pattern, Piece};
@@ -115,7 +115,7 @@ fn literal_run<'a>(alloc: Global, text: &'a str) -> Result<(String, &'a str), Al
 // The bytes of a name that a text begins with, and the rest.
 fn name_run<'a>(text: &'a str) -> (&'a str, &'a str)
     ensures whole { text.entry.now ≡ result.0.now ++ result.1.now }
-    ensures only { (name rest : List ℕ) → list_all spec.is_name_byte name ≡ true → EndsName rest → text.entry.now ≡ name ++ rest → (result.0.now ≡ name) × (result.1.now ≡ rest) }
+    ensures only { IsOnlyName text.entry.now result.0.now result.1.now }
 {
     let end = name_len(text.as_bytes());
     (&text[..end], &text[end..])
@@ -170,7 +170,7 @@ fn push_field<'a>(
     alloc: Global,
     text: &'a str,
 ) -> Result<Option<&'a str>, AllocError>
-    ensures added { IfOk result (λ o. MatchOption o (HasNoField text.entry.now) (λ rest. AddsField text.entry.now (map piece_value pieces.old.items) (map piece_value pieces.new.items) rest.now)) }
+    ensures added { IfOk result (λ o. MatchOption o (HasNoField text.entry.now) (λ rest. PushesField text.entry.now pieces.old.items pieces.new.items rest.now)) }
     ensures shorter { IfOk result (λ o. IfSome o (λ rest. length rest.now < length text.entry.now)) }
 {
     match field_at(text) {

@@ -2,7 +2,7 @@
 ghost use Rattle.std.specs.Prelude.{◌≡◌, ◌<◌, ◌≤◌, ◌+◌, ℕ, List, [], ◌∷◌, ◌++◌, length, if◌then◌else◌, is_ok, IfOk, OnOk};
 ghost use Rattle.gk_steps.specs.Pattern.{PieceValue, piece_value};
 ghost use Rattle.gk_steps.specs.Digits.{IsNumberRow};
-ghost use Rattle.gk_steps.specs.Columns.{ArePlaces, IsRow, IsPlainRow};
+ghost use Rattle.gk_steps.specs.Columns.{ArePlaces, IsRow, IsRowOver, IsPlainRow};
 
 use crate::columns::step;
 use crate::digits::{Digits, has_number};
@@ -72,7 +72,7 @@ fn stepped_row(
     requires room { counter.old.filled + length places.now ≤ 18446744073709551615 }
     requires places { ArePlaces text.now places.now }
     requires width { length below.now ≡ length places.now }
-    ensures row { (ps : List PieceValue) → IsRow ps text.now places.now below.now → IfOk result (λ row. IsRow (piece_value piece.now ∷ ps) text.now places.now row.items) }
+    ensures row { IfOk result (λ row. IsRowOver (piece_value piece.now) text.now places.now below.now row.items) }
     ensures filled { OnOk result (counter.new.filled ≡ counter.old.filled + length places.now) }
 {
     let mut row = Vec::new(alloc);
@@ -125,7 +125,7 @@ pub(crate) fn row_over(
     requires room { counter.old.filled + length places.now ≤ 18446744073709551615 }
     requires places { ArePlaces text.now places.now }
     requires width { length below.now ≡ length places.now }
-    ensures row { (ps : List PieceValue) → IsRow ps text.now places.now below.now → IfOk result (λ row. IsRow (piece_value piece.now ∷ ps) text.now places.now row.items) }
+    ensures row { IfOk result (λ row. IsRowOver (piece_value piece.now) text.now places.now below.now row.items) }
     ensures filled { OnOk result (counter.new.filled ≡ counter.old.filled + length places.now) }
 {
     match piece {

@@ -164,7 +164,7 @@ fn entries_of_the_type_first(rt: HostRuntime) -> Result<(), Fail> {
         pattern: Pattern { pieces: when },
         action: Action::Fail,
     })?;
-    let library = Library { entries };
+    let library = Library::new(entries);
     let found = library
         .find(alloc, StepType::When, "it passes")?
         .ok_or("not found")?;

@@ -1,4 +1,4 @@
-use Rattle.std.proofs.Common.{List, map, subst}
+use Rattle.std.proofs.Common.{List, map, ap, subst, ◌∙◌}
 use Rattle.gk_gherkin.specs.declared.lines.Line.{Line}
 use Rattle.gk_gherkin.specs.Lines.{line_value}
 use Rattle.gk_steps.specs.Finding.{entry_value}
@@ -9,7 +9,8 @@ use Rattle.gk_steps.proofs.library_file.read_library.Goals as goal
 
 pub returns-in-Ok-read_entries-clause-only : goal.returns-in-Ok-read_entries-clause-only
 returns-in-Ok-read_entries-clause-only c = λ entries is reads.
-    file_only c.args.bytes.now (map line_value c.in-Ok.document.lines.items) (map entry_value c.in-Ok-read_entries.entries.items) c.in-Ok.ensures.ok.1
+    ap (map entry_value) (ap (λ v. v.items) c.new.ensures)
+    ∙ file_only c.args.bytes.now (map line_value c.in-Ok.document.lines.items) (map entry_value c.in-Ok-read_entries.entries.items) c.in-Ok.ensures.ok.1
     (subst (λ (q : List Line). ReadsLibrary (map line_value q) (map entry_value c.in-Ok-read_entries.entries.items)) c.deref.ensures.value c.in-Ok-read_entries.ensures.found) entries reads
 
 pub returns-in-Ok-clause-only : goal.returns-in-Ok-clause-only

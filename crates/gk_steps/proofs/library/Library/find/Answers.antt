@@ -1,5 +1,6 @@
-use Rattle.std.proofs.Common.{map, subst, Some, None, IfOk, option_map}
+use Rattle.std.proofs.Common.{map, take, subst, Some, None, IfOk, option_map}
 use Rattle.gk_steps.specs.Finding.{IsFoundOf, entry_value, found_value, library_value}
+use Rattle.gk_steps.proofs.TypedLemmas.{typed_found}
 use Rattle.gk_steps.proofs.FindingLemmas.{own_computed, other_answer}
 use Rattle.gk_steps.proofs.library.Library.find.Goals as goal
 
@@ -7,11 +8,13 @@ pub returns-in-Some : goal.returns-in-Some
 returns-in-Some c =
     own_computed (library_value c.args.self.now) c.args.step_type c.args.text.now (found_value c.in-Some.found)
     (subst (λ o. IsFoundOf (library_value c.args.self.now) (Some c.args.step_type) c.args.text.now (option_map found_value o)) c.in-Some.is
-    (subst (λ es. IsFoundOf (map entry_value es) (Some c.args.step_type) c.args.text.now (option_map found_value c.in_ok-found.field-0)) c.deref.ensures.value c.in_ok-found.ensures))
+    (typed_found c.args.self.now.entries.items c.args.self.now.typed c.args.step_type c.args.text.now (option_map found_value c.in_ok-found.field-0) c.args.self.now.rest
+    (subst (λ es. IsFoundOf (map entry_value (take c.args.self.now.typed es)) (Some c.args.step_type) c.args.text.now (option_map found_value c.in_ok-found.field-0)) c.deref.ensures.value c.in_ok-found.ensures)))
 
 pub returns : goal.returns
 returns c =
     other_answer (library_value c.args.self.now) c.args.step_type c.args.text.now c.find_of-2.result
     (subst (λ o. IsFoundOf (library_value c.args.self.now) (Some c.args.step_type) c.args.text.now (option_map found_value o)) c.in_default.is
-    (subst (λ es. IsFoundOf (map entry_value es) (Some c.args.step_type) c.args.text.now (option_map found_value c.in_ok-found.field-0)) c.deref.ensures.value c.in_ok-found.ensures))
+    (typed_found c.args.self.now.entries.items c.args.self.now.typed c.args.step_type c.args.text.now (option_map found_value c.in_ok-found.field-0) c.args.self.now.rest
+    (subst (λ es. IsFoundOf (map entry_value (take c.args.self.now.typed es)) (Some c.args.step_type) c.args.text.now (option_map found_value c.in_ok-found.field-0)) c.deref.ensures.value c.in_ok-found.ensures)))
     (subst (λ es. IfOk c.find_of-2.result (λ o. IsFoundOf (map entry_value es) None c.args.text.now (option_map found_value o))) c.deref-2.ensures.value c.find_of-2.ensures)

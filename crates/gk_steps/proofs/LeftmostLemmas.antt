@@ -1,0 +1,242 @@
+-- What the first piece of a pattern takes, and how a match goes on after it.
+use Rattle.std.proofs.Common.{◌≡◌, ℕ, ◌+◌, ◌-◌, ◌<◌, ◌≤◌, ◌⊎◌, inl, inr, Bool, true, false, List, [], ◌∷◌, ◌++◌, length, take, drop, map, nat_eq, Option, Some, None, option_map, refl, ap, sym, subst, ◌∙◌, arith, append_assoc, length-append}
+use Rattle.std.specs.Str.{IsCharBoundary, IsUtf8}
+use Rattle.std.specs.Prelude.{MatchBool, IsTrue, ◌↔◌}
+use Rattle.std.specs.List.{starts_with}
+use Rattle.std.proofs.lemmas.Str.{IsUtf8-append, IsUtf8-drop, IsUtf8-take, IsCharBoundary-from_take, IsCharBoundary-from_drop}
+use Rattle.std.proofs.lemmas.List.{append-nil, take-append-drop, length-take-le, length-drop}
+use Rattle.std.proofs.lemmas.Bool.{cases_lt}
+use Rattle.std.proofs.Math.Nat.{eq-or-lt_of_le}
+use Rattle.std.proofs.Math.Seq.{take-append_seam, drop-append_seam, take-length}
+use Rattle.gk_steps.specs.declared.pattern.FieldKind.TheVariants.{Plain}
+use Rattle.gk_steps.specs.declared.pattern.Piece.{Piece}
+use Rattle.gk_steps.specs.Pattern.{PieceValue, Literal, FieldPiece, piece_value}
+use Rattle.gk_steps.specs.Matching.{IsSpan, Matches, MatchesNot, IsPreferred, IsBestMatch, IsMatchResult, FieldValue, TextField}
+use Rattle.gk_steps.specs.Columns.{values_of}
+use Rattle.gk_steps.specs.Leftmost.{CanStandAt, StandsNowhereBefore, IsFirst, IsCut, IsLeft}
+use Rattle.gk_steps.proofs.MatchingLemmas.{same_prefix, same_back, split, join, nothing_left, best_nothing}
+use Rattle.gk_steps.proofs.BestMatchLemmas.{after_literal, begins_so, begins_with_itself}
+
+-- a text is cut where one part of it is a text
+utf8_back : (front back : List ℕ) → IsUtf8 (front ++ back) → IsUtf8 front → IsUtf8 back
+utf8_back front back whole part =
+    let le : length front ≤ length (front ++ back) = omega (arith, length-append front back) in
+    subst IsUtf8 (drop-append_seam front back)
+    (IsUtf8-drop (front ++ back) (length front) whole (IsCharBoundary-from_take (front ++ back) (length front) whole le (subst IsUtf8 (sym (take-append_seam front back)) part)))
+
+utf8_front : (front back : List ℕ) → IsUtf8 (front ++ back) → IsUtf8 back → IsUtf8 front
+utf8_front front back whole part =
+    let le : length front ≤ length (front ++ back) = omega (arith, length-append front back) in
+    subst IsUtf8 (take-append_seam front back)
+    (IsUtf8-take (front ++ back) (length front) whole (IsCharBoundary-from_drop (front ++ back) (length front) le (subst IsUtf8 (sym (drop-append_seam front back)) part)))
+
+boundary_after : (text x rest : List ℕ) → IsUtf8 text → text ≡ x ++ rest → IsUtf8 x → IsCharBoundary text (length x)
+boundary_after text x rest whole e part =
+    let le : length x ≤ length text = omega (arith, ap length e, length-append x rest) in
+    IsCharBoundary-from_take text (length x) whole le (subst IsUtf8 (sym (ap (take (length x)) e ∙ take-append_seam x rest)) part)
+
+taken : (text x rest : List ℕ) → text ≡ x ++ rest → take (length x) text ≡ x
+taken text x rest e = ap (take (length x)) e ∙ take-append_seam x rest
+
+left : (text x rest : List ℕ) → text ≡ x ++ rest → drop (length x) text ≡ rest
+left text x rest e = ap (drop (length x)) e ∙ drop-append_seam x rest
+
+-- of two ways to cut a list, what stands after the longer prefix ends what stands after the other
+longer : (a r b t : List ℕ) → a ++ r ≡ b ++ t → length a ≤ length b → (w : List ℕ) × (r ≡ w ++ t)
+longer [] r b t e h = (b, e)
+longer (c ∷ a) r [] t e h = absurd (omega arith)
+longer (c ∷ a) r (d ∷ b) t e h = longer a r b t (ap (drop 1) e) (omega arith)
+
+-- a literal
+literal_goes_on : (literal : List ℕ) (ps : List PieceValue) (text rest : List ℕ) → text ≡ literal ++ rest → (found : Option (List FieldValue)) → IsMatchResult ps rest found → IsMatchResult (Literal literal ∷ ps) text (option_map (λ (fields : List FieldValue). values_of (Literal literal) literal ++ fields) found)
+literal_goes_on literal ps text rest e None h = after_literal literal ps text rest None e h
+literal_goes_on literal ps text rest e (Some fields) h = (h.0, after_literal literal ps text rest (Some h.0) e h.1, h.2)
+
+pub literal_cut : (literal : List ℕ) (ps : List PieceValue) (text rest : List ℕ) → IsUtf8 text → IsUtf8 literal → text ≡ literal ++ rest → IsCut (Literal literal) ps text (length literal)
+literal_cut literal ps text rest whole part e = record {
+  boundary = boundary_after text literal rest whole e part;
+  takes = taken text literal rest e;
+  goes_on = λ found h. literal_goes_on literal ps text rest e found (subst (λ r. IsMatchResult ps r found) (left text literal rest e) h);
+}
+
+pub literal_nowhere : (literal : List ℕ) (ps : List PieceValue) (text : List ℕ) → ((rest : List ℕ) → text ≡ literal ++ rest → ⊥) → MatchesNot (Literal literal ∷ ps) text
+literal_nowhere literal ps text never = λ spans m. let s = split (Literal literal) ps text spans m in never s.rest (s.whole ∙ ap (λ x. x ++ s.rest) s.takes)
+
+-- a plain field that takes x: with whatever else it can take, x is no longer, and the rest of the pattern matches after x, too
+abbrev IsLeast : List PieceValue → List ℕ → List ℕ → List ℕ → Type 0
+IsLeast ps text x rest = (y other : List ℕ) (ys : List (List ℕ)) → IsSpan Plain y → text ≡ y ++ other → Matches ps other ys → (length x ≤ length y) × ((zs : List (List ℕ)) × Matches ps rest zs)
+
+least_is_best : (name : List ℕ) (ps : List PieceValue) (text x rest : List ℕ) (xs : List (List ℕ)) → text ≡ x ++ rest → IsSpan Plain x → IsLeast ps text x rest → IsBestMatch ps rest xs
+    → (others : List (List ℕ)) → Matches (FieldPiece name Plain ∷ ps) text others → (others ≡ x ∷ xs) ⊎ IsPreferred (FieldPiece name Plain ∷ ps) (x ∷ xs) others
+least_is_best name ps text x rest xs e fit least best others m =
+    let s = split (FieldPiece name Plain) ps text others m in
+    let known = least s.x s.rest s.xs s.takes s.whole s.after in
+    let cut : x ++ rest ≡ s.x ++ s.rest = sym e ∙ s.whole in
+    elim (eq-or-lt_of_le known.0) [
+      | inl same ↦
+          let first : s.x ≡ x = sym (same_prefix x s.x rest s.rest cut same) in
+          elim (best.best s.xs (subst (λ r. Matches ps r s.xs) (sym (same_back x s.x rest s.rest cut same)) s.after)) [
+            | inl equal ↦ inl (s.spans_are ∙ ap (λ (y : List ℕ). y ∷ s.xs) first ∙ ap (λ (ys : List (List ℕ)). x ∷ ys) equal)
+            | inr p ↦ inr (subst (IsPreferred (FieldPiece name Plain ∷ ps) (x ∷ xs)) (sym s.spans_are) (inr (same, p)))
+          ]
+      | inr less ↦ inr (subst (IsPreferred (FieldPiece name Plain ∷ ps) (x ∷ xs)) (sym s.spans_are) (inl less))
+    ]
+
+plain_goes_on : (name : List ℕ) (ps : List PieceValue) (text x rest : List ℕ) → text ≡ x ++ rest → IsSpan Plain x → IsLeast ps text x rest → (found : Option (List FieldValue)) → IsMatchResult ps rest found
+    → IsMatchResult (FieldPiece name Plain ∷ ps) text (option_map (λ (fields : List FieldValue). values_of (FieldPiece name Plain) x ++ fields) found)
+plain_goes_on name ps text x rest e fit least None h = λ spans m.
+    let s = split (FieldPiece name Plain) ps text spans m in
+    let known = least s.x s.rest s.xs s.takes s.whole s.after in
+    h known.1.0 known.1.1
+plain_goes_on name ps text x rest e fit least (Some fields) h =
+    let both : IsBestMatch (FieldPiece name Plain ∷ ps) text (x ∷ h.0) = record {
+      matches = join (FieldPiece name Plain) ps text x rest h.0 fit e h.1.matches;
+      best = least_is_best name ps text x rest h.0 e fit least h.1;
+    } in
+    (x ∷ h.0, both, ap (λ (v : List FieldValue). TextField x ∷ v) h.2)
+
+plain_cut : (name : List ℕ) (ps : List PieceValue) (text x rest : List ℕ) → IsUtf8 text → text ≡ x ++ rest → IsSpan Plain x → IsLeast ps text x rest → IsCut (FieldPiece name Plain) ps text (length x)
+plain_cut name ps text x rest whole e fit least = record {
+  boundary = boundary_after text x rest whole e fit.0;
+  takes = subst (IsSpan Plain) (sym (taken text x rest e)) fit;
+  goes_on = λ found h. subst (λ t. IsMatchResult (FieldPiece name Plain ∷ ps) text (option_map (λ (fields : List FieldValue). values_of (FieldPiece name Plain) t ++ fields) found)) (sym (taken text x rest e))
+      (plain_goes_on name ps text x rest e fit least found (subst (λ r. IsMatchResult ps r found) (left text x rest e) h));
+}
+
+-- a plain field alone
+pub all_cut : (name : List ℕ) (text : List ℕ) → IsUtf8 text → 0 < length text → IsCut (FieldPiece name Plain) [] text (length text)
+all_cut name text whole some = plain_cut name [] text text [] whole (sym (append-nil text)) (whole, some) (λ y other ys fit e m.
+    let none : other ≡ [] = nothing_left other ys m in
+    let same : length text ≡ length y = ap length (e ∙ ap (λ o. y ++ o) none ∙ append-nil y) in
+    (omega arith, ([], (best_nothing [] refl).matches)))
+
+pub all_nowhere : (name : List ℕ) (text : List ℕ) → length text ≡ 0 → MatchesNot (FieldPiece name Plain ∷ []) text
+all_nowhere name text none = λ spans m.
+    let s = split (FieldPiece name Plain) [] text spans m in
+    let some : 0 < length s.x = s.takes.1 in
+    let size : length text ≡ length s.x + length s.rest = ap length s.whole ∙ length-append s.x s.rest in
+    omega arith
+
+-- before the last literal
+only_literal : (literal other : List ℕ) (ys : List (List ℕ)) → Matches (Literal literal ∷ []) other ys → other ≡ literal
+only_literal literal other ys m = m.whole ∙ append-nil literal
+
+pub last_cut : (name literal text x : List ℕ) → IsUtf8 text → IsUtf8 literal → length literal < length text → text ≡ x ++ literal → IsCut (FieldPiece name Plain) (Literal literal ∷ []) text (length x)
+last_cut name literal text x whole part less e =
+    let some : 0 < length x = omega (arith, ap length e, length-append x literal) in
+    plain_cut name (Literal literal ∷ []) text x literal whole e (utf8_front x literal (subst IsUtf8 e whole) part, some) (λ y other ys fit cut m.
+    let same : length x + length literal ≡ length y + length literal = sym (length-append x literal) ∙ ap length (sym e ∙ cut ∙ ap (λ o. y ++ o) (only_literal literal other ys m)) ∙ length-append y literal in
+    (omega arith, ([], record { spans_fit = tt; whole = sym (append-nil literal) })))
+
+pub last_nowhere : (name literal text : List ℕ) → (length literal < length text → (x : List ℕ) → text ≡ x ++ literal → ⊥) → MatchesNot (FieldPiece name Plain ∷ Literal literal ∷ []) text
+last_nowhere name literal text never = λ spans m.
+    let s = split (FieldPiece name Plain) (Literal literal ∷ []) text spans m in
+    let some : 0 < length s.x = s.takes.1 in
+    let e : text ≡ s.x ++ literal = s.whole ∙ ap (λ o. s.x ++ o) (only_literal literal s.rest s.xs s.after) in
+    never (omega (arith, ap length e, length-append s.x literal)) s.x e
+
+-- before a literal that a plain field comes after
+stands_after : (literal text y other : List ℕ) (ps : List PieceValue) (ys : List (List ℕ)) → IsUtf8 text → text ≡ y ++ other → IsUtf8 y → Matches (Literal literal ∷ ps) other ys → CanStandAt literal text (length y)
+stands_after literal text y other ps ys whole e part m =
+    let s = split (Literal literal) ps other ys m in
+    record { boundary = boundary_after text y other whole e part; rest = s.rest; stands = left text y other e ∙ s.whole ∙ ap (λ x. x ++ s.rest) s.takes }
+
+field_match : (literal name : List ℕ) (after : List PieceValue) (text x more : List ℕ) → IsUtf8 text → IsUtf8 literal → IsUtf8 x → text ≡ x ++ (literal ++ more)
+    → (y other : List ℕ) (ys : List (List ℕ)) → IsSpan Plain y → text ≡ y ++ other → Matches (Literal literal ∷ FieldPiece name Plain ∷ after) other ys → length x ≤ length y
+    → (zs : List (List ℕ)) × Matches (Literal literal ∷ FieldPiece name Plain ∷ after) (literal ++ more) zs
+field_match literal name after text x more whole part front e y other ys fit cut m le =
+    let s = split (Literal literal) (FieldPiece name Plain ∷ after) other ys m in
+    let t = split (FieldPiece name Plain) after s.rest s.xs s.after in
+    let one : text ≡ (x ++ literal) ++ more = e ∙ sym (append_assoc x literal more) in
+    let two : text ≡ (y ++ literal) ++ s.rest = cut ∙ ap (λ o. y ++ o) (s.whole ∙ ap (λ l. l ++ s.rest) s.takes) ∙ sym (append_assoc y literal s.rest) in
+    let sizes : length (x ++ literal) ≤ length (y ++ literal) = omega (arith, length-append x literal, length-append y literal) in
+    let gap = longer (x ++ literal) more (y ++ literal) s.rest (sym one ∙ two) sizes in
+    let more_utf8 : IsUtf8 more = utf8_back (x ++ literal) more (subst IsUtf8 one whole) (IsUtf8-append x literal front part) in
+    let rest_utf8 : IsUtf8 s.rest = utf8_back (y ++ literal) s.rest (subst IsUtf8 two whole) (IsUtf8-append y literal fit.0 part) in
+    let gap_utf8 : IsUtf8 gap.0 = utf8_front gap.0 s.rest (subst IsUtf8 gap.1 more_utf8) rest_utf8 in
+    let some : 0 < length (gap.0 ++ t.x) = omega (arith, length-append gap.0 t.x, t.takes.1) in
+    let whole_more : more ≡ (gap.0 ++ t.x) ++ t.rest = gap.1 ∙ ap (λ r. gap.0 ++ r) t.whole ∙ sym (append_assoc gap.0 t.x t.rest) in (
+      (gap.0 ++ t.x) ∷ t.xs,
+      join (Literal literal) (FieldPiece name Plain ∷ after) (literal ++ more) literal more ((gap.0 ++ t.x) ∷ t.xs) refl refl
+          (join (FieldPiece name Plain) after more (gap.0 ++ t.x) t.rest t.xs (IsUtf8-append gap.0 t.x gap_utf8 t.takes.0, some) whole_more t.after),
+    )
+
+field_least : (literal name : List ℕ) (after : List PieceValue) (text x more : List ℕ) → IsUtf8 text → IsUtf8 literal → IsUtf8 x → text ≡ x ++ (literal ++ more) → StandsNowhereBefore literal text (length x) → IsLeast (Literal literal ∷ FieldPiece name Plain ∷ after) text x (literal ++ more)
+field_least literal name after text x more whole part front e first y other ys fit cut m =
+    elim (cases_lt (length y) (length x)) [
+      | inl less ↦ absurd (first (length y) fit.1 less (stands_after literal text y other (FieldPiece name Plain ∷ after) ys whole cut fit.0 m))
+      | inr le ↦ (le, field_match literal name after text x more whole part front e y other ys fit cut m le)
+    ]
+
+pub field_cut : (name literal other : List ℕ) (after : List PieceValue) (text : List ℕ) (place : ℕ) → IsUtf8 text → IsUtf8 literal → IsFirst literal text place → IsCut (FieldPiece name Plain) (Literal literal ∷ FieldPiece other Plain ∷ after) text place
+field_cut name literal other after text place whole part h =
+    let x = take place text in
+    let within : place ≤ length text = h.here.boundary.0 in
+    let size : length x ≡ place = length-take-le place text within in
+    let front : IsUtf8 x = IsUtf8-take text place whole h.here.boundary in
+    let e : text ≡ x ++ (literal ++ h.here.rest) = sym (take-append-drop place text) ∙ ap (λ r. x ++ r) h.here.stands in
+    let first : StandsNowhereBefore literal text (length x) = subst (StandsNowhereBefore literal text) (sym size) h.first in
+    let some : 0 < length x = subst (λ n. 0 < n) (sym size) h.after in
+    subst (IsCut (FieldPiece name Plain) (Literal literal ∷ FieldPiece other Plain ∷ after) text) size
+    (plain_cut name (Literal literal ∷ FieldPiece other Plain ∷ after) text x (literal ++ h.here.rest) whole e (front, some) (field_least literal other after text x h.here.rest whole part front e first))
+
+pub field_nowhere : (name literal : List ℕ) (ps : List PieceValue) (text : List ℕ) → IsUtf8 text → StandsNowhereBefore literal text (length text + 1) → MatchesNot (FieldPiece name Plain ∷ Literal literal ∷ ps) text
+field_nowhere name literal ps text whole none = λ spans m.
+    let s = split (FieldPiece name Plain) (Literal literal ∷ ps) text spans m in
+    let within : length s.x < length text + 1 = omega (arith, ap length s.whole, length-append s.x s.rest) in
+    none (length s.x) s.takes.1 within (stands_after literal text s.x s.rest ps s.xs whole s.whole s.takes.0 s.after)
+
+-- the search for the first place
+pub first_start : (literal text : List ℕ) → StandsNowhereBefore literal text 1
+first_start literal text = λ place some less here. omega arith
+
+pub first_more : (literal text : List ℕ) (place : ℕ) → StandsNowhereBefore literal text place → (CanStandAt literal text place → ⊥) → StandsNowhereBefore literal text (place + 1)
+first_more literal text place before never = λ other some less here. elim (cases_lt other place) [
+  | inl smaller ↦ before other some smaller here
+  | inr le ↦ let same : other ≡ place = omega arith in never (subst (CanStandAt literal text) same here)
+]
+
+-- the pieces that are left
+pub left_start : (ps : List PieceValue) (text : List ℕ) → IsLeft ps text [] ps text
+left_start ps text None h = h
+left_start ps text (Some fields) h = h
+
+pub left_more : (ps : List PieceValue) (text : List ℕ) (fields fields' : List FieldValue) (piece : PieceValue) (others : List PieceValue) (rest : List ℕ) (place : ℕ) → IsLeft ps text fields (piece ∷ others) rest → IsCut piece others rest place
+    → fields' ≡ fields ++ values_of piece (take place rest) → IsLeft ps text fields' others (drop place rest)
+left_more ps text fields fields' piece others rest place known cut e None h = known None (cut.goes_on None h)
+left_more ps text fields fields' piece others rest place known cut e (Some found) h =
+    subst (λ (v : List FieldValue). IsMatchResult ps text (Some v)) (sym (append_assoc fields (values_of piece (take place rest)) found) ∙ ap (λ (v : List FieldValue). v ++ found) (sym e))
+    (known (Some (values_of piece (take place rest) ++ found)) (cut.goes_on (Some found) h))
+
+pub left_nothing : (ps : List PieceValue) (text : List ℕ) (fields : List FieldValue) (rest : List ℕ) → IsLeft ps text fields [] rest → length rest ≡ 0 → IsMatchResult ps text (Some fields)
+left_nothing ps text fields [] known e = subst (λ (v : List FieldValue). IsMatchResult ps text (Some v)) (append-nil fields) (known (Some []) ([], best_nothing [] refl, refl))
+left_nothing ps text fields (b ∷ rest) known e = absurd (omega arith)
+
+pub left_over : (ps : List PieceValue) (text : List ℕ) (fields : List FieldValue) (rest : List ℕ) → IsLeft ps text fields [] rest → 0 < length rest → IsMatchResult ps text None
+left_over ps text fields rest known some = known None (λ spans m. let none : length rest ≡ 0 = ap length (nothing_left rest spans m) in omega arith)
+
+pub stands : (b : Bool) (literal text : List ℕ) (place : ℕ) → starts_with nat_eq (drop place text) literal ≡ true → (IsTrue b ↔ IsCharBoundary text place) → MatchBool b (CanStandAt literal text place) (CanStandAt literal text place → ⊥)
+stands true literal text place e test = record { boundary = test.0 refl; rest = drop (length literal) (drop place text); stands = begins_so (drop place text) literal e }
+stands false literal text place e test = λ here. let bad : false ≡ true = test.1 here.boundary in let none : ⊥ = cc in none
+
+pub stands_not : (literal text : List ℕ) (place : ℕ) → starts_with nat_eq (drop place text) literal ≡ false → CanStandAt literal text place → ⊥
+stands_not literal text place e here =
+    let bad : true ≡ false = sym (begins_with_itself literal here.rest) ∙ ap (λ t. starts_with nat_eq t literal) (sym here.stands) ∙ e in
+    let none : ⊥ = cc in none
+
+pub match_not : (b : Bool) (literal text : List ℕ) (place : ℕ) → b ≡ false → starts_with nat_eq (drop place text) literal ≡ false → MatchBool b (CanStandAt literal text place) (CanStandAt literal text place → ⊥)
+match_not true literal text place is e = let bad : ⊥ = cc in absurd bad
+match_not false literal text place is e = stands_not literal text place e
+
+pub compared : (b : Bool) (bytes word text literal : List ℕ) (place : ℕ) → b ≡ starts_with nat_eq (take (length bytes - place) (drop place bytes)) word → bytes ≡ text → word ≡ literal → starts_with nat_eq (drop place text) literal ≡ b
+compared b bytes word text literal place e same equal =
+    let all : take (length bytes - place) (drop place bytes) ≡ drop place bytes = ap (λ n. take n (drop place bytes)) (sym (length-drop place bytes)) ∙ take-length (drop place bytes) in
+    ap (λ t. starts_with nat_eq (drop place t) literal) (sym same) ∙ ap (starts_with nat_eq (drop place bytes)) (sym equal) ∙ ap (λ t. starts_with nat_eq t word) (sym all) ∙ sym e
+
+-- pieces, taken apart
+pub none_left : {A : Type 0} (xs : List A) → length xs ≡ 0 → xs ≡ []
+none_left [] e = refl
+none_left (x ∷ xs) e = absurd (omega arith)
+
+pub first_and_rest : (pieces : List Piece) (first : Piece) (rest : List Piece) (value : PieceValue) → pieces ≡ first ∷ rest → piece_value first ≡ value → map piece_value pieces ≡ value ∷ map piece_value rest
+first_and_rest pieces first rest value e is = ap (map piece_value) e ∙ ap (λ (v : PieceValue). v ∷ map piece_value rest) is

@@ -1,0 +1,46 @@
+use Rattle.std.proofs.Common.{rules, ◌≡◌, ◌∷◌, ◌++◌, ◌-◌, List, None, option_map, Vec, Global, take, map, ap, subst, sym, ◌∙◌, arith}
+use Rattle.gk_steps.specs.declared.pattern.Piece.{Piece}
+use Rattle.gk_steps.specs.declared.pattern.Field.{Field}
+use Rattle.gk_steps.specs.Pattern.{PieceValue, piece_value}
+use Rattle.gk_steps.specs.Matching.{field_value, IsMatchResult}
+use Rattle.gk_steps.specs.Columns.{values_of}
+use Rattle.gk_steps.specs.Leftmost.{IsLeft, FindsRest}
+use Rattle.gk_steps.proofs.TableRowLemmas.{if_ok}
+use Rattle.gk_steps.proofs.LeftmostLemmas.{none_left, left_more, left_nothing, left_over}
+use Rattle.gk_steps.proofs.matching.match_from_left.Goals as goal
+
+pub pieces-preserved : goal.pieces-preserved
+pieces-preserved c =
+    let rest = c.pieces.rest.now in
+    let piece = piece_value c.in-Some.piece.now in
+    let others = map piece_value c.in-Some.after.now in
+    let known : IsLeft (map piece_value c.args.pieces.now) c.args.text.now (map field_value c.pieces.fields.items) (piece ∷ others) rest =
+    subst (λ (ps : List PieceValue). IsLeft (map piece_value c.args.pieces.now) c.args.text.now (map field_value c.pieces.fields.items) ps rest) (ap (map piece_value) c.in-Some.ensures.cases.0) c.pieces.invariant.1 in
+    let size : c.in-At.place - 0 ≡ c.in-At.place = omega arith in
+    let taken : c.range.result.now ≡ take c.in-At.place rest = c.range.ensures.value ∙ ap (λ n. take n rest) size in
+    let added = c.in_ok-push_taken-in-At.ensures ∙ ap (λ x. map field_value c.pieces.fields.items ++ values_of piece x) taken in (
+      c.range_from-rest.utf8,
+      subst (IsLeft (map piece_value c.args.pieces.now) c.args.text.now (map field_value c.push_taken.new.fields.items) others) (sym c.range_from-rest.ensures.value)
+          (left_more (map piece_value c.args.pieces.now) c.args.text.now (map field_value c.pieces.fields.items) (map field_value c.push_taken.new.fields.items) piece others rest c.in-At.place known c.in-At.ensures added),
+    )
+
+pub returns-in-Nowhere : goal.returns-in-Nowhere
+returns-in-Nowhere c =
+    let known = subst (λ (ps : List PieceValue). IsLeft (map piece_value c.args.pieces.now) c.args.text.now (map field_value c.pieces.fields.items) ps c.pieces.rest.now) (ap (map piece_value) c.in-Some.ensures.cases.0) c.pieces.invariant.1 in
+    known None c.in-Nowhere.ensures
+
+pub returns-in-Unknown : goal.returns-in-Unknown
+returns-in-Unknown c = if_ok c.match_rest.result
+    (λ found. FindsRest (map field_value c.pieces.fields.items) (map piece_value c.pieces.left.now) c.pieces.rest.now (option_map (λ (fields : Vec Field Global). map field_value fields.items) found))
+    (λ found. IsMatchResult (map piece_value c.args.pieces.now) c.args.text.now (option_map (λ (fields : Vec Field Global). map field_value fields.items) found))
+    (λ found h. h (map piece_value c.args.pieces.now) c.args.text.now c.pieces.invariant.1) c.match_rest.ensures
+
+pub returns-then-is_empty : goal.returns-then-is_empty
+returns-then-is_empty c =
+    let known = subst (λ (pieces : List Piece). IsLeft (map piece_value c.args.pieces.now) c.args.text.now (map field_value c.pieces.fields.items) (map piece_value pieces) c.pieces.rest.now) (none_left c.pieces.left.now c.in_default.ensures.cases) c.pieces.invariant.1 in
+    left_nothing (map piece_value c.args.pieces.now) c.args.text.now (map field_value c.pieces.fields.items) c.pieces.rest.now known (search rules)
+
+pub returns-else-is_empty : goal.returns-else-is_empty
+returns-else-is_empty c =
+    let known = subst (λ (pieces : List Piece). IsLeft (map piece_value c.args.pieces.now) c.args.text.now (map field_value c.pieces.fields.items) (map piece_value pieces) c.pieces.rest.now) (none_left c.pieces.left.now c.in_default.ensures.cases) c.pieces.invariant.1 in
+    left_over (map piece_value c.args.pieces.now) c.args.text.now (map field_value c.pieces.fields.items) c.pieces.rest.now known (search rules)

@@ -1,0 +1,54 @@
+-- Proof machinery: how much of a text the first piece of a pattern takes, where the pieces after it leave no choice.
+use Rattle.std.specs.Prelude.{◌≡◌, ◌<◌, ◌+◌, ◌++◌, ◌∷◌, ℕ, List, length, take, drop, Option, Some, None, option_map}
+use Rattle.std.specs.Str.{IsCharBoundary}
+use Rattle.gk_steps.specs.declared.leftmost.Cut.{Cut}
+use Rattle.gk_steps.specs.declared.leftmost.Cut.TheVariants.{At, Nowhere, Unknown}
+use Rattle.gk_steps.specs.declared.pattern.FieldKind.TheVariants.{Plain}
+use Rattle.gk_steps.specs.Pattern.{PieceValue, Literal, FieldPiece}
+use Rattle.gk_steps.specs.Matching.{MatchesNot, IsMatchResult, FieldValue}
+use Rattle.gk_steps.specs.Columns.{Takes, values_of}
+
+-- A literal stands at a place where the text may be cut.
+pub record CanStandAt (literal : List ℕ) (text : List ℕ) (place : ℕ) : Type 0 where
+  pub boundary : IsCharBoundary text place
+  pub rest : List ℕ
+  pub stands : drop place text ≡ literal ++ rest
+
+-- It stands at no such place after the beginning and before another place.
+abbrev pub StandsNowhereBefore : List ℕ → List ℕ → ℕ → Type 0
+StandsNowhereBefore literal text end = (place : ℕ) → 0 < place → place < end → CanStandAt literal text place → ⊥
+
+-- The first such place after the beginning.
+pub record IsFirst (literal : List ℕ) (text : List ℕ) (place : ℕ) : Type 0 where
+  pub after : 0 < place
+  pub here : CanStandAt literal text place
+  pub first : StandsNowhereBefore literal text place
+
+-- The first such place, or that there is none.
+abbrev pub IsFirstPlace : List ℕ → List ℕ → Option ℕ → Type 0
+IsFirstPlace literal text None = StandsNowhereBefore literal text (length text + 1)
+IsFirstPlace literal text (Some place) = IsFirst literal text place
+
+-- A piece takes what stands before a place: what the rest of the pattern finds after it, with what the piece says before it, is what the whole finds.
+pub record IsCut (piece : PieceValue) (ps : List PieceValue) (text : List ℕ) (place : ℕ) : Type 0 where
+  pub boundary : IsCharBoundary text place
+  pub takes : Takes piece (take place text)
+  pub goes_on : (found : Option (List FieldValue)) → IsMatchResult ps (drop place text) found → IsMatchResult (piece ∷ ps) text (option_map (λ (fields : List FieldValue). values_of piece (take place text) ++ fields) found)
+
+-- What is known of the first piece: what it takes, or that the pattern has no match, or nothing.
+abbrev pub IsKnown : PieceValue → List PieceValue → List ℕ → Cut → Type 0
+IsKnown piece ps text (At place) = IsCut piece ps text place
+IsKnown piece ps text Nowhere = MatchesNot (piece ∷ ps) text
+IsKnown piece ps text Unknown = Unit {0}
+
+-- What is known of a plain field before a literal and other pieces, whatever the field is called.
+abbrev pub IsKnownBefore : List ℕ → List PieceValue → List ℕ → Cut → Type 0
+IsKnownBefore literal ps text cut = (name : List ℕ) → IsKnown (FieldPiece name Plain) (Literal literal ∷ ps) text cut
+
+-- What the rest of a pattern finds in the rest of a text, with the fields so far before it, is what the whole finds.
+abbrev pub IsLeft : List PieceValue → List ℕ → List FieldValue → List PieceValue → List ℕ → Type 0
+IsLeft ps text fields left rest = (found : Option (List FieldValue)) → IsMatchResult left rest found → IsMatchResult ps text (option_map (λ (others : List FieldValue). fields ++ others) found)
+
+-- With the fields so far before it, this is what each pattern finds in each text of which these pieces and this rest are left.
+abbrev pub FindsRest : List FieldValue → List PieceValue → List ℕ → Option (List FieldValue) → Type 0
+FindsRest fields left rest found = (ps : List PieceValue) (text : List ℕ) → IsLeft ps text fields left rest → IsMatchResult ps text found

@@ -1,0 +1,120 @@
+//! What the first pieces of a pattern take from the left, where the pieces after them leave no choice.
+ghost use Rattle.std.specs.Prelude.{◌≤◌, [], ◌∷◌, ℕ, List, map, length, MatchBool};
+ghost use Rattle.gk_steps.specs.declared.pattern.FieldKind.TheVariants as kinds;
+ghost use Rattle.gk_steps.specs.Pattern.{Literal, FieldPiece, piece_value};
+ghost use Rattle.gk_steps.specs.Leftmost.{CanStandAt, IsFirstPlace, IsKnown, IsKnownBefore};
+
+use crate::columns::rest_after;
+use crate::passing_over::ends_with;
+use crate::pattern::{FieldKind, Piece};
+
+/// How much of a text the first piece of a pattern takes.
+#[derive(Clone, Copy, Debug, PartialEq, Eq)]
+pub(crate) enum Cut {
+    /// So many bytes.
+    At(usize),
+    /// The pattern has no match.
+    Nowhere,
+    /// That depends on the pieces after it.
+    Unknown,
+}
+
+// Whether a literal stands at a place where the text may be cut.
+fn stands_at(literal: &str, text: &str, place: usize) -> bool
+    requires { place ≤ length text.now }
+    ensures { MatchBool result (CanStandAt literal.now text.now place) (CanStandAt literal.now text.now place → ⊥) }
+{
+    text.as_bytes()[place..].starts_with(literal.as_bytes()) && text.is_char_boundary(place)
+}
+
+// The first place after a character or more where a literal stands.
+fn first_place(literal: &str, text: &str) -> Option<usize>
+    ensures { IsFirstPlace literal.now text.now result }
+{
+    for place in 1..text.len() + 1 {
+        if stands_at(literal, text, place) {
+            return Some(place);
+        }
+    }
+    None
+}
+
+// What a literal takes.
+fn literal_cut(literal: &str, after: &[Piece], text: &str) -> Cut
+    ensures { IsKnown (Literal literal.now) (map piece_value after.now) text.now result }
+{
+    match rest_after(text, literal) {
+        Some(_) => Cut::At(literal.len()),
+        None => Cut::Nowhere,
+    }
+}
+
+// What a plain field takes before a literal that is the last piece.
+fn cut_before_last(literal: &str, text: &str) -> Cut
+    ensures { IsKnownBefore literal.now [] text.now result }
+{
+    if literal.len() < text.len() && ends_with(text, literal) {
+        Cut::At(text.len() - literal.len())
+    } else {
+        Cut::Nowhere
+    }
+}
+
+// What a plain field takes before a literal that another plain field comes after: the less the first takes,
+// the more is left for the other.
+fn cut_before_field(literal: &str, other: &str, after: &[Piece], text: &str) -> Cut
+    ensures { IsKnownBefore literal.now (FieldPiece other.now kinds.Plain ∷ map piece_value after.now) text.now result }
+{
+    match first_place(literal, text) {
+        Some(place) => Cut::At(place),
+        None => Cut::Nowhere,
+    }
+}
+
+// What a plain field takes before a literal.
+fn cut_before(literal: &str, after: &[Piece], text: &str) -> Cut
+    ensures { IsKnownBefore literal.now (map piece_value after.now) text.now result }
+{
+    match after.split_first() {
+        None => cut_before_last(literal, text),
+        Some((piece, later)) => match piece {
+            Piece::Field { name, kind } => match kind {
+                FieldKind::Plain => cut_before_field(literal, name, later, text),
+                FieldKind::Decimal => Cut::Unknown,
+            },
+            Piece::Literal(_) => Cut::Unknown,
+        },
+    }
+}
+
+// What a plain field takes.
+fn plain_cut(after: &[Piece], text: &str) -> Cut
+    ensures { (name : List ℕ) → IsKnown (FieldPiece name kinds.Plain) (map piece_value after.now) text.now result }
+{
+    match after.split_first() {
+        None => {
+            if text.is_empty() {
+                Cut::Nowhere
+            } else {
+                Cut::At(text.len())
+            }
+        }
+        Some((piece, later)) => match piece {
+            Piece::Literal(literal) => cut_before(literal, later, text),
+            Piece::Field { .. } => Cut::Unknown,
+        },
+    }
+}
+
+/// What the first piece of a pattern takes, where that is known without a table.
+pub(crate) fn cut_of(piece: &Piece, after: &[Piece], text: &str) -> Cut
+    ensures { IsKnown (piece_value piece.now) (map piece_value after.now) text.now result }
+{
+    match piece {
+        Piece::Literal(literal) => literal_cut(literal, after, text),
+        Piece::Field { kind, .. } => match kind {
+            FieldKind::Plain => plain_cut(after, text),
+            FieldKind::Decimal => Cut::Unknown,
+        },
+    }
+}
