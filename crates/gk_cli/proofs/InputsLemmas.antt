@@ -1,5 +1,5 @@
 -- Inputs, one after another, and that they are determined.
-use Rattle.std.proofs.Common.{◌≡◌, ◌≢◌, ◌⊎◌, inl, inr, ℕ, suc, zero, ◌+◌, ◌<◌, Bool, List, [], ◌∷◌, ◌++◌, map, take, drop, length, get_or, Option, Some, None, refl, ap, sym, subst, ◌∙◌, arith, add-one}
+use Rattle.std.proofs.Common.{◌≡◌, ◌⊎◌, inl, inr, ℕ, suc, zero, ◌+◌, ◌<◌, Bool, List, [], ◌∷◌, ◌++◌, map, take, drop, length, get_or, Option, Some, None, refl, ap, sym, subst, ◌∙◌, arith, add-one}
 use Rattle.std.specs.Prelude.{slice_get}
 use Rattle.std.specs.List.{AllByRecursion}
 use Rattle.gk_gherkin.specs.declared.read_fault.ReadFault.{ReadFault}
@@ -21,7 +21,7 @@ use Rattle.gk_steps.specs.LibraryFile.{LibraryReadingIsUnique}
 use Rattle.gk_steps.specs.LibraryFault.{LibraryFaultSays}
 use Rattle.gk_run.specs.Chosen.{MemberValue, ChosenValue, members_of}
 use Rattle.gk_cli.specs.Source.{SourceValue}
-use Rattle.gk_cli.specs.Inputs.{Request, Inputs, AreRules, IsLibrary, member_by, with_reading, chosen_of, HasRoom, AreRead, AreInputs, HasBadTags, HasFault, HasTooMany, IsFirstUnread}
+use Rattle.gk_cli.specs.Inputs.{Request, Inputs, AreRules, IsLibrary, member_by, with_reading, HasRoom, AreRead, HasFault}
 use Rattle.gk_cli.specs.declared.run_fault.RunFault.{RunFault}
 use Rattle.gk_cli.specs.declared.run_fault.RunFault.TheVariants.{Read, Library, Select, Write, Memory}
 use Rattle.gk_cli.specs.RunFault.{IsUnread, SaysTags, SaysLibrary, SaysSourceAt, SaysSources, read_fault_at, select_fault_at, tags_fault, library_fault, SaysExpansion}
@@ -56,11 +56,11 @@ members_chosen chooses [] = refl
 members_chosen chooses (c ∷ cs) = ap (λ ms. member_by chooses (case_value c) ∷ ms) (members_chosen chooses cs)
 
 -- A feature, by its source and its members.
-pub chosen_again : {source source' name : List ℕ} {line : ℕ} {tags : List (List ℕ)} {members members' : List MemberValue} → source ≡ source' → members ≡ members' →
+pub chosen_again : {source source' name name' : List ℕ} {line : ℕ} {tags tags' : List (List ℕ)} {members members' : List MemberValue} → source ≡ source' → name ≡ name' → tags ≡ tags' → members ≡ members' →
     let one : ChosenValue = record { source = source; name = name; line = line; tags = tags; members = members } in
-    let other : ChosenValue = record { source = source'; name = name; line = line; tags = tags; members = members' } in
+    let other : ChosenValue = record { source = source'; name = name'; line = line; tags = tags'; members = members' } in
     one ≡ other
-chosen_again a b = cc
+chosen_again a b c d = cc
 
 -- One element more, of which it holds.
 pub all_push : {X : Type 0} (P : X → Type 0) (xs : List X) (x : X) → AllByRecursion P xs → P x → AllByRecursion P (xs ++ x ∷ [])

@@ -11,7 +11,7 @@ ghost use Rattle.gk_steps.specs.Finding.{library_value};
 ghost use Rattle.gk_run.specs.Chosen.{chosen_value, IsPaired};
 ghost use Rattle.gk_cli.specs.Source.{source_value};
 ghost use Rattle.gk_cli.specs.Inputs as spec;
-ghost use Rattle.gk_cli.specs.Inputs.{request_of, AreRules, IsLibrary, AreRead, AreInputs, IsReadOnto, inputs_value};
+ghost use Rattle.gk_cli.specs.Inputs.{asked, AreRules, IsLibrary, AreRead, AreInputs, IsReadOnto, inputs_value};
 ghost use Rattle.gk_cli.specs.RunFault as faults;
 ghost use Rattle.gk_cli.specs.RunFault.{IsUnread, SaysTags, SaysLibrary, SaysExpansion, SaysSourceAt, SaysSources};
 
@@ -84,6 +84,16 @@ fn copied_lines(alloc: Global, lines: &[u32]) -> Result<Vec<u32>, AllocError>
     Ok(copy)
 }
 
+fn copied_texts(alloc: Global, from: &[String]) -> Result<Vec<String>, AllocError>
+    ensures { IfOk result (λ copy. texts copy.items ≡ texts from.now) }
+{
+    let mut copy = Vec::new(alloc);
+    for text in from {
+        copy.push(String::from_str(alloc, text.as_str())?)?;
+    }
+    Ok(copy)
+}
+
 // For each case whether it is chosen.
 fn selections(alloc: Global, choice: &Choice, cases: &[Case]) -> Result<Vec<bool>, AllocError>
     ensures { IfOk result (λ selected. selected.items ≡ map (λ c. chosen_by choice.now (case_value c)) cases.now) }
@@ -107,17 +117,12 @@ fn chosen_of(
     ensures fault { IfErr result (λ e. SaysExpansion (feature_value feature) e) }
     ensures room { OnOk result (spec.HasRoom (Some (feature_value feature))) }
 {
-    let cases = expand(alloc, &feature)?;
-    let selected = selections(alloc, choice, cases.as_slice())?;
     let source = String::from_str(alloc, source)?;
-    let Feature {
-        name,
-        line,
-        tags,
-        background: _,
-        scenarios: _,
-        rules: _,
-    } = feature;
+    let name = String::from_str(alloc, feature.name.as_str())?;
+    let tags = copied_texts(alloc, feature.tags.as_slice())?;
+    let line = feature.line;
+    let cases = expand(alloc, feature)?;
+    let selected = selections(alloc, choice, cases.as_slice())?;
     Ok(Chosen {
         source,
         name,
@@ -197,9 +202,9 @@ pub fn read_inputs(
     library: Option<&[u8]>,
     sources: &[Source],
 ) -> Result<ReadInputs, RunFault>
-    ensures read { IfOk result (λ inputs. AreInputs (request_of options.now (option_map (λ bytes. bytes.now) library.entry) (map source_value sources.now)) (inputs_value inputs)) }
+    ensures read { IfOk result (λ inputs. AreInputs (asked options.now library.entry sources.now) (inputs_value inputs)) }
     ensures paired { IfOk result (λ inputs. AllByRecursion IsPaired inputs.features.items) }
-    ensures fault { IfErr result (λ e. IsUnread (request_of options.now (option_map (λ bytes. bytes.now) library.entry) (map source_value sources.now)) e) }
+    ensures fault { IfErr result (λ e. IsUnread (asked options.now library.entry sources.now) e) }
 {
     let rules = match read_rules(alloc, options.tags.as_slice()) {
         Ok(rules) => rules,

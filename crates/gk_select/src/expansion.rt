@@ -15,39 +15,44 @@ ghost use Rattle.gk_select.specs.Outline.{FitsHeader, AllFit};
 ghost use Rattle.gk_select.specs.declared.select_fault.SelectFault.TheVariants.{TooMany, Memory};
 
 use crate::case::Case;
-use crate::copies::{push_filled_steps, push_steps, push_texts};
+use crate::copies::{push_filled_steps, push_texts};
 use crate::counting::has_room;
 use crate::filling::fill;
 use crate::inherited::{
-    Inherited, inherited_in_feature, inherited_in_rule, push_inherited_steps, push_inherited_tags,
+    Inherited, after_inherited_steps, inherited_in_feature, inherited_in_rule,
+    push_inherited_steps, push_inherited_tags,
 };
 use crate::outline::{case_name, is_outline};
 use crate::select_fault::SelectFault;
 use gk_gherkin::{Examples, Feature, Row, Rule, Scenario};
 use std::alloc::{AllocError, Global};
+use std::mem::replace;
 
 fn plain_case(
     alloc: Global,
     inherited: &Inherited<'_>,
-    scenario: &Scenario,
+    scenario: Scenario,
 ) -> Result<Case, AllocError>
-    ensures { IfOk result (λ c. case_value c ≡ spec.plain_case (inherited_value inherited.now) (scenario_value scenario.now)) }
+    ensures { IfOk result (λ c. case_value c ≡ spec.plain_case (inherited_value inherited.now) (scenario_value scenario)) }
 {
+    let Scenario {
+        keyword,
+        name,
+        line,
+        tags: own_tags,
+        steps,
+        examples: _,
+    } = scenario;
     let mut tags = Vec::new(alloc);
     push_inherited_tags(alloc, &mut tags, inherited)?;
-    push_texts(alloc, &mut tags, &scenario.tags)?;
-    let mut own_tags = Vec::new(alloc);
-    push_texts(alloc, &mut own_tags, &scenario.tags)?;
-    let mut steps = Vec::new(alloc);
-    push_inherited_steps(alloc, &mut steps, inherited)?;
-    push_steps(alloc, &mut steps, &scenario.steps)?;
+    push_texts(alloc, &mut tags, &own_tags)?;
     Ok(Case {
-        name: String::from_str(alloc, scenario.name.as_str())?,
-        keyword: String::from_str(alloc, scenario.keyword.as_str())?,
-        line: scenario.line,
+        name,
+        keyword,
+        line,
         tags,
         own_tags,
-        steps,
+        steps: after_inherited_steps(alloc, inherited, steps)?,
     })
 }
 
@@ -138,13 +143,13 @@ fn push_scenario_cases(
     alloc: Global,
     cases: &mut Vec<Case>,
     inherited: &Inherited<'_>,
-    scenario: &Scenario,
+    scenario: Scenario,
 ) -> Result<(), AllocError>
-    requires { AllByRecursion AllFit (map examples_value scenario.now.examples.items) }
-    ensures { Appends case_value result cases.old.items cases.new.items (spec.scenario_cases (inherited_value inherited.now) (scenario_value scenario.now)) }
+    requires { AllByRecursion AllFit (map examples_value scenario.examples.items) }
+    ensures { Appends case_value result cases.old.items cases.new.items (spec.scenario_cases (inherited_value inherited.now) (scenario_value scenario)) }
 {
-    if is_outline(scenario) {
-        push_outline_cases(alloc, cases, inherited, scenario, &scenario.examples)
+    if is_outline(&scenario) {
+        push_outline_cases(alloc, cases, inherited, &scenario, &scenario.examples)
     } else {
         cases.push(plain_case(alloc, inherited, scenario)?)?;
         Ok(())
@@ -155,10 +160,10 @@ fn push_scenarios_cases(
     alloc: Global,
     cases: &mut Vec<Case>,
     inherited: &Inherited<'_>,
-    scenarios: &[Scenario],
+    scenarios: Vec<Scenario>,
 ) -> Result<(), AllocError>
-    requires { RowsFit (map scenario_value scenarios.now) }
-    ensures { Appends case_value result cases.old.items cases.new.items (cases_of_scenarios inherited.now scenarios.now) }
+    requires { RowsFit (map scenario_value scenarios.items) }
+    ensures { Appends case_value result cases.old.items cases.new.items (cases_of_scenarios inherited.now scenarios.items) }
 {
     for scenario in scenarios {
         push_scenario_cases(alloc, cases, inherited, scenario)?;
@@ -170,23 +175,25 @@ fn push_rule_cases(
     alloc: Global,
     cases: &mut Vec<Case>,
     feature: &Feature,
-    rule: &Rule,
+    rule: Rule,
 ) -> Result<(), AllocError>
-    requires { RowsFit (map scenario_value rule.now.scenarios.items) }
-    ensures { Appends case_value result cases.old.items cases.new.items (spec.rule_cases (feature_value feature.now) (rule_value rule.now)) }
+    requires { RowsFit (map scenario_value rule.scenarios.items) }
+    ensures { Appends case_value result cases.old.items cases.new.items (spec.rule_cases (feature_value feature.now) (rule_value rule)) }
 {
-    let inherited = inherited_in_rule(feature, rule);
-    push_scenarios_cases(alloc, cases, &inherited, &rule.scenarios)
+    let mut rule = rule;
+    let scenarios = replace(&mut rule.scenarios, Vec::new(alloc));
+    let inherited = inherited_in_rule(feature, &rule);
+    push_scenarios_cases(alloc, cases, &inherited, scenarios)
 }
 
 fn push_rules_cases(
     alloc: Global,
     cases: &mut Vec<Case>,
     feature: &Feature,
-    rules: &[Rule],
+    rules: Vec<Rule>,
 ) -> Result<(), AllocError>
-    requires { AllByRecursion (λ r. RowsFit r.scenarios) (map rule_value rules.now) }
-    ensures { Appends case_value result cases.old.items cases.new.items (cases_of_rules feature.now rules.now) }
+    requires { AllByRecursion (λ r. RowsFit r.scenarios) (map rule_value rules.items) }
+    ensures { Appends case_value result cases.old.items cases.new.items (cases_of_rules feature.now rules.items) }
 {
     for rule in rules {
         push_rule_cases(alloc, cases, feature, rule)?;
@@ -195,14 +202,17 @@ fn push_rules_cases(
 }
 
 #[tactic(auto, unfolding(crate::specs::Expansion::cases))]
-fn all_cases(alloc: Global, feature: &Feature) -> Result<Vec<Case>, AllocError>
-    requires { IsExpandable (feature_value feature.now) }
-    ensures { IfOk result (λ v. map case_value v.items ≡ cases (feature_value feature.now)) }
+fn all_cases(alloc: Global, feature: Feature) -> Result<Vec<Case>, AllocError>
+    requires { IsExpandable (feature_value feature) }
+    ensures { IfOk result (λ v. map case_value v.items ≡ cases (feature_value feature)) }
 {
+    let mut feature = feature;
+    let scenarios = replace(&mut feature.scenarios, Vec::new(alloc));
+    let rules = replace(&mut feature.rules, Vec::new(alloc));
     let mut cases = Vec::new(alloc);
-    let inherited = inherited_in_feature(feature);
-    push_scenarios_cases(alloc, &mut cases, &inherited, &feature.scenarios)?;
-    push_rules_cases(alloc, &mut cases, feature, &feature.rules)?;
+    let inherited = inherited_in_feature(&feature);
+    push_scenarios_cases(alloc, &mut cases, &inherited, scenarios)?;
+    push_rules_cases(alloc, &mut cases, &feature, rules)?;
     Ok(cases)
 }
 
@@ -214,18 +224,18 @@ fn all_cases(alloc: Global, feature: &Feature) -> Result<Vec<Case>, AllocError>
 ///
 /// `TooMany` comes exactly where the cases have more steps than `STEP_LIMIT`; they are counted before
 /// anything is built. `Memory` comes only where a growth was refused, and never in place of `TooMany`.
-/// A refusal answers no cases, and leaves the feature as it was. (Cucumber's Gherkin reference:
-/// scenario outline, background, tag inheritance; this project's profile)
-pub fn expand(alloc: Global, feature: &Feature) -> Result<Vec<Case>, SelectFault>
-    requires { IsExpandable (feature_value feature.now) }
+/// A refusal answers no cases. A plain scenario's texts are moved into its case. (Cucumber's Gherkin
+/// reference: scenario outline, background, tag inheritance; this project's profile)
+pub fn expand(alloc: Global, feature: Feature) -> Result<Vec<Case>, SelectFault>
+    requires { IsExpandable (feature_value feature) }
     // What is answered is the feature's cases.
-    ensures ok { IfOk result (λ v. map case_value v.items ≡ cases (feature_value feature.now)) }
+    ensures ok { IfOk result (λ v. map case_value v.items ≡ cases (feature_value feature)) }
     // More steps than the limit are refused.
-    ensures too_many { HasTooManySteps (feature_value feature.now) → result ≡ Err TooMany }
+    ensures too_many { HasTooManySteps (feature_value feature) → result ≡ Err TooMany }
     // Which fault it is.
-    ensures fault { IfErr result (λ e. MatchBool (nat_lt step_limit (step_count (feature_value feature.now))) (e ≡ TooMany) (e ≡ Memory)) }
+    ensures fault { IfErr result (λ e. MatchBool (nat_lt step_limit (step_count (feature_value feature))) (e ≡ TooMany) (e ≡ Memory)) }
 {
-    if !has_room(feature) {
+    if !has_room(&feature) {
         return Err(SelectFault::TooMany);
     }
     Ok(all_cases(alloc, feature)?)

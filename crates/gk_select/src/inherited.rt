@@ -1,5 +1,5 @@
 //! What the scenarios of a feature or of a rule have in common.
-ghost use Rattle.std.specs.Prelude.{◌≡◌, map, option_map};
+ghost use Rattle.std.specs.Prelude.{◌≡◌, ◌++◌, map, option_map, IfOk};
 ghost use Rattle.std.specs.String.{string_bytes};
 ghost use Rattle.gk_gherkin.specs.Feature.{background_value, step_value, feature_value, rule_value};
 ghost use Rattle.gk_select.specs.Copies.{Appends};
@@ -74,4 +74,22 @@ pub fn push_inherited_steps(
 {
     push_steps(alloc, steps, inherited.feature_steps)?;
     push_steps(alloc, steps, inherited.rule_steps)
+}
+
+/// Own steps after copies of the inherited ones.
+pub fn after_inherited_steps(
+    alloc: Global,
+    inherited: &Inherited<'_>,
+    own: Vec<Step>,
+) -> Result<Vec<Step>, AllocError>
+    ensures { IfOk result (λ steps. map step_value steps.items ≡ (inherited_value inherited.now).steps ++ map step_value own.items) }
+{
+    if inherited.feature_steps.is_empty() && inherited.rule_steps.is_empty() {
+        return Ok(own);
+    }
+    let mut own = own;
+    let mut steps = Vec::new(alloc);
+    push_inherited_steps(alloc, &mut steps, inherited)?;
+    steps.append(&mut own)?;
+    Ok(steps)
 }

@@ -112,7 +112,7 @@ fn expands_an_outline(rt: HostRuntime) -> Result<(), Fail> {
         scenarios,
         rules: Vec::new(alloc),
     };
-    let cases = expand(alloc, &feature)?;
+    let cases = expand(alloc, feature)?;
     match cases.as_slice() {
         [case] => {
             assert_eq!(rt; case.name.as_str(), "s <b> -- @1.1 more");
@@ -165,7 +165,7 @@ fn backgrounds_come_first(rt: HostRuntime) -> Result<(), Fail> {
         scenarios: Vec::new(alloc),
         rules,
     };
-    let cases = expand(alloc, &feature)?;
+    let cases = expand(alloc, feature)?;
     match cases.as_slice() {
         [case] => {
             assert_eq!(rt; case.line, 7);

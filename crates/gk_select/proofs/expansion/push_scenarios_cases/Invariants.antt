@@ -1,4 +1,5 @@
-use Rattle.std.proofs.Common.{◌≡◌, ◌++◌, map, flat_map, drop}
+use Rattle.std.proofs.Common.{◌≡◌, ◌++◌, map, flat_map}
+use Rattle.std.specs.Vec.Iter.{into_iter_items}
 use Rattle.gk_gherkin.specs.Feature.{scenario_value}
 use Rattle.gk_select.specs.Case.{case_value}
 use Rattle.gk_select.specs.Expansion.{scenario_cases, RowsFit}
@@ -7,7 +8,7 @@ use Rattle.gk_select.proofs.expansion.push_scenarios_cases.Given as goal
 
 abbrev pub invariant-loop-scenario : goal.invariant-loop-scenario
 invariant-loop-scenario l = record {
-  fit : RowsFit (map scenario_value (drop l.scenario-index l.scenarios));
-  built : map case_value l.cases.items ++ flat_map (scenario_cases (inherited_value l.inherited)) (map scenario_value (drop l.scenario-index l.scenarios))
-      ≡ map case_value l.fn.cases.items ++ flat_map (scenario_cases (inherited_value l.inherited)) (map scenario_value l.scenarios);
+  fit : RowsFit (map scenario_value (into_iter_items l.scenario-iterator));
+  built : map case_value l.cases.items ++ flat_map (scenario_cases (inherited_value l.inherited)) (map scenario_value (into_iter_items l.scenario-iterator))
+      ≡ map case_value l.fn.cases.items ++ flat_map (scenario_cases (inherited_value l.inherited)) (map scenario_value l.fn.scenarios.items);
 }
