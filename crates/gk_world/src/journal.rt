@@ -1,6 +1,6 @@
 //! A journal of changes.
 ghost use Rattle.std.specs.Prelude.{◌≡◌, ℕ, ◌+◌, ◌<◌, ◌≤◌, List, [], ◌∷◌, ◌++◌, length, drop, take, IfOk, IfErr, ◌⊎◌, OnOk, OnErr, vec_len};
-ghost use Rattle.gk_world.specs.Journal.{rewound, FitAll};
+ghost use Rattle.gk_world.specs.Journal.{rewound, FitAll, RewindsTheSame, StaysFit};
 
 use crate::reversible::Reversible;
 use crate::world_fault::WorldFault;
@@ -42,8 +42,8 @@ impl<T: Reversible> Journal<T> {
     pub fn change(&mut self, on: &mut T, change: T::Change) -> Result<(), WorldFault>
         requires { T.can_apply change }
         ensures recorded { OnOk result ((u : T.Undo) × (self.new ≡ self.old ++ u ∷ []) × T.fits u (T.slots on.new) × (T.undone u (T.slots on.new) ≡ T.slots on.old)) }
-        ensures same { OnOk result ((m : ℕ) → m ≤ length self.old → rewound T.undone (drop m self.new) (T.slots on.new) ≡ rewound T.undone (drop m self.old) (T.slots on.old)) }
-        ensures fit { OnOk result ((m : ℕ) → m ≤ length self.old → FitAll T.undone T.fits (drop m self.old) (T.slots on.old) → FitAll T.undone T.fits (drop m self.new) (T.slots on.new)) }
+        ensures same { OnOk result (RewindsTheSame T.undone self.old (T.slots on.old) self.new (T.slots on.new)) }
+        ensures fit { OnOk result (StaysFit T.undone T.fits self.old (T.slots on.old) self.new (T.slots on.new)) }
         ensures done { OnOk result (T.stepped change (T.slots on.old) (T.slots on.new)) }
         ensures refused { IfErr result (λ e. (e ≡ WorldFault.Memory) ⊎ T.refuses change (T.slots on.old) e) }
         ensures err { OnErr result ((self.new ≡ self.old) × (T.slots on.new ≡ T.slots on.old)) }

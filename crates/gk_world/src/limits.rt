@@ -1,5 +1,5 @@
 //! Which names and texts there may be.
-ghost use Rattle.std.specs.Prelude.{◌≡◌, ◌++◌, IfOk, MatchOption, None, string_bytes};
+ghost use Rattle.std.specs.Prelude.{◌≡◌, ◌++◌, IfOk, None, string_bytes};
 ghost use Rattle.gk_world.specs.Refusals as refusals;
 
 use crate::world_fault::WorldFault;
@@ -27,7 +27,7 @@ pub fn is_too_long(text: &str, more: &str) -> bool
 
 /// Why a name can't have a text put, if there is a reason.
 pub fn put_refusal(name: &str, text: &str) -> Option<WorldFault>
-    ensures { let refusal = refusals.put_refusal name.now text.now in MatchOption result (refusal ≡ None) (refusals.IsFault refusal) }
+    ensures { refusals.IsReason (refusals.put_refusal name.now text.now) result }
 {
     if is_bad_name(name) {
         return Some(WorldFault::BadName);

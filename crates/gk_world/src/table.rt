@@ -1,5 +1,5 @@
 //! A table of texts by name, as of files or of variables.
-ghost use Rattle.std.specs.Prelude.{◌≡◌, ℕ, List, [], ◌++◌, IfOk, IfErr, OnOk, OnErr, MatchOption, None, Some, option_copied};
+ghost use Rattle.std.specs.Prelude.{◌≡◌, ℕ, List, [], ◌++◌, IfOk, IfErr, OnOk, OnErr, None, Some, option_copied};
 ghost use Rattle.std.specs.FinMap as finite;
 ghost use Rattle.gk_world.specs.Slots.{map_at};
 ghost use Rattle.gk_world.specs.Listing.{Lists};
@@ -63,7 +63,7 @@ impl Table {
 
     /// Why the text of a name can't have more at its end, if there is a reason.
     pub fn append_refusal(&self, name: &str, more: &str) -> Option<WorldFault>
-        ensures { let refusal = refusals.append_refusal (finite.get (map_at 0 self.now)) name.now more.now in MatchOption result (refusal ≡ None) (refusals.IsFault refusal) }
+        ensures { refusals.IsReason (refusals.append_refusal (finite.get (map_at 0 self.now)) name.now more.now) result }
     {
         if is_bad_name(name) {
             return Some(WorldFault::BadName);
@@ -79,7 +79,7 @@ impl Table {
 
     /// Why a name can't be removed, if there is a reason.
     pub fn remove_refusal(&self, name: &str) -> Option<WorldFault>
-        ensures { let refusal = refusals.remove_refusal (finite.get (map_at 0 self.now)) name.now in MatchOption result (refusal ≡ None) (refusals.IsFault refusal) }
+        ensures { refusals.IsReason (refusals.remove_refusal (finite.get (map_at 0 self.now)) name.now) result }
     {
         if is_bad_name(name) {
             return Some(WorldFault::BadName);

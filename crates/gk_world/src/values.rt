@@ -1,5 +1,5 @@
 //! Values by name, in layers.
-ghost use Rattle.std.specs.Prelude.{◌≡◌, ℕ, ◌≤◌, List, [], IfOk, IfErr, OnOk, OnErr, MatchOption, None, Some, option_copied};
+ghost use Rattle.std.specs.Prelude.{◌≡◌, ℕ, ◌≤◌, List, [], IfOk, IfErr, OnOk, OnErr, None, Some, option_copied};
 ghost use Rattle.std.specs.FinMap as finite;
 ghost use Rattle.gk_world.specs.State.{see};
 ghost use Rattle.gk_world.specs.Listing.{Lists};
@@ -68,7 +68,7 @@ impl Values {
     /// Why a name can't be deleted in the innermost of so many layers, if there is a reason.
     pub fn delete_refusal(&self, layers: usize, name: &str) -> Option<WorldFault>
         requires { IsLayer layers }
-        ensures { let refusal = refusals.delete_refusal (state_at layers self.now) name.now in MatchOption result (refusal ≡ None) (refusals.IsFault refusal) }
+        ensures { refusals.IsReason (refusals.delete_refusal (state_at layers self.now) name.now) result }
     {
         if is_bad_name(name) {
             return Some(WorldFault::BadName);
