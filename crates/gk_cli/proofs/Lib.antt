@@ -4,3 +4,6 @@ pub mod ArgumentsLemmas
 pub mod WorkedArguments
 pub mod InputsLemmas
 pub mod FeaturesLemmas
+pub mod WorkedRun
+pub mod WorkedLongRun
+pub mod WorkedRefusedMemory

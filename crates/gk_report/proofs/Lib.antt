@@ -1,2 +1,3 @@
 pub mod SummaryLemmas
 pub mod PushLemmas
+pub mod WorkedReports

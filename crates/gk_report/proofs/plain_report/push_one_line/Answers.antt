@@ -1,4 +1,4 @@
-use Rattle.std.proofs.Common.{◌++◌, ◌∷◌, [], List, ℕ, rules, ap, sym, refl, ◌∙◌, arith, codes}
+use Rattle.std.proofs.Common.{◌++◌, ◌∷◌, [], List, ℕ, rules, ap, sym, ◌∙◌, arith}
 use Rattle.std.specs.String.{string_bytes}
 use Rattle.gk_report.specs.ReportTexts.{one_line}
 use Rattle.gk_report.proofs.PushLemmas.{cut, uncut, pushed, one_line_to, one_line_end, one_line_feed}

@@ -1,0 +1,685 @@
+-- Whole runs by computation: from the bytes of a feature file to the report's bytes and the status.
+use Rattle.std.specs.Prelude.{◌≡◌, ◌≢◌, ℕ, Bool, not, List, [], ◌∷◌, slice_index, filter, Some, None, codes}
+use Rattle.std.specs.Io.KnownBytes.{Appends}
+use Rattle.std.specs.Fmt.{digits}
+use Rattle.std.specs.FinMap.{get-empty}
+use Rattle.std.specs.Str.{chars, is_utf8}
+use lib.Utf8
+use Rattle.std.proofs.Common.{refl, ap, sym, subst, ◌∙◌, arith}
+use Rattle.std.proofs.Math.Path.{fun_ext}
+use Rattle.std.proofs.lemmas.Str.{IsUtf8-from_is_utf8}
+use Rattle.gk_gherkin.specs.declared.feature.StepType.TheVariants.{Given, When, Then}
+use Rattle.gk_gherkin.specs.Lines.{LineValue, Lines, line_at, lines_of, IsText}
+use Rattle.gk_gherkin.specs.Class.{class, class_of, class_of_words, heading_keyword, heading_name, step_keyword, step_text}
+use Rattle.gk_gherkin.specs.Language.{language_of}
+use Rattle.gk_gherkin.specs.StepTypes.{type_after}
+use Rattle.gk_gherkin.specs.Feature.{Empty, StepValue, ScenarioValue, FeatureValue}
+use Rattle.gk_gherkin.specs.Grammar.{skip_none, skip, none, more, untagged, described, IsStep, IsScenario, Reads}
+use Rattle.gk_select.specs.Case.{CaseValue}
+use Rattle.gk_select.specs.Expansion.{cases}
+use Rattle.gk_select.specs.Choice.{is_chosen}
+use Rattle.gk_steps.specs.declared.action.Action.TheVariants as actions
+use Rattle.gk_steps.specs.declared.pattern.FieldKind.TheVariants as kinds
+use Rattle.gk_steps.specs.Pattern.{Literal, FieldPiece}
+use Rattle.gk_steps.specs.Matching.{match_of}
+use Rattle.gk_steps.specs.Action.{action_row, plain_row, text_row}
+use Rattle.gk_steps.specs.Finding.{EntryValue, found}
+use Rattle.gk_steps.specs.LibraryFile.{is_ignored, type_of, sides_of, last_arrow, SpellsEntry, SpellEntries, ReadsLibrary}
+use Rattle.gk_steps.specs.DefaultFile.{default_entries}
+use Rattle.gk_world.specs.Contents.{nothing_yet}
+use Rattle.gk_world.specs.State.{State, Map, nothing}
+use Rattle.gk_run.specs.declared.results.Status.TheVariants as statuses
+use Rattle.gk_run.specs.declared.results.Reason.TheVariants as reasons
+use Rattle.gk_run.specs.Acting.{act}
+use Rattle.gk_run.specs.Results.{FeatureRow, Results}
+use Rattle.gk_run.specs.Alone.{Run}
+use Rattle.gk_run.specs.Chosen.{ChosenValue}
+use Rattle.gk_run.specs.Judged.{Cuts, uncut, features_of, results_of, plain_results}
+use Rattle.gk_report.specs.ReportTexts.{status_text, reason_text, one_line}
+use Rattle.gk_report.specs.Summary.{status}
+use Rattle.gk_report.specs.PlainReport.{status_line, step_line, case_line, feature_line, counted, count_line, closing_lines, report}
+use Rattle.gk_cli.specs.Source.{SourceValue}
+use Rattle.gk_cli.specs.Inputs.{Request, Inputs, AreRead, AreInputs, IsLibrary, HasRoom, chosen_of}
+use Rattle.gk_cli.specs.Suite.{Device, Plain, InputsAreUnique, run_with}
+
+-- What a run of a request writes and answers, where its inputs, their results, and the report and the status of these are known.
+pub ends_so : (r : Request) (inputs : Inputs) (results : Results) (text : List ℕ) (number : ℕ) → AreInputs r inputs → plain_results (run_with inputs) nothing_yet inputs.features ≡ results → report results ≡ text → status results ≡ number →
+    InputsAreUnique → (old new : Device) (answer : ℕ) → Plain r nothing_yet old new answer → answer ≢ 4 → Appends old.bytes new.bytes text × (answer ≡ number)
+ends_so r inputs results text number read is_plain reports ends unique old new answer plain not_memory =
+    let p = plain not_memory in
+    let same : p.inputs ≡ inputs = unique r p.inputs inputs p.read read in
+    let are : plain_results (run_with p.inputs) nothing_yet p.inputs.features ≡ results = ap (λ (i : Inputs). plain_results (run_with i) nothing_yet i.features) same ∙ is_plain in
+    (subst (λ (bytes : List ℕ). Appends old.bytes new.bytes bytes) (ap report are ∙ reports) p.reported.written, p.reported.answered ∙ ap status are ∙ ends)
+
+-- The state of a new sandbox: no file, no variable, no value.
+abbrev pub bare_state : State
+bare_state = record { files = nothing; env = nothing; outer = nothing; own = nothing }
+
+-- The results of a run from that state, where memory was refused at these cuts.
+abbrev pub results_from_bare : Run → Cuts → List ChosenValue → Results
+results_from_bare run cuts features = record { features = features_of run bare_state cuts.features features }
+
+-- The results of a run of a new sandbox are those from that state.
+pub same_from_bare : (run : Run) (cuts : Cuts) (features : List ChosenValue) → results_of run nothing_yet cuts features ≡ results_from_bare run cuts features
+same_from_bare run cuts features =
+    ap (λ (m : Map). let section : State = record { files = m; env = m; outer = nothing; own = nothing } in let results : Results = record { features = features_of run section cuts.features features } in results) (fun_ext (get-empty _))
+
+-- A feature with one scenario and one step.
+abbrev pub one_bytes : List ℕ
+one_bytes = codes "Feature: one\n  Scenario: first\n    Given it passes\n"
+
+-- A library with one entry.
+abbrev pub pass_bytes : List ℕ
+pass_bytes = codes "step it passes => pass\n"
+
+-- The file with its name.
+abbrev pub one_source : SourceValue
+one_source = record { name = codes "one.feature"; bytes = one_bytes }
+
+-- What is asked for: all scenarios of that feature.
+abbrev pub one_request : Request
+one_request = record { tags = []; lines = []; library = Some pass_bytes; sources = one_source ∷ [] }
+
+-- What the feature file says.
+abbrev pub one_step : StepValue
+one_step = record { keyword = codes "Given"; step_type = Given; text = codes "it passes"; block = Empty; line = 3 }
+
+-- Its scenario.
+abbrev pub one_scenario : ScenarioValue
+one_scenario = record { keyword = codes "Scenario"; name = codes "first"; line = 2; tags = []; steps = one_step ∷ []; examples = [] }
+
+-- Its feature.
+abbrev pub one_feature : FeatureValue
+one_feature = record { name = codes "one"; line = 1; tags = []; background = None; scenarios = one_scenario ∷ []; rules = [] }
+
+-- Its lines.
+abbrev one_line_1 : LineValue
+one_line_1 = line_at 1 (codes "Feature: one")
+
+abbrev one_line_2 : LineValue
+one_line_2 = line_at 2 (codes "  Scenario: first")
+
+abbrev one_line_3 : LineValue
+one_line_3 = line_at 3 (codes "    Given it passes")
+
+-- These are the lines of its bytes.
+one_lines : lines_of one_bytes ≡ one_line_1 ∷ one_line_2 ∷ one_line_3 ∷ []
+one_lines = refl
+
+-- The last line spells the step.
+one_step_reads : IsStep (one_line_3 ∷ []) one_step []
+unfolding class class_of class_of_words step_keyword step_text
+one_step_reads = record { after_line = []; line = record { line = one_line_3; next = skip_none; is = refl; keyword = refl; text = refl; number = refl }; block = refl }
+
+-- The last two lines spell the scenario.
+one_scenario_reads : IsScenario (one_line_2 ∷ one_line_3 ∷ []) one_scenario []
+unfolding class class_of class_of_words heading_keyword heading_name type_after
+one_scenario_reads = record {
+  line = one_line_2;
+  after_heading = one_line_3 ∷ [];
+  after_description = one_line_3 ∷ [];
+  after_steps = [];
+  heading = record { after_tags = one_line_2 ∷ one_line_3 ∷ []; above = untagged; heading = record { next = skip_none; is = refl } };
+  keyword = refl;
+  name = refl;
+  number = refl;
+  description = described;
+  steps = record { parts = more one_step_reads none; types = (refl, tt) };
+  examples = none;
+}
+
+-- All lines spell the feature.
+one_reads : Reads (lines_of one_bytes) (Some one_feature)
+unfolding class class_of class_of_words heading_keyword heading_name
+one_reads = subst (λ (ls : Lines). Reads ls (Some one_feature)) (sym one_lines) (
+  [],
+  record {
+    line = one_line_1;
+    after_heading = one_line_2 ∷ one_line_3 ∷ [];
+    after_description = one_line_2 ∷ one_line_3 ∷ [];
+    after_background = one_line_2 ∷ one_line_3 ∷ [];
+    after_scenarios = [];
+    heading = record { after_tags = one_line_1 ∷ one_line_2 ∷ one_line_3 ∷ []; above = untagged; heading = record { next = skip_none; is = refl } };
+    name = refl;
+    number = refl;
+    description = described;
+    background = refl;
+    scenarios = more one_scenario_reads none;
+    rules = none;
+  },
+  skip_none,
+)
+
+-- The bytes are a text.
+one_is_text : IsText one_bytes
+unfolding is_utf8 chars lib.Utf8.encode
+one_is_text = (omega arith, IsUtf8-from_is_utf8 one_bytes refl)
+
+-- What the library file says.
+abbrev pub pass_entry : EntryValue
+pass_entry = record { step_type = None; pattern = Literal (codes "it passes") ∷ []; action = actions.Pass }
+
+-- Its line.
+abbrev pass_line : LineValue
+pass_line = line_at 1 (codes "step it passes => pass")
+
+-- No line of it is ignored.
+pass_lines : filter (λ line. not (is_ignored line)) (lines_of pass_bytes) ≡ pass_line ∷ []
+pass_lines = refl
+
+-- The line spells the entry.
+pass_spells : SpellsEntry [] pass_line pass_entry
+unfolding type_of sides_of last_arrow action_row
+pass_spells = record {
+  sides = record { pattern = codes "it passes"; action = codes "pass" };
+  row = plain_row (codes "pass") actions.Pass [];
+  is_type = refl;
+  is_cut = refl;
+  is_pattern = record { spelled = refl; names = tt; distinct = tt; runs = (omega arith, tt); some = omega arith };
+  is_action = refl;
+  action = refl;
+  needs = tt;
+  kinds = tt;
+  unambiguous = tt;
+}
+
+-- The lines of its bytes spell the one entry.
+pass_reads : ReadsLibrary (lines_of pass_bytes) (pass_entry ∷ [])
+pass_reads = subst (λ (ls : Lines). SpellEntries [] ls (pass_entry ∷ [])) (sym pass_lines) (pass_spells, tt)
+
+-- Its bytes are a text.
+pass_is_text : IsText pass_bytes
+unfolding is_utf8 chars lib.Utf8.encode
+pass_is_text = (omega arith, IsUtf8-from_is_utf8 pass_bytes refl)
+
+-- What is asked for, as it reads.
+abbrev pub one_inputs : Inputs
+one_inputs = record { library = pass_entry ∷ []; features = chosen_of (is_chosen [] []) (codes "one.feature") one_feature ∷ [] }
+
+-- It has no more steps than the limit.
+one_has_room : HasRoom (Some one_feature)
+unfolding cases
+one_has_room = omega arith
+
+-- What is asked for reads as these inputs.
+pub one_inputs_read : AreInputs one_request one_inputs
+one_inputs_read = record {
+  rules = [];
+  tags = refl;
+  library = (pass_is_text, pass_reads);
+  features = (Some one_feature, [], one_is_text, one_reads, one_has_room, refl, refl);
+}
+
+-- The results that plain maps give.
+abbrev pub one_results : Results
+one_results = record {
+  features = record {
+    source = codes "one.feature";
+    name = codes "one";
+    line = 1;
+    status = statuses.Passed;
+    cases = record {
+      keyword = codes "Scenario";
+      name = codes "first";
+      line = 2;
+      status = statuses.Passed;
+      steps = record { keyword = codes "Given"; text = codes "it passes"; line = 3; status = statuses.Passed; reason = None } ∷ [];
+    } ∷ [];
+  } ∷ [];
+}
+
+-- They are those of the inputs.
+one_is_plain : plain_results (run_with one_inputs) nothing_yet one_inputs.features ≡ one_results
+unfolding cases is_chosen found match_of act
+one_is_plain = refl
+
+-- Their report and their status.
+abbrev pub one_report : List ℕ
+one_report = codes "Feature: one ... passed\n  Scenario: first ... passed\n    Given it passes ... passed\n\n1 feature passed, 0 failed, 0 skipped\n1 scenario passed, 0 failed, 0 skipped\n1 step passed, 0 failed, 0 skipped, 0 undefined\n"
+
+-- The results have that report.
+pub one_reports : report one_results ≡ one_report
+unfolding digits status_text reason_text one_line status_line step_line case_line feature_line counted count_line closing_lines
+one_reports = refl
+
+-- The results have that status.
+pub one_status : status one_results ≡ 0
+one_status = refl
+
+-- A run of that request that doesn't end with 4 writes that report and ends with 0.
+pub one_run : InputsAreUnique → (old new : Device) (answer : ℕ) → Plain one_request nothing_yet old new answer → answer ≢ 4 → Appends old.bytes new.bytes one_report × (answer ≡ 0)
+one_run = ends_so one_request one_inputs one_results one_report 0 one_inputs_read one_is_plain one_reports one_status
+
+-- A feature with two scenarios, the second of which asks for what the first has set.
+abbrev pub two_bytes : List ℕ
+two_bytes = codes "Feature: two\n  Scenario: A\n    When the variable \"X\" is set to \"1\"\n  Scenario: B\n    Then the variable \"X\" should be \"1\"\n"
+
+-- A library with an entry for each of its steps.
+abbrev pub variable_bytes : List ℕ
+variable_bytes = codes "when the variable \"{name}\" is set to \"{text}\" => set_env\nthen the variable \"{name}\" should be \"{text}\" => env_is\n"
+
+-- The file with its name.
+abbrev pub two_source : SourceValue
+two_source = record { name = codes "two.feature"; bytes = two_bytes }
+
+-- What is asked for: all scenarios of that feature.
+abbrev pub two_request : Request
+two_request = record { tags = []; lines = []; library = Some variable_bytes; sources = two_source ∷ [] }
+
+-- What the feature file says.
+abbrev pub set_step : StepValue
+set_step = record { keyword = codes "When"; step_type = When; text = codes "the variable \"X\" is set to \"1\""; block = Empty; line = 3 }
+
+-- The second step.
+abbrev pub ask_step : StepValue
+ask_step = record { keyword = codes "Then"; step_type = Then; text = codes "the variable \"X\" should be \"1\""; block = Empty; line = 5 }
+
+-- The scenario that sets.
+abbrev pub scenario_A : ScenarioValue
+scenario_A = record { keyword = codes "Scenario"; name = codes "A"; line = 2; tags = []; steps = set_step ∷ []; examples = [] }
+
+-- The scenario that asks.
+abbrev pub scenario_B : ScenarioValue
+scenario_B = record { keyword = codes "Scenario"; name = codes "B"; line = 4; tags = []; steps = ask_step ∷ []; examples = [] }
+
+-- The feature.
+abbrev pub two_feature : FeatureValue
+two_feature = record { name = codes "two"; line = 1; tags = []; background = None; scenarios = scenario_A ∷ scenario_B ∷ []; rules = [] }
+
+-- Its lines.
+abbrev two_line_1 : LineValue
+two_line_1 = line_at 1 (codes "Feature: two")
+
+abbrev two_line_2 : LineValue
+two_line_2 = line_at 2 (codes "  Scenario: A")
+
+abbrev two_line_3 : LineValue
+two_line_3 = line_at 3 (codes "    When the variable \"X\" is set to \"1\"")
+
+abbrev two_line_4 : LineValue
+two_line_4 = line_at 4 (codes "  Scenario: B")
+
+abbrev two_line_5 : LineValue
+two_line_5 = line_at 5 (codes "    Then the variable \"X\" should be \"1\"")
+
+-- The lines from each of them on.
+abbrev two_from_5 : Lines
+two_from_5 = two_line_5 ∷ []
+
+abbrev two_from_4 : Lines
+two_from_4 = two_line_4 ∷ two_from_5
+
+abbrev two_from_3 : Lines
+two_from_3 = two_line_3 ∷ two_from_4
+
+abbrev two_from_2 : Lines
+two_from_2 = two_line_2 ∷ two_from_3
+
+-- These are the lines of its bytes.
+two_lines : lines_of two_bytes ≡ two_line_1 ∷ two_from_2
+two_lines = refl
+
+-- The third line spells the step that sets.
+set_step_reads : IsStep two_from_3 set_step two_from_4
+unfolding class class_of class_of_words step_keyword step_text
+set_step_reads = record { after_line = two_from_4; line = record { line = two_line_3; next = skip_none; is = refl; keyword = refl; text = refl; number = refl }; block = refl }
+
+-- The fifth line spells the step that asks.
+ask_step_reads : IsStep two_from_5 ask_step []
+unfolding class class_of class_of_words step_keyword step_text
+ask_step_reads = record { after_line = []; line = record { line = two_line_5; next = skip_none; is = refl; keyword = refl; text = refl; number = refl }; block = refl }
+
+-- The second line and the third spell the first scenario.
+scenario_A_reads : IsScenario two_from_2 scenario_A two_from_4
+unfolding class class_of class_of_words heading_keyword heading_name type_after
+scenario_A_reads = record {
+  line = two_line_2;
+  after_heading = two_from_3;
+  after_description = two_from_3;
+  after_steps = two_from_4;
+  heading = record { after_tags = two_from_2; above = untagged; heading = record { next = skip_none; is = refl } };
+  keyword = refl;
+  name = refl;
+  number = refl;
+  description = described;
+  steps = record { parts = more set_step_reads none; types = (refl, tt) };
+  examples = none;
+}
+
+-- The last two lines spell the second scenario.
+scenario_B_reads : IsScenario two_from_4 scenario_B []
+unfolding class class_of class_of_words heading_keyword heading_name type_after
+scenario_B_reads = record {
+  line = two_line_4;
+  after_heading = two_from_5;
+  after_description = two_from_5;
+  after_steps = [];
+  heading = record { after_tags = two_from_4; above = untagged; heading = record { next = skip_none; is = refl } };
+  keyword = refl;
+  name = refl;
+  number = refl;
+  description = described;
+  steps = record { parts = more ask_step_reads none; types = (refl, tt) };
+  examples = none;
+}
+
+-- All lines spell the feature.
+two_reads : Reads (lines_of two_bytes) (Some two_feature)
+unfolding class class_of class_of_words heading_keyword heading_name
+two_reads = subst (λ (ls : Lines). Reads ls (Some two_feature)) (sym two_lines) (
+  [],
+  record {
+    line = two_line_1;
+    after_heading = two_from_2;
+    after_description = two_from_2;
+    after_background = two_from_2;
+    after_scenarios = [];
+    heading = record { after_tags = two_line_1 ∷ two_from_2; above = untagged; heading = record { next = skip_none; is = refl } };
+    name = refl;
+    number = refl;
+    description = described;
+    background = refl;
+    scenarios = more scenario_A_reads (more scenario_B_reads none);
+    rules = none;
+  },
+  skip_none,
+)
+
+-- The bytes are a text.
+two_is_text : IsText two_bytes
+unfolding is_utf8 chars lib.Utf8.encode
+two_is_text = (omega arith, IsUtf8-from_is_utf8 two_bytes refl)
+
+-- What the library file says.
+abbrev pub set_entry : EntryValue
+set_entry = record { step_type = Some When; pattern = Literal (codes "the variable \"") ∷ FieldPiece (codes "name") kinds.Plain ∷ Literal (codes "\" is set to \"") ∷ FieldPiece (codes "text") kinds.Plain ∷ Literal (codes "\"") ∷ []; action = actions.SetEnv }
+
+-- The entry of the second line.
+abbrev pub ask_entry : EntryValue
+ask_entry = record { step_type = Some Then; pattern = Literal (codes "the variable \"") ∷ FieldPiece (codes "name") kinds.Plain ∷ Literal (codes "\" should be \"") ∷ FieldPiece (codes "text") kinds.Plain ∷ Literal (codes "\"") ∷ []; action = actions.EnvIs }
+
+-- The first line.
+abbrev set_line : LineValue
+set_line = line_at 1 (codes "when the variable \"{name}\" is set to \"{text}\" => set_env")
+
+-- The second line.
+abbrev ask_line : LineValue
+ask_line = line_at 2 (codes "then the variable \"{name}\" should be \"{text}\" => env_is")
+
+-- Neither line is ignored.
+variable_lines : filter (λ line. not (is_ignored line)) (lines_of variable_bytes) ≡ set_line ∷ ask_line ∷ []
+variable_lines = refl
+
+-- The names of the two fields differ.
+pub other_name : codes "text" ≢ codes "name"
+other_name e = let first : ◌≡◌ {A = ℕ} 116 110 = ap (λ (word : List ℕ). slice_index word 0) e in absurd (omega arith)
+
+-- The first line spells the first entry.
+set_spells : SpellsEntry [] set_line set_entry
+unfolding type_of sides_of last_arrow action_row
+set_spells = record {
+  sides = record { pattern = codes "the variable \"{name}\" is set to \"{text}\""; action = codes "set_env" };
+  row = text_row (codes "set_env") actions.SetEnv;
+  is_type = refl;
+  is_cut = refl;
+  is_pattern = record { spelled = refl; names = search; distinct = ((other_name, tt), (tt, tt)); runs = (omega arith, (omega arith, (omega arith, tt))); some = omega arith };
+  is_action = refl;
+  action = refl;
+  needs = search;
+  kinds = (λ kind e. cc, (λ kind e. cc, tt));
+  unambiguous = tt;
+}
+
+-- The second line spells the second entry, which is for steps of another type.
+ask_spells : SpellsEntry (set_entry ∷ []) ask_line ask_entry
+unfolding type_of sides_of last_arrow action_row
+ask_spells = record {
+  sides = record { pattern = codes "the variable \"{name}\" should be \"{text}\""; action = codes "env_is" };
+  row = text_row (codes "env_is") actions.EnvIs;
+  is_type = refl;
+  is_cut = refl;
+  is_pattern = record { spelled = refl; names = search; distinct = ((other_name, tt), (tt, tt)); runs = (omega arith, (omega arith, (omega arith, tt))); some = omega arith };
+  is_action = refl;
+  action = refl;
+  needs = search;
+  kinds = (λ kind e. cc, (λ kind e. cc, tt));
+  unambiguous = (λ e. let no : ⊥ = cc in absurd no, tt);
+}
+
+-- The lines of its bytes spell the two entries.
+variable_reads : ReadsLibrary (lines_of variable_bytes) (set_entry ∷ ask_entry ∷ [])
+variable_reads = subst (λ (ls : Lines). SpellEntries [] ls (set_entry ∷ ask_entry ∷ [])) (sym variable_lines) (set_spells, (ask_spells, tt))
+
+-- Its bytes are a text.
+variable_is_text : IsText variable_bytes
+unfolding is_utf8 chars lib.Utf8.encode
+variable_is_text = (omega arith, IsUtf8-from_is_utf8 variable_bytes refl)
+
+-- What is asked for, as it reads.
+abbrev pub two_inputs : Inputs
+two_inputs = record { library = set_entry ∷ ask_entry ∷ []; features = chosen_of (is_chosen [] []) (codes "two.feature") two_feature ∷ [] }
+
+-- The feature has no more steps than the limit.
+two_has_room : HasRoom (Some two_feature)
+unfolding cases
+two_has_room = omega arith
+
+-- The source reads as that feature, whichever cases are chosen.
+two_is_read : (chooses : CaseValue → Bool) → AreRead chooses (two_source ∷ []) (chosen_of chooses (codes "two.feature") two_feature ∷ [])
+two_is_read chooses = (Some two_feature, [], two_is_text, two_reads, two_has_room, refl, refl)
+
+-- What is asked for reads as these inputs.
+pub two_inputs_read : AreInputs two_request two_inputs
+two_inputs_read = record { rules = []; tags = refl; library = (variable_is_text, variable_reads); features = two_is_read (is_chosen [] []) }
+
+-- The results that plain maps give: nothing is left of the first scenario in the second.
+abbrev pub two_results : Results
+two_results = record {
+  features = record {
+    source = codes "two.feature";
+    name = codes "two";
+    line = 1;
+    status = statuses.Failed;
+    cases = record {
+      keyword = codes "Scenario";
+      name = codes "A";
+      line = 2;
+      status = statuses.Passed;
+      steps = record { keyword = codes "When"; text = codes "the variable \"X\" is set to \"1\""; line = 3; status = statuses.Passed; reason = None } ∷ [];
+    } ∷ record {
+      keyword = codes "Scenario";
+      name = codes "B";
+      line = 4;
+      status = statuses.Failed;
+      steps = record { keyword = codes "Then"; text = codes "the variable \"X\" should be \"1\""; line = 5; status = statuses.Failed; reason = Some reasons.Absent } ∷ [];
+    } ∷ [];
+  } ∷ [];
+}
+
+-- They are those of the inputs.
+two_is_plain : plain_results (run_with two_inputs) nothing_yet two_inputs.features ≡ two_results
+unfolding cases is_chosen found match_of is_utf8 chars lib.Utf8.encode act
+two_is_plain = same_from_bare (run_with two_inputs) uncut two_inputs.features ∙ refl
+
+-- Their report and their status.
+abbrev pub two_report : List ℕ
+two_report = codes "Feature: two ... failed\n  Scenario: A ... passed\n    When the variable \"X\" is set to \"1\" ... passed\n  Scenario: B ... failed\n    Then the variable \"X\" should be \"1\" ... failed: absent\n\n0 features passed, 1 failed, 0 skipped\n1 scenario passed, 1 failed, 0 skipped\n1 step passed, 1 failed, 0 skipped, 0 undefined\n"
+
+-- The results have that report.
+pub two_reports : report two_results ≡ two_report
+unfolding digits status_text reason_text one_line status_line step_line case_line feature_line counted count_line closing_lines
+two_reports = refl
+
+-- The results have that status.
+pub two_status : status two_results ≡ 1
+two_status = refl
+
+-- A run of that request that doesn't end with 4 writes that report and ends with 1.
+pub two_run : InputsAreUnique → (old new : Device) (answer : ℕ) → Plain two_request nothing_yet old new answer → answer ≢ 4 → Appends old.bytes new.bytes two_report × (answer ≡ 1)
+two_run = ends_so two_request two_inputs two_results two_report 1 two_inputs_read two_is_plain two_reports two_status
+
+-- The same feature with the default library, of which nothing is asked but that its text spells its entries.
+abbrev default_request : Request
+default_request = record two_request { library = None }
+
+-- The same features, with the entries of the default library.
+abbrev default_inputs : Inputs
+default_inputs = record two_inputs { library = default_entries }
+
+-- What is asked for reads so, where the default library's text spells its entries.
+default_inputs_read : IsLibrary None default_entries → AreInputs default_request default_inputs
+default_inputs_read spelled = record { rules = []; tags = refl; library = spelled; features = two_is_read (is_chosen [] []) }
+
+-- The results are those of the run with the library file.
+default_is_plain : plain_results (run_with default_inputs) nothing_yet default_inputs.features ≡ two_results
+unfolding cases is_chosen found match_of is_utf8 chars lib.Utf8.encode act
+default_is_plain = same_from_bare (run_with default_inputs) uncut default_inputs.features ∙ refl
+
+-- A run of that request that doesn't end with 4 writes the same report and ends with 1.
+pub default_run : IsLibrary None default_entries → InputsAreUnique → (old new : Device) (answer : ℕ) → Plain default_request nothing_yet old new answer → answer ≢ 4 → Appends old.bytes new.bytes two_report × (answer ≡ 1)
+default_run spelled = ends_so default_request default_inputs two_results two_report 1 (default_inputs_read spelled) default_is_plain two_reports two_status
+
+-- The same feature with the library file, where line 2 is chosen: the first scenario alone is run.
+abbrev line_request : Request
+line_request = record two_request { lines = 2 ∷ [] }
+
+-- What is asked for, as it reads.
+abbrev line_inputs : Inputs
+line_inputs = record two_inputs { features = chosen_of (is_chosen [] (2 ∷ [])) (codes "two.feature") two_feature ∷ [] }
+
+-- It reads so.
+line_inputs_read : AreInputs line_request line_inputs
+line_inputs_read = record { rules = []; tags = refl; library = (variable_is_text, variable_reads); features = two_is_read (is_chosen [] (2 ∷ [])) }
+
+-- The results that plain maps give: the second scenario is skipped.
+abbrev line_results : Results
+line_results = record {
+  features = record {
+    source = codes "two.feature";
+    name = codes "two";
+    line = 1;
+    status = statuses.Passed;
+    cases = record {
+      keyword = codes "Scenario";
+      name = codes "A";
+      line = 2;
+      status = statuses.Passed;
+      steps = record { keyword = codes "When"; text = codes "the variable \"X\" is set to \"1\""; line = 3; status = statuses.Passed; reason = None } ∷ [];
+    } ∷ record {
+      keyword = codes "Scenario";
+      name = codes "B";
+      line = 4;
+      status = statuses.Skipped;
+      steps = record { keyword = codes "Then"; text = codes "the variable \"X\" should be \"1\""; line = 5; status = statuses.Skipped; reason = None } ∷ [];
+    } ∷ [];
+  } ∷ [];
+}
+
+-- They are those of the inputs.
+line_is_plain : plain_results (run_with line_inputs) nothing_yet line_inputs.features ≡ line_results
+unfolding cases is_chosen found match_of is_utf8 chars lib.Utf8.encode act
+line_is_plain = same_from_bare (run_with line_inputs) uncut line_inputs.features ∙ refl
+
+-- Their report and their status.
+abbrev line_report : List ℕ
+line_report = codes "Feature: two ... passed\n  Scenario: A ... passed\n    When the variable \"X\" is set to \"1\" ... passed\n  Scenario: B ... skipped\n    Then the variable \"X\" should be \"1\" ... skipped\n\n1 feature passed, 0 failed, 0 skipped\n1 scenario passed, 0 failed, 1 skipped\n1 step passed, 0 failed, 1 skipped, 0 undefined\n"
+
+-- The results have that report.
+line_reports : report line_results ≡ line_report
+unfolding digits status_text reason_text one_line status_line step_line case_line feature_line counted count_line closing_lines
+line_reports = refl
+
+-- The results have that status.
+line_status : status line_results ≡ 0
+line_status = refl
+
+-- A run of that request that doesn't end with 4 writes that report and ends with 0.
+pub line_run : InputsAreUnique → (old new : Device) (answer : ℕ) → Plain line_request nothing_yet old new answer → answer ≢ 4 → Appends old.bytes new.bytes line_report × (answer ≡ 0)
+line_run = ends_so line_request line_inputs line_results line_report 0 line_inputs_read line_is_plain line_reports line_status
+
+-- A file of a comment and a blank line, which holds no feature.
+abbrev comment_bytes : List ℕ
+comment_bytes = codes "# nothing\n\n"
+
+-- These are the lines of its bytes.
+comment_lines : lines_of comment_bytes ≡ line_at 1 (codes "# nothing") ∷ line_at 2 [] ∷ []
+comment_lines = refl
+
+-- All lines are passed over.
+comment_reads : Reads (lines_of comment_bytes) None
+unfolding class class_of class_of_words language_of
+comment_reads = subst (λ (ls : Lines). Reads ls None) (sym comment_lines) (skip (tt, tt) (skip (tt, tt) skip_none))
+
+-- The bytes are a text.
+comment_is_text : IsText comment_bytes
+unfolding is_utf8 chars lib.Utf8.encode
+comment_is_text = (omega arith, IsUtf8-from_is_utf8 comment_bytes refl)
+
+-- That file, with its name.
+abbrev comment_source : SourceValue
+comment_source = record { name = codes "comment.feature"; bytes = comment_bytes }
+
+-- The first feature under another name.
+abbrev again_source : SourceValue
+again_source = record { name = codes "again.feature"; bytes = one_bytes }
+
+-- What is asked for: a feature, a file without one, and a feature.
+abbrev several_request : Request
+several_request = record one_request { sources = one_source ∷ comment_source ∷ again_source ∷ [] }
+
+-- What is asked for, as it reads: the file without a feature counts nowhere.
+abbrev several_inputs : Inputs
+several_inputs = record one_inputs { features = chosen_of (is_chosen [] []) (codes "one.feature") one_feature ∷ chosen_of (is_chosen [] []) (codes "again.feature") one_feature ∷ [] }
+
+-- It reads so.
+several_inputs_read : AreInputs several_request several_inputs
+several_inputs_read =
+    let again = chosen_of (is_chosen [] []) (codes "again.feature") one_feature ∷ [] in
+    record {
+      rules = [];
+      tags = refl;
+      library = (pass_is_text, pass_reads);
+      features = (Some one_feature, again, one_is_text, one_reads, one_has_room, (None, again, comment_is_text, comment_reads, tt, (Some one_feature, [], one_is_text, one_reads, one_has_room, refl, refl), refl), refl);
+    }
+
+-- The row of the feature, by the name of its source.
+abbrev one_row : List ℕ → FeatureRow
+one_row source = record {
+  source = source;
+  name = codes "one";
+  line = 1;
+  status = statuses.Passed;
+  cases = record {
+    keyword = codes "Scenario";
+    name = codes "first";
+    line = 2;
+    status = statuses.Passed;
+    steps = record { keyword = codes "Given"; text = codes "it passes"; line = 3; status = statuses.Passed; reason = None } ∷ [];
+  } ∷ [];
+}
+
+-- The results that plain maps give: the features in the order of their sources.
+abbrev several_results : Results
+several_results = record { features = one_row (codes "one.feature") ∷ one_row (codes "again.feature") ∷ [] }
+
+-- They are those of the inputs.
+several_is_plain : plain_results (run_with several_inputs) nothing_yet several_inputs.features ≡ several_results
+unfolding cases is_chosen found match_of act
+several_is_plain = refl
+
+-- Their report and their status.
+abbrev several_report : List ℕ
+several_report = codes "Feature: one ... passed\n  Scenario: first ... passed\n    Given it passes ... passed\n\nFeature: one ... passed\n  Scenario: first ... passed\n    Given it passes ... passed\n\n2 features passed, 0 failed, 0 skipped\n2 scenarios passed, 0 failed, 0 skipped\n2 steps passed, 0 failed, 0 skipped, 0 undefined\n"
+
+-- The results have that report.
+several_reports : report several_results ≡ several_report
+unfolding digits status_text reason_text one_line status_line step_line case_line feature_line counted count_line closing_lines
+several_reports = refl
+
+-- The results have that status.
+several_status : status several_results ≡ 0
+several_status = refl
+
+-- A run of that request that doesn't end with 4 writes that report and ends with 0.
+pub several_run : InputsAreUnique → (old new : Device) (answer : ℕ) → Plain several_request nothing_yet old new answer → answer ≢ 4 → Appends old.bytes new.bytes several_report × (answer ≡ 0)
+several_run = ends_so several_request several_inputs several_results several_report 0 several_inputs_read several_is_plain several_reports several_status

@@ -1,0 +1,273 @@
+-- Worked reports, each with its status, by computation.
+use Rattle.std.specs.Prelude.{◌≡◌, ℕ, List, [], ◌∷◌, replicate, Some, None, codes, refl}
+use Rattle.std.specs.Fmt.{digits}
+use Rattle.gk_run.specs.declared.results.Status.{Status}
+use Rattle.gk_run.specs.declared.results.Status.TheVariants.{Passed, Failed, Skipped, Undefined, Untested, Memory}
+use Rattle.gk_run.specs.declared.results.Reason.{Reason}
+use Rattle.gk_run.specs.declared.results.Reason.TheVariants as reasons
+use Rattle.gk_run.specs.Results.{StepRow, CaseRow, FeatureRow, Results}
+use Rattle.gk_report.specs.ReportTexts.{status_text, reason_text, one_line}
+use Rattle.gk_report.specs.Summary.{status}
+use Rattle.gk_report.specs.PlainReport.{status_line, step_line, case_line, feature_line, counted, count_line, closing_lines, report}
+
+-- A step with a keyword, a text and a status.
+abbrev step : List ℕ → List ℕ → Status → StepRow
+step keyword text status = record { keyword = keyword; text = text; line = 3; status = status; reason = None }
+
+-- A step that failed for a reason.
+abbrev failed_step : Reason → StepRow
+failed_step why = record { keyword = codes "Given"; text = codes "a"; line = 3; status = Failed; reason = Some why }
+
+-- A scenario with a name, a verdict and steps.
+abbrev scenario : List ℕ → Status → List StepRow → CaseRow
+scenario name status steps = record { keyword = codes "Scenario"; name = name; line = 2; status = status; steps = steps }
+
+-- A feature with a name, a verdict and scenarios.
+abbrev feature : List ℕ → Status → List CaseRow → FeatureRow
+feature name status cases = record { source = codes "f.feature"; name = name; line = 1; status = status; cases = cases }
+
+-- The results of one feature with one scenario, which has the feature's verdict.
+abbrev one_scenario : Status → List StepRow → Results
+one_scenario verdict steps = record { features = feature (codes "f") verdict (scenario (codes "s") verdict steps ∷ []) ∷ [] }
+
+-- The results of one step that failed for a reason.
+abbrev failed_for : Reason → Results
+failed_for why = one_scenario Failed (failed_step why ∷ [])
+
+-- No feature.
+abbrev nothing : Results
+nothing = record { features = [] }
+
+-- Its report.
+nothing_report : report nothing ≡ codes "0 features passed, 0 failed, 0 skipped\n0 scenarios passed, 0 failed, 0 skipped\n0 steps passed, 0 failed, 0 skipped, 0 undefined\n"
+unfolding digits status_text reason_text one_line status_line step_line case_line feature_line counted count_line closing_lines
+nothing_report = refl
+
+-- Its status.
+nothing_status : status nothing ≡ 0
+nothing_status = refl
+
+-- A feature without scenarios.
+abbrev bare : Results
+bare = record { features = feature (codes "f") Skipped [] ∷ [] }
+
+-- Its report.
+bare_report : report bare ≡ codes "Feature: f ... skipped\n\n0 features passed, 0 failed, 1 skipped\n0 scenarios passed, 0 failed, 0 skipped\n0 steps passed, 0 failed, 0 skipped, 0 undefined\n"
+unfolding digits status_text reason_text one_line status_line step_line case_line feature_line counted count_line closing_lines
+bare_report = refl
+
+-- Its status.
+bare_status : status bare ≡ 0
+bare_status = refl
+
+-- A step that passed.
+abbrev passed : Results
+passed = one_scenario Passed (step (codes "Given") (codes "a") Passed ∷ [])
+
+-- Its report.
+passed_report : report passed ≡ codes "Feature: f ... passed\n  Scenario: s ... passed\n    Given a ... passed\n\n1 feature passed, 0 failed, 0 skipped\n1 scenario passed, 0 failed, 0 skipped\n1 step passed, 0 failed, 0 skipped, 0 undefined\n"
+unfolding digits status_text reason_text one_line status_line step_line case_line feature_line counted count_line closing_lines
+passed_report = refl
+
+-- Its status.
+passed_status : status passed ≡ 0
+passed_status = refl
+
+-- A scenario that is not chosen.
+abbrev skipped : Results
+skipped = one_scenario Skipped (step (codes "Given") (codes "a") Skipped ∷ [])
+
+-- Its report.
+skipped_report : report skipped ≡ codes "Feature: f ... skipped\n  Scenario: s ... skipped\n    Given a ... skipped\n\n0 features passed, 0 failed, 1 skipped\n0 scenarios passed, 0 failed, 1 skipped\n0 steps passed, 0 failed, 1 skipped, 0 undefined\n"
+unfolding digits status_text reason_text one_line status_line step_line case_line feature_line counted count_line closing_lines
+skipped_report = refl
+
+-- Its status.
+skipped_status : status skipped ≡ 0
+skipped_status = refl
+
+-- A step that no entry matches.
+abbrev undefined : Results
+undefined = one_scenario Failed (step (codes "Given") (codes "a") Undefined ∷ [])
+
+-- Its report.
+undefined_report : report undefined ≡ codes "Feature: f ... failed\n  Scenario: s ... failed\n    Given a ... undefined\n\n0 features passed, 1 failed, 0 skipped\n0 scenarios passed, 1 failed, 0 skipped\n0 steps passed, 0 failed, 0 skipped, 1 undefined\n"
+unfolding digits status_text reason_text one_line status_line step_line case_line feature_line counted count_line closing_lines
+undefined_report = refl
+
+-- Its status.
+undefined_status : status undefined ≡ 1
+undefined_status = refl
+
+-- Steps after one that failed.
+abbrev after_failure : Results
+after_failure = one_scenario Failed (step (codes "Given") (codes "a") Passed ∷ failed_step reasons.Asked ∷ step (codes "When") (codes "b") Skipped ∷ step (codes "Then") (codes "c") Undefined ∷ [])
+
+-- Its report.
+after_failure_report : report after_failure ≡ codes "Feature: f ... failed\n  Scenario: s ... failed\n    Given a ... passed\n    Given a ... failed: fail step\n    When b ... skipped\n    Then c ... undefined\n\n0 features passed, 1 failed, 0 skipped\n0 scenarios passed, 1 failed, 0 skipped\n1 step passed, 1 failed, 1 skipped, 1 undefined\n"
+unfolding digits status_text reason_text one_line status_line step_line case_line feature_line counted count_line closing_lines
+after_failure_report = refl
+
+-- Its status.
+after_failure_status : status after_failure ≡ 1
+after_failure_status = refl
+
+-- A step at which memory was refused, and one after it.
+abbrev memory : Results
+memory = one_scenario Memory (step (codes "Given") (codes "a") Passed ∷ step (codes "When") (codes "b") Memory ∷ step (codes "Then") (codes "c") Untested ∷ [])
+
+-- Its report.
+memory_report : report memory ≡ codes "Feature: f ... memory\n  Scenario: s ... memory\n    Given a ... passed\n    When b ... memory\n    Then c ... untested\n\n0 features passed, 0 failed, 0 skipped, 1 memory\n0 scenarios passed, 0 failed, 0 skipped, 1 memory\n1 step passed, 0 failed, 0 skipped, 0 undefined, 1 untested, 1 memory\n"
+unfolding digits status_text reason_text one_line status_line step_line case_line feature_line counted count_line closing_lines
+memory_report = refl
+
+-- Its status.
+memory_status : status memory ≡ 4
+memory_status = refl
+
+-- Memory was refused in one scenario, and another failed.
+abbrev memory_and_failed : Results
+memory_and_failed = record { features = feature (codes "f") Memory (scenario (codes "s") Failed (failed_step reasons.Absent ∷ []) ∷ scenario (codes "t") Memory (step (codes "Given") (codes "a") Memory ∷ []) ∷ []) ∷ [] }
+
+-- Its report.
+memory_and_failed_report : report memory_and_failed ≡ codes "Feature: f ... memory\n  Scenario: s ... failed\n    Given a ... failed: absent\n  Scenario: t ... memory\n    Given a ... memory\n\n0 features passed, 0 failed, 0 skipped, 1 memory\n0 scenarios passed, 1 failed, 0 skipped, 1 memory\n0 steps passed, 1 failed, 0 skipped, 0 undefined, 1 memory\n"
+unfolding digits status_text reason_text one_line status_line step_line case_line feature_line counted count_line closing_lines
+memory_and_failed_report = refl
+
+-- Its status.
+memory_and_failed_status : status memory_and_failed ≡ 4
+memory_and_failed_status = refl
+
+-- Each reason, of which the first is `absent`.
+absent_report : report (failed_for reasons.Absent) ≡ codes "Feature: f ... failed\n  Scenario: s ... failed\n    Given a ... failed: absent\n\n0 features passed, 1 failed, 0 skipped\n0 scenarios passed, 1 failed, 0 skipped\n0 steps passed, 1 failed, 0 skipped, 0 undefined\n"
+unfolding digits status_text reason_text one_line status_line step_line case_line feature_line counted count_line closing_lines
+absent_report = refl
+
+-- Its status.
+absent_status : status (failed_for reasons.Absent) ≡ 1
+absent_status = refl
+
+-- The reason `present`.
+present_report : report (failed_for reasons.Present) ≡ codes "Feature: f ... failed\n  Scenario: s ... failed\n    Given a ... failed: present\n\n0 features passed, 1 failed, 0 skipped\n0 scenarios passed, 1 failed, 0 skipped\n0 steps passed, 1 failed, 0 skipped, 0 undefined\n"
+unfolding digits status_text reason_text one_line status_line step_line case_line feature_line counted count_line closing_lines
+present_report = refl
+
+-- Its status.
+present_status : status (failed_for reasons.Present) ≡ 1
+present_status = refl
+
+-- The reason `differs`.
+differs_report : report (failed_for reasons.Differs) ≡ codes "Feature: f ... failed\n  Scenario: s ... failed\n    Given a ... failed: differs\n\n0 features passed, 1 failed, 0 skipped\n0 scenarios passed, 1 failed, 0 skipped\n0 steps passed, 1 failed, 0 skipped, 0 undefined\n"
+unfolding digits status_text reason_text one_line status_line step_line case_line feature_line counted count_line closing_lines
+differs_report = refl
+
+-- Its status.
+differs_status : status (failed_for reasons.Differs) ≡ 1
+differs_status = refl
+
+-- The reason `text too long`.
+text_too_long_report : report (failed_for reasons.TextTooLong) ≡ codes "Feature: f ... failed\n  Scenario: s ... failed\n    Given a ... failed: text too long\n\n0 features passed, 1 failed, 0 skipped\n0 scenarios passed, 1 failed, 0 skipped\n0 steps passed, 1 failed, 0 skipped, 0 undefined\n"
+unfolding digits status_text reason_text one_line status_line step_line case_line feature_line counted count_line closing_lines
+text_too_long_report = refl
+
+-- Its status.
+text_too_long_status : status (failed_for reasons.TextTooLong) ≡ 1
+text_too_long_status = refl
+
+-- The reason `bad name`.
+bad_name_report : report (failed_for reasons.BadName) ≡ codes "Feature: f ... failed\n  Scenario: s ... failed\n    Given a ... failed: bad name\n\n0 features passed, 1 failed, 0 skipped\n0 scenarios passed, 1 failed, 0 skipped\n0 steps passed, 1 failed, 0 skipped, 0 undefined\n"
+unfolding digits status_text reason_text one_line status_line step_line case_line feature_line counted count_line closing_lines
+bad_name_report = refl
+
+-- Its status.
+bad_name_status : status (failed_for reasons.BadName) ≡ 1
+bad_name_status = refl
+
+-- The reason `other layer`.
+other_layer_report : report (failed_for reasons.OtherLayer) ≡ codes "Feature: f ... failed\n  Scenario: s ... failed\n    Given a ... failed: other layer\n\n0 features passed, 1 failed, 0 skipped\n0 scenarios passed, 1 failed, 0 skipped\n0 steps passed, 1 failed, 0 skipped, 0 undefined\n"
+unfolding digits status_text reason_text one_line status_line step_line case_line feature_line counted count_line closing_lines
+other_layer_report = refl
+
+-- Its status.
+other_layer_status : status (failed_for reasons.OtherLayer) ≡ 1
+other_layer_status = refl
+
+-- The reason `no text`.
+no_text_report : report (failed_for reasons.NoText) ≡ codes "Feature: f ... failed\n  Scenario: s ... failed\n    Given a ... failed: no text\n\n0 features passed, 1 failed, 0 skipped\n0 scenarios passed, 1 failed, 0 skipped\n0 steps passed, 1 failed, 0 skipped, 0 undefined\n"
+unfolding digits status_text reason_text one_line status_line step_line case_line feature_line counted count_line closing_lines
+no_text_report = refl
+
+-- Its status.
+no_text_status : status (failed_for reasons.NoText) ≡ 1
+no_text_status = refl
+
+-- The reason `no table`.
+no_table_report : report (failed_for reasons.NoTable) ≡ codes "Feature: f ... failed\n  Scenario: s ... failed\n    Given a ... failed: no table\n\n0 features passed, 1 failed, 0 skipped\n0 scenarios passed, 1 failed, 0 skipped\n0 steps passed, 1 failed, 0 skipped, 0 undefined\n"
+unfolding digits status_text reason_text one_line status_line step_line case_line feature_line counted count_line closing_lines
+no_table_report = refl
+
+-- Its status.
+no_table_status : status (failed_for reasons.NoTable) ≡ 1
+no_table_status = refl
+
+-- The reason `bad table`.
+bad_table_report : report (failed_for reasons.BadTable) ≡ codes "Feature: f ... failed\n  Scenario: s ... failed\n    Given a ... failed: bad table\n\n0 features passed, 1 failed, 0 skipped\n0 scenarios passed, 1 failed, 0 skipped\n0 steps passed, 1 failed, 0 skipped, 0 undefined\n"
+unfolding digits status_text reason_text one_line status_line step_line case_line feature_line counted count_line closing_lines
+bad_table_report = refl
+
+-- Its status.
+bad_table_status : status (failed_for reasons.BadTable) ≡ 1
+bad_table_status = refl
+
+-- The reason `not a number`.
+not_number_report : report (failed_for reasons.NotNumber) ≡ codes "Feature: f ... failed\n  Scenario: s ... failed\n    Given a ... failed: not a number\n\n0 features passed, 1 failed, 0 skipped\n0 scenarios passed, 1 failed, 0 skipped\n0 steps passed, 1 failed, 0 skipped, 0 undefined\n"
+unfolding digits status_text reason_text one_line status_line step_line case_line feature_line counted count_line closing_lines
+not_number_report = refl
+
+-- Its status.
+not_number_status : status (failed_for reasons.NotNumber) ≡ 1
+not_number_status = refl
+
+-- The reason `out of range`.
+out_of_range_report : report (failed_for reasons.OutOfRange) ≡ codes "Feature: f ... failed\n  Scenario: s ... failed\n    Given a ... failed: out of range\n\n0 features passed, 1 failed, 0 skipped\n0 scenarios passed, 1 failed, 0 skipped\n0 steps passed, 1 failed, 0 skipped, 0 undefined\n"
+unfolding digits status_text reason_text one_line status_line step_line case_line feature_line counted count_line closing_lines
+out_of_range_report = refl
+
+-- Its status.
+out_of_range_status : status (failed_for reasons.OutOfRange) ≡ 1
+out_of_range_status = refl
+
+-- The reason `fail step`.
+asked_report : report (failed_for reasons.Asked) ≡ codes "Feature: f ... failed\n  Scenario: s ... failed\n    Given a ... failed: fail step\n\n0 features passed, 1 failed, 0 skipped\n0 scenarios passed, 1 failed, 0 skipped\n0 steps passed, 1 failed, 0 skipped, 0 undefined\n"
+unfolding digits status_text reason_text one_line status_line step_line case_line feature_line counted count_line closing_lines
+asked_report = refl
+
+-- Its status.
+asked_status : status (failed_for reasons.Asked) ≡ 1
+asked_status = refl
+
+-- Line feeds in names and in a text, which stay on one line.
+abbrev line_feeds : Results
+line_feeds = record { features = feature (codes "f\ng") Passed (scenario (codes "\ns") Passed (step (codes "*") (codes "a\n\nb\\n") Passed ∷ []) ∷ []) ∷ [] }
+
+-- Its report.
+line_feeds_report : report line_feeds ≡ codes "Feature: f\\ng ... passed\n  Scenario: \\ns ... passed\n    * a\\n\\nb\\n ... passed\n\n1 feature passed, 0 failed, 0 skipped\n1 scenario passed, 0 failed, 0 skipped\n1 step passed, 0 failed, 0 skipped, 0 undefined\n"
+unfolding digits status_text reason_text one_line status_line step_line case_line feature_line counted count_line closing_lines
+line_feeds_report = refl
+
+-- Its status.
+line_feeds_status : status line_feeds ≡ 0
+line_feeds_status = refl
+
+-- Two features, and counts of two digits.
+abbrev many : Results
+many = record { features = feature (codes "f") Passed (scenario (codes "s") Passed (replicate 10 (step (codes "*") (codes "a") Passed)) ∷ []) ∷ feature (codes "g") Passed (scenario (codes "t") Skipped [] ∷ scenario (codes "u") Passed (step (codes "*") (codes "b") Passed ∷ step (codes "*") (codes "c") Passed ∷ []) ∷ []) ∷ [] }
+
+-- Its report.
+many_report : report many ≡ codes "Feature: f ... passed\n  Scenario: s ... passed\n    * a ... passed\n    * a ... passed\n    * a ... passed\n    * a ... passed\n    * a ... passed\n    * a ... passed\n    * a ... passed\n    * a ... passed\n    * a ... passed\n    * a ... passed\n\nFeature: g ... passed\n  Scenario: t ... skipped\n  Scenario: u ... passed\n    * b ... passed\n    * c ... passed\n\n2 features passed, 0 failed, 0 skipped\n2 scenarios passed, 0 failed, 1 skipped\n12 steps passed, 0 failed, 0 skipped, 0 undefined\n"
+unfolding digits status_text reason_text one_line status_line step_line case_line feature_line counted count_line closing_lines
+many_report = refl
+
+-- Its status.
+many_status : status many ≡ 0
+many_status = refl
