@@ -13,7 +13,9 @@ use Rattle.gk_select.specs.declared.select_fault.SelectFault.TheVariants as sele
 use Rattle.gk_cli.specs.Arguments.{PairValue, SaysArguments, faults_in, pair_value}
 use Rattle.gk_cli.specs.Counted.{one_more}
 use Rattle.gk_cli.specs.Inputs.{Request, request_of}
-use Rattle.gk_cli.specs.Source.{SourceValue}
+use Rattle.gk_cli.specs.Source.{SourceValue, source_value}
+use Rattle.gk_cli.specs.declared.arguments.Options.{Options}
+use Rattle.gk_cli.specs.declared.source.Source.{Source}
 use Rattle.gk_cli.specs.Suite.{Device, IsUntouched, JudgedReport, Plain, SaysFault}
 use Rattle.gk_cli.specs.declared.arguments.Words.{Words}
 use Rattle.gk_cli.specs.declared.arguments.WordsFault.TheVariants as words
@@ -131,6 +133,14 @@ pub record AreGiven (w : Words) (library : Option SourceValue) (sources : List S
 -- The contents that a run begins with: the variables alone. (this project's profile)
 abbrev pub contents_given : Words → Contents
 contents_given w = with_variables nothing_yet (map pair_value w.env.items)
+
+-- What a run of these files is asked for. (this project's profile)
+abbrev pub request : Options → Option Source → List Source → Request
+request options library sources = request_of options (library_bytes (option_map source_value library)) (map source_value sources)
+
+-- A fault of the run of these files, or of the flush. (this project's profile)
+abbrev pub SaysRun : Options → Option Source → List Source → Contents → Device → Device → Fault → Type 0
+SaysRun options library sources contents old new fault = SaysSuite (option_map source_value library) (map source_value sources) (request options library sources) contents old new fault
 
 -- What the run is asked for. (this project's profile)
 abbrev pub request_given : Words → Option SourceValue → List SourceValue → Request

@@ -3,10 +3,9 @@ ghost use Rattle.std.specs.Prelude.{◌≡◌, ◌<◌, ◌-◌, ◌^◌, map, I
 ghost use Rattle.gk_world.specs.Sandbox.{depth};
 ghost use Rattle.gk_cli.specs.Arguments.{pair_value};
 ghost use Rattle.gk_cli.specs.Counted.{flushes_of, failures_of, one_more};
-ghost use Rattle.gk_cli.specs.Inputs.{request_of};
 ghost use Rattle.gk_cli.specs.Suite.{device_of, JudgedReport, Plain};
 ghost use Rattle.gk_cli.specs.Source.{source_value};
-ghost use Rattle.gherkin_run.specs.Program.{SaysAsked, SaysError, IsHelpFault, IsArgumentsFault, IsFaultOfVariable, SaysVariables, IsWithin, IsFaultOfRun, library_bytes, SaysSuite, SaysCalls, SaysProgram, IsRun, IsDoneForSome};
+ghost use Rattle.gherkin_run.specs.Program.{SaysAsked, SaysError, IsHelpFault, IsArgumentsFault, IsFaultOfVariable, SaysVariables, IsWithin, IsFaultOfRun, library_bytes, request, SaysRun, SaysCalls, SaysProgram, IsRun, IsDoneForSome};
 
 use crate::fault::Fault;
 use crate::files::{read_files, read_library_file};
@@ -74,7 +73,7 @@ pub fn show_help<W: Write>(
     ensures quiet { OnOk result (failures_of out.new ≡ failures_of out.old) }
     ensures flushed { OnOk result (flushes_of out.new ≡ one_more (flushes_of out.old)) }
     ensures fault { IfErr result IsHelpFault }
-    ensures calls { IfErr result (SaysCalls (device_of (λ w. W.contents w) out.old) (device_of (λ w. W.contents w) out.new)) }
+    ensures calls { IfErr result (SaysCalls (device_of W.contents out.old) (device_of W.contents out.new)) }
 {
     let text = format!(in alloc; "{text}")?;
     match write_whole(out, text.as_bytes()) {
@@ -163,18 +162,15 @@ pub fn run_sources<W: Write>(
     requires room { failures_of out.old < 2 ^ 64 - 1 }
     requires outside { depth sandbox.old ≡ 0 }
     // What was written and the status are those of one run of these inputs.
-    ensures judged { IfOk result (λ status. JudgedReport (request_of options.now (library_bytes (option_map source_value library)) (map source_value sources.items)) sandbox.old.now
-        (device_of (λ w. W.contents w) out.old) (device_of (λ w. W.contents w) out.new) status) }
-    ensures plain { IfOk result (λ status. Plain (request_of options.now (library_bytes (option_map source_value library)) (map source_value sources.items)) sandbox.old.now
-        (device_of (λ w. W.contents w) out.old) (device_of (λ w. W.contents w) out.new) status) }
+    ensures judged { IfOk result (JudgedReport (request options.now library sources.items) sandbox.old.now (device_of W.contents out.old) (device_of W.contents out.new)) }
+    ensures plain { IfOk result (Plain (request options.now library sources.items) sandbox.old.now (device_of W.contents out.old) (device_of W.contents out.new)) }
     // A status comes only where the writer did not fail, and was flushed once.
     ensures quiet { OnOk result (failures_of out.new ≡ failures_of out.old) }
     ensures flushed { OnOk result (flushes_of out.new ≡ one_more (flushes_of out.old)) }
     // A fault is that of the run, or the flush failed.
-    ensures fault { IfErr result (SaysSuite (option_map source_value library) (map source_value sources.items) (request_of options.now (library_bytes (option_map source_value library)) (map source_value sources.items)) sandbox.old.now
-        (device_of (λ w. W.contents w) out.old) (device_of (λ w. W.contents w) out.new)) }
+    ensures fault { IfErr result (SaysRun options.now library sources.items sandbox.old.now (device_of W.contents out.old) (device_of W.contents out.new)) }
     // Where standard output isn't at fault, it was not called.
-    ensures calls { IfErr result (SaysCalls (device_of (λ w. W.contents w) out.old) (device_of (λ w. W.contents w) out.new)) }
+    ensures calls { IfErr result (SaysCalls (device_of W.contents out.old) (device_of W.contents out.new)) }
 {
     let bytes = bytes_of(&library);
     match run_suite(alloc, sandbox, options, bytes, sources.as_slice(), out) {
@@ -195,11 +191,11 @@ pub fn run_words<R: Files + AllocGlobal, W: Write>(
 ) -> Result<u8, Fault>
     requires room { failures_of out.old < 2 ^ 64 - 1 }
     // The files were read under their names, in order, and what was written and the status are those of one run of them.
-    ensures run { IfOk result (λ status. IsRun words (device_of (λ w. W.contents w) out.old) (device_of (λ w. W.contents w) out.new) status) }
+    ensures run { IfOk result (IsRun words (device_of W.contents out.old) (device_of W.contents out.new)) }
     ensures quiet { OnOk result (failures_of out.new ≡ failures_of out.old) }
     ensures flushed { OnOk result (flushes_of out.new ≡ one_more (flushes_of out.old)) }
-    ensures fault { IfErr result (SaysProgram words (device_of (λ w. W.contents w) out.old) (device_of (λ w. W.contents w) out.new)) }
-    ensures calls { IfErr result (SaysCalls (device_of (λ w. W.contents w) out.old) (device_of (λ w. W.contents w) out.new)) }
+    ensures fault { IfErr result (SaysProgram words (device_of W.contents out.old) (device_of W.contents out.new)) }
+    ensures calls { IfErr result (SaysCalls (device_of W.contents out.old) (device_of W.contents out.new)) }
 {
     let mut sandbox = Sandbox::new(rt.alloc());
     put_variables(&mut sandbox, words.env.as_slice())?;
@@ -221,11 +217,11 @@ pub fn run<R: Env + Files + AllocGlobal, W: Write>(
     out: &mut Counted<W>,
 ) -> Result<u8, Fault>
     requires room { failures_of out.old < 2 ^ 64 - 1 }
-    ensures done { IfOk result (IsDoneForSome (device_of (λ w. W.contents w) out.old) (device_of (λ w. W.contents w) out.new)) }
+    ensures done { IfOk result (IsDoneForSome (device_of W.contents out.old) (device_of W.contents out.new)) }
     ensures quiet { OnOk result (failures_of out.new ≡ failures_of out.old) }
     ensures flushed { OnOk result (flushes_of out.new ≡ one_more (flushes_of out.old)) }
     // Where standard output isn't at fault, it was not called.
-    ensures calls { IfErr result (SaysCalls (device_of (λ w. W.contents w) out.old) (device_of (λ w. W.contents w) out.new)) }
+    ensures calls { IfErr result (SaysCalls (device_of W.contents out.old) (device_of W.contents out.new)) }
 {
     let arguments = arguments_of(rt)?;
     match asked_by(rt.alloc(), arguments.as_slice())? {

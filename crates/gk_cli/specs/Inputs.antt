@@ -1,5 +1,6 @@
 -- What a run is asked for, and which inputs that spells.
-use Rattle.std.specs.Prelude.{◌≡◌, ◌≤◌, ℕ, Bool, List, [], ◌∷◌, ◌++◌, map, take, slice_get, Option, Some, None, string_bytes}
+use Rattle.std.specs.Prelude.{◌≡◌, ◌≤◌, ℕ, Bool, List, [], ◌∷◌, ◌++◌, map, take, slice_get, Option, Some, None, option_map}
+use denote.Ref.{Bor}
 use Rattle.std.specs.List.{AllByRecursion}
 use Rattle.gk_gherkin.specs.declared.read_fault.ReadFault.{ReadFault}
 use Rattle.gk_gherkin.specs.Lines.{lines_of, IsText}
@@ -17,7 +18,8 @@ use Rattle.gk_run.specs.declared.chosen.Chosen.{Chosen}
 use Rattle.gk_run.specs.Chosen.{MemberValue, ChosenValue, chosen_value, IsPaired}
 use Rattle.gk_cli.specs.declared.arguments.Options.{Options}
 use Rattle.gk_cli.specs.declared.inputs.ReadInputs.{ReadInputs}
-use Rattle.gk_cli.specs.Source.{SourceValue}
+use Rattle.gk_cli.specs.declared.source.Source.{Source}
+use Rattle.gk_cli.specs.Source.{SourceValue, source_value}
 
 -- What a run is asked for: the texts of tags, the lines, the bytes of a library file or none, and the sources.
 pub record Request : Type 0 where
@@ -29,6 +31,10 @@ pub record Request : Type 0 where
 -- What options, a library file and sources ask for.
 abbrev pub request_of : Options → Option (List ℕ) → List SourceValue → Request
 request_of options library sources = record { tags = texts options.tags.items; lines = options.lines.items; library = library; sources = sources }
+
+-- What a run's arguments ask for.
+abbrev pub asked : Options → Option (Bor (List ℕ)) → List Source → Request
+asked options library sources = request_of options (option_map (λ (bytes : Bor (List ℕ)). bytes.now) library) (map source_value sources)
 
 -- The inputs as they read: the library, and the sources' features with their cases and the choice among them.
 pub record Inputs : Type 0 where

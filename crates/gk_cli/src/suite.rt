@@ -1,5 +1,5 @@
 //! The whole run.
-ghost use Rattle.std.specs.Prelude.{◌≡◌, ◌-◌, ◌^◌, ◌<◌, map, option_map, IfOk, IfErr, OnOk, string_bytes};
+ghost use Rattle.std.specs.Prelude.{◌≡◌, ◌-◌, ◌^◌, ◌<◌, map, IfOk, IfErr, OnOk, string_bytes};
 ghost use Rattle.std.specs.List.{AllByRecursion};
 ghost use Rattle.gk_world.specs.Sandbox.{depth, layers};
 ghost use Rattle.gk_run.specs.Results.{feature_row};
@@ -9,9 +9,8 @@ ghost use Rattle.gk_run.specs.Judged.{Judged};
 ghost use Rattle.gk_run.specs.Running.{IsSame};
 ghost use Rattle.gk_report.specs.PlainReport.{report};
 ghost use Rattle.gk_report.specs.Summary.{status};
-ghost use Rattle.gk_cli.specs.Source.{source_value};
 ghost use Rattle.gk_cli.specs.Counted.{failures_of, flushes_of};
-ghost use Rattle.gk_cli.specs.Inputs.{request_of};
+ghost use Rattle.gk_cli.specs.Inputs.{asked};
 ghost use Rattle.gk_cli.specs.Suite.{device_of, results_of, Reported, JudgedReport, Plain, SaysFault, InputsAreUnique};
 
 use crate::arguments::Options;
@@ -96,19 +95,16 @@ pub fn run_suite<W: Write>(
     requires outside { depth sandbox.old ≡ 0 }
 
     // What was written and what is answered are the report and the status of one list of results.
-    ensures reported { IfOk result (λ status. Reported (device_of (λ w. W.contents w) out.old) (device_of (λ w. W.contents w) out.new) status) }
+    ensures reported { IfOk result (Reported (device_of W.contents out.old) (device_of W.contents out.new)) }
     // That list is judged: each selected scenario in it has the verdict and the step statuses that plain
     // maps give it alone, rows marked memory excepted.
-    ensures judged { IfOk result (λ status. JudgedReport (request_of options.now (option_map (λ bytes. bytes.now) library.entry) (map source_value sources.now)) sandbox.old.now
-        (device_of (λ w. W.contents w) out.old) (device_of (λ w. W.contents w) out.new) status) }
+    ensures judged { IfOk result (JudgedReport (asked options.now library.entry sources.now) sandbox.old.now (device_of W.contents out.old) (device_of W.contents out.new)) }
     // At each status but 4 that list is the one that plain maps give, and there is no other.
-    ensures plain { IfOk result (λ status. Plain (request_of options.now (option_map (λ bytes. bytes.now) library.entry) (map source_value sources.now)) sandbox.old.now
-        (device_of (λ w. W.contents w) out.old) (device_of (λ w. W.contents w) out.new) status) }
+    ensures plain { IfOk result (Plain (asked options.now library.entry sources.now) sandbox.old.now (device_of W.contents out.old) (device_of W.contents out.new)) }
     // Whatever is answered, files, variables, values and layers are as they were.
     ensures same { IsSame sandbox.old sandbox.new }
     // Which fault it is, and what was written.
-    ensures fault { IfErr result (λ fault. SaysFault (request_of options.now (option_map (λ bytes. bytes.now) library.entry) (map source_value sources.now)) sandbox.old.now
-        (device_of (λ w. W.contents w) out.old) (device_of (λ w. W.contents w) out.new) fault) }
+    ensures fault { IfErr result (SaysFault (asked options.now library.entry sources.now) sandbox.old.now (device_of W.contents out.old) (device_of W.contents out.new)) }
     // A status comes only where the writer didn't fail.
     ensures quiet { OnOk result (failures_of out.new ≡ failures_of out.old) }
     ensures unflushed { flushes_of out.new ≡ flushes_of out.old }

@@ -1,5 +1,5 @@
 -- The lines of the report.
-use Rattle.std.specs.Prelude.{ℕ, cond, ◌==◌, List, [], ◌++◌, flat_map, Option, Some, None, codes}
+use Rattle.std.specs.Prelude.{ℕ, Bool, cond, ◌==◌, List, [], ◌++◌, flat_map, Option, Some, None, codes}
 use Rattle.std.specs.Fmt.{decimal}
 use Rattle.gk_run.specs.declared.results.Status.{Status}
 use Rattle.gk_run.specs.declared.results.Reason.{Reason}
@@ -59,6 +59,10 @@ unfoldable pub count_line : List ℕ → Counts → List ℕ → List ℕ
 count_line noun c undefined =
     passed_part noun c.passed ++ counted c.failed (codes "failed") ++ counted c.skipped (codes "skipped")
     ++ undefined ++ counted_if_any c.untested (codes "untested") ++ counted_if_any c.memory (codes "memory") ++ line_feed
+
+-- The part of a line of counts that tells the undefined ones; of steps alone. (behave's documentation: summary)
+abbrev pub undefined_part : Bool → Counts → List ℕ
+undefined_part of_steps c = cond of_steps (counted c.undefined (codes "undefined")) []
 
 -- The closing lines. (behave's documentation: summary; this project's profile)
 unfoldable pub closing_lines : Summary → List ℕ

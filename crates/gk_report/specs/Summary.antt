@@ -1,5 +1,5 @@
 -- What a report counts, and the status that a run ends with.
-use Rattle.std.specs.Prelude.{◌≡◌, ℕ, ◌+◌, ◌-◌, ◌^◌, ◌||◌, min, cond, nat_lt, Bool, List, [], ◌∷◌, ◌++◌, map, flat_map, fold, count_by}
+use Rattle.std.specs.Prelude.{◌≡◌, ℕ, ◌+◌, ◌-◌, ◌^◌, ◌||◌, min, cond, nat_lt, Bool, List, ◌++◌, map, flat_map, fold, count_by}
 use Rattle.std.specs.List.{list_any}
 use Rattle.gk_run.specs.declared.results.Status.{Status}
 use Rattle.gk_run.specs.declared.results.Status.TheVariants as statuses

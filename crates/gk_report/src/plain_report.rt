@@ -3,7 +3,7 @@ ghost use Rattle.std.specs.Prelude.{◌≡◌, [], ◌++◌, map, flat_map, code
 ghost use Rattle.gk_run.specs.Results.{step_row, case_row, feature_row};
 ghost use Rattle.gk_report.specs.ReportTexts as words;
 ghost use Rattle.gk_report.specs.ReportTexts.{one_line};
-ghost use Rattle.gk_report.specs.PlainReport.{step_verdict, step_line, status_line, case_line, case_lines, feature_line, plain_part, counted, counted_if_any, passed_part, count_line, closing_lines};
+ghost use Rattle.gk_report.specs.PlainReport.{step_verdict, step_line, status_line, case_line, case_lines, feature_line, plain_part, counted, counted_if_any, passed_part, undefined_part, count_line, closing_lines};
 
 use crate::summary::{Counts, Summary};
 use gk_run::{CaseResult, FeatureResult, Reason, Status, StepResult};
@@ -166,8 +166,7 @@ fn push_count_line(
     counts: &Counts,
     of_steps: bool,
 ) -> Result<(), AllocError>
-    ensures { OnOk result (string_bytes out.new ≡ string_bytes out.old
-        ++ count_line noun.now counts.now (cond of_steps (counted counts.now.undefined (codes "undefined")) [])) }
+    ensures { OnOk result (string_bytes out.new ≡ string_bytes out.old ++ count_line noun.now counts.now (undefined_part of_steps counts.now)) }
 {
     push_passed(out, noun, counts.passed)?;
     push_counted(out, counts.failed, "failed")?;

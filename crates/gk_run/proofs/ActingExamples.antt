@@ -1,6 +1,6 @@
 -- Worked examples of the table of actions, with the results that the rules state.
 use Rattle.std.specs.Prelude.{ℤ, pos, negsuc, Option, Some, None, codes}
-use Rattle.std.specs.Fmt.{digits, signed_decimal}
+use Rattle.std.specs.Fmt.{digits}
 use Rattle.std.proofs.Common.{◌≡◌, ℕ, Bool, true, false, List, [], ◌∷◌, refl, ap}
 use Rattle.gk_gherkin.specs.Feature.{BlockValue, Empty, Text, Table}
 use Rattle.gk_steps.specs.declared.action.Action.TheVariants as actions
@@ -12,7 +12,7 @@ use Rattle.gk_world.specs.State.{State, nothing, with_text, see}
 use Rattle.gk_world.specs.Refusals.{is_too_long}
 use Rattle.gk_run.specs.declared.results.Reason.TheVariants as reasons
 use Rattle.gk_run.specs.Numbers.{number_of}
-use Rattle.gk_run.specs.Acting.{act, given, Given, Done, passes, fails, table, with_file, without_file, with_env, without_env, with_own, without_own, unless}
+use Rattle.gk_run.specs.Acting.{act, given, Given, passes, fails, table, with_file, without_file, with_env, without_env, with_own, without_own, unless}
 
 -- a file, a variable, a value of an outer layer, and one of the innermost
 abbrev start : State

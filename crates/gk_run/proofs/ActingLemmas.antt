@@ -1,11 +1,10 @@
 -- What the world's changes and answers are to the table of actions.
-use Rattle.std.specs.Prelude.{⊤, ℤ, pos, ◌+ℤ◌, not, ◌==◌, String, string_bytes, FitsSigned, cond, nat_eq, option_map, ◌&&◌, Option, Some, None, Result, Ok, Err, OnOk, OnErr, bytes_eq, map, unwrap_or, is_none}
+use Rattle.std.specs.Prelude.{⊤, ℤ, pos, ◌+ℤ◌, not, ◌==◌, String, string_bytes, FitsSigned, cond, option_map, ◌&&◌, Option, Some, None, Result, Ok, Err, OnOk, OnErr, map, unwrap_or, is_none}
 use Rattle.std.specs.FinMap as finite
 use Rattle.std.specs.FinMap.{get-insert, get-remove}
-use Rattle.std.specs.Option.{option_copied}
 use Rattle.std.specs.Str.Parse.{signed_digits_value}
 use Rattle.std.specs.Fmt.{signed_decimal}
-use Rattle.std.proofs.Common.{◌≢◌, ◌≤◌, Vec, Global, vec_len, get_or, drop-cons, add-one, w64, ◌≡◌, ◌⊎◌, inl, inr, ℕ, suc, ◌+◌, ◌<◌, Bool, true, false, List, [], ◌∷◌, length, drop, refl, sym, ap, subst, ◌∙◌, arith, rules}
+use Rattle.std.proofs.Common.{◌≢◌, ◌≤◌, Vec, Global, vec_len, get_or, drop-cons, add-one, w64, ◌≡◌, ℕ, suc, ◌+◌, ◌<◌, Bool, true, false, List, [], ◌∷◌, length, drop, refl, sym, ap, subst, ◌∙◌, arith}
 use Rattle.std.proofs.lemmas.Bool.{eqb-true}
 use Rattle.std.proofs.lemmas.Bool.Decides.{Decides-ltb}
 use Rattle.std.proofs.lemmas.List.{length-map, drop_all}
@@ -28,7 +27,7 @@ use Rattle.gk_steps.specs.declared.action.Action.{Action}
 use Rattle.gk_steps.specs.Finding.{LibraryValue, FoundValue, action_of}
 use Rattle.gk_run.specs.Numbers.{is_number, number_of, is_in_range}
 use Rattle.gk_gherkin.specs.Feature.{BlockValue, texts}
-use Rattle.gk_run.specs.Acting.{Given, given, table, act, changes_nothing, write_row, write_rows, have_two_cells, Done, add_number, is_pass, and_then, set_own, passes, fails, unless, unless_for, with_T, absent, differs, reason_of, outcome_of, IsExactly, IsDone, IsActed, KeepsLayers, IsText, HasText, IsNumber, lacks, not_number, differs_from, with_file, without_file, with_env, without_env, with_own, without_own}
+use Rattle.gk_run.specs.Acting.{Given, given, table, act, changes_nothing, write_row, write_rows, have_two_cells, Done, add_number, is_pass, and_then, set_own, passes, fails, unless, unless_for, with_T, absent, differs, reason_of, outcome_of, IsExactly, IsDone, IsActed, IsText, HasText, IsNumber, lacks, not_number, differs_from, with_file, without_file, with_env, without_env, with_own, without_own}
 
 -- a map with a text put in
 inserted : (m : Texts) (name text : List ℕ) → finite.get (finite.insert m name text) ≡ with_text (finite.get m) name text

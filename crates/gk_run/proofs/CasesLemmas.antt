@@ -1,5 +1,5 @@
 -- Cases, one after another.
-use Rattle.std.proofs.Common.{◌≡◌, ℕ, Bool, true, false, cond, ◌||◌, List, [], ◌∷◌, ◌++◌, map, refl, ap, sym, ◌∙◌, append_assoc, length, drop, get_or, ◌+◌, ◌<◌, Option}
+use Rattle.std.proofs.Common.{◌≡◌, ℕ, Bool, ◌||◌, List, [], ◌∷◌, ◌++◌, map, refl, ap, sym, ◌∙◌, append_assoc, length, drop, get_or, ◌+◌, ◌<◌}
 use Rattle.std.specs.List.{list_any}
 use Rattle.std.proofs.lemmas.List.{append-nil, at_drop_more}
 use Rattle.gk_gherkin.specs.Feature.{StepValue}
@@ -8,7 +8,7 @@ use Rattle.gk_world.specs.State.{State}
 use Rattle.gk_run.specs.declared.results.Status.{Status}
 use Rattle.gk_run.specs.declared.results.Mark.{Mark}
 use Rattle.gk_run.specs.declared.results.CaseResult.{CaseResult}
-use Rattle.gk_run.specs.Results.{StepRow, CaseRow, case_row}
+use Rattle.gk_run.specs.Results.{CaseRow, case_row}
 use Rattle.gk_run.specs.Section.{Cut}
 use Rattle.gk_run.specs.Alone.{Run, row_of_step, rows_of_steps}
 use Rattle.gk_run.specs.Chosen.{MemberValue, member_of, members_of}

@@ -1,12 +1,11 @@
 -- What std's `parse` and `contains` answer, as the definitions have it.
-use Rattle.std.specs.Prelude.{◌↔◌, ◌&&◌, ◌||◌, cond, nat_eq, nat_lt, ℤ, pos, negsuc, Option, Some, None, Result, Ok, Err, FitsSigned, int_le}
-use Rattle.std.specs.Bool.{Decides}
+use Rattle.std.specs.Prelude.{◌&&◌, ◌||◌, cond, nat_eq, nat_lt, ℤ, pos, negsuc, Some, None, Result, Ok, Err, FitsSigned}
 use Rattle.std.specs.List.{starts_with}
 use Rattle.std.specs.Result.{result_ok}
-use Rattle.std.specs.Str.{all_ascii_digits, bytes_eq}
+use Rattle.std.specs.Str.{all_ascii_digits}
 use Rattle.std.specs.Str.Iter.{HasSubslice}
 use Rattle.std.specs.Str.Parse.{without_leading_sign, signed_digits_value, digits_value, ParsesSigned, IsNumeral}
-use Rattle.std.proofs.Common.{◌≡◌, ◌⊎◌, inl, inr, ℕ, ◌+◌, ◌-◌, ◌^◌, ◌<◌, ◌≤◌, Bool, true, false, List, [], ◌∷◌, ◌++◌, length, take, drop, refl, sym, ap, ◌∙◌, arith, rules, w64}
+use Rattle.std.proofs.Common.{◌≡◌, ◌⊎◌, inl, inr, ℕ, Bool, true, false, List, [], ◌∷◌, ◌++◌, length, take, drop, refl, sym, ap, ◌∙◌, arith, w64}
 use Rattle.std.proofs.Math.Seq.{take-append_seam}
 use Rattle.std.proofs.lemmas.Bool.{leb-true, le-leb, eqb-true}
 use Rattle.std.proofs.lemmas.Bool.Decides.{Decides-ltb}

@@ -16,9 +16,9 @@ use Rattle.gk_run.specs.declared.ending.Ending.TheVariants as endings
 use Rattle.gk_run.specs.Results.{StepRow}
 use Rattle.gk_run.specs.Ending.{is_memory_mark, is_bad_mark, ended_of, ending_of_turn, verdict_status}
 use Rattle.gk_run.specs.Walk.{Walked, one_step, mark_of, goes_on, walk, looked_up, marks_after}
-use Rattle.gk_run.specs.Section.{Events, Cut, nowhere, in_steps, is_place, cut_marks, happened}
-use Rattle.gk_run.specs.Alone.{Run, Steps, all_steps, alone, row_of_step, rows_of_steps, verdict_of, row_of_case, reached_row}
-use Rattle.gk_run.specs.Running.{IsTurn, IsNext, AreLeft, steps_after, ended_after, AreStepped, IsReached}
+use Rattle.gk_run.specs.Section.{Events, nowhere, in_steps, is_place, cut_marks, happened}
+use Rattle.gk_run.specs.Alone.{Run, Steps, all_steps, alone, row_of_step, rows_of_steps, verdict_of, row_of_case}
+use Rattle.gk_run.specs.Running.{IsTurn, IsNext, AreLeft, steps_after, AreStepped, IsReached}
 
 -- ---- what is only looked up doesn't change how steps end
 

@@ -1,5 +1,5 @@
 -- Which results a run may answer.
-use Rattle.std.specs.Prelude.{◌≡◌, ℕ, Bool, false, cond, List, [], ◌∷◌, map}
+use Rattle.std.specs.Prelude.{◌≡◌, Bool, false, cond, List, [], ◌∷◌, map}
 use Rattle.std.specs.List.{list_any}
 use Rattle.gk_world.specs.Contents.{Contents}
 use Rattle.gk_world.specs.State.{State, state_of}

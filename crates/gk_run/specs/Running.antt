@@ -67,6 +67,10 @@ abbrev pub AreStepped : LibraryValue → Ending → State → List StepValue →
 AreStepped library endings.Memory s steps rows ended = (rows ≡ rows_of_steps steps []) × (ended ≡ endings.Memory)
 AreStepped library before s steps rows ended = AreLeft (steps_after library before s steps) before steps rows ended
 
+-- The same of all the steps of a case.
+abbrev pub AreWalked : LibraryValue → State → List StepValue → List StepRow → Ending → Type 0
+AreWalked library s steps rows ended = AreStepped library endings.Passed s steps rows ended
+
 -- A case's row is that of some cut, where it is selected.
 abbrev pub IsMember : Run → State → MemberValue → CaseRow → Type 0
 IsMember run section m row = (cut : Cut) × (row ≡ case_of run section cut m)

@@ -1,5 +1,5 @@
 -- Walking through steps.
-use Rattle.std.specs.Prelude.{ℕ, cond, List, [], ◌∷◌, map, Option, Some, None, is_some}
+use Rattle.std.specs.Prelude.{cond, List, [], ◌∷◌, map, Option, Some, None, is_some}
 use Rattle.gk_gherkin.specs.Feature.{StepValue}
 use Rattle.gk_steps.specs.Finding.{LibraryValue, FoundValue, found}
 use Rattle.gk_world.specs.State.{State}

@@ -15,5 +15,5 @@ mod walk;
 pub use acting::act;
 pub use chosen::Chosen;
 pub use judged::without_memory_there_is_one_list;
-pub use results::{CaseResult, FeatureResult, Mark, NoRoom, Outcome, Reason, Status, StepResult};
+pub use results::{CaseResult, FeatureResult, NoRoom, Outcome, Reason, Status, StepResult};
 pub use running::{run_case, run_feature};

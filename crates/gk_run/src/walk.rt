@@ -9,8 +9,7 @@ ghost use Rattle.gk_run.specs.Results.{step_row};
 ghost use Rattle.gk_run.specs.Walk as spec;
 ghost use Rattle.gk_run.specs.Walk.{one_step};
 ghost use Rattle.gk_run.specs.Alone.{row_of_step};
-ghost use Rattle.gk_run.specs.Running.{IsTurn, IsLookedUp, IsNext, AreStepped};
-ghost use Rattle.gk_run.specs.declared.ending.Ending.TheVariants as endings;
+ghost use Rattle.gk_run.specs.Running.{IsTurn, IsLookedUp, IsNext, AreWalked};
 
 use crate::acting::act;
 use crate::ending::{Ending, ending_of, reason_of, status_of};
@@ -135,7 +134,7 @@ pub fn walk(
     requires begun { 0 < depth sandbox.old }
     requires empty { results.items ≡ [] }
     requires room { length steps.items ≤ vec_capacity results }
-    ensures walked { AreStepped (library_value library.now) endings.Passed (state_of sandbox.old.now) (map step_value steps.items) (map step_row result.steps.items) result.ending }
+    ensures walked { AreWalked (library_value library.now) (state_of sandbox.old.now) (map step_value steps.items) (map step_row result.steps.items) result.ending }
     ensures layers { KeepsLayers sandbox.old sandbox.new }
 {
     let mut results = results;

@@ -186,7 +186,7 @@ fn library(alloc: Global) -> Result<Library, AllocError> {
         },
         action: Action::WriteFiles,
     })?;
-    Ok(Library { entries })
+    Ok(Library::new(entries))
 }
 
 #[test]

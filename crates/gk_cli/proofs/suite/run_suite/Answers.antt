@@ -1,11 +1,11 @@
-use Rattle.std.proofs.Common.{◌≡◌, ℕ, List, map, option_map, string_bytes, ap, sym, subst, rules, ◌∙◌}
+use Rattle.std.proofs.Common.{◌≡◌, map, option_map, string_bytes, ap, sym, subst, rules, ◌∙◌}
 use Rattle.gk_run.specs.Judged.{has_memory}
 use Rattle.gk_report.specs.PlainReport.{report}
 use Rattle.gk_report.specs.Summary.{status}
 use Rattle.gk_cli.specs.Counted.{IsPrefixWritten}
 use Rattle.gk_cli.specs.Source.{source_value}
 use Rattle.gk_cli.specs.Inputs.{request_of, inputs_value}
-use Rattle.gk_cli.specs.Suite.{Device, device_of, results_of, run_with, IsReported}
+use Rattle.gk_cli.specs.Suite.{results_of, run_with, IsReported}
 use Rattle.gk_cli.proofs.FeaturesLemmas.{no_memory, only_list, reported_by}
 use Rattle.gk_cli.proofs.suite.run_suite.Goals as goal
 

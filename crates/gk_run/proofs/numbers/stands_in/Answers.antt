@@ -1,6 +1,3 @@
-use Rattle.std.specs.Bool.{Decides}
-use Rattle.std.proofs.Common.{rules}
-use Rattle.std.specs.Str.Iter.{HasSubslice}
 use Rattle.std.proofs.lemmas.Bool.Decides.{same_from_decides}
 use Rattle.std.proofs.lemmas.Str.Pattern.{contains_text}
 use Rattle.gk_run.specs.Numbers as numbers

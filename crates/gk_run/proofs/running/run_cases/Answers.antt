@@ -1,4 +1,4 @@
-use Rattle.std.proofs.Common.{false, get_or, ◌≡◌, ◌<◌, ◌+◌, ◌∷◌, [], ◌++◌, List, Bool, length, drop, map, arith, ap, sym, subst, ◌∙◌, refl}
+use Rattle.std.proofs.Common.{false, get_or, ◌≡◌, ◌<◌, ◌+◌, ◌∷◌, [], ◌++◌, List, length, drop, map, arith, ap, sym, subst, ◌∙◌, refl}
 use Rattle.std.specs.Vec.Iter.{into_iter_items}
 use Rattle.std.proofs.lemmas.List.{map_push}
 use Rattle.gk_select.specs.declared.case.Case.{Case}

@@ -1,7 +1,7 @@
-use Rattle.std.proofs.Common.{◌≡◌, List, Bool, map, ap, sym, subst, ◌∙◌}
+use Rattle.std.proofs.Common.{List, Bool, map, ap, subst, ◌∙◌}
 use Rattle.gk_world.specs.State.{state_of}
 use Rattle.gk_run.specs.declared.results.Status.{Status}
-use Rattle.gk_run.specs.Results.{CaseRow, FeatureRow, case_row}
+use Rattle.gk_run.specs.Results.{FeatureRow, case_row}
 use Rattle.gk_run.specs.Alone.{run_of}
 use Rattle.gk_run.specs.Chosen.{chosen_value, members_of}
 use Rattle.gk_run.specs.Judged.{case_statuses, feature_verdict, feature_row_of}
