@@ -25,7 +25,7 @@ names file text status = record { file = Some file; line = None; text = Some tex
 abbrev pub points_at : List ℕ → ℕ → List ℕ → ℕ → FaultRow
 points_at file line text status = record { file = Some file; line = Some line; text = Some text; status = status }
 
--- The table of faults. (this project's profile)
+-- The table of faults. A library or a source for which memory is refused is no fault of its file: it comes as the last row, and the two rows of `out of memory` with a file are never met. (this project's profile)
 abbrev pub row_of : Fault → FaultRow
 row_of NotUtf8 = says (codes "not UTF-8") 2
 row_of (Usage error) = record { file = None; line = None; text = None; status = 2 }

@@ -234,6 +234,3 @@ pub fn read_words(alloc: Global, words: &[String]) -> Result<Words, WordsFault>
     let matches = command.try_get_matches_from_mut(words)?;
     words_of(alloc, &matches)
 }
-
-#[cfg(test)]
-mod tests;

@@ -161,6 +161,3 @@ pub fn write_whole<W: Write>(out: &mut Counted<W>, bytes: &[u8]) -> Result<(), N
     }
     Ok(())
 }
-
-#[cfg(test)]
-mod tests;

@@ -69,6 +69,3 @@ pub fn read_source<R: Read>(alloc: Global, reader: &mut Counted<R>) -> Result<Ve
     }
     Err(SourceFault::TooLong)
 }
-
-#[cfg(test)]
-mod tests;

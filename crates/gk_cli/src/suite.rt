@@ -133,6 +133,3 @@ pub fn run_suite<W: Write>(
         Err(_) => Err(RunFault::Write),
     }
 }
-
-#[cfg(test)]
-mod tests;

@@ -95,7 +95,7 @@ TakesTags ScenarioHeading = Unit {0}
 TakesTags ExamplesHeading = Unit {0}
 TakesTags _ = ⊥
 
--- The lines end after tag line n: a heading that takes tags would make them readable, and none stands there. (this project's profile)
+-- The lines end after tag line n, blank lines and comments aside: a heading that takes tags would make them readable, and none stands there. (this project's profile)
 pub record EndsInTags (ls : Lines) (n : ℕ) : Type 0 where
   pub before : Lines
   pub line : LineValue

@@ -21,6 +21,3 @@ pub use grammar::{parts_are_concatenations, reading_is_unique};
 pub use lines::{Document, LIMIT, Line, Place, read_lines, trim_back};
 pub use read_fault::ReadFault;
 pub use reader::read_feature;
-
-#[cfg(test)]
-mod tests;

@@ -7,8 +7,8 @@ ghost use Rattle.std.specs.String.{string_bytes};
 ghost use Rattle.gk_gherkin.specs.Grammar.{Reads};
 ghost use Rattle.gk_gherkin.specs.ReadFault.{FaultSays, FeatureFault, AnswersOrLacksMemory};
 ghost use Rattle.gk_gherkin.specs.Machine as spec;
-ghost use Rattle.gk_gherkin.specs.Machine.{Gives, Inside, examples_in};
-ghost use Rattle.gk_gherkin.specs.Machine.Views.{head_value, section_value, grid_value, outline_value, top_value, body_value, owner_value, bodied_value, section_after, open_value, place_value, quote_value, state_value};
+ghost use Rattle.gk_gherkin.specs.Machine.{Gives};
+ghost use Rattle.gk_gherkin.specs.Machine.Views.{head_value, section_value, grid_value, outline_value, top_value, body_value, owner_value, bodied_value, begun_after, open_value, place_value, quote_value, state_value, AddsExamples};
 ghost use Rattle.gk_gherkin.specs.StepTypes as types;
 ghost use Rattle.gk_gherkin.specs.Tags as tagging;
 ghost use Rattle.gk_gherkin.specs.Rows as cutting;
@@ -411,7 +411,7 @@ fn scenario_after_steps(
     keyword: String,
     head: Head,
 ) -> Result<(), ReadFault>
-    ensures { Gives (λ _. bodied_value owner.new body.new) result (Ok (spec.begun_scenario (section_after owner.old body.old) (string_bytes keyword) (head_value head))) }
+    ensures { Gives (λ _. bodied_value owner.new body.new) result (begun_after owner.old body.old (string_bytes keyword) (head_value head)) }
 {
     let steps = steps_of(alloc, mem::replace(body, Body::Describing))?;
     match owner {
@@ -466,7 +466,7 @@ fn examples_heading(
     tags: Vec<String>,
     line: &Piece<'_>,
 ) -> Result<(), ReadFault>
-    ensures { (top : spec.Top) → Gives (λ _. Inside top (open_value part.new)) result (examples_in (open_value part.old) top (texts tags.items) (piece_value line.now)) }
+    ensures { AddsExamples part.old (texts tags.items) (piece_value line.now) result part.new }
 {
     match outline_of(alloc, mem::replace(part, Open::Headed))? {
         Some(outline) => {

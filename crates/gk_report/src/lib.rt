@@ -7,6 +7,3 @@ mod summary;
 
 pub use plain_report::report_of;
 pub use summary::{Counts, Summary, summarize};
-
-#[cfg(test)]
-mod tests;

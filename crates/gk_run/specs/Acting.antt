@@ -142,7 +142,7 @@ is_other_number (Some held) n = not (int_eq held n)
 abbrev pub differs_from : Option (List ℕ) → ℤ → Bool × Reason
 differs_from held n = (is_other_number (number_held held) n, reasons.Differs)
 
--- The reason where a value is set, but not in the innermost layer. (behave's documentation: context layers)
+-- The reason where the innermost layer has no value of the name. It stands after `absent`, so an outer layer has one. (behave's documentation: context layers)
 abbrev pub other_layer : Option (List ℕ) → Bool × Reason
 other_layer own = (is_none own, reasons.OtherLayer)
 
@@ -257,7 +257,7 @@ table actions.Fail g s = fails s reasons.Asked
 unfoldable pub act : LibraryValue → FoundValue → BlockValue → State → Done
 act library found block s = table (action_of library found) (given library found block) s
 
--- The actions that change nothing: their rows leave the state as it is. They take no memory. (this project's profile)
+-- The actions that change nothing, the checks, `pass` and `fail`: their rows leave the state as it is. They take no memory. (this project's profile)
 abbrev pub changes_nothing : Action → Bool
 changes_nothing actions.FileExists = true
 changes_nothing actions.FileAbsent = true

@@ -10,8 +10,6 @@ ghost use Rattle.gk_run.specs.Acting.{given, given_value, table, act_of, changes
 
 mod file_actions;
 mod number_actions;
-#[cfg(test)]
-mod tests;
 mod value_actions;
 mod variable_actions;
 

@@ -4,11 +4,11 @@ use Rattle.gk_gherkin.specs.Feature.{ExamplesValue, ScenarioValue, RuleValue, Fe
 use Rattle.gk_select.specs.Inherited.{background_steps}
 use Rattle.gk_select.specs.Outline.{is_outline}
 
--- What is left of some room after n, and nothing where n is more. (this project's profile)
+-- Proof machinery: what is left of some room after n, and nothing where n is more.
 abbrev pub left : ℕ → ℕ → Option ℕ
 left room n = if nat_lt room n then None else Some (room - n)
 
--- The same, for room that may already be used up. (this project's profile)
+-- Proof machinery: the same, for room that may already be used up.
 abbrev pub left_of : Option ℕ → ℕ → Option ℕ
 left_of None n = None
 left_of (Some room) n = left room n

@@ -78,17 +78,19 @@ filled_block fill (Table rows) = Table (map (map fill) rows)
 abbrev pub filled_step : (List ℕ → List ℕ) → StepValue → StepValue
 filled_step fill s = record { keyword = s.keyword; step_type = s.step_type; text = fill s.text; block = filled_block fill s.block; line = s.line }
 
--- The cell under the first header that is a name. (this project's profile)
+-- Proof machinery, from here on: what one call of the code fills.
+
+-- The cell under the first header that is a name.
 unfoldable pub cell_of : List (List ℕ) → List (List ℕ) → List ℕ → Option (List ℕ)
 cell_of (h ∷ headers) (cell ∷ cells) name = if bytes_eq h name then Some cell else cell_of headers cells name
 cell_of _ _ name = None
 
--- A cell that was found, or else a byte and how it goes on after it. (this project's profile)
+-- A cell that was found, or else a byte and how it goes on after it.
 abbrev pub cell_or_byte : Option (List ℕ) → ℕ → List ℕ → List ℕ
 cell_or_byte (Some cell) b after = cell
 cell_or_byte None b after = b ∷ after
 
--- What a piece and the `>` after it are filled with, where the piece has none itself. (this project's profile)
+-- What a piece and the `>` after it are filled with, where the piece has none itself.
 unfoldable pub filled_piece : List (List ℕ) → List (List ℕ) → List ℕ → List ℕ
 filled_piece headers cells [] = 62 ∷ []
 filled_piece headers cells (b ∷ bs) = cell_or_byte (if b == 60 then cell_of headers cells bs else None) b (filled_piece headers cells bs)

@@ -22,6 +22,3 @@ pub use expansion::{
 pub use filling::texts_have_one_cut;
 pub use select_fault::SelectFault;
 pub use tag_rules::{TagRule, read_tags, texts_have_one_rule};
-
-#[cfg(test)]
-mod tests;

@@ -30,6 +30,3 @@ pub use matching::matches_are_determined;
 pub use pattern::{Field, FieldKind, Pattern, Piece};
 pub use pattern_fault::PatternFault;
 pub use spelling::{read_pattern, spelling_is_unique};
-
-#[cfg(test)]
-mod tests;

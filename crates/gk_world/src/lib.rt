@@ -26,6 +26,3 @@ pub use state::{layers_enter, put_texts, removed_texts};
 pub use table::{Table, TableChange};
 pub use values::{ValueChange, Values};
 pub use world_fault::WorldFault;
-
-#[cfg(test)]
-mod tests;

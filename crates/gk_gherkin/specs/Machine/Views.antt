@@ -20,6 +20,8 @@ use Rattle.gk_gherkin.specs.declared.machine.Quote.{Quote}
 use Rattle.gk_gherkin.specs.declared.machine.State.{State}
 use Rattle.gk_gherkin.specs.declared.machine.State.TheVariants as states
 use Rattle.gk_gherkin.specs.Feature.{texts, step_value, row_value, background_value, scenario_value, feature_value}
+use Rattle.gk_gherkin.specs.Lines.{LineValue}
+use Rattle.gk_gherkin.specs.declared.read_fault.ReadFault.{ReadFault}
 use Rattle.gk_gherkin.specs.Machine as spec
 
 -- What a `Head` says. (proof machinery)
@@ -87,6 +89,14 @@ bodied_value owner body = spec.Bodied (owner_value owner) (body_value body)
 -- What is finished when an owner's body is. (proof machinery)
 abbrev pub section_after : Owner → Body → spec.SectionValue
 section_after owner body = spec.owner_section (owner_value owner) (spec.steps_of (body_value body))
+
+-- A scenario that begins when an owner's body is finished. (proof machinery)
+abbrev pub begun_after : Owner → Body → List ℕ → spec.HeadValue → Result spec.Open ReadFault
+begun_after owner body keyword head = Ok (spec.begun_scenario (section_after owner body) keyword head)
+
+-- An Examples heading after an open part, whatever it stands in. (proof machinery)
+abbrev pub AddsExamples : Open → List (List ℕ) → LineValue → Result Unit ReadFault → Open → Type 0
+AddsExamples old tags line result new = (top : spec.Top) → spec.Gives (λ _. spec.Inside top (open_value new)) result (spec.examples_in (open_value old) top tags line)
 
 -- What the text of a doc string says so far. (proof machinery)
 abbrev pub content_value : {Z : Type 0} → Option (String Z) → Option (List ℕ)

@@ -1,0 +1,158 @@
+use gk_gherkin::read_feature;
+use gk_select::{
+    Case, Choice, SelectFault, expand, read_features_are_expandable, read_tags,
+};
+use std::alloc::{AllocError, Global};
+use std::test::Fail;
+
+fn text(alloc: Global, text: &str) -> Result<String, AllocError> {
+    String::from_str(alloc, text)
+}
+
+fn texts(alloc: Global, from: &[&str]) -> Result<Vec<String>, AllocError> {
+    let mut texts = Vec::new(alloc);
+    for part in from {
+        texts.push(text(alloc, part)?)?;
+    }
+    Ok(texts)
+}
+
+// The cases of a feature file.
+fn cases_of(alloc: Global, text: &str) -> Result<Vec<Case>, Fail> {
+    let Some(feature) = read_feature(alloc, text.as_bytes())? else {
+        return Err("no feature".into());
+    };
+    // No code runs here: the law says that what was read can be expanded.
+    read_features_are_expandable();
+    Ok(expand(alloc, feature)?)
+}
+
+// A step's text, filled from the row `1`, `<a>`, `2` under the header `a`, `b`, `a`.
+fn filled(alloc: Global, says: &str) -> Result<String, Fail> {
+    let outline = "Feature: f\nScenario Outline: o\nGiven ";
+    let examples = "\nExamples:\n| a | b | a |\n| 1 | <a> | 2 |\n";
+    let cases = cases_of(alloc, format!(in alloc; "{outline}{says}{examples}")?.as_str())?;
+    match cases.as_slice() {
+        [case] => match case.steps.as_slice() {
+            [step] => Ok(step.text.clone()?),
+            _ => Err("steps".into()),
+        },
+        _ => Err("cases".into()),
+    }
+}
+
+#[test]
+fn fills_from_left_to_right(rt: HostRuntime) -> Result<(), Fail> {
+    // A text, and what it is filled with.
+    let cases = [
+        ("<a<a>>", "<a1>"),
+        ("<a><b><a>", "1<a>1"),
+        ("is <c> or <a", "is <c> or <a"),
+        ("<>><<a>", "<>><1"),
+        ("ä<a>ö", "ä1ö"),
+        ("<b>", "<a>"),
+    ];
+    for (from, to) in cases {
+        assert_eq!(rt; filled(rt.alloc(), from)?.as_str(), to);
+    }
+    Ok(())
+}
+
+// A megabyte of `<`, also with a `>` at its end: a look-up at each `<` must not read on to the end.
+#[test]
+fn fills_a_text_of_openings(rt: HostRuntime) -> Result<(), Fail> {
+    let mut long = text(rt.alloc(), "<")?;
+    for _ in 0..20 {
+        let copy = long.clone()?;
+        long.push_str(copy.as_str())?;
+    }
+    assert_eq!(rt; filled(rt.alloc(), long.as_str())?.len(), 1_048_576);
+    long.push('>')?;
+    assert_eq!(rt; filled(rt.alloc(), long.as_str())?.len(), 1_048_577);
+    Ok(())
+}
+
+#[test]
+fn expands_an_outline(rt: HostRuntime) -> Result<(), Fail> {
+    let file = "@f\nFeature: o\n@s\nScenario Outline: s <a>\nGiven the variable \"V\" is set to \"<a>\"\n@e\nExamples: more\n| a |\n| <b> |\n";
+    let cases = cases_of(rt.alloc(), file)?;
+    let [case] = cases.as_slice() else {
+        return Err("cases".into());
+    };
+    assert_eq!(rt; case.name.as_str(), "s <b> -- @1.1 more");
+    assert_eq!(rt; case.line, 9);
+    assert_eq!(rt; case.tags.len(), 3);
+    assert_eq!(rt; case.own_tags.len(), 2);
+    let [step] = case.steps.as_slice() else {
+        return Err("steps".into());
+    };
+    assert_eq!(rt; step.text.as_str(), "the variable \"V\" is set to \"<b>\"");
+    Ok(())
+}
+
+#[test]
+fn backgrounds_come_first(rt: HostRuntime) -> Result<(), Fail> {
+    let file = "@f\nFeature: r\nBackground:\nGiven of the feature\n@r\nRule: x\nBackground:\nGiven of the rule\nExample: e\nGiven own\n";
+    let cases = cases_of(rt.alloc(), file)?;
+    let [case] = cases.as_slice() else {
+        return Err("cases".into());
+    };
+    assert_eq!(rt; case.line, 9);
+    assert_eq!(rt; case.tags.len(), 2);
+    let [first, second, third] = case.steps.as_slice() else {
+        return Err("steps".into());
+    };
+    assert_eq!(rt; (first.line, second.line, third.line), (4, 8, 10));
+    Ok(())
+}
+
+#[test]
+fn tags_and_lines_choose(rt: HostRuntime) -> Result<(), Fail> {
+    let alloc = rt.alloc();
+    let mut rules = Vec::new(alloc);
+    rules.push(read_tags(alloc, "~@slow,db")?)?;
+    rules.push(read_tags(alloc, "@ui")?)?;
+    let mut lines = Vec::new(alloc);
+    for line in [7, 10, 3] {
+        lines.push(line)?;
+    }
+    let choice = Choice::new(rules, lines);
+    // The tags and the line of a case, and whether it is chosen.
+    let cases: [(&[&str], u32, bool); 10] = [
+        (&[], 10, false),
+        (&["@slow"], 10, false),
+        (&["@db"], 10, false),
+        (&["@ui"], 10, true),
+        (&["@slow", "@db"], 10, false),
+        (&["@slow", "@ui"], 10, false),
+        (&["@db", "@ui"], 10, true),
+        (&["@slow", "@db", "@ui"], 10, true),
+        (&["@ui"], 3, true),
+        (&["@ui"], 4, false),
+    ];
+    for (tags, line, chosen) in cases {
+        let case = Case {
+            name: text(alloc, "s")?,
+            keyword: text(alloc, "Scenario")?,
+            line,
+            tags: texts(alloc, tags)?,
+            own_tags: Vec::new(alloc),
+            steps: Vec::new(alloc),
+        };
+        assert_eq!(rt; choice.chooses(&case), chosen);
+    }
+    Ok(())
+}
+
+#[test]
+fn bad_tags_are_refused(rt: HostRuntime) -> Result<(), Fail> {
+    let bad = ["", "@", "~", "~~x", "-x", "~@", "a,,b", "a, b", "(a)", "a,"];
+    for text in bad {
+        assert!(rt; matches!(read_tags(rt.alloc(), text), Err(SelectFault::BadTagText)));
+    }
+    let good = ["a", "@-x", "~@~x", "and", "@a@b", "a,~b,@c"];
+    for text in good {
+        assert!(rt; read_tags(rt.alloc(), text).is_ok());
+    }
+    Ok(())
+}

@@ -1,0 +1,310 @@
+use gk_steps::*;
+use gk_gherkin::StepType;
+use std::alloc::{AllocError, Global};
+use std::test::Fail;
+
+fn field(alloc: Global, name: &str, kind: FieldKind) -> Result<Piece, AllocError> {
+    Ok(Piece::Field {
+        name: String::from_str(alloc, name)?,
+        kind,
+    })
+}
+
+fn literal(alloc: Global, text: &str) -> Result<Piece, AllocError> {
+    Ok(Piece::Literal(String::from_str(alloc, text)?))
+}
+
+// A text field's text; a number's is empty.
+fn text_of(fields: &[Field], place: usize) -> &str {
+    match fields.get(place) {
+        Some(Field::Text(text)) => text,
+        _ => "",
+    }
+}
+
+fn number_at(fields: &[Field], place: usize) -> Option<i64> {
+    match fields.get(place) {
+        Some(Field::Number(number)) => Some(*number),
+        _ => None,
+    }
+}
+
+#[test]
+fn shortest_first(rt: HostRuntime) -> Result<(), Fail> {
+    let alloc = rt.alloc();
+    let mut pieces = Vec::new(alloc);
+    pieces.push(field(alloc, "a", FieldKind::Plain)?)?;
+    pieces.push(literal(alloc, " and ")?)?;
+    pieces.push(field(alloc, "b", FieldKind::Plain)?)?;
+    let pattern = Pattern { pieces };
+    let (found, filled) = pattern.matches_counted(alloc, "x and y and z")?;
+    let fields = found.ok_or("no match")?;
+    assert_eq!(rt; text_of(&fields, 0), "x");
+    assert_eq!(rt; text_of(&fields, 1), "y and z");
+    assert_eq!(rt; filled, 56);
+    Ok(())
+}
+
+#[test]
+fn longest_number_first(rt: HostRuntime) -> Result<(), Fail> {
+    let alloc = rt.alloc();
+    let mut pieces = Vec::new(alloc);
+    pieces.push(field(alloc, "n", FieldKind::Decimal)?)?;
+    pieces.push(field(alloc, "m", FieldKind::Decimal)?)?;
+    let pattern = Pattern { pieces };
+    let fields = pattern.matches(alloc, "123")?.ok_or("no match")?;
+    assert_eq!(rt; number_at(&fields, 0), Some(12));
+    assert_eq!(rt; number_at(&fields, 1), Some(3));
+    Ok(())
+}
+
+#[test]
+fn numbers_at_the_limits(rt: HostRuntime) -> Result<(), Fail> {
+    let alloc = rt.alloc();
+    let mut pieces = Vec::new(alloc);
+    pieces.push(field(alloc, "n", FieldKind::Decimal)?)?;
+    let pattern = Pattern { pieces };
+    let fields = pattern
+        .matches(alloc, "9223372036854775807")?
+        .ok_or("no match")?;
+    assert_eq!(rt; number_at(&fields, 0), Some(9223372036854775807));
+    let fields = pattern
+        .matches(alloc, "-9223372036854775808")?
+        .ok_or("no match")?;
+    assert_eq!(rt; number_at(&fields, 0), Some(-9223372036854775808));
+    assert!(rt; pattern.matches(alloc, "9223372036854775808")?.is_none());
+    assert!(rt; pattern.matches(alloc, "")?.is_none());
+    assert!(rt; pattern.matches(alloc, "-")?.is_none());
+    let fields = pattern
+        .matches(alloc, "+00000000000000000000000000007")?
+        .ok_or("no match")?;
+    assert_eq!(rt; number_at(&fields, 0), Some(7));
+    Ok(())
+}
+
+// Plain fields in a row, and a letter after them, on letters `a` and one `y`.
+fn refused_cells(alloc: Global, fields: usize, letters: usize) -> Result<Option<u64>, AllocError> {
+    let mut pieces = Vec::new(alloc);
+    for _ in 0..fields {
+        pieces.push(field(alloc, "a", FieldKind::Plain)?)?;
+    }
+    pieces.push(literal(alloc, "x")?)?;
+    let pattern = Pattern { pieces };
+    let mut text = String::new(alloc);
+    for _ in 0..letters {
+        text.push('a')?;
+    }
+    text.push('y')?;
+    let (found, filled) = pattern.matches_counted(alloc, &text)?;
+    Ok(if found.is_none() { Some(filled) } else { None })
+}
+
+#[test]
+fn cells_of_four_fields(rt: HostRuntime) -> Result<(), Fail> {
+    assert_eq!(rt; refused_cells(rt.alloc(), 4, 40)?, Some(252));
+    Ok(())
+}
+
+#[test]
+fn cells_of_eight_fields(rt: HostRuntime) -> Result<(), Fail> {
+    assert_eq!(rt; refused_cells(rt.alloc(), 8, 400)?, Some(4020));
+    Ok(())
+}
+
+#[test]
+fn cells_of_a_run_of_zeros(rt: HostRuntime) -> Result<(), Fail> {
+    let alloc = rt.alloc();
+    let mut pieces = Vec::new(alloc);
+    pieces.push(field(alloc, "n", FieldKind::Decimal)?)?;
+    pieces.push(field(alloc, "m", FieldKind::Decimal)?)?;
+    pieces.push(literal(alloc, "x")?)?;
+    let pattern = Pattern { pieces };
+    let mut text = String::new(alloc);
+    for _ in 0..100000 {
+        text.push('0')?;
+    }
+    let (found, filled) = pattern.matches_counted(alloc, &text)?;
+    assert!(rt; found.is_none());
+    assert_eq!(rt; filled, 400004);
+    Ok(())
+}
+
+#[test]
+fn characters_of_several_bytes(rt: HostRuntime) -> Result<(), Fail> {
+    let alloc = rt.alloc();
+    let mut pieces = Vec::new(alloc);
+    pieces.push(field(alloc, "a", FieldKind::Plain)?)?;
+    pieces.push(literal(alloc, "é")?)?;
+    pieces.push(field(alloc, "b", FieldKind::Plain)?)?;
+    let pattern = Pattern { pieces };
+    let (found, filled) = pattern.matches_counted(alloc, "üé€é")?;
+    let fields = found.ok_or("no match")?;
+    assert_eq!(rt; text_of(&fields, 0), "ü");
+    assert_eq!(rt; text_of(&fields, 1), "€é");
+    assert_eq!(rt; filled, 20);
+    Ok(())
+}
+
+#[test]
+fn entries_of_the_type_first(rt: HostRuntime) -> Result<(), Fail> {
+    let alloc = rt.alloc();
+    let mut entries = Vec::new(alloc);
+    let mut any = Vec::new(alloc);
+    any.push(field(alloc, "a", FieldKind::Plain)?)?;
+    entries.push(Entry {
+        step_type: None,
+        pattern: Pattern { pieces: any },
+        action: Action::Pass,
+    })?;
+    let mut when = Vec::new(alloc);
+    when.push(literal(alloc, "it ")?)?;
+    when.push(field(alloc, "a", FieldKind::Plain)?)?;
+    entries.push(Entry {
+        step_type: Some(StepType::When),
+        pattern: Pattern { pieces: when },
+        action: Action::Fail,
+    })?;
+    let library = Library::new(entries);
+    let found = library
+        .find(alloc, StepType::When, "it passes")?
+        .ok_or("not found")?;
+    assert_eq!(rt; found.entry, 1);
+    assert_eq!(rt; text_of(&found.fields, 0), "passes");
+    let found = library
+        .find(alloc, StepType::Given, "it passes")?
+        .ok_or("not found")?;
+    assert_eq!(rt; found.entry, 0);
+    assert!(rt; library.find(alloc, StepType::Then, "")?.is_none());
+    Ok(())
+}
+
+// The pattern that a text spells.
+fn pattern(alloc: Global, text: &str) -> Result<Pattern, Fail> {
+    match read_pattern(alloc, text) {
+        Ok(pattern) => Ok(pattern),
+        Err(_) => Err("no pattern")?,
+    }
+}
+
+#[test]
+fn patterns_are_read(rt: HostRuntime) -> Result<(), Fail> {
+    let alloc = rt.alloc();
+    let fields = pattern(alloc, "{{{a}}}")?
+        .matches(alloc, "{x}")?
+        .ok_or("no match")?;
+    assert_eq!(rt; text_of(&fields, 0), "x");
+    let fields = pattern(alloc, "{a} and {b}")?
+        .matches(alloc, "x and y and z")?
+        .ok_or("no match")?;
+    assert_eq!(rt; text_of(&fields, 0), "x");
+    assert_eq!(rt; text_of(&fields, 1), "y and z");
+    let fields = pattern(alloc, "{n:d}{m:d}")?
+        .matches(alloc, "123")?
+        .ok_or("no match")?;
+    assert_eq!(rt; number_at(&fields, 0), Some(12));
+    assert_eq!(rt; number_at(&fields, 1), Some(3));
+    assert!(rt; pattern(alloc, "a {n:d} b")?.can_match("a 1 b"));
+    assert!(rt; !pattern(alloc, "a {n:d} b")?.can_match("a 1 c"));
+    Ok(())
+}
+
+fn is_bad(alloc: Global, text: &str) -> bool {
+    match read_pattern(alloc, text) {
+        Ok(_) => false,
+        Err(fault) => fault == PatternFault::BadPattern,
+    }
+}
+
+#[test]
+fn texts_that_spell_no_pattern(rt: HostRuntime) -> Result<(), Fail> {
+    let alloc = rt.alloc();
+    assert!(rt; is_bad(alloc, ""));
+    assert!(rt; is_bad(alloc, "{}"));
+    assert!(rt; is_bad(alloc, "a }"));
+    assert!(rt; is_bad(alloc, "{1a}"));
+    assert!(rt; is_bad(alloc, "{a b}"));
+    assert!(rt; is_bad(alloc, "{a:x}"));
+    assert!(rt; is_bad(alloc, "{a"));
+    assert!(rt; is_bad(alloc, "{a} {a:d}"));
+    assert!(rt; !is_bad(alloc, "{_a1} {a}"));
+    Ok(())
+}
+
+// The fault of a library's text.
+fn fault_of(alloc: Global, text: &str) -> Option<LibraryFault> {
+    read_library(alloc, text.as_bytes()).err()
+}
+
+#[test]
+fn faults_of_a_library(rt: HostRuntime) -> Result<(), Fail> {
+    let alloc = rt.alloc();
+    let ambiguous = fault_of(alloc, "given a {x} => pass\ngiven a b => fail\n").ok_or("no fault")?;
+    assert_eq!(rt; ambiguous, LibraryFault::Ambiguous { line: 2 });
+    assert_eq!(rt; ambiguous.line(), Some(2));
+    assert_eq!(rt; ambiguous.text(), "ambiguous with an earlier line");
+    assert!(rt; fault_of(alloc, "given a {x} => pass\nwhen a b => fail\n").is_none());
+    assert_eq!(rt;
+        fault_of(alloc, "step x => dance"),
+        Some(LibraryFault::UnknownAction { line: 1 })
+    );
+    assert_eq!(rt;
+        fault_of(alloc, "\n# a\nstep {n} => set_number"),
+        Some(LibraryFault::MissingField { line: 3 })
+    );
+    assert_eq!(rt;
+        fault_of(alloc, "step \"{name}\" is {n} => set_number"),
+        Some(LibraryFault::FieldKind { line: 1 })
+    );
+    assert_eq!(rt;
+        fault_of(alloc, "step {} => pass"),
+        Some(LibraryFault::BadPattern { line: 1 })
+    );
+    assert_eq!(rt;
+        fault_of(alloc, "step a } => pass"),
+        Some(LibraryFault::BadPattern { line: 1 })
+    );
+    assert_eq!(rt;
+        fault_of(alloc, "and a => pass"),
+        Some(LibraryFault::BadType { line: 1 })
+    );
+    assert_eq!(rt;
+        fault_of(alloc, "step {text} => set_env"),
+        Some(LibraryFault::MissingField { line: 1 })
+    );
+    assert_eq!(rt;
+        fault_of(alloc, "step {name:d} => env_absent"),
+        Some(LibraryFault::FieldKind { line: 1 })
+    );
+    assert_eq!(rt;
+        fault_of(alloc, "step"),
+        Some(LibraryFault::BadPattern { line: 1 })
+    );
+    assert_eq!(rt;
+        fault_of(alloc, "step=>pass"),
+        Some(LibraryFault::BadType { line: 1 })
+    );
+    assert_eq!(rt;
+        fault_of(alloc, "step a =>"),
+        Some(LibraryFault::UnknownAction { line: 1 })
+    );
+    assert!(rt; fault_of(alloc, "step {{a}} => pass\nstep {{a}} => pass").is_none());
+    Ok(())
+}
+
+#[test]
+fn the_default_library(rt: HostRuntime) -> Result<(), Fail> {
+    let alloc = rt.alloc();
+    let library = default_library(alloc)?;
+    assert_eq!(rt; library.entries.len(), 26);
+    let found = library
+        .find(alloc, StepType::Given, "the number \"n\" grows by -5")?
+        .ok_or("not found")?;
+    assert_eq!(rt; library.action(&found), Action::AddNumber);
+    assert_eq!(rt; library.text(&found, "name"), Some("n"));
+    assert_eq!(rt; library.number(&found, "n"), Some(-5));
+    assert_eq!(rt; library.text(&found, "n"), None);
+    assert!(rt; library.knows(alloc, StepType::Then, "it passes")?);
+    assert!(rt; !library.knows(alloc, StepType::Then, "it dances")?);
+    assert!(rt; library.find_any(alloc, "it fails")?.is_some());
+    Ok(())
+}

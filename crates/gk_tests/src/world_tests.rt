@@ -1,0 +1,275 @@
+ghost use Rattle.std.specs.Prelude.{◌≡◌, ◌<◌, ◌+◌, IfOk};
+ghost use Rattle.gk_world.specs.Sandbox.{depth, layers};
+
+use gk_world::{LONGEST_TEXT, Listing, Sandbox, WorldFault};
+use std::alloc::Global;
+use std::test::Fail;
+
+/// A call that changes a sandbox.
+#[derive(Clone, Copy)]
+enum Call {
+    PutFile,
+    AppendFile,
+    RemoveFile,
+    PutEnv,
+    RemoveEnv,
+    SetValue,
+    DeleteValue,
+}
+
+fn make(world: &mut Sandbox, call: Call, name: &str, text: &str) -> Result<(), WorldFault>
+    requires { 0 < depth world.old }
+    ensures { world.new.saved ≡ world.old.saved }
+{
+    match call {
+        Call::PutFile => world.put_file(name, text),
+        Call::AppendFile => world.append_file(name, text),
+        Call::RemoveFile => world.remove_file(name),
+        Call::PutEnv => world.put_env(name, text),
+        Call::RemoveEnv => world.remove_env(name),
+        Call::SetValue => world.set_value(name, text),
+        Call::DeleteValue => world.delete_value(name),
+    }
+}
+
+/// What a call's name has after it.
+fn seen<'a>(world: &'a Sandbox, call: Call, name: &str) -> Option<&'a str> {
+    match call {
+        Call::PutFile | Call::AppendFile | Call::RemoveFile => world.file(name),
+        Call::PutEnv | Call::RemoveEnv => world.env(name),
+        Call::SetValue | Call::DeleteValue => world.value(name),
+    }
+}
+
+/// A call, its name and its text, its answer, and what the name has after it.
+type Row = (
+    Call,
+    &'static str,
+    &'static str,
+    Result<(), WorldFault>,
+    Option<&'static str>,
+);
+
+/// The first row with another answer, or after which the name has something else.
+fn first_wrong(world: &mut Sandbox, rows: &[Row]) -> Option<usize>
+    requires { 0 < depth world.old }
+    ensures { world.new.saved ≡ world.old.saved }
+{
+    for (place, row) in rows.iter().enumerate() {
+        let (call, name, text, answer, after) = *row;
+        if make(world, call, name, text) != answer || seen(world, call, name) != after {
+            return Some(place);
+        }
+    }
+    None
+}
+
+const OUTER: [Row; 12] = [
+    (Call::AppendFile, "f", "x", Err(WorldFault::Absent), None),
+    (Call::RemoveFile, "f", "", Err(WorldFault::Absent), None),
+    (Call::PutFile, "f", "one", Ok(()), Some("one")),
+    (Call::AppendFile, "f", "two", Ok(()), Some("onetwo")),
+    (Call::RemoveFile, "f", "", Ok(()), None),
+    (Call::PutFile, "f", "", Ok(()), Some("")),
+    (Call::RemoveEnv, "f", "", Err(WorldFault::Absent), None),
+    (Call::PutEnv, "f", "v", Ok(()), Some("v")),
+    (Call::RemoveEnv, "f", "", Ok(()), None),
+    (Call::DeleteValue, "n", "", Err(WorldFault::Absent), None),
+    (Call::SetValue, "n", "5", Ok(()), Some("5")),
+    (Call::SetValue, "", "5", Err(WorldFault::BadName), None),
+];
+
+const INNER: [Row; 4] = [
+    (
+        Call::DeleteValue,
+        "n",
+        "",
+        Err(WorldFault::OtherLayer),
+        Some("5"),
+    ),
+    (Call::SetValue, "n", "7", Ok(()), Some("7")),
+    (Call::DeleteValue, "n", "", Ok(()), Some("5")),
+    (Call::RemoveFile, "f", "", Ok(()), None),
+];
+
+/// The rows of an inner layer, which ends: the first wrong one, and the depth and the number of
+/// recorded changes inside.
+fn in_inner_layer(world: &mut Sandbox) -> (Option<usize>, usize, usize)
+    requires { depth world.old < layers }
+    ensures { world.new.saved ≡ world.old.saved }
+{
+    let layer = world.begin();
+    let wrong = first_wrong(world, &INNER);
+    let inside = (wrong, world.depth(), world.recorded());
+    world.end(layer);
+    inside
+}
+
+/// Whether the rows of an outer layer hold, with an inner layer in it, and both layers end.
+fn both_layers_hold(world: &mut Sandbox) -> bool
+    requires { depth world.old ≡ 0 }
+    ensures { world.new.saved ≡ world.old.saved }
+{
+    let layer = world.begin();
+    let wrong = first_wrong(world, &OUTER);
+    let (wrong_inside, depth, recorded) = in_inner_layer(world);
+    let recorded_after = world.recorded();
+    let is_there = world.file("f").is_some();
+    world.end(layer);
+    wrong.is_none()
+        && wrong_inside.is_none()
+        && depth == 2
+        && recorded == 10
+        && recorded_after == 7
+        && is_there
+}
+
+#[test]
+fn calls_answer_and_change_as_stated(rt: HostRuntime) {
+    let mut world = Sandbox::new(rt.alloc());
+    assert!(rt; both_layers_hold(&mut world));
+    assert!(rt; world.file("f").is_none() && world.recorded() == 0);
+}
+
+fn repeated(alloc: Global, count: usize) -> Result<String, Fail> {
+    let mut text = String::new(alloc);
+    for _ in 0..count {
+        text.push('x')?;
+    }
+    Ok(text)
+}
+
+#[test]
+fn names_and_texts_have_limits(rt: HostRuntime) -> Result<(), Fail> {
+    let longest = repeated(rt.alloc(), LONGEST_TEXT)?;
+    let text = repeated(rt.alloc(), LONGEST_TEXT + 1)?;
+    let name = repeated(rt.alloc(), 255)?;
+    let long_name = repeated(rt.alloc(), 256)?;
+    let mut world = Sandbox::new(rt.alloc());
+    let answers = [
+        world.put_file("", &text),
+        world.put_file(&long_name, "y"),
+        world.put_file(&name, "y"),
+        world.put_env("f", &text),
+        world.put_file("f", &longest),
+        world.append_file("f", "x"),
+    ];
+    let stated = [
+        Err(WorldFault::BadName),
+        Err(WorldFault::BadName),
+        Ok(()),
+        Err(WorldFault::TextTooLong),
+        Ok(()),
+        Err(WorldFault::TextTooLong),
+    ];
+    assert_eq!(rt; answers, stated);
+    assert!(rt; world.file("f") == Some(longest.as_str()));
+    Ok(())
+}
+
+/// Makes a call at each name, and counts those that are carried out.
+fn change_all(world: &mut Sandbox, names: &[String], round: usize) -> usize
+    requires { 0 < depth world.old }
+    ensures { world.new.saved ≡ world.old.saved }
+{
+    let calls = [
+        Call::PutFile,
+        Call::AppendFile,
+        Call::SetValue,
+        Call::PutEnv,
+        Call::RemoveFile,
+        Call::DeleteValue,
+        Call::RemoveEnv,
+    ];
+    let mut done: usize = 0;
+    for (place, name) in names.iter().enumerate() {
+        let call = calls[place.wrapping_add(round) % 7];
+        if make(world, call, name, "text").is_ok() {
+            done = done.saturating_add(1);
+        }
+    }
+    done
+}
+
+/// Makes calls at all names, round after round, and counts those that are carried out.
+fn change_rounds(world: &mut Sandbox, names: &[String], rounds: usize) -> usize
+    requires { 0 < depth world.old }
+    ensures { world.new.saved ≡ world.old.saved }
+{
+    let mut done: usize = 0;
+    for round in 0..rounds {
+        done = done.saturating_add(change_all(world, names, round));
+    }
+    done
+}
+
+fn is_same(one: &Listing, other: &Listing) -> bool {
+    one.files == other.files && one.env == other.env && one.values == other.values
+}
+
+fn forty_names(alloc: Global) -> Result<Vec<String>, Fail> {
+    let mut names = Vec::new(alloc);
+    for number in 0..40 {
+        names.push(format!(in alloc; "name {number}")?)?;
+    }
+    Ok(names)
+}
+
+/// A sandbox with a file and a variable for each of these names.
+fn filled(alloc: Global, names: &[String]) -> Result<Sandbox, Fail>
+    ensures { IfOk result (λ world. depth world ≡ 0) }
+{
+    let mut world = Sandbox::new(alloc);
+    for name in names {
+        world.put_file(name, "before")?;
+        world.put_env(name, "before")?;
+    }
+    Ok(world)
+}
+
+/// Makes changes in a new layer, which ends. The answer is how many were carried out.
+fn change_in_layer(world: &mut Sandbox, names: &[String], rounds: usize) -> usize
+    requires { depth world.old < layers }
+    ensures { world.new.saved ≡ world.old.saved }
+{
+    let layer = world.begin();
+    let done = change_rounds(world, names, rounds);
+    world.end(layer);
+    done
+}
+
+/// Makes changes in a layer and in one inside it. The answer is how many were carried out in each.
+fn change_in_two_layers(world: &mut Sandbox, names: &[String], rounds: usize) -> (usize, usize)
+    requires { depth world.old + 1 < layers }
+    ensures { world.new.saved ≡ world.old.saved }
+{
+    let layer = world.begin();
+    let done = change_rounds(world, names, rounds);
+    let inside = change_in_layer(world, names, rounds);
+    world.end(layer);
+    (done, inside)
+}
+
+/// Makes changes in three layers, one inside the other, and answers whether enough were carried out, and
+/// whether those of the two inner ones aren't recorded any more after their end.
+fn three_layers_end(world: &mut Sandbox, names: &[String], rounds: usize) -> bool
+    requires { depth world.old ≡ 0 }
+    ensures { world.new.saved ≡ world.old.saved }
+{
+    let layer = world.begin();
+    let done = change_rounds(world, names, rounds);
+    let (middle, inner) = change_in_two_layers(world, names, rounds);
+    let recorded = world.recorded();
+    world.end(layer);
+    done > 100 && middle > 100 && inner > 100 && recorded == done
+}
+
+#[test]
+fn three_layers_give_back_a_thousand_changes(rt: HostRuntime) -> Result<(), Fail> {
+    let names = forty_names(rt.alloc())?;
+    let mut world = filled(rt.alloc(), &names)?;
+    let before = world.listing()?;
+    assert!(rt; three_layers_end(&mut world, &names, 9));
+    assert!(rt; is_same(&before, &world.listing()?));
+    Ok(())
+}

@@ -1,6 +1,0 @@
-use Rattle.std.proofs.Common.{◌≡◌}
-use Rattle.gk_world.proofs.tests.change_all.Given as goal
-
--- what the ends of the open layers give stays
-abbrev pub invariant-loop-place : goal.invariant-loop-place
-invariant-loop-place l = l.world.saved ≡ l.fn.world.saved
