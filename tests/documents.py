@@ -374,7 +374,7 @@ def fault_texts():
     """The texts of faults and the reasons that the code prints."""
     texts = set()
     for path in FILES:
-        if not re.fullmatch(r"crates/[^/]+/src/.*\.rt", path) or path.endswith("/tests.rt"):
+        if not re.fullmatch(r"crates/[^/]+/src/.*\.rt", path) or path.startswith("crates/gk_tests/"):
             continue
         code = re.sub(r"//.*", "", read(path))
         for pattern in (r'#\[error\("([^"{}]+)"\)\]', r'write_str\("([^"{}]+)"\)', r'=>\s*"([^"{}]+)"',

@@ -38,7 +38,7 @@ IsUnread r Memory = Unit {0}
 -- The status of a run that ended with a fault. (this project's profile)
 abbrev pub status_of_fault : RunFault → ℕ
 status_of_fault Memory = 4
-status_of_fault (Select None fault) = 2
+status_of_fault (Select input select_faults.BadTagText) = 2
 status_of_fault fault = 3
 
 -- Proof machinery: the same of the texts of tags alone.

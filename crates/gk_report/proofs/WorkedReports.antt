@@ -1,5 +1,5 @@
 -- Worked reports, each with its status, by computation.
-use Rattle.std.specs.Prelude.{◌≡◌, ℕ, List, [], ◌∷◌, replicate, Some, None, codes, refl}
+use Rattle.std.specs.Prelude.{◌≡◌, ℕ, List, [], ◌∷◌, ◌++◌, replicate, Some, None, codes, refl}
 use Rattle.std.specs.Fmt.{digits}
 use Rattle.gk_run.specs.declared.results.Status.{Status}
 use Rattle.gk_run.specs.declared.results.Status.TheVariants.{Passed, Failed, Skipped, Undefined, Untested, Memory}
@@ -138,113 +138,29 @@ memory_and_failed_report = refl
 memory_and_failed_status : status memory_and_failed ≡ 4
 memory_and_failed_status = refl
 
--- Each reason, of which the first is `absent`.
-absent_report : report (failed_for reasons.Absent) ≡ codes "Feature: f ... failed\n  Scenario: s ... failed\n    Given a ... failed: absent\n\n0 features passed, 1 failed, 0 skipped\n0 scenarios passed, 1 failed, 0 skipped\n0 steps passed, 1 failed, 0 skipped, 0 undefined\n"
+-- The report of a run with one step that failed, for a reason that is printed so.
+abbrev report_with : List ℕ → List ℕ
+report_with text = codes "Feature: f ... failed\n  Scenario: s ... failed\n    Given a ... failed: " ++ (text ++ codes "\n\n0 features passed, 1 failed, 0 skipped\n0 scenarios passed, 1 failed, 0 skipped\n0 steps passed, 1 failed, 0 skipped, 0 undefined\n")
+
+-- A reason is printed so, and the status is 1.
+abbrev IsPrintedAs : Reason → List ℕ → Type 0
+IsPrintedAs reason text = (report (failed_for reason) ≡ report_with text) × (status (failed_for reason) ≡ 1)
+
+-- Each reason.
+each_reason : IsPrintedAs reasons.Absent (codes "absent")
+    × IsPrintedAs reasons.Present (codes "present")
+    × IsPrintedAs reasons.Differs (codes "differs")
+    × IsPrintedAs reasons.TextTooLong (codes "text too long")
+    × IsPrintedAs reasons.BadName (codes "bad name")
+    × IsPrintedAs reasons.OtherLayer (codes "other layer")
+    × IsPrintedAs reasons.NoText (codes "no text")
+    × IsPrintedAs reasons.NoTable (codes "no table")
+    × IsPrintedAs reasons.BadTable (codes "bad table")
+    × IsPrintedAs reasons.NotNumber (codes "not a number")
+    × IsPrintedAs reasons.OutOfRange (codes "out of range")
+    × IsPrintedAs reasons.Asked (codes "fail step")
 unfolding digits status_text reason_text one_line status_line step_line case_line feature_line counted count_line closing_lines
-absent_report = refl
-
--- Its status.
-absent_status : status (failed_for reasons.Absent) ≡ 1
-absent_status = refl
-
--- The reason `present`.
-present_report : report (failed_for reasons.Present) ≡ codes "Feature: f ... failed\n  Scenario: s ... failed\n    Given a ... failed: present\n\n0 features passed, 1 failed, 0 skipped\n0 scenarios passed, 1 failed, 0 skipped\n0 steps passed, 1 failed, 0 skipped, 0 undefined\n"
-unfolding digits status_text reason_text one_line status_line step_line case_line feature_line counted count_line closing_lines
-present_report = refl
-
--- Its status.
-present_status : status (failed_for reasons.Present) ≡ 1
-present_status = refl
-
--- The reason `differs`.
-differs_report : report (failed_for reasons.Differs) ≡ codes "Feature: f ... failed\n  Scenario: s ... failed\n    Given a ... failed: differs\n\n0 features passed, 1 failed, 0 skipped\n0 scenarios passed, 1 failed, 0 skipped\n0 steps passed, 1 failed, 0 skipped, 0 undefined\n"
-unfolding digits status_text reason_text one_line status_line step_line case_line feature_line counted count_line closing_lines
-differs_report = refl
-
--- Its status.
-differs_status : status (failed_for reasons.Differs) ≡ 1
-differs_status = refl
-
--- The reason `text too long`.
-text_too_long_report : report (failed_for reasons.TextTooLong) ≡ codes "Feature: f ... failed\n  Scenario: s ... failed\n    Given a ... failed: text too long\n\n0 features passed, 1 failed, 0 skipped\n0 scenarios passed, 1 failed, 0 skipped\n0 steps passed, 1 failed, 0 skipped, 0 undefined\n"
-unfolding digits status_text reason_text one_line status_line step_line case_line feature_line counted count_line closing_lines
-text_too_long_report = refl
-
--- Its status.
-text_too_long_status : status (failed_for reasons.TextTooLong) ≡ 1
-text_too_long_status = refl
-
--- The reason `bad name`.
-bad_name_report : report (failed_for reasons.BadName) ≡ codes "Feature: f ... failed\n  Scenario: s ... failed\n    Given a ... failed: bad name\n\n0 features passed, 1 failed, 0 skipped\n0 scenarios passed, 1 failed, 0 skipped\n0 steps passed, 1 failed, 0 skipped, 0 undefined\n"
-unfolding digits status_text reason_text one_line status_line step_line case_line feature_line counted count_line closing_lines
-bad_name_report = refl
-
--- Its status.
-bad_name_status : status (failed_for reasons.BadName) ≡ 1
-bad_name_status = refl
-
--- The reason `other layer`.
-other_layer_report : report (failed_for reasons.OtherLayer) ≡ codes "Feature: f ... failed\n  Scenario: s ... failed\n    Given a ... failed: other layer\n\n0 features passed, 1 failed, 0 skipped\n0 scenarios passed, 1 failed, 0 skipped\n0 steps passed, 1 failed, 0 skipped, 0 undefined\n"
-unfolding digits status_text reason_text one_line status_line step_line case_line feature_line counted count_line closing_lines
-other_layer_report = refl
-
--- Its status.
-other_layer_status : status (failed_for reasons.OtherLayer) ≡ 1
-other_layer_status = refl
-
--- The reason `no text`.
-no_text_report : report (failed_for reasons.NoText) ≡ codes "Feature: f ... failed\n  Scenario: s ... failed\n    Given a ... failed: no text\n\n0 features passed, 1 failed, 0 skipped\n0 scenarios passed, 1 failed, 0 skipped\n0 steps passed, 1 failed, 0 skipped, 0 undefined\n"
-unfolding digits status_text reason_text one_line status_line step_line case_line feature_line counted count_line closing_lines
-no_text_report = refl
-
--- Its status.
-no_text_status : status (failed_for reasons.NoText) ≡ 1
-no_text_status = refl
-
--- The reason `no table`.
-no_table_report : report (failed_for reasons.NoTable) ≡ codes "Feature: f ... failed\n  Scenario: s ... failed\n    Given a ... failed: no table\n\n0 features passed, 1 failed, 0 skipped\n0 scenarios passed, 1 failed, 0 skipped\n0 steps passed, 1 failed, 0 skipped, 0 undefined\n"
-unfolding digits status_text reason_text one_line status_line step_line case_line feature_line counted count_line closing_lines
-no_table_report = refl
-
--- Its status.
-no_table_status : status (failed_for reasons.NoTable) ≡ 1
-no_table_status = refl
-
--- The reason `bad table`.
-bad_table_report : report (failed_for reasons.BadTable) ≡ codes "Feature: f ... failed\n  Scenario: s ... failed\n    Given a ... failed: bad table\n\n0 features passed, 1 failed, 0 skipped\n0 scenarios passed, 1 failed, 0 skipped\n0 steps passed, 1 failed, 0 skipped, 0 undefined\n"
-unfolding digits status_text reason_text one_line status_line step_line case_line feature_line counted count_line closing_lines
-bad_table_report = refl
-
--- Its status.
-bad_table_status : status (failed_for reasons.BadTable) ≡ 1
-bad_table_status = refl
-
--- The reason `not a number`.
-not_number_report : report (failed_for reasons.NotNumber) ≡ codes "Feature: f ... failed\n  Scenario: s ... failed\n    Given a ... failed: not a number\n\n0 features passed, 1 failed, 0 skipped\n0 scenarios passed, 1 failed, 0 skipped\n0 steps passed, 1 failed, 0 skipped, 0 undefined\n"
-unfolding digits status_text reason_text one_line status_line step_line case_line feature_line counted count_line closing_lines
-not_number_report = refl
-
--- Its status.
-not_number_status : status (failed_for reasons.NotNumber) ≡ 1
-not_number_status = refl
-
--- The reason `out of range`.
-out_of_range_report : report (failed_for reasons.OutOfRange) ≡ codes "Feature: f ... failed\n  Scenario: s ... failed\n    Given a ... failed: out of range\n\n0 features passed, 1 failed, 0 skipped\n0 scenarios passed, 1 failed, 0 skipped\n0 steps passed, 1 failed, 0 skipped, 0 undefined\n"
-unfolding digits status_text reason_text one_line status_line step_line case_line feature_line counted count_line closing_lines
-out_of_range_report = refl
-
--- Its status.
-out_of_range_status : status (failed_for reasons.OutOfRange) ≡ 1
-out_of_range_status = refl
-
--- The reason `fail step`.
-asked_report : report (failed_for reasons.Asked) ≡ codes "Feature: f ... failed\n  Scenario: s ... failed\n    Given a ... failed: fail step\n\n0 features passed, 1 failed, 0 skipped\n0 scenarios passed, 1 failed, 0 skipped\n0 steps passed, 1 failed, 0 skipped, 0 undefined\n"
-unfolding digits status_text reason_text one_line status_line step_line case_line feature_line counted count_line closing_lines
-asked_report = refl
-
--- Its status.
-asked_status : status (failed_for reasons.Asked) ≡ 1
-asked_status = refl
+each_reason = ((refl, refl), (refl, refl), (refl, refl), (refl, refl), (refl, refl), (refl, refl), (refl, refl), (refl, refl), (refl, refl), (refl, refl), (refl, refl), (refl, refl))
 
 -- Line feeds in names and in a text, which stay on one line.
 abbrev line_feeds : Results

@@ -1,5 +1,5 @@
-use gk_cli::{Words, WordsFault, read_words};
 use clap::error::ErrorKind;
+use gk_cli::{Words, WordsFault, read_words};
 use std::alloc::{AllocError, Global};
 use std::test::Fail;
 

@@ -50,79 +50,86 @@ fn reads_each_construct(rt: HostRuntime) -> Result<(), Fail> {
     Ok(())
 }
 
+// Bytes, and why they are refused.
+const REFUSED: [(&[u8], ReadFault); 11] = [
+    (b"a\n\xFF", ReadFault::NotUtf8 { line: 2 }),
+    (b"\xEF", ReadFault::NotUtf8 { line: 1 }),
+    (b"\nstray", ReadFault::Unexpected { line: 2 }),
+    (b"Feature: a\n@x y", ReadFault::BadTag { line: 2 }),
+    (
+        b"Feature: a\nExample:\n* x\n|a|\n|b|c|",
+        ReadFault::CellCount { line: 5 },
+    ),
+    (
+        b"Feature: a\nExample:\n* x\n|a|\n|b|c",
+        ReadFault::BadRow { line: 5 },
+    ),
+    (
+        b"Feature: a\nExample:\n* x\n```\n\"\"\"",
+        ReadFault::UnclosedText { line: 4 },
+    ),
+    (b"Feature: a\n@x\n# y", ReadFault::TagsAtEnd { line: 2 }),
+    (
+        b"# language: de\nFeature: a",
+        ReadFault::Language { line: 1 },
+    ),
+    (
+        b"Feature: a\nExample:\n@x\nGiven y",
+        ReadFault::Unexpected { line: 4 },
+    ),
+    (
+        b"Feature: a\nExample:\nBackground:",
+        ReadFault::Unexpected { line: 3 },
+    ),
+];
+
+// A fault, its line and its text.
+const FAULTS: [(ReadFault, Option<u32>, &str); 8] = [
+    (ReadFault::NotUtf8 { line: 2 }, Some(2), "not UTF-8"),
+    (
+        ReadFault::Unexpected { line: 2 },
+        Some(2),
+        "unexpected line",
+    ),
+    (ReadFault::BadTag { line: 2 }, Some(2), "bad tag"),
+    (
+        ReadFault::CellCount { line: 5 },
+        Some(5),
+        "row with another number of cells",
+    ),
+    (
+        ReadFault::BadRow { line: 5 },
+        Some(5),
+        "row without closing bar",
+    ),
+    (
+        ReadFault::UnclosedText { line: 4 },
+        Some(4),
+        "doc string without end",
+    ),
+    (
+        ReadFault::TagsAtEnd { line: 2 },
+        Some(2),
+        "tags before nothing",
+    ),
+    (
+        ReadFault::Language { line: 1 },
+        Some(1),
+        "language not known",
+    ),
+];
+
 #[test]
 fn refuses(rt: HostRuntime) -> Result<(), Fail> {
-    // Bytes, the fault, the line that it names, and its text.
-    let cases: [(&[u8], ReadFault, Option<u32>, &str); 11] = [
-        (
-            b"a\n\xFF",
-            ReadFault::NotUtf8 { line: 2 },
-            Some(2),
-            "not UTF-8",
-        ),
-        (
-            b"\xEF",
-            ReadFault::NotUtf8 { line: 1 },
-            Some(1),
-            "not UTF-8",
-        ),
-        (
-            b"\nstray",
-            ReadFault::Unexpected { line: 2 },
-            Some(2),
-            "unexpected line",
-        ),
-        (
-            b"Feature: a\n@x y",
-            ReadFault::BadTag { line: 2 },
-            Some(2),
-            "bad tag",
-        ),
-        (
-            b"Feature: a\nExample:\n* x\n|a|\n|b|c|",
-            ReadFault::CellCount { line: 5 },
-            Some(5),
-            "row with another number of cells",
-        ),
-        (
-            b"Feature: a\nExample:\n* x\n|a|\n|b|c",
-            ReadFault::BadRow { line: 5 },
-            Some(5),
-            "row without closing bar",
-        ),
-        (
-            b"Feature: a\nExample:\n* x\n```\n\"\"\"",
-            ReadFault::UnclosedText { line: 4 },
-            Some(4),
-            "doc string without end",
-        ),
-        (
-            b"Feature: a\n@x\n# y",
-            ReadFault::TagsAtEnd { line: 2 },
-            Some(2),
-            "tags before nothing",
-        ),
-        (
-            b"# language: de\nFeature: a",
-            ReadFault::Language { line: 1 },
-            Some(1),
-            "language not known",
-        ),
-        (
-            b"Feature: a\nExample:\n@x\nGiven y",
-            ReadFault::Unexpected { line: 4 },
-            Some(4),
-            "unexpected line",
-        ),
-        (
-            b"Feature: a\nExample:\nBackground:",
-            ReadFault::Unexpected { line: 3 },
-            Some(3),
-            "unexpected line",
-        ),
-    ];
-    for (bytes, fault, line, text) in cases {
+    for (bytes, fault) in REFUSED {
         assert_eq!(rt; read_feature(rt.alloc(), bytes).err(), Some(fault));
+    }
+    Ok(())
+}
+
+#[test]
+fn faults_have_lines_and_texts(rt: HostRuntime) -> Result<(), Fail> {
+    for (fault, line, text) in FAULTS {
         assert_eq!(rt; fault.line(), line);
         let mut shown = String::new(rt.alloc());
         write!(shown, "{}", fault)?;

@@ -1,7 +1,5 @@
 use gk_gherkin::read_feature;
-use gk_select::{
-    Case, Choice, SelectFault, expand, read_features_are_expandable, read_tags,
-};
+use gk_select::{Case, Choice, SelectFault, expand, read_features_are_expandable, read_tags};
 use std::alloc::{AllocError, Global};
 use std::test::Fail;
 
@@ -31,7 +29,10 @@ fn cases_of(alloc: Global, text: &str) -> Result<Vec<Case>, Fail> {
 fn filled(alloc: Global, says: &str) -> Result<String, Fail> {
     let outline = "Feature: f\nScenario Outline: o\nGiven ";
     let examples = "\nExamples:\n| a | b | a |\n| 1 | <a> | 2 |\n";
-    let cases = cases_of(alloc, format!(in alloc; "{outline}{says}{examples}")?.as_str())?;
+    let cases = cases_of(
+        alloc,
+        format!(in alloc; "{outline}{says}{examples}")?.as_str(),
+    )?;
     match cases.as_slice() {
         [case] => match case.steps.as_slice() {
             [step] => Ok(step.text.clone()?),
@@ -74,7 +75,8 @@ fn fills_a_text_of_openings(rt: HostRuntime) -> Result<(), Fail> {
 
 #[test]
 fn expands_an_outline(rt: HostRuntime) -> Result<(), Fail> {
-    let file = "@f\nFeature: o\n@s\nScenario Outline: s <a>\nGiven the variable \"V\" is set to \"<a>\"\n@e\nExamples: more\n| a |\n| <b> |\n";
+    let file =
+        "@f\nFeature: o\n@s\nScenario Outline: s <a>\nGiven the variable \"V\" is set to \"<a>\"\n@e\nExamples: more\n| a |\n| <b> |\n";
     let cases = cases_of(rt.alloc(), file)?;
     let [case] = cases.as_slice() else {
         return Err("cases".into());
@@ -92,7 +94,8 @@ fn expands_an_outline(rt: HostRuntime) -> Result<(), Fail> {
 
 #[test]
 fn backgrounds_come_first(rt: HostRuntime) -> Result<(), Fail> {
-    let file = "@f\nFeature: r\nBackground:\nGiven of the feature\n@r\nRule: x\nBackground:\nGiven of the rule\nExample: e\nGiven own\n";
+    let file =
+        "@f\nFeature: r\nBackground:\nGiven of the feature\n@r\nRule: x\nBackground:\nGiven of the rule\nExample: e\nGiven own\n";
     let cases = cases_of(rt.alloc(), file)?;
     let [case] = cases.as_slice() else {
         return Err("cases".into());

@@ -1,5 +1,5 @@
-use gk_steps::*;
 use gk_gherkin::StepType;
+use gk_steps::*;
 use std::alloc::{AllocError, Global};
 use std::test::Fail;
 
@@ -208,86 +208,70 @@ fn patterns_are_read(rt: HostRuntime) -> Result<(), Fail> {
     Ok(())
 }
 
-fn is_bad(alloc: Global, text: &str) -> bool {
-    match read_pattern(alloc, text) {
-        Ok(_) => false,
-        Err(fault) => fault == PatternFault::BadPattern,
-    }
-}
+// Texts that spell no pattern.
+const BAD_PATTERNS: [&str; 8] = ["", "{}", "a }", "{1a}", "{a b}", "{a:x}", "{a", "{a} {a:d}"];
 
 #[test]
 fn texts_that_spell_no_pattern(rt: HostRuntime) -> Result<(), Fail> {
-    let alloc = rt.alloc();
-    assert!(rt; is_bad(alloc, ""));
-    assert!(rt; is_bad(alloc, "{}"));
-    assert!(rt; is_bad(alloc, "a }"));
-    assert!(rt; is_bad(alloc, "{1a}"));
-    assert!(rt; is_bad(alloc, "{a b}"));
-    assert!(rt; is_bad(alloc, "{a:x}"));
-    assert!(rt; is_bad(alloc, "{a"));
-    assert!(rt; is_bad(alloc, "{a} {a:d}"));
-    assert!(rt; !is_bad(alloc, "{_a1} {a}"));
+    for text in BAD_PATTERNS {
+        let fault = read_pattern(rt.alloc(), text).err();
+        assert_eq!(rt; fault, Some(PatternFault::BadPattern));
+    }
+    assert!(rt; read_pattern(rt.alloc(), "{_a1} {a}").is_ok());
     Ok(())
 }
 
-// The fault of a library's text.
-fn fault_of(alloc: Global, text: &str) -> Option<LibraryFault> {
-    read_library(alloc, text.as_bytes()).err()
-}
+// Texts of a library, and why they are refused.
+const REFUSED: [(&str, LibraryFault); 12] = [
+    (
+        "given a {x} => pass\ngiven a b => fail\n",
+        LibraryFault::Ambiguous { line: 2 },
+    ),
+    ("step x => dance", LibraryFault::UnknownAction { line: 1 }),
+    (
+        "\n# a\nstep {n} => set_number",
+        LibraryFault::MissingField { line: 3 },
+    ),
+    (
+        "step \"{name}\" is {n} => set_number",
+        LibraryFault::FieldKind { line: 1 },
+    ),
+    ("step {} => pass", LibraryFault::BadPattern { line: 1 }),
+    ("step a } => pass", LibraryFault::BadPattern { line: 1 }),
+    ("and a => pass", LibraryFault::BadType { line: 1 }),
+    (
+        "step {text} => set_env",
+        LibraryFault::MissingField { line: 1 },
+    ),
+    (
+        "step {name:d} => env_absent",
+        LibraryFault::FieldKind { line: 1 },
+    ),
+    ("step", LibraryFault::BadPattern { line: 1 }),
+    ("step=>pass", LibraryFault::BadType { line: 1 }),
+    ("step a =>", LibraryFault::UnknownAction { line: 1 }),
+];
+
+// Texts of a library that are read.
+const READ: [&str; 2] = [
+    "given a {x} => pass\nwhen a b => fail\n",
+    "step {{a}} => pass\nstep {{a}} => pass",
+];
 
 #[test]
-fn faults_of_a_library(rt: HostRuntime) -> Result<(), Fail> {
-    let alloc = rt.alloc();
-    let ambiguous = fault_of(alloc, "given a {x} => pass\ngiven a b => fail\n").ok_or("no fault")?;
-    assert_eq!(rt; ambiguous, LibraryFault::Ambiguous { line: 2 });
+fn libraries_are_read_or_refused(rt: HostRuntime) -> Result<(), Fail> {
+    for (text, fault) in REFUSED {
+        assert_eq!(rt;
+            read_library(rt.alloc(), text.as_bytes()).err(),
+            Some(fault)
+        );
+    }
+    for text in READ {
+        assert!(rt; read_library(rt.alloc(), text.as_bytes()).is_ok());
+    }
+    let ambiguous = LibraryFault::Ambiguous { line: 2 };
     assert_eq!(rt; ambiguous.line(), Some(2));
     assert_eq!(rt; ambiguous.text(), "ambiguous with an earlier line");
-    assert!(rt; fault_of(alloc, "given a {x} => pass\nwhen a b => fail\n").is_none());
-    assert_eq!(rt;
-        fault_of(alloc, "step x => dance"),
-        Some(LibraryFault::UnknownAction { line: 1 })
-    );
-    assert_eq!(rt;
-        fault_of(alloc, "\n# a\nstep {n} => set_number"),
-        Some(LibraryFault::MissingField { line: 3 })
-    );
-    assert_eq!(rt;
-        fault_of(alloc, "step \"{name}\" is {n} => set_number"),
-        Some(LibraryFault::FieldKind { line: 1 })
-    );
-    assert_eq!(rt;
-        fault_of(alloc, "step {} => pass"),
-        Some(LibraryFault::BadPattern { line: 1 })
-    );
-    assert_eq!(rt;
-        fault_of(alloc, "step a } => pass"),
-        Some(LibraryFault::BadPattern { line: 1 })
-    );
-    assert_eq!(rt;
-        fault_of(alloc, "and a => pass"),
-        Some(LibraryFault::BadType { line: 1 })
-    );
-    assert_eq!(rt;
-        fault_of(alloc, "step {text} => set_env"),
-        Some(LibraryFault::MissingField { line: 1 })
-    );
-    assert_eq!(rt;
-        fault_of(alloc, "step {name:d} => env_absent"),
-        Some(LibraryFault::FieldKind { line: 1 })
-    );
-    assert_eq!(rt;
-        fault_of(alloc, "step"),
-        Some(LibraryFault::BadPattern { line: 1 })
-    );
-    assert_eq!(rt;
-        fault_of(alloc, "step=>pass"),
-        Some(LibraryFault::BadType { line: 1 })
-    );
-    assert_eq!(rt;
-        fault_of(alloc, "step a =>"),
-        Some(LibraryFault::UnknownAction { line: 1 })
-    );
-    assert!(rt; fault_of(alloc, "step {{a}} => pass\nstep {{a}} => pass").is_none());
     Ok(())
 }
 
