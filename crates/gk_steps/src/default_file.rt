@@ -53,3 +53,8 @@ pub fn default_library(alloc: Global) -> Result<Library, AllocError>
         },
     }
 }
+
+/// The default library's text reads as its entries, whatever memory there is. (this project's profile)
+pub fn default_text_reads_as_its_entries()
+    ensures { ReadsLibrary (lines_of default_text) default_entries }
+{}

@@ -21,7 +21,7 @@ mod spelling;
 mod table_rows;
 
 pub use action::Action;
-pub use default_file::{DEFAULT_TEXT, default_library};
+pub use default_file::{DEFAULT_TEXT, default_library, default_text_reads_as_its_entries};
 pub use finding::{Found, finding_is_determined};
 pub use library::{Entry, Library};
 pub use library_fault::LibraryFault;
