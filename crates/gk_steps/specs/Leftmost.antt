@@ -1,9 +1,9 @@
 -- Proof machinery: how much of a text the first piece of a pattern takes, where the pieces after it leave no choice.
-use Rattle.std.specs.Prelude.{◌≡◌, ◌<◌, ◌+◌, ◌++◌, ◌∷◌, ℕ, List, length, take, drop, Option, Some, None, option_map}
+use Rattle.std.specs.Prelude.{◌≡◌, ◌<◌, ◌+◌, ◌++◌, [], ◌∷◌, ℕ, List, length, take, drop, Option, Some, None, option_map}
 use Rattle.std.specs.Str.{IsCharBoundary}
 use Rattle.gk_steps.specs.declared.leftmost.Cut.{Cut}
 use Rattle.gk_steps.specs.declared.leftmost.Cut.TheVariants.{At, Nowhere, Unknown}
-use Rattle.gk_steps.specs.declared.pattern.FieldKind.TheVariants.{Plain}
+use Rattle.gk_steps.specs.declared.pattern.FieldKind.TheVariants.{Plain, Decimal}
 use Rattle.gk_steps.specs.Pattern.{PieceValue, Literal, FieldPiece}
 use Rattle.gk_steps.specs.Matching.{MatchesNot, IsMatchResult, FieldValue}
 use Rattle.gk_steps.specs.Columns.{Takes, values_of}
@@ -35,11 +35,22 @@ pub record IsCut (piece : PieceValue) (ps : List PieceValue) (text : List ℕ) (
   pub takes : Takes piece (take place text)
   pub goes_on : (found : Option (List FieldValue)) → IsMatchResult ps (drop place text) found → IsMatchResult (piece ∷ ps) text (option_map (λ (fields : List FieldValue). values_of piece (take place text) ++ fields) found)
 
--- What is known of the first piece: what it takes, or that the pattern has no match, or nothing.
+-- What the first piece takes depends on more than a literal and a plain field after it: it is a number, or a plain field before another field, or before a literal after which a number or another literal comes.
+abbrev pub DependsOnMore : PieceValue → List PieceValue → Type 0
+DependsOnMore (Literal literal) ps = ⊥
+DependsOnMore (FieldPiece name Decimal) ps = Unit {0}
+DependsOnMore (FieldPiece name Plain) [] = ⊥
+DependsOnMore (FieldPiece name Plain) (FieldPiece other kind ∷ ps) = Unit {0}
+DependsOnMore (FieldPiece name Plain) (Literal literal ∷ []) = ⊥
+DependsOnMore (FieldPiece name Plain) (Literal literal ∷ FieldPiece other Plain ∷ ps) = ⊥
+DependsOnMore (FieldPiece name Plain) (Literal literal ∷ FieldPiece other Decimal ∷ ps) = Unit {0}
+DependsOnMore (FieldPiece name Plain) (Literal literal ∷ Literal other ∷ ps) = Unit {0}
+
+-- What is known of the first piece: what it takes, or that the pattern has no match. Nothing is said only where that depends on more.
 abbrev pub IsKnown : PieceValue → List PieceValue → List ℕ → Cut → Type 0
 IsKnown piece ps text (At place) = IsCut piece ps text place
 IsKnown piece ps text Nowhere = MatchesNot (piece ∷ ps) text
-IsKnown piece ps text Unknown = Unit {0}
+IsKnown piece ps text Unknown = DependsOnMore piece ps
 
 -- What is known of a plain field before a literal and other pieces, whatever the field is called.
 abbrev pub IsKnownBefore : List ℕ → List PieceValue → List ℕ → Cut → Type 0
