@@ -120,12 +120,12 @@ fn cells_of_a_run_of_zeros(rt: HostRuntime) -> Result<(), Fail> {
     pieces.push(literal(alloc, "x")?)?;
     let pattern = Pattern { pieces };
     let mut text = String::new(alloc);
-    for _ in 0..100000 {
+    for _ in 0..1000000 {
         text.push('0')?;
     }
     let (found, filled) = pattern.matches_counted(alloc, &text)?;
     assert!(rt; found.is_none());
-    assert_eq!(rt; filled, 400004);
+    assert_eq!(rt; filled, 4000004);
     Ok(())
 }
 
