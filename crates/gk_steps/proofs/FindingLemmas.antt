@@ -1,6 +1,6 @@
 -- The search over a library.
 use Rattle.std.proofs.Common.{◌≡◌, ℕ, zero, suc, ◌+◌, ◌<◌, ◌≤◌, inl, inr, Bool, true, false, List, [], ◌∷◌, length, map, get_or, Option, Some, None, option_map, refl, ap, sym, subst, ◌∙◌, arith}
-use Rattle.std.specs.Prelude.{slice_get, Result, Ok, Err, IfOk}
+use Rattle.std.specs.Prelude.{slice_get, Result, Ok, Err, IfOk, IfErr}
 use Rattle.std.specs.declared.alloc.AllocError.{AllocError}
 use Rattle.gk_steps.specs.declared.finding.Found.{Found}
 use Rattle.std.specs.Option.{option_or}
@@ -11,10 +11,11 @@ use Rattle.gk_gherkin.specs.declared.feature.StepType.TheVariants.{Given, When, 
 use Rattle.gk_steps.specs.declared.pattern.FieldKind.TheVariants.{Plain, Decimal}
 use Rattle.gk_steps.specs.declared.library.Entry.{Entry}
 use Rattle.gk_steps.specs.Pattern.{PieceValue, Literal, FieldPiece}
+use Rattle.gk_steps.specs.PassingOver.{FitsStart, FitsEnd}
 use Rattle.gk_steps.specs.Matching.{AreSpans, MatchesNot, IsMatchResult, FieldValue, span_values, match_of}
 use Rattle.gk_steps.proofs.MatchingLemmas.{one_result}
 use Rattle.gk_steps.proofs.BestMatchLemmas.{match_of_is}
-use Rattle.gk_steps.specs.Finding.{EntryValue, LibraryValue, FoundValue, entry_value, found_value, NoneFound, NoneBefore, IsFirstFound, IsFoundOf, IsFound, IsFoundAny, is_same_type, is_of_type, match_where, found_at, found_from, found, found_any, HaveKindsOf, FitsLibrary, FindsWhatIsFound}
+use Rattle.gk_steps.specs.Finding.{EntryValue, LibraryValue, FoundValue, entry_value, found_value, HasCandidate, NoneFound, NoneBefore, IsFirstFound, IsFoundOf, IsFound, IsFoundAny, is_same_type, is_of_type, match_where, found_at, found_from, found, found_any, HaveKindsOf, FitsLibrary, FindsWhatIsFound}
 
 pub same_option : {A : Type 0} (x y : A) → ◌≡◌ {A = Option A} (Some x) (Some y) → x ≡ y
 same_option x y e = cc
@@ -44,6 +45,16 @@ none_all entries step_type text place past h = λ k e is same. h k e (omega (ari
 pub first_at : (entries : List Entry) (step_type : Option StepType) (text : List ℕ) (place : ℕ) (x : Entry) (fields : List FieldValue) → place < length entries → x ≡ get_or entries place x → x.step_type ≡ step_type → IsMatchResult (entry_value x).pattern text (Some fields) → NoneBefore place (map entry_value entries) step_type text
     → IsFirstFound (map entry_value entries) step_type text (record { entry = place; fields = fields })
 first_at entries step_type text place x fields l e is found h = record { entry = entry_value x; place = entry_at entries place x l e; is_type = is; fields = found; first = h }
+
+-- what holds holds of a fault
+pub of_fault : {T E P : Type 0} (r : Result T E) → P → IfErr r (λ e. P)
+of_fault (Ok x) p = tt
+of_fault (Err e) p = p
+
+-- the entry at a place whose ends a text has
+pub candidate : (entries : List Entry) (step_type : Option StepType) (text : List ℕ) (place : ℕ) (x : Entry) → place < length entries → x ≡ get_or entries place x → x.step_type ≡ step_type → FitsStart (entry_value x).pattern text × FitsEnd (entry_value x).pattern text
+    → HasCandidate (map entry_value entries) step_type text
+candidate entries step_type text place x l e is fits = record { place = place; entry = entry_value x; stands = entry_at entries place x l e; is_type = is; prefix = fits.0; back = fits.1 }
 
 -- the computed test of types
 same_type_is : (a b : StepType) → is_same_type a b ≡ true → a ≡ b

@@ -7,7 +7,7 @@ use Rattle.std.proofs.lemmas.List.{take-map}
 use Rattle.std.proofs.Math.Seq.{drop-length}
 use Rattle.gk_gherkin.specs.declared.feature.StepType.{StepType}
 use Rattle.gk_steps.specs.declared.library.Entry.{Entry}
-use Rattle.gk_steps.specs.Finding.{EntryValue, LibraryValue, FoundValue, IsFoundOf, entry_value}
+use Rattle.gk_steps.specs.Finding.{EntryValue, LibraryValue, FoundValue, HasCandidate, IsFoundOf, entry_value}
 use Rattle.gk_steps.specs.Typed.{are_for_each_from}
 use Rattle.gk_steps.proofs.BestMatchLemmas.{and_left, and_right}
 
@@ -63,6 +63,20 @@ pub typed_found : (entries : List Entry) (typed : ℕ) (t : StepType) (text : Li
 typed_found entries typed t text found all h =
     found_before (map entry_value entries) typed t text found (λ place entry le e. for_each_at entries typed place entry all le e)
     (subst (λ es. IsFoundOf es (Some t) text found) (sym (take-map entry_value typed entries)) h)
+
+-- an entry before a place whose ends a text has
+candidate_before : (es : LibraryValue) (n : ℕ) (step_type : Option StepType) (text : List ℕ) → HasCandidate (take n es) step_type text → HasCandidate es step_type text
+candidate_before es n step_type text h = record {
+  place = h.place;
+  entry = h.entry;
+  stands = sym (get_before es n h.place (get_taken es n h.place h.entry h.stands)) ∙ h.stands;
+  is_type = h.is_type;
+  prefix = h.prefix;
+  back = h.back;
+}
+
+pub typed_candidate : (entries : List Entry) (typed : ℕ) (t : StepType) (text : List ℕ) → HasCandidate (map entry_value (take typed entries)) (Some t) text → HasCandidate (map entry_value entries) (Some t) text
+typed_candidate entries typed t text h = candidate_before (map entry_value entries) typed (Some t) text (subst (λ es. HasCandidate es (Some t) text) (sym (take-map entry_value typed entries)) h)
 
 -- counting the entries up to the last for steps of one type
 pub none_from_end : (entries : List Entry) → are_for_each_from (length entries) entries ≡ true

@@ -11,6 +11,7 @@ use Rattle.gk_steps.specs.declared.library.Entry.{Entry}
 use Rattle.gk_steps.specs.declared.library.Library.{Library}
 use Rattle.gk_steps.specs.declared.finding.Found.{Found}
 use Rattle.gk_steps.specs.Pattern.{PieceValue, Literal, FieldPiece, pattern_value}
+use Rattle.gk_steps.specs.PassingOver.{FitsStart, FitsEnd}
 use Rattle.gk_steps.specs.Matching.{FieldValue, TextField, NumberField, field_value, MatchesNot, IsMatchResult, match_of}
 
 -- An entry: the type of the steps that it is for, or none for steps of each type; its pattern; its action. (behave's documentation: step implementations; this project's profile)
@@ -39,6 +40,19 @@ pub record FoundValue : Type 0 where
 -- What a `Found` says.
 abbrev pub found_value : Found → FoundValue
 found_value f = record { entry = f.entry; fields = map field_value f.fields.items }
+
+-- An entry for steps of this type, or of each type where it is none, whose literals at the ends stand at the text's ends.
+pub record HasCandidate (entries : LibraryValue) (step_type : Option StepType) (text : List ℕ) : Type 0 where
+  pub place : ℕ
+  pub entry : EntryValue
+  pub stands : slice_get entries place ≡ Some entry
+  pub is_type : entry.step_type ≡ step_type
+  pub prefix : FitsStart entry.pattern text
+  pub back : FitsEnd entry.pattern text
+
+-- There is such an entry among those that a step asks.
+abbrev pub HasCandidateFor : LibraryValue → StepType → List ℕ → Type 0
+HasCandidateFor entries step_type text = HasCandidate entries (Some step_type) text ⊎ HasCandidate entries None text
 
 -- No entry for steps of this type, or of each type where it is none, matches the text.
 abbrev pub NoneFound : LibraryValue → Option StepType → List ℕ → Type 0

@@ -1,9 +1,9 @@
 //! What a step's text finds in a library.
-ghost use Rattle.std.specs.Prelude.{◌≡◌, map, IfOk, MatchBool, MatchOption, option_map, is_some, Option, Some, None};
+ghost use Rattle.std.specs.Prelude.{◌≡◌, map, IfOk, IfErr, MatchBool, MatchOption, option_map, is_some, Option, Some, None};
 ghost use Rattle.gk_steps.specs.Pattern.{piece_value};
 ghost use Rattle.gk_steps.specs.Matching.{field_value};
 ghost use Rattle.gk_steps.specs.Finding as spec;
-ghost use Rattle.gk_steps.specs.Finding.{IsFoundOf, FindsWhatIsFound, entry_value, library_value, found_value};
+ghost use Rattle.gk_steps.specs.Finding.{IsFoundOf, HasCandidate, HasCandidateFor, FindsWhatIsFound, entry_value, library_value, found_value};
 
 use crate::action::Action;
 use crate::library::{Entry, Library};
@@ -38,7 +38,8 @@ pub(crate) fn find_of(
     step_type: Option<StepType>,
     text: &str,
 ) -> Result<Option<Found>, AllocError>
-    ensures { IfOk result (λ found. IsFoundOf (map entry_value entries.now) step_type text.now (option_map found_value found)) }
+    ensures found { IfOk result (λ found. IsFoundOf (map entry_value entries.now) step_type text.now (option_map found_value found)) }
+    ensures memory { IfErr result (λ e. HasCandidate (map entry_value entries.now) step_type text.now) }
 {
     for place in 0..entries.len() {
         let entry = &entries[place];
@@ -83,7 +84,9 @@ impl Library {
         step_type: StepType,
         text: &str,
     ) -> Result<Option<Found>, AllocError>
-        ensures { IfOk result (λ found. option_map found_value found ≡ spec.found (library_value self.now) step_type text.now) }
+        ensures found { IfOk result (λ found. option_map found_value found ≡ spec.found (library_value self.now) step_type text.now) }
+        // Memory is refused only where the text has the ends of an entry.
+        ensures memory { IfErr result (λ e. HasCandidateFor (library_value self.now) step_type text.now) }
     {
         let typed = &self.entries[..self.typed];
         if let Some(found) = find_of(alloc, typed, Some(step_type), text)? {
@@ -94,14 +97,18 @@ impl Library {
 
     /// The same among the entries of type `step` alone. (this project's profile)
     pub fn find_any(&self, alloc: Global, text: &str) -> Result<Option<Found>, AllocError>
-        ensures { IfOk result (λ found. option_map found_value found ≡ spec.found_any (library_value self.now) text.now) }
+        ensures found { IfOk result (λ found. option_map found_value found ≡ spec.found_any (library_value self.now) text.now) }
+        // The same of memory.
+        ensures memory { IfErr result (λ e. HasCandidate (library_value self.now) None text.now) }
     {
         find_of(alloc, &self.entries, None, text)
     }
 
     /// Whether a step finds an entry. (this project's profile)
     pub fn knows(&self, alloc: Global, step_type: StepType, text: &str) -> Result<bool, AllocError>
-        ensures { IfOk result (λ known. known ≡ is_some (spec.found (library_value self.now) step_type text.now)) }
+        ensures known { IfOk result (λ known. known ≡ is_some (spec.found (library_value self.now) step_type text.now)) }
+        // The same of memory.
+        ensures memory { IfErr result (λ e. HasCandidateFor (library_value self.now) step_type text.now) }
     {
         Ok(self.find(alloc, step_type, text)?.is_some())
     }

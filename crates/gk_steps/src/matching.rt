@@ -1,10 +1,11 @@
 //! A match by a table.
-ghost use Rattle.std.specs.Prelude.{◌≡◌, ◌<◌, ◌≤◌, ◌+◌, ◌*◌, ◌++◌, ℕ, List, length, map, string_bytes, IfOk, OnOk, IsTrue, option_map, Some};
+ghost use Rattle.std.specs.Prelude.{◌≡◌, ◌<◌, ◌≤◌, ◌+◌, ◌*◌, ◌++◌, ℕ, List, length, map, string_bytes, false, IfOk, IfErr, OnOk, IsTrue, option_map, Some};
 ghost use Rattle.std.specs.Str.{chars};
 ghost use Rattle.gk_steps.specs.Pattern.{PieceValue, piece_value, pattern_value};
 ghost use Rattle.gk_steps.specs.Matching.{IsSpan, Matches, IsMatchResult, IsBestMatch, MatchesAreDetermined, field_value, fields_said, span_value, span_values};
 ghost use Rattle.gk_steps.specs.Columns.{ArePlaces, IsTable, Takes, values_of};
 ghost use Rattle.gk_steps.specs.Leftmost.{FindsRest};
+ghost use Rattle.gk_steps.specs.PassingOver.{FitsStart, FitsEnd};
 
 use crate::columns::{number_of, step};
 use crate::leftmost::{Cut, cut_of};
@@ -42,7 +43,8 @@ fn push_taken(
 
 // Whether so many cells can be counted.
 fn can_count(pieces: usize, width: usize) -> bool
-    ensures { IsTrue result → (pieces + 1) * width ≤ 18446744073709551615 }
+    ensures fits { IsTrue result → (pieces + 1) * width ≤ 18446744073709551615 }
+    ensures only { result ≡ false → 0 < width → 18446744073709551615 < (pieces + 1) * width }
 {
     match pieces.checked_add(1) {
         Some(rows) => rows.checked_mul(width).is_some(),
@@ -195,7 +197,9 @@ impl Pattern {
     /// refuse is passed over. A table is made only from the first field on whose share depends on more than the
     /// literal and the plain field after it.
     pub fn matches(&self, alloc: Global, text: &str) -> Result<Option<Vec<Field>>, AllocError>
-        ensures { IfOk result (λ found. IsMatchResult (pattern_value self.now) text.now (option_map (λ fields. map field_value fields.items) found)) }
+        ensures found { IfOk result (λ found. IsMatchResult (pattern_value self.now) text.now (option_map (λ fields. map field_value fields.items) found)) }
+        // Memory is refused to no text that is passed over.
+        ensures memory { IfErr result (λ e. FitsStart (pattern_value self.now) text.now × FitsEnd (pattern_value self.now) text.now) }
     {
         if !self.can_match(text) {
             return Ok(None);

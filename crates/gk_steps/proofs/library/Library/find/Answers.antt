@@ -1,20 +1,26 @@
-use Rattle.std.proofs.Common.{map, take, subst, Some, None, IfOk, option_map}
-use Rattle.gk_steps.specs.Finding.{IsFoundOf, entry_value, found_value, library_value}
-use Rattle.gk_steps.proofs.TypedLemmas.{typed_found}
-use Rattle.gk_steps.proofs.FindingLemmas.{own_computed, other_answer}
+use Rattle.std.proofs.Common.{inl, map, take, subst, Some, None, IfOk, option_map}
+use Rattle.gk_steps.specs.Finding.{HasCandidate, HasCandidateFor, IsFoundOf, entry_value, found_value, library_value}
+use Rattle.gk_steps.proofs.TypedLemmas.{typed_found, typed_candidate}
+use Rattle.gk_steps.proofs.FindingLemmas.{own_computed, other_answer, of_fault}
 use Rattle.gk_steps.proofs.library.Library.find.Goals as goal
 
-pub returns-in-Some : goal.returns-in-Some
-returns-in-Some c =
+pub returns-in-Some-clause-found : goal.returns-in-Some-clause-found
+returns-in-Some-clause-found c =
     own_computed (library_value c.args.self.now) c.args.step_type c.args.text.now (found_value c.in-Some.found)
     (subst (λ o. IsFoundOf (library_value c.args.self.now) (Some c.args.step_type) c.args.text.now (option_map found_value o)) c.in-Some.is
     (typed_found c.args.self.now.entries.items c.args.self.now.typed c.args.step_type c.args.text.now (option_map found_value c.in_ok-found.field-0) c.args.self.now.rest
-    (subst (λ es. IsFoundOf (map entry_value (take c.args.self.now.typed es)) (Some c.args.step_type) c.args.text.now (option_map found_value c.in_ok-found.field-0)) c.deref.ensures.value c.in_ok-found.ensures)))
+    (subst (λ es. IsFoundOf (map entry_value (take c.args.self.now.typed es)) (Some c.args.step_type) c.args.text.now (option_map found_value c.in_ok-found.field-0)) c.deref.ensures.value c.in_ok-found.ensures.found)))
 
-pub returns : goal.returns
-returns c =
+pub returns-clause-found : goal.returns-clause-found
+returns-clause-found c =
     other_answer (library_value c.args.self.now) c.args.step_type c.args.text.now c.find_of-2.result
     (subst (λ o. IsFoundOf (library_value c.args.self.now) (Some c.args.step_type) c.args.text.now (option_map found_value o)) c.in_default.is
     (typed_found c.args.self.now.entries.items c.args.self.now.typed c.args.step_type c.args.text.now (option_map found_value c.in_ok-found.field-0) c.args.self.now.rest
-    (subst (λ es. IsFoundOf (map entry_value (take c.args.self.now.typed es)) (Some c.args.step_type) c.args.text.now (option_map found_value c.in_ok-found.field-0)) c.deref.ensures.value c.in_ok-found.ensures)))
-    (subst (λ es. IfOk c.find_of-2.result (λ o. IsFoundOf (map entry_value es) None c.args.text.now (option_map found_value o))) c.deref-2.ensures.value c.find_of-2.ensures)
+    (subst (λ es. IsFoundOf (map entry_value (take c.args.self.now.typed es)) (Some c.args.step_type) c.args.text.now (option_map found_value c.in_ok-found.field-0)) c.deref.ensures.value c.in_ok-found.ensures.found)))
+    (subst (λ es. IfOk c.find_of-2.result (λ o. IsFoundOf (map entry_value es) None c.args.text.now (option_map found_value o))) c.deref-2.ensures.value c.find_of-2.ensures.found)
+
+pub returns-in_err-found-clause-memory : goal.returns-in_err-found-clause-memory
+returns-in_err-found-clause-memory c =
+    let known : HasCandidateFor (library_value c.args.self.now) c.args.step_type c.args.text.now = inl (typed_candidate c.args.self.now.entries.items c.args.self.now.typed c.args.step_type c.args.text.now
+    (subst (λ es. HasCandidate (map entry_value (take c.args.self.now.typed es)) (Some c.args.step_type) c.args.text.now) c.deref.ensures.value c.in_err-found.ensures.memory)) in
+    of_fault c.from_residual.result known
