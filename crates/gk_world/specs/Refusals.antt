@@ -1,5 +1,5 @@
 -- Which change of the world is refused, and why: the reasons of one change stand in their order, and the first that holds is the fault.
-use Rattle.std.specs.Prelude.{◌≡◌, ℕ, Bool, cond, ◌||◌, ◌==◌, nat_lt, List, [], ◌∷◌, ◌++◌, length, Option, Some, None, is_none, unwrap_or, MatchOption, Result, Ok, Err}
+use Rattle.std.specs.Prelude.{◌≡◌, ◌≢◌, ℕ, Bool, cond, ◌||◌, ◌==◌, nat_lt, List, [], ◌∷◌, ◌++◌, length, Option, Some, None, is_none, unwrap_or, MatchOption, Result, Ok, Err}
 use Rattle.gk_world.specs.declared.world_fault.WorldFault.{WorldFault}
 use Rattle.gk_world.specs.declared.world_fault.WorldFault.TheVariants.{Absent, TextTooLong, BadName, OtherLayer, Memory}
 use Rattle.gk_world.specs.State.{Map, State, see}
@@ -57,6 +57,6 @@ abbrev pub IsAnswer : {A : Type 0} → Option WorldFault → Result A WorldFault
 IsAnswer refusal (Ok x) = refusal ≡ None
 IsAnswer refusal (Err fault) = IsFault refusal fault
 
--- The answer is this refusal, if there is one. (this project's profile)
+-- The answer is this refusal, if there is one. To look for it takes no memory. (this project's profile)
 abbrev pub IsReason : Option WorldFault → Option WorldFault → Type 0
-IsReason refusal answer = MatchOption answer (refusal ≡ None) (IsFault refusal)
+IsReason refusal answer = MatchOption answer (refusal ≡ None) (λ fault. IsFault refusal fault × (fault ≢ Memory))

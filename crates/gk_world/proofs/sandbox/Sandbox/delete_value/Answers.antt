@@ -14,7 +14,7 @@ delete_refusal-requires c =
 pub returns-in-Some-clause-answer : goal.returns-in-Some-clause-answer
 returns-in-Some-clause-answer c =
     let i = c.self.inside in
-    subst (λ r. IsFault r c.in-Some.fault) (delete_refusal_is i.world i.journal (open_marks i.depth i.marks) c.args.self.now c.self.view_is c.depth-layer.result c.depth-layer.ensures c.args.name.now) c.in-Some.ensures
+    subst (λ r. IsFault r c.in-Some.fault) (delete_refusal_is i.world i.journal (open_marks i.depth i.marks) c.args.self.now c.self.view_is c.depth-layer.result c.depth-layer.ensures c.args.name.now) c.in-Some.ensures.0
 
 pub returns-in_err-name-clause-answer : goal.returns-in_err-name-clause-answer
 returns-in_err-name-clause-answer c =
