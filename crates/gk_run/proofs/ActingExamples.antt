@@ -106,7 +106,7 @@ write_files = refl
 write_files_head_alone : table actions.WriteFiles (under (Table (two (codes "name") (codes "text") ∷ []))) start ≡ passes start
 write_files_head_alone = refl
 
-write_files_in_the_middle : table actions.WriteFiles (under (Table (two (codes "name") (codes "text") ∷ two (codes "b") (codes "1") ∷ two [] (codes "2") ∷ two (codes "c") (codes "3") ∷ []))) start ≡ fails (with_file start (codes "b") (codes "1")) reasons.BadName
+write_files_in_the_middle : table actions.WriteFiles (under (Table (two (codes "name") (codes "text") ∷ two (codes "b") (codes "1") ∷ two [] (codes "2") ∷ two (codes "c") (codes "3") ∷ []))) start ≡ record (fails (with_file start (codes "b") (codes "1")) reasons.BadName) { begun = true }
 write_files_in_the_middle = refl
 
 write_files_no_table : table actions.WriteFiles (under Empty) start ≡ fails start reasons.NoTable

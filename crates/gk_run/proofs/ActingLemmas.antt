@@ -22,12 +22,12 @@ use Rattle.gk_run.specs.declared.results.Outcome.{Outcome}
 use Rattle.gk_run.specs.declared.results.Outcome.TheVariants as outcomes
 use Rattle.gk_run.specs.declared.results.Reason.{Reason}
 use Rattle.gk_run.specs.declared.results.Reason.TheVariants as reasons
-use Rattle.gk_run.proofs.NumbersLemmas.{not_so, second_of, in_range_fits}
+use Rattle.gk_run.proofs.NumbersLemmas.{not_so, second_of, in_range_fits, fits_in_range}
 use Rattle.gk_steps.specs.declared.action.Action.{Action}
 use Rattle.gk_steps.specs.Finding.{LibraryValue, FoundValue, action_of}
 use Rattle.gk_run.specs.Numbers.{is_number, number_of, is_in_range}
 use Rattle.gk_gherkin.specs.Feature.{BlockValue, texts}
-use Rattle.gk_run.specs.Acting.{Given, given, table, act, changes_nothing, write_row, write_rows, have_two_cells, Done, add_number, is_pass, and_then, set_own, passes, fails, unless, unless_for, with_T, absent, differs, reason_of, outcome_of, IsExactly, IsDone, IsActed, IsText, HasText, IsNumber, lacks, not_number, differs_from, with_file, without_file, with_env, without_env, with_own, without_own}
+use Rattle.gk_run.specs.Acting.{Given, given, table, act, changes_nothing, write_row, write_rows, have_two_cells, Done, add_number, is_pass, is_fail, is_refused, and_then, set_own, passes, fails, unless, unless_for, with_T, absent, differs, reason_of, outcome_of, IsExactly, IsDone, IsActed, IsText, HasText, IsNumber, lacks, not_number, differs_from, with_file, without_file, with_env, without_env, with_own, without_own}
 
 -- a map with a text put in
 inserted : (m : Texts) (name text : List ℕ) → finite.get (finite.insert m name text) ≡ with_text (finite.get m) name text
@@ -81,7 +81,7 @@ failed s ws after fault why = let f : first_true (reasons_of ws) ≡ Some (reaso
 
 -- a refused change
 refused : (s : State) (ws : List (Bool × WorldFault)) (after : State) (fault : WorldFault) → IsFault (first_true ws) fault → IsDone (unless s (reasons_of ws) after) (outcome_of {A = ⊤} (Err fault)) s
-refused s ws after faults.Memory why = tt
+refused s ws after faults.Memory why = let f : first_true (reasons_of ws) ≡ None = first_reason ws ∙ ap (option_map reason_of) why in rw f refl
 refused s ws after faults.Absent why = failed s ws after faults.Absent why
 refused s ws after faults.TextTooLong why = failed s ws after faults.TextTooLong why
 refused s ws after faults.BadName why = failed s ws after faults.BadName why
@@ -120,11 +120,15 @@ remove_tests held name = (is_bad_name name, faults.BadName) ∷ (is_none (held n
 abbrev pub delete_tests : State → List ℕ → List (Bool × WorldFault)
 delete_tests s name = (is_bad_name name, faults.BadName) ∷ (is_none (see s name), faults.Absent) ∷ (is_none (s.own name), faults.OtherLayer) ∷ []
 
+and_false : (b : Bool) → (b && false) ≡ false
+and_false true = refl
+and_false false = refl
+
 -- an action that changes nothing is carried out as well
 exact_done : (done : Done) (o : Outcome) (s : State) → IsExactly done o s → IsDone done o s
 exact_done done outcomes.Passed s h = h
 exact_done done (outcomes.Failed why) s h = h
-exact_done done outcomes.Memory s h = tt
+exact_done done outcomes.Memory s h = ap (λ o. not done.begun && is_fail o) (sym h.0) ∙ and_false (not done.begun)
 
 pub unchanged : (done : Done) (old : SandboxValue) (o : Outcome) → IsExactly done o (state_of old.now) → IsActed done old o old
 unchanged done old o h = record { carried_out = exact_done done o (state_of old.now) h; layers = record { saved = refl; marks = refl } }
@@ -142,6 +146,17 @@ pub number_checked : (held looked : Option (List ℕ)) (n : ℤ) (o : Outcome) (
     → IsExactly (unless s (absent looked ∷ not_number looked ∷ differs_from looked n ∷ []) s) o s
 number_checked held looked n o s e h = let P : Option (List ℕ) → Type 0 = λ x. IsNumber x n o in subst P e h s
 
+-- a part that comes after one that passed
+went_on : (d : Done) (o : Outcome) (s : State) → IsDone d o s → IsDone (record d { begun = true }) o s
+went_on d outcomes.Passed s h = h
+went_on d (outcomes.Failed why) s h = h
+went_on d outcomes.Memory s h = refl
+
+-- where memory may be refused in the first of two parts, it may be in both
+may_end : (b : Bool) (this next : Done) → is_refused this ≡ false → is_refused (cond b (record next { begun = true }) this) ≡ false
+may_end true this next h = refl
+may_end false this next h = h
+
 -- an action in two parts, of which the first passed
 pub part_passes : (this : Done) (next : State → Done) (old mid new : SandboxValue) (written o : Outcome) → written ≡ outcomes.Passed → IsActed this old written mid → IsActed (next (state_of mid.now)) mid o new
     → IsActed (and_then this (next this.state)) old o new
@@ -151,16 +166,16 @@ part_passes this next old mid new written o is h k =
     let P : State → Type 0 = λ s. IsActed (next s) mid o new in
     let second : IsActed (next this.state) mid o new = subst P first.carried_out.1 k in
     let Q : Done → Type 0 = λ d. IsDone d o (state_of new.now) in
-    let e : next this.state ≡ and_then this (next this.state) = ap (λ p. cond (is_pass p) (next this.state) this) first.carried_out.0 in
-    record { carried_out = subst Q e second.carried_out; layers = record { saved = second.layers.saved ∙ first.layers.saved; marks = second.layers.marks ∙ first.layers.marks } }
+    let e : record (next this.state) { begun = true } ≡ and_then this (next this.state) = ap (λ p. cond (is_pass p) (record (next this.state) { begun = true }) this) first.carried_out.0 in
+    record { carried_out = subst Q e (went_on (next this.state) o (state_of new.now) second.carried_out); layers = record { saved = second.layers.saved ∙ first.layers.saved; marks = second.layers.marks ∙ first.layers.marks } }
 
 -- an action in two parts, which ended with the first
 pub part_ends : (this next : Done) (old new : SandboxValue) (o : Outcome) → (o ≡ outcomes.Passed → ⊥) → IsActed this old o new → IsActed (and_then this next) old o new
 part_ends this next old new outcomes.Passed never h = absurd (never refl)
-part_ends this next old new outcomes.Memory never h = record { carried_out = tt; layers = h.layers }
+part_ends this next old new outcomes.Memory never h = record { carried_out = may_end (is_pass this.outcome) this next h.carried_out; layers = h.layers }
 part_ends this next old new (outcomes.Failed why) never h =
     let Q : Done → Type 0 = λ d. IsDone d (outcomes.Failed why) (state_of new.now) in
-    let e : this ≡ and_then this next = ap (λ p. cond (is_pass p) next this) h.carried_out.0 in
+    let e : this ≡ and_then this next = ap (λ p. cond (is_pass p) (record next { begun = true }) this) h.carried_out.0 in
     record { carried_out = subst Q e h.carried_out; layers = h.layers }
 
 -- a number's text is short
@@ -270,6 +285,24 @@ out_of_range_acted old name text looked n m good is number far =
     let P : Option (List ℕ) → Type 0 = λ x. IsActed (add_number (state_of old.now) name x n) old (outcomes.Failed reasons.OutOfRange) old in
     let Q : Done → Type 0 = λ d. IsActed d old (outcomes.Failed reasons.OutOfRange) old in
     subst P is (subst Q (sym (out_of_range_row (state_of old.now) name text n m good number far)) (failed_acted old reasons.OutOfRange))
+
+in_range_row : (s : State) (name text : List ℕ) (n m : ℤ) → is_bad_name name ≡ false → number_of text ≡ Some m → is_in_range (m +ℤ n) ≡ true
+    → sum_row s name n (is_bad_name name) (number_of text) ≡ passes (with_own s name (signed_decimal (m +ℤ n)))
+in_range_row s name text n m good number near =
+    let a = ap (λ b. sum_row s name n b (number_of text)) good in
+    let b = ap (λ k. sum_row s name n false k) number in
+    let c = ap (λ b. unless_for s (first_true ((not b, reasons.OutOfRange) ∷ [])) (with_own s name (signed_decimal (m +ℤ n)))) near in
+    a ∙ b ∙ c
+
+-- a sum that is held as a number
+pub sum_acted : (old new : SandboxValue) (o : Outcome) (name text : List ℕ) (looked : Option (List ℕ)) (n m sum : ℤ) → is_bad_name name ≡ false → Some text ≡ looked → number_of text ≡ Some m → sum ≡ m +ℤ n → FitsSigned w64 sum
+    → IsActed (passes (with_own (state_of old.now) name (signed_decimal sum))) old o new → IsActed (add_number (state_of old.now) name looked n) old o new
+sum_acted old new o name text looked n m sum good is number e fits h =
+    let near : is_in_range (m +ℤ n) ≡ true = ap is_in_range (sym e) ∙ fits_in_range sum fits in
+    let S : ℤ → Type 0 = λ z. IsActed (passes (with_own (state_of old.now) name (signed_decimal z))) old o new in
+    let P : Option (List ℕ) → Type 0 = λ x. IsActed (add_number (state_of old.now) name x n) old o new in
+    let Q : Done → Type 0 = λ d. IsActed d old o new in
+    subst P is (subst Q (sym (in_range_row (state_of old.now) name text n m good number near)) (subst S e h))
 
 abbrev option_fits : Option ℤ → Type 0
 option_fits None = ⊤

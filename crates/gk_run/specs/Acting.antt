@@ -23,10 +23,11 @@ use Rattle.gk_run.specs.declared.results.Reason.TheVariants as reasons
 use Rattle.gk_run.specs.declared.results.Outcome.{Outcome}
 use Rattle.gk_run.specs.declared.results.Outcome.TheVariants as outcomes
 
--- What an action leaves: the state and its outcome.
+-- What an action leaves: the state and its outcome; and whether a part of it passed.
 pub record Done : Type 0 where
   pub state : State
   pub outcome : Outcome
+  pub begun : Bool
 
 -- What an action is called with: the fields that it uses, T, the text that it works with, and the step's block.
 pub record Given : Type 0 where
@@ -54,11 +55,11 @@ given library found block = record {
 
 -- An action passes, and leaves this state.
 abbrev pub passes : State → Done
-passes s = record { state = s; outcome = outcomes.Passed }
+passes s = record { state = s; outcome = outcomes.Passed; begun = true }
 
 -- An action fails for a reason, and leaves this state.
 abbrev pub fails : State → Reason → Done
-fails s why = record { state = s; outcome = outcomes.Failed why }
+fails s why = record { state = s; outcome = outcomes.Failed why; begun = false }
 
 -- An action that fails where there is a reason, and else passes with a new state.
 abbrev pub unless_for : State → Option Reason → State → Done
@@ -81,7 +82,7 @@ is_pass _ = false
 
 -- A second part of an action, which counts where the first passed. (this project's profile)
 abbrev pub and_then : Done → Done → Done
-and_then this next = cond (is_pass this.outcome) next this
+and_then this next = cond (is_pass this.outcome) (record next { begun = true }) this
 
 -- The reason of a name without a byte, or with too many. (this project's profile)
 abbrev pub bad_name : List ℕ → Bool × Reason
@@ -276,9 +277,18 @@ changes_nothing _ = false
 abbrev pub IsExactly : Done → Outcome → State → Type 0
 IsExactly done outcome new = (outcome ≡ done.outcome) × (new ≡ done.state)
 
--- An action was carried out, or memory was refused in it; then nothing is said of the state. (this project's profile)
+-- An outcome that has a reason.
+abbrev pub is_fail : Outcome → Bool
+is_fail (outcomes.Failed why) = true
+is_fail _ = false
+
+-- An action fails before a part of it passed: it is refused, and takes no memory. (this project's profile)
+abbrev pub is_refused : Done → Bool
+is_refused done = not done.begun && is_fail done.outcome
+
+-- An action was carried out, or memory was refused in it, which can't be where the action itself is refused; then nothing is said of the state. (this project's profile)
 abbrev pub IsDone : Done → Outcome → State → Type 0
-IsDone done outcomes.Memory new = Unit {0}
+IsDone done outcomes.Memory new = is_refused done ≡ false
 IsDone done outcome new = IsExactly done outcome new
 
 -- What the action of a found step leaves, as the program holds the library, what was found and the block. (this project's profile)

@@ -180,10 +180,11 @@ fn perform(
 /// Carries out the action of a step that was found in a library, with the step's block.
 ///
 /// The outcome is `Passed`, `Failed` with the first of the action's reasons that holds, or `Memory`,
-/// which comes only where a growth was refused, and never for an action that changes nothing. An
-/// action that fails midway keeps what it did before: rows of `write_files` before the refused one
-/// stay. At `Memory` nothing is said of what the sandbox holds now; the end of the layer gives back
-/// what was there as it began. (this project's profile)
+/// which comes only where a growth was refused, and never for an action that changes nothing, nor for
+/// one that is refused before a part of it passed. An action that fails midway keeps what it did
+/// before: rows of `write_files` before the refused one stay. At `Memory` nothing is said of what the
+/// sandbox holds now; the end of the layer gives back what was there as it began. (this project's
+/// profile)
 pub fn act(
     alloc: Global,
     sandbox: &mut Sandbox,
