@@ -300,6 +300,22 @@ def long_table():
     return Run({"a.feature": feature}, 0, passing("f", ["s"], steps) + closing(1, 1, 4))
 
 
+def many_changes_of_one_name():
+    """100,000 changes of each of a value, a variable and a file, in one scenario: its end takes all of them back."""
+    count = 100_000
+    grown = ['And the number "n" grows by 1'] * count
+    put = ['And the variable "V" is set to "x"', 'And the variable "V" is unset'] * (count // 2)
+    written = ['And a file named "f" containing "x"', 'And the file "f" is removed'] * (count // 2)
+    first = ['Given the number "n" is set to 0', *grown, *put, *written, 'Then the number "n" should be 100000',
+             'And the variable "V" should be unset', 'And the file "f" should not exist']
+    second = ['Then the value "n" should be absent', 'And the variable "V" should be unset', 'And the file "f" should not exist']
+    cases = [("changes", first), ("after them", second)]
+    feature = "Feature: f\n" + "".join(f"Scenario: {name}\n" + "".join(f"{step}\n" for step in steps) for name, steps in cases)
+    report = "Feature: f ... passed\n" + "".join(
+        f"  Scenario: {name} ... passed\n" + "".join(f"    {step} ... passed\n" for step in steps) for name, steps in cases) + "\n"
+    return Run({"a.feature": feature}, 0, report + closing(1, 2, len(first) + len(second)))
+
+
 def wide_row():
     cells = "".join(f" c{number} |" for number in range(100_000))
     feature = f"Feature: f\nScenario: s\nGiven it passes\n|{cells}\n|{cells}\n|{cells} one more |\n"
@@ -378,15 +394,16 @@ def hopeless_pattern_of_numbers():
                1, report + closing((0, 1), (0, 1), (0, 0, 0, 1)), arguments=["--library", "l.steps", "a.feature"])
 
 
-RUNS = (many_scenarios, many_files, many_files_backwards, fault_of_the_last_of_many_files, many_rules_examples_and_rows,
-        late_line, chosen_line_65535, chosen_line_65536, chosen_line_1000000, longest_file_of_a_comment,
-        longest_file_of_a_scenario, file_one_byte_too_long, second_file_one_byte_too_long, too_long_before_not_utf8,
-        longest_file_not_utf8, longest_library, library_one_byte_too_long, longest_texts, longest_variable_and_value,
-        text_in_characters_of_more_bytes, name_in_characters_of_more_bytes, outline_of_a_million_steps,
-        outline_of_more_than_a_million_steps, outline_of_a_million_and_one_steps, outline_of_very_many_steps,
-        background_steps_count, background_steps_at_the_limit, the_limit_of_steps_is_for_each_file,
-        fault_before_the_steps_of_a_later_file, long_table, wide_row, long_doc_string, long_names, many_tags, many_options,
-        long_option, many_entries, fault_of_the_last_of_many_entries, hopeless_pattern, hopeless_pattern_of_numbers)
+RUNS = (many_scenarios, many_files, many_files_backwards, fault_of_the_last_of_many_files,
+        many_rules_examples_and_rows, late_line, chosen_line_65535, chosen_line_65536, chosen_line_1000000,
+        longest_file_of_a_comment, longest_file_of_a_scenario, file_one_byte_too_long, second_file_one_byte_too_long,
+        too_long_before_not_utf8, longest_file_not_utf8, longest_library, library_one_byte_too_long, longest_texts,
+        longest_variable_and_value, text_in_characters_of_more_bytes, name_in_characters_of_more_bytes,
+        outline_of_a_million_steps, outline_of_more_than_a_million_steps, outline_of_a_million_and_one_steps,
+        outline_of_very_many_steps, background_steps_count, background_steps_at_the_limit,
+        the_limit_of_steps_is_for_each_file, fault_before_the_steps_of_a_later_file, long_table,
+        many_changes_of_one_name, wide_row, long_doc_string, long_names, many_tags, many_options, long_option,
+        many_entries, fault_of_the_last_of_many_entries, hopeless_pattern, hopeless_pattern_of_numbers)
 
 
 def shown(text):
