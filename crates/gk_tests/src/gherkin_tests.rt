@@ -1,4 +1,6 @@
-use gk_gherkin::{Block, Feature, LIMIT, ReadFault, Step, read_feature, read_lines, trim_back};
+use gk_gherkin::{
+    Block, Examples, Feature, LIMIT, ReadFault, Step, read_feature, read_lines, trim_back,
+};
 use std::alloc::Global;
 use std::fmt::Write as _;
 use std::process::Abort;
@@ -243,6 +245,66 @@ fn reads_many_lines_and_long_ones(rt: HostRuntime) -> Result<(), Fail> {
     tags.push_str("\nFeature: a")?;
     let tagged = read_feature(rt.alloc(), tags.as_bytes())?.ok_or("none")?;
     assert_eq!(rt; tagged.tags.len(), 300_000);
+    Ok(())
+}
+
+fn examples_of(feature: &Feature) -> Result<&[Examples], Fail> {
+    match feature.scenarios.as_slice().first() {
+        Some(scenario) => Ok(scenario.examples.as_slice()),
+        None => Err(Fail::from("no scenario")),
+    }
+}
+
+fn rows_in_table(feature: &Feature) -> Result<usize, Fail> {
+    match &first_step(feature)?.block {
+        Block::Table(rows) => Ok(rows.len()),
+        _ => Err(Fail::from("no table")),
+    }
+}
+
+fn length_of_text(feature: &Feature) -> Result<usize, Fail> {
+    match &first_step(feature)?.block {
+        Block::Text(text) => Ok(text.len()),
+        _ => Err(Fail::from("no text")),
+    }
+}
+
+#[test]
+fn reads_many_scenarios_and_rules(rt: HostRuntime) -> Result<(), Fail> {
+    let scenarios = read(rt.alloc(), "Feature: a\n", "Example:\n", 70_000)?;
+    assert_eq!(rt; scenarios.scenarios.len(), 70_000);
+    let rules = read(rt.alloc(), "Feature: a\n", "Rule:\n", 70_000)?;
+    assert_eq!(rt; rules.rules.len(), 70_000);
+    Ok(())
+}
+
+#[test]
+fn reads_many_examples_and_rows(rt: HostRuntime) -> Result<(), Fail> {
+    let outline = read(rt.alloc(), "Feature: a\nExample:\n", "Examples:\n", 70_000)?;
+    assert_eq!(rt; examples_of(&outline)?.len(), 70_000);
+    let table = read(rt.alloc(), "Feature: a\nExample:\n* x\n", "|a|\n", 70_000)?;
+    assert_eq!(rt; rows_in_table(&table)?, 70_000);
+    Ok(())
+}
+
+#[test]
+fn reads_many_tag_lines(rt: HostRuntime) -> Result<(), Fail> {
+    let mut tags = text(rt.alloc(), "@a\n", 70_000)?;
+    tags.push_str("Feature: a")?;
+    let tagged = read_feature(rt.alloc(), tags.as_bytes())?.ok_or("none")?;
+    assert_eq!(rt; tagged.tags.len(), 70_000);
+    Ok(())
+}
+
+// A doc string of a million lines, whose last is long and has fences: no line may cost the whole text.
+#[test]
+fn reads_a_long_doc_string(rt: HostRuntime) -> Result<(), Fail> {
+    let mut quoted = text(rt.alloc(), "Feature: a\nExample:\n* x\n```\n", 1)?;
+    quoted.push_str(text(rt.alloc(), "x\n", 1_000_000)?.as_str())?;
+    quoted.push_str(text(rt.alloc(), "\\`\\`\\`", 100_000)?.as_str())?;
+    quoted.push_str("\n```\n")?;
+    let feature = read_feature(rt.alloc(), quoted.as_bytes())?.ok_or("none")?;
+    assert_eq!(rt; length_of_text(&feature)?, 2_300_000);
     Ok(())
 }
 
