@@ -1,6 +1,7 @@
 use gk_gherkin::read_feature;
 use gk_select::{Case, Choice, SelectFault, expand, read_features_are_expandable, read_tags};
 use std::alloc::{AllocError, Global};
+use std::fmt::Write as _;
 use std::test::Fail;
 
 fn text(alloc: Global, text: &str) -> Result<String, AllocError> {
@@ -70,6 +71,18 @@ fn fills_a_text_of_openings(rt: HostRuntime) -> Result<(), Fail> {
     assert_eq!(rt; filled(rt.alloc(), long.as_str())?.len(), 1_048_576);
     long.push('>')?;
     assert_eq!(rt; filled(rt.alloc(), long.as_str())?.len(), 1_048_577);
+    Ok(())
+}
+
+// Two megabytes of `>`: what was filled before one may not be copied.
+#[test]
+fn fills_a_text_of_closings(rt: HostRuntime) -> Result<(), Fail> {
+    let mut long = text(rt.alloc(), ">")?;
+    for _ in 0..21 {
+        let copy = long.clone()?;
+        long.push_str(copy.as_str())?;
+    }
+    assert_eq!(rt; filled(rt.alloc(), long.as_str())?.len(), 2_097_152);
     Ok(())
 }
 
@@ -156,6 +169,40 @@ fn bad_tags_are_refused(rt: HostRuntime) -> Result<(), Fail> {
     let good = ["a", "@-x", "~@~x", "and", "@a@b", "a,~b,@c"];
     for text in good {
         assert!(rt; read_tags(rt.alloc(), text).is_ok());
+    }
+    Ok(())
+}
+
+#[test]
+fn reads_many_alternatives(rt: HostRuntime) -> Result<(), Fail> {
+    let mut many = text(rt.alloc(), "~a")?;
+    for _ in 0..16 {
+        let copy = many.clone()?;
+        many.push(',')?;
+        many.push_str(copy.as_str())?;
+    }
+    many.push_str(",@b")?;
+    let rule = read_tags(rt.alloc(), many.as_str())?;
+    let a = texts(rt.alloc(), &["@a"])?;
+    assert_eq!(rt; rule.selects(a.as_slice()), false);
+    let both = texts(rt.alloc(), &["@a", "@b"])?;
+    assert_eq!(rt; rule.selects(both.as_slice()), true);
+    Ok(())
+}
+
+// A fault of choosing, and its text.
+const FAULTS: [(SelectFault, &str); 3] = [
+    (SelectFault::TooMany, "more than 1000000 steps"),
+    (SelectFault::BadTagText, "bad tag expression"),
+    (SelectFault::Memory, "out of memory"),
+];
+
+#[test]
+fn faults_of_choosing_have_texts(rt: HostRuntime) -> Result<(), Fail> {
+    for (fault, text) in FAULTS {
+        let mut shown = String::new(rt.alloc());
+        write!(shown, "{}", fault)?;
+        assert_eq!(rt; shown.as_str(), text);
     }
     Ok(())
 }
