@@ -11,6 +11,8 @@ pub mod TextEnds
 pub mod RowParts
 pub mod TagWords
 pub mod FenceTexts
+pub mod HookHeadingTexts
 pub mod WorkedLines
 pub mod WorkedFiles
 pub mod WorkedFaults
+pub mod WorkedHookHeadings

@@ -8,5 +8,8 @@ pub mod Language
 pub mod StepTypes
 pub mod Feature
 pub mod Grammar
+pub mod Hooks
+pub mod HookHeadings
+pub mod HooksGrammar
 pub mod ReadFault
 pub mod Machine

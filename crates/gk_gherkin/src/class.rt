@@ -56,7 +56,7 @@ pub fn begins(text: &str, word: &str) -> bool
     }
 }
 
-fn begins_word(text: &str, word: &str) -> bool
+pub fn begins_word(text: &str, word: &str) -> bool
     ensures { result ≡ (spec.begins text.now word.now && is_blank (slice_index text.now (length word.now))) }
 {
     let bytes = text.as_bytes();

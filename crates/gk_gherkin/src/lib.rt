@@ -6,6 +6,8 @@ mod class;
 mod doc_strings;
 mod feature;
 mod grammar;
+mod hook_headings;
+mod hooks;
 mod language;
 mod lines;
 mod machine;
@@ -18,6 +20,7 @@ mod tags;
 
 pub use feature::{Background, Block, Examples, Feature, Row, Rule, Scenario, Step, StepType};
 pub use grammar::{parts_are_concatenations, reading_is_unique};
+pub use hooks::{Hook, HookFile, HookKind};
 pub use lines::{Document, LIMIT, Line, Place, read_lines, trim_back};
 pub use read_fault::ReadFault;
 pub use reader::read_feature;

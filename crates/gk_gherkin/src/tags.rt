@@ -10,7 +10,7 @@ use crate::lines::{Piece, trim_front};
 use crate::read_fault::ReadFault;
 use std::alloc::Global;
 
-fn is_tag(word: &str) -> bool
+pub fn is_tag(word: &str) -> bool
     ensures { result ≡ spec.is_tag word.now }
 {
     begins(word, "@") && 2 <= word.len()

@@ -1,0 +1,116 @@
+//! The headings of a hooks file.
+ghost use Rattle.std.specs.Prelude.{codes, nat_eq, option_map, not, ◌≡◌};
+ghost use Rattle.std.specs.List.{list_all, ends_with};
+ghost use Rattle.gk_gherkin.specs.Lines.{is_blank, piece_value};
+ghost use Rattle.gk_gherkin.specs.HookHeadings as spec;
+
+use crate::class::{Class, begins, begins_word, class_of_line};
+use crate::hooks::HookKind;
+use crate::lines::{Piece, is_blank, trim, trim_front};
+use crate::tags::is_tag;
+
+/// The class of a line in a hooks file: a hook line, whose text begins with `before_` or `after_`,
+/// without the blanks at the text's ends, or that of any other line. (this project's profile)
+#[derive(Clone, Copy, Debug, PartialEq, Eq)]
+pub enum HooksClass {
+    HookLine,
+    Plain(Class),
+}
+
+/// What a hook's heading says: its kind, and the tag that it is for, where its kind has one. (behave's
+/// documentation: environment file functions)
+#[derive(Clone, Copy)]
+pub struct Heading<'a> {
+    pub kind: HookKind,
+    pub tag: Option<&'a str>,
+}
+
+/// The class of a line in a hooks file.
+#[tactic(auto, unfolding(crate::specs::HookHeadings::hooks_class))]
+pub fn hooks_class(line: &Piece<'_>) -> HooksClass
+    ensures { result ≡ spec.hooks_class (piece_value line.now) }
+{
+    let text = trim(line.text);
+    if begins(text, "before_") || begins(text, "after_") {
+        HooksClass::HookLine
+    } else {
+        HooksClass::Plain(class_of_line(line))
+    }
+}
+
+// The kind of the heading without a tag that a text is.
+fn plain_kind(text: &str) -> Option<HookKind>
+    ensures { option_map (λ kind. spec.plain kind) result ≡ spec.plain_heading text.now }
+{
+    if text == "before_all:" {
+        Some(HookKind::BeforeAll)
+    } else if text == "after_all:" {
+        Some(HookKind::AfterAll)
+    } else if text == "before_feature:" {
+        Some(HookKind::BeforeFeature)
+    } else if text == "after_feature:" {
+        Some(HookKind::AfterFeature)
+    } else if text == "before_scenario:" {
+        Some(HookKind::BeforeScenario)
+    } else if text == "after_scenario:" {
+        Some(HookKind::AfterScenario)
+    } else {
+        None
+    }
+}
+
+fn has_no_blank(text: &[u8]) -> bool
+    ensures { result ≡ list_all (λ b. not (is_blank b)) text.now }
+{
+    text.iter().all(|byte| !is_blank(*byte))
+}
+
+fn tag_alone(text: &str) -> Option<&str>
+    ensures { option_map (λ t. t.now) result ≡ spec.tag_alone text.now }
+{
+    if is_tag(text) && has_no_blank(text.as_bytes()) {
+        Some(text)
+    } else {
+        None
+    }
+}
+
+fn ends_in_colon(text: &str) -> bool
+    ensures { result ≡ ends_with nat_eq text.now (codes ":") }
+{
+    text.as_bytes().ends_with(b":")
+}
+
+// The tag between a word with a blank after it and the colon at the text's end.
+fn tag_between<'a>(word: &str, text: &'a str) -> Option<&'a str>
+    ensures { option_map (λ t. t.now) result ≡ spec.tag_between word.now text.now }
+{
+    if begins_word(text, word) && ends_in_colon(text) {
+        tag_alone(trim_front(&text[word.len()..text.len() - 1]))
+    } else {
+        None
+    }
+}
+
+/// The heading that a line is, or none where it is any other text.
+#[tactic(auto, unfolding(crate::specs::HookHeadings::hook_heading))]
+pub fn hook_heading<'a>(line: &Piece<'a>) -> Option<Heading<'a>>
+    ensures { option_map spec.heading_value result ≡ spec.hook_heading (piece_value line.now) }
+{
+    let text = trim(line.text);
+    if let Some(kind) = plain_kind(text) {
+        Some(Heading { kind, tag: None })
+    } else if let Some(tag) = tag_between("before_tag", text) {
+        Some(Heading {
+            kind: HookKind::BeforeTag,
+            tag: Some(tag),
+        })
+    } else if let Some(tag) = tag_between("after_tag", text) {
+        Some(Heading {
+            kind: HookKind::AfterTag,
+            tag: Some(tag),
+        })
+    } else {
+        None
+    }
+}
