@@ -3,7 +3,10 @@ pub mod LineCuts
 pub mod ClassWords
 pub mod ReaderLoop
 pub mod ReaderSound
+pub mod ReaderSteps
 pub mod ReaderComplete
+pub mod ReaderRuns
+pub mod RowStops
 pub mod ReaderStops
 pub mod ReaderWhole
 pub mod Prefixes
@@ -12,6 +15,13 @@ pub mod RowParts
 pub mod TagWords
 pub mod FenceTexts
 pub mod HookHeadingTexts
+pub mod HookHeadingsDecided
+pub mod HookClasses
+pub mod HooksSound
+pub mod HooksComplete
+pub mod FreshHookHeadings
+pub mod HooksStops
+pub mod HooksReading
 pub mod WorkedLines
 pub mod WorkedFiles
 pub mod WorkedFaults

@@ -19,7 +19,7 @@ use Rattle.gk_gherkin.specs.Tags.{tags_of}
 use Rattle.gk_gherkin.specs.StepTypes.{type_after, AreTypedAfter}
 use Rattle.gk_gherkin.specs.Feature.{BlockValue, Empty, Text, Table, StepValue, RowValue, ExamplesValue, BackgroundValue, ScenarioValue, RuleValue, FeatureValue}
 use Rattle.gk_gherkin.specs.Grammar.{IsIgnoredClass, IsIgnored, Skips, skip_none, skip, Next, Many, none, more, Perhaps, AreTags, untagged, tagged, IsTaggedHeading, MayDescribeFeature, MayDescribeScenario, MayDescribeExamples, IsRow, AreOfOneWidth, IsDocString, IsBlock, HasTable, AreExamples, Describes, described, describe, IsStep, AreSteps, IsBackground, IsScenario, IsRule, IsFeature, Reads, HasOneReading}
-use Rattle.gk_gherkin.specs.Machine.{HeadValue, SectionValue, Top, OfFeature, OfRule, Body, Describing, Stepped, Owner, OfBackground, OfScenario, Grid, NoRows, Rows, OutlineValue, Open, Headed, Bodied, Exampled, Place, Above, Inside, QuoteValue, State, At, Tagged, Quoted, quote_of, on_fence, after_quote, in_quote, by_language, on_comment, Read, ◌>>=◌, head_from, step_from, steps_of, scenario_of, with_scenario, background_section, header_of, rows_of, examples_of, with_examples, outline_of, examples_after, section_of, row_of, on_row, with_block, on_block, row_from, on_grid, rule_of, with_rule, feature_of, tag_line, on_heading, on_body, on_open, on_place, placed, on, step, run, answer, finish, reading}
+use Rattle.gk_gherkin.specs.Machine.{HeadValue, SectionValue, Top, OfFeature, OfRule, Body, Describing, Stepped, Owner, OfBackground, OfScenario, Grid, NoRows, Rows, OutlineValue, Open, Headed, Bodied, Exampled, Place, Above, Inside, QuoteValue, State, At, Tagged, Quoted, quote_of, on_fence, after_quote, in_quote, by_language, on_comment, Read, ◌>>=◌, head_from, step_from, steps_of, scenario_of, with_scenario, background_section, header_of, rows_of, examples_of, with_examples, outline_of, examples_after, section_of, row_of, on_row, with_block, on_block, row_from, on_grid, rule_of, with_rule, feature_of, tag_line, on_heading, on_body, on_open, on_place, placed, on, step, run, run_by, answer, finish, reading}
 use Rattle.gk_gherkin.proofs.ReaderSound.{IgnoredAt, Fits, joined, joined_text, joined_push}
 
 -- ignored lines are passed over
@@ -58,7 +58,7 @@ quiet s l f i = quiet_class s l (class l) f i (ignored_class (PlaceOf s) l i)
 
 -- a line that is taken
 run_over : (s t : State) (l : LineValue) (rest : Lines) → on s l (class l) ≡ Ok t → run s (l ∷ rest) ≡ run t rest
-unfolding run step
+unfolding run_by step
 run_over s t l rest e = ap (λ (r : Read). r >>= λ t. run t rest) e
 
 run_skips : (s : State) {ls rest : Lines} → Free s → Skips (IgnoredAt (PlaceOf s)) ls rest → run s ls ≡ run s rest
@@ -455,7 +455,7 @@ run_feature f i =
     record { top = r.top; part = r.part; runs_to = run_heading Above (Inside (OfFeature head) Headed) FeatureHeading i.line tt i.heading made ∙ s.1 ∙ r.runs_to; says = r.says }
 
 run_nil : (s : State) → run s [] ≡ Ok s
-unfolding run
+unfolding run_by
 run_nil s = refl
 
 -- What has a reading is run over, up to a place that says it.

@@ -1,32 +1,32 @@
 -- Reading line after line, as the loop does.
-use Rattle.std.proofs.Common.{◌≡◌, ℕ, suc, ◌+◌, ◌<◌, ◌≤◌, List, ◌∷◌, length, drop, get_or, Ok, Err, sym, ap, ◌∙◌, add-one}
+use Rattle.std.proofs.Common.{◌≡◌, ℕ, suc, ◌+◌, ◌<◌, ◌≤◌, List, ◌∷◌, length, drop, get_or, Result, Ok, Err, sym, ap, ◌∙◌, add-one}
 use Rattle.std.proofs.Math.Seq.{drop-cons}
 use Rattle.std.proofs.lemmas.List.{drop_all}
 use Rattle.gk_gherkin.specs.declared.read_fault.ReadFault.{ReadFault}
 use Rattle.gk_gherkin.specs.declared.read_fault.ReadFault.TheVariants as faults
-use Rattle.gk_gherkin.specs.Lines.{line_at, numbered_from}
+use Rattle.gk_gherkin.specs.Lines.{LineValue, line_at, numbered_from}
 use Rattle.gk_gherkin.specs.Machine.{Fails}
-use Rattle.gk_gherkin.specs.Machine.{State, Read, step, run, ◌>>=◌}
+use Rattle.gk_gherkin.specs.Machine.{run_by, ◌>>=◌}
 
--- all: the texts of the lines; i: how many are read; n: the next line's number
-module _ (s : State) (all : List (List ℕ)) (i n : ℕ) (text : List ℕ) (total : Read) (within : i < length all) (is : text ≡ get_or all i text) where
+-- step: what a line makes of a state; all: the texts of the lines; i: how many are read; n: the next line's number
+module _ {S : Type 0} (step : S → LineValue → Result S ReadFault) (s : S) (all : List (List ℕ)) (i n : ℕ) (text : List ℕ) (total : Result S ReadFault) (within : i < length all) (is : text ≡ get_or all i text) where
   next : numbered_from n (drop i all) ≡ line_at n text ∷ numbered_from (n + 1) (drop (i + 1) all)
   next =
       let here : drop i all ≡ get_or all i text ∷ drop (suc i) all = drop-cons all i text within in
       let one : i + 1 ≡ suc i = add-one i in
       ap (numbered_from n) here ∙ ap (λ (x : List ℕ). line_at n x ∷ numbered_from (n + 1) (drop (suc i) all)) (sym is) ∙ ap (λ (k : ℕ). line_at n text ∷ numbered_from (n + 1) (drop k all)) (sym one)
 
-  run_line : run s (numbered_from n (drop i all)) ≡ (step s (line_at n text) >>= λ t. run t (numbered_from (n + 1) (drop (i + 1) all)))
-  unfolding run
-  run_line = ap (run s) next
+  run_line : run_by step s (numbered_from n (drop i all)) ≡ (step s (line_at n text) >>= λ t. run_by step t (numbered_from (n + 1) (drop (i + 1) all)))
+  unfolding run_by
+  run_line = ap (run_by step s) next
 
-  pub goes_on : (t : State) → step s (line_at n text) ≡ Ok t → run s (numbered_from n (drop i all)) ≡ total → run t (numbered_from (n + 1) (drop (i + 1) all)) ≡ total
-  goes_on t r so_far = sym (run_line ∙ ap (λ (r : Read). r >>= λ t. run t (numbered_from (n + 1) (drop (i + 1) all))) r) ∙ so_far
+  pub goes_on : (t : S) → step s (line_at n text) ≡ Ok t → run_by step s (numbered_from n (drop i all)) ≡ total → run_by step t (numbered_from (n + 1) (drop (i + 1) all)) ≡ total
+  goes_on t r so_far = sym (run_line ∙ ap (λ (r : Result S ReadFault). r >>= λ t. run_by step t (numbered_from (n + 1) (drop (i + 1) all))) r) ∙ so_far
 
-  err : (f : ReadFault) → step s (line_at n text) ≡ Err f → run s (numbered_from n (drop i all)) ≡ total → total ≡ Err f
-  err f r so_far = sym so_far ∙ run_line ∙ ap (λ (r : Read). r >>= λ t. run t (numbered_from (n + 1) (drop (i + 1) all))) r
+  err : (f : ReadFault) → step s (line_at n text) ≡ Err f → run_by step s (numbered_from n (drop i all)) ≡ total → total ≡ Err f
+  err f r so_far = sym so_far ∙ run_line ∙ ap (λ (r : Result S ReadFault). r >>= λ t. run_by step t (numbered_from (n + 1) (drop (i + 1) all))) r
 
-  pub ends : (f : ReadFault) → Fails f (step s (line_at n text)) → run s (numbered_from n (drop i all)) ≡ total → Fails f total
+  pub ends : (f : ReadFault) → Fails f (step s (line_at n text)) → run_by step s (numbered_from n (drop i all)) ≡ total → Fails f total
   ends faults.Memory r so_far = tt
   ends (faults.NotUtf8 n) r so_far = err (faults.NotUtf8 n) r so_far
   ends (faults.Unexpected n) r so_far = err (faults.Unexpected n) r so_far
@@ -36,8 +36,9 @@ module _ (s : State) (all : List (List ℕ)) (i n : ℕ) (text : List ℕ) (tota
   ends (faults.TagsAtEnd n) r so_far = err (faults.TagsAtEnd n) r so_far
   ends (faults.Language n) r so_far = err (faults.Language n) r so_far
   ends (faults.BadRow n) r so_far = err (faults.BadRow n) r so_far
+  ends (faults.BadHook n) r so_far = err (faults.BadHook n) r so_far
   ends faults.TooLong r so_far = err faults.TooLong r so_far
 
-pub is_done : (s : State) (all : List (List ℕ)) (i n : ℕ) (total : Read) → length all ≤ i → run s (numbered_from n (drop i all)) ≡ total → total ≡ Ok s
-unfolding run
-is_done s all i n total h so_far = sym so_far ∙ ap (λ (ls : List (List ℕ)). run s (numbered_from n ls)) (drop_all i all h)
+pub is_done : {S : Type 0} (step : S → LineValue → Result S ReadFault) (s : S) (all : List (List ℕ)) (i n : ℕ) (total : Result S ReadFault) → length all ≤ i → run_by step s (numbered_from n (drop i all)) ≡ total → total ≡ Ok s
+unfolding run_by
+is_done step s all i n total h so_far = sym so_far ∙ ap (λ (ls : List (List ℕ)). run_by step s (numbered_from n ls)) (drop_all i all h)

@@ -24,7 +24,7 @@ use Rattle.gk_gherkin.specs.Rows.{cells_of}
 use Rattle.gk_gherkin.specs.StepTypes.{type_after, AreTypedAfter, AreTyped}
 use Rattle.gk_gherkin.specs.Feature.{BlockValue, Empty, Text, Table, StepValue, RowValue, ScenarioValue, FeatureValue}
 use Rattle.gk_gherkin.specs.Grammar.{IsIgnoredClass, IsIgnored, IsIgnoredAbove, Skips, skip_none, skip, Next, Many, none, more, Perhaps, IsTagLine, AreTags, untagged, tagged, IsHeading, IsTaggedHeading, MayDescribeFeature, MayDescribeScenario, MayDescribeExamples, IsRow, IsTable, IsBlock, HasTable, AreExamples, Describes, described, describe, IsStep, AreSteps, IsBackground, IsScenario, IsRule, IsFeature, Reads}
-use Rattle.gk_gherkin.specs.Machine.{HeadValue, SectionValue, Top, OfFeature, OfRule, Body, Describing, Stepped, Owner, OfBackground, OfScenario, Grid, NoRows, Rows, OutlineValue, Open, Headed, Bodied, Exampled, Place, Above, Inside, QuoteValue, State, At, Tagged, Quoted, quote_by, quote_of, on_fence, with_line, whole_text, after_quote, in_quote, by_language, on_comment, Read, ◌>>=◌, head_from, step_from, steps_of, scenario_of, with_scenario, owner_section, header_of, rows_of, examples_of, with_examples, outline_of, examples_after, section_of, row_of, on_row, width_of, with_block, on_block, row_from, on_grid, rule_of, feature_of, tag_line, on_heading, on_body, on_open, on_place, placed, on, step, run, answer, finish, reading}
+use Rattle.gk_gherkin.specs.Machine.{HeadValue, SectionValue, Top, OfFeature, OfRule, Body, Describing, Stepped, Owner, OfBackground, OfScenario, Grid, NoRows, Rows, OutlineValue, Open, Headed, Bodied, Exampled, Place, Above, Inside, QuoteValue, State, At, Tagged, Quoted, quote_by, quote_of, on_fence, with_line, whole_text, in_quote, text_after, by_language, on_comment, Read, ◌>>=◌, head_from, step_from, steps_of, scenario_of, with_scenario, owner_section, header_of, rows_of, examples_of, with_examples, outline_of, examples_after, section_of, row_of, on_row, width_of, with_block, on_block, row_from, on_grid, rule_of, feature_of, tag_line, on_heading, on_body, on_open, on_place, placed, on, step, run, run_by, answer, finish, reading}
 
 -- growing a part at its end
 pub Skips-more : {Ignored : LineValue → Type 0} {ls rest : Lines} {l : LineValue} → Ignored l → Skips Ignored ls (l ∷ rest) → Skips Ignored ls rest
@@ -79,9 +79,13 @@ abbrev pub TopBuilt : Top → Lines → Lines → Type 0
 TopBuilt (OfFeature head) ls rest = HeadBuilt IsIgnoredAbove FeatureHeading head ls rest
 TopBuilt (OfRule f head) ls rest = (mid : Lines) × IsFeature ls f mid × HeadBuilt IsIgnored RuleHeading head mid rest
 
+-- what stands before the first step, and the steps
+abbrev pub StepsBuilt : (Lines → Lines → Type 0) → Body → Lines → Lines → Type 0
+StepsBuilt Before Describing ls rest = Before ls rest
+StepsBuilt Before (Stepped steps step) ls rest = (a : Lines) × (b : Lines) × Before ls a × Many IsStep a steps b × IsStep b step rest × AreTyped (steps ++ step ∷ [])
+
 abbrev pub BodyBuilt : Body → Lines → Lines → Type 0
-BodyBuilt Describing ls rest = Describes MayDescribeScenario ls rest
-BodyBuilt (Stepped steps step) ls rest = (a : Lines) × (b : Lines) × Describes MayDescribeScenario ls a × Many IsStep a steps b × IsStep b step rest × AreTyped (steps ++ step ∷ [])
+BodyBuilt body ls rest = StepsBuilt (Describes MayDescribeScenario) body ls rest
 
 abbrev pub OwnerBuilt : Owner → Lines → Lines → Type 0
 OwnerBuilt (OfBackground n) ls rest = (mid : Lines) × (line : LineValue) × Describes MayDescribeFeature ls mid × IsHeading IsIgnored BackgroundHeading mid line rest × (n ≡ line.line)
@@ -122,10 +126,10 @@ joined_push [] text = refl
 joined_push (x ∷ xs) text = ap Some (join_push x xs text)
 
 -- In a doc string: its opening fence stands after the open step, and its content is read up to rest.
-pub record QuoteBuilt (quote : QuoteValue) (fence : Fence) (column n : ℕ) (texts : Option (List ℕ)) (whole rest : Lines) : Type 0 where
+pub record TextBuilt (Before : Lines → Lines → Type 0) (steps : List StepValue) (step : StepValue) (fence : Fence) (column : ℕ) (texts : Option (List ℕ)) (ls rest : Lines) : Type 0 where
   pub mid : Lines
-  pub place : PlaceBuilt (Inside quote.top (Bodied quote.owner (Stepped quote.steps quote.step))) whole mid
-  pub empty : quote.step.block ≡ Empty
+  pub body : StepsBuilt Before (Stepped steps step) ls mid
+  pub empty : step.block ≡ Empty
   pub opening : LineValue
   pub content : Lines
   pub next : Next IsIgnored mid opening (content ++ rest)
@@ -134,16 +138,19 @@ pub record QuoteBuilt (quote : QuoteValue) (fence : Fence) (column n : ℕ) (tex
   pub at : column ≡ opening.column
   pub says : texts ≡ joined (map (content_of fence (column - 1)) content)
 
+abbrev pub QuoteBuilt : QuoteValue → Fence → ℕ → Option (List ℕ) → Lines → Lines → Type 0
+QuoteBuilt quote fence column texts whole rest = (a : Lines) × (b : Lines) × TopBuilt quote.top whole a × OwnerBuilt quote.owner a b × TextBuilt (Describes MayDescribeScenario) quote.steps quote.step fence column texts b rest
+
 -- The lines of whole, up to rest, are what the state says.
 abbrev pub Built : State → Lines → Lines → Type 0
 Built (At place) whole rest = (mid : Lines) × PlaceBuilt place whole mid × Skips (IgnoredAt place) mid rest
 Built (Tagged place tags last) whole rest = (a : Lines) × (b : Lines) × PlaceBuilt place whole a × AreTags (IgnoredAt place) a tags b × Skips (IgnoredAt place) b rest
-Built (Quoted quote fence column n texts) whole rest = QuoteBuilt quote fence column n texts whole rest
+Built (Quoted quote fence column n texts) whole rest = QuoteBuilt quote fence column texts whole rest
 
 -- closing what is open
-closed_body : (body : Body) (ls rest : Lines) → BodyBuilt body ls rest → (mid : Lines) × Describes MayDescribeScenario ls mid × AreSteps mid (steps_of body) rest
-closed_body Describing ls rest b = (rest, b, record { parts = none; types = tt })
-closed_body (Stepped steps st) ls rest b = (b.0, b.2, record { parts = Many-push b.3 b.4; types = b.5 })
+pub closed_steps : (Before : Lines → Lines → Type 0) (body : Body) (ls rest : Lines) → StepsBuilt Before body ls rest → (mid : Lines) × Before ls mid × AreSteps mid (steps_of body) rest
+closed_steps Before Describing ls rest b = (rest, b, record { parts = none; types = tt })
+closed_steps Before (Stepped steps st) ls rest b = (b.0, b.2, record { parts = Many-push b.3 b.4; types = b.5 })
 
 scenario_built : (section : SectionValue) (keyword : List ℕ) (head : HeadValue) (steps : List StepValue) (ls mid behind rest : Lines) → (o : OwnerBuilt (OfScenario section keyword head) ls mid) → Describes MayDescribeScenario mid behind → AreSteps behind steps rest → IsScenario o.0 (scenario_of keyword head steps) rest
 scenario_built section keyword head steps ls mid behind rest o d s =
@@ -172,7 +179,7 @@ more_examples s head grid a b c rest i h g =
 pub closed : (part : Open) (ls rest : Lines) → OpenBuilt part ls rest → SectionBuilt (section_of part) ls rest
 closed Headed ls rest b = record { after_description = rest; after_background = rest; description = b; background = refl; scenarios = none }
 closed (Bodied owner body) ls rest b =
-    let s = closed_body body b.0 rest b.2 in
+    let s = closed_steps (Describes MayDescribeScenario) body b.0 rest b.2 in
     closed_owner owner (steps_of body) ls b.0 s.0 rest b.1 s.1 s.2
 closed (Exampled section scenario head grid) ls rest b = more_scenarios section (with_examples scenario (examples_of head grid)) ls b.0 rest b.3 (more_examples scenario head grid b.0 b.1 b.2 rest b.4 b.5 b.6)
 
@@ -181,7 +188,7 @@ outline_built : (part : Open) (outline : OutlineValue) (ls rest : Lines) → out
 outline_built Headed outline ls rest e b = let no : ⊥ = cc in absurd no
 outline_built (Bodied (OfBackground n) body) outline ls rest e b = let no : ⊥ = cc in absurd no
 outline_built (Bodied (OfScenario section keyword head) body) outline ls rest e b =
-    let s = closed_body body b.0 rest b.2 in
+    let s = closed_steps (Describes MayDescribeScenario) body b.0 rest b.2 in
     let made : OutlineValue = record { section = section; scenario = scenario_of keyword head (steps_of body) } in
     let same : made ≡ outline = cc in
     subst (λ (o : OutlineValue). (mid : Lines) × SectionBuilt o.section ls mid × IsScenario mid o.scenario rest) same (b.1.0, b.1.1, scenario_built section keyword head (steps_of body) ls b.0 s.0 rest b.1 s.1 s.2)
@@ -301,22 +308,30 @@ on_heading-built (Inside top part) tags whole a b rest l ExamplesHeading t c p t
 on_heading-built (Inside top part) tags whole a b rest l _ t c p ts n e = no_ok e
 
 -- a line that takes no tags
-on_body-built : (body : Body) (ls mid rest : Lines) (l : LineValue) (c : Class) (t : Body) → class l ≡ c → BodyBuilt body ls mid → Skips IsIgnored mid (l ∷ rest) → on_body body l c ≡ Ok t → BodyBuilt t ls rest
+pub first_step-built : (Before : Lines → Lines → Type 0) (ls mid rest : Lines) (l : LineValue) (t : Body) → class l ≡ StepLine → Before ls mid → Skips IsIgnored mid (l ∷ rest) → on_body Describing l StepLine ≡ Ok t → StepsBuilt Before t ls rest
 unfolding on_body
-on_body-built Describing ls mid rest l StepLine t c b n e = subst (λ t. BodyBuilt t ls rest) (ok_same e) (mid, mid, b, none, step_line Given l n c, (refl, tt))
-on_body-built Describing ls mid rest l RowLine t c b n e = subst (λ t. BodyBuilt t ls rest) (ok_same e) (Describes-more b n (subst MayDescribeScenario (sym c) tt))
-on_body-built Describing ls mid rest l (FenceLine fence) t c b n e = subst (λ t. BodyBuilt t ls rest) (ok_same e) (Describes-more b n (subst MayDescribeScenario (sym c) tt))
-on_body-built Describing ls mid rest l Other t c b n e = subst (λ t. BodyBuilt t ls rest) (ok_same e) (Describes-more b n (subst MayDescribeScenario (sym c) tt))
-on_body-built Describing ls mid rest l _ t c b n e = no_ok e
-on_body-built (Stepped steps st) ls mid rest l StepLine t c b n e =
-    subst (λ t. BodyBuilt t ls rest) (ok_same e) (b.0, mid, b.2, Many-push b.3 b.4, step_line st.step_type l n c, typed_push Given steps st (step_from st.step_type l) b.5 refl)
-on_body-built (Stepped steps st) ls mid rest l RowLine t c b n e =
+first_step-built Before ls mid rest l t c b n e = subst (λ t. StepsBuilt Before t ls rest) (ok_same e) (mid, mid, b, none, step_line Given l n c, (refl, tt))
+
+pub stepped-built : (Before : Lines → Lines → Type 0) (steps : List StepValue) (st : StepValue) (ls mid rest : Lines) (l : LineValue) (c : Class) (t : Body) → class l ≡ c → StepsBuilt Before (Stepped steps st) ls mid → Skips IsIgnored mid (l ∷ rest) → on_body (Stepped steps st) l c ≡ Ok t → StepsBuilt Before t ls rest
+unfolding on_body
+stepped-built Before steps st ls mid rest l StepLine t c b n e =
+    subst (λ t. StepsBuilt Before t ls rest) (ok_same e) (b.0, mid, b.2, Many-push b.3 b.4, step_line st.step_type l n c, typed_push Given steps st (step_from st.step_type l) b.5 refl)
+stepped-built Before steps st ls mid rest l RowLine t c b n e =
     let r = bind_is (on_block st.block l) (λ (block : BlockValue). Stepped steps (with_block st block)) t e in
     let i = b.4 in
     let k = i.line in
     let made : IsStep b.1 (with_block st r.0) rest = record { after_line = i.after_line; line = record { line = k.line; next = k.next; is = k.is; keyword = k.keyword; text = k.text; number = k.number }; block = on_block-built st.block i.after_line mid rest l r.0 c i.block n r.1 } in
-    subst (λ t. BodyBuilt t ls rest) r.2 (b.0, b.1, b.2, b.3, made, typed_block Given steps st r.0 b.5)
-on_body-built (Stepped steps st) ls mid rest l _ t c b n e = no_ok e
+    subst (λ t. StepsBuilt Before t ls rest) r.2 (b.0, b.1, b.2, b.3, made, typed_block Given steps st r.0 b.5)
+stepped-built Before steps st ls mid rest l _ t c b n e = no_ok e
+
+on_body-built : (body : Body) (ls mid rest : Lines) (l : LineValue) (c : Class) (t : Body) → class l ≡ c → BodyBuilt body ls mid → Skips IsIgnored mid (l ∷ rest) → on_body body l c ≡ Ok t → BodyBuilt t ls rest
+unfolding on_body
+on_body-built Describing ls mid rest l StepLine t c b n e = first_step-built (Describes MayDescribeScenario) ls mid rest l t c b n e
+on_body-built Describing ls mid rest l RowLine t c b n e = subst (λ t. BodyBuilt t ls rest) (ok_same e) (Describes-more b n (subst MayDescribeScenario (sym c) tt))
+on_body-built Describing ls mid rest l (FenceLine fence) t c b n e = subst (λ t. BodyBuilt t ls rest) (ok_same e) (Describes-more b n (subst MayDescribeScenario (sym c) tt))
+on_body-built Describing ls mid rest l Other t c b n e = subst (λ t. BodyBuilt t ls rest) (ok_same e) (Describes-more b n (subst MayDescribeScenario (sym c) tt))
+on_body-built Describing ls mid rest l _ t c b n e = no_ok e
+on_body-built (Stepped steps st) ls mid rest l k t c b n e = stepped-built (Describes MayDescribeScenario) steps st ls mid rest l k t c b n e
 
 on_open-built : (part : Open) (ls mid rest : Lines) (l : LineValue) (c : Class) (t : Open) → class l ≡ c → OpenBuilt part ls mid → Skips IsIgnored mid (l ∷ rest) → on_open part l c ≡ Ok t → OpenBuilt t ls rest
 unfolding on_open
@@ -369,31 +384,37 @@ quote_place (Inside top (Bodied owner (Stepped steps step))) quote e =
     let r = quote_same step.block made quote e in
     subst (λ (q : QuoteValue). (Inside top (Bodied owner (Stepped steps step)) ≡ Inside q.top (Bodied q.owner (Stepped q.steps q.step))) × (q.step.block ≡ Empty)) r.1 (refl, r.0)
 
+pub opened_text : (Before : Lines → Lines → Type 0) (steps : List StepValue) (st : StepValue) (ls mid rest : Lines) (l : LineValue) (fence : Fence) → StepsBuilt Before (Stepped steps st) ls mid → st.block ≡ Empty → Skips IsIgnored mid (l ∷ rest) → class l ≡ FenceLine fence → TextBuilt Before steps st fence l.column None ls rest
+opened_text Before steps st ls mid rest l fence b k n c = record { mid = mid; body = b; empty = k; opening = l; content = []; next = n; is = c; inside = tt; at = refl; says = refl }
+
 fence_ok : (place : Place) (r : Option QuoteValue) (whole mid rest : Lines) (l : LineValue) (fence : Fence) (t : State) → quote_of place ≡ r → class l ≡ FenceLine fence → PlaceBuilt place whole mid → Skips (IgnoredAt place) mid (l ∷ rest) → on_fence r place l fence ≡ Ok t → Built t whole rest
 unfolding IsQuote
 fence_ok place (Some quote) whole mid rest l fence t q c p n e =
     let k = quote_place place quote q in
     let built = subst (λ place. PlaceBuilt place whole mid) k.0 p in
     let skips = subst (λ place. Skips (IgnoredAt place) mid (l ∷ rest)) k.0 n in
-    subst (λ t. Built t whole rest) (ok_same e) (record { mid = mid; place = built; empty = k.1; opening = l; content = []; next = skips; is = c; inside = tt; at = refl; says = refl })
+    subst (λ t. Built t whole rest) (ok_same e) (built.0, built.2.0, built.1, built.2.1, opened_text (Describes MayDescribeScenario) quote.steps quote.step built.2.0 mid rest l fence built.2.2 k.1 skips c)
 fence_ok place None whole mid rest l fence t q c p n e = placed_ok (on_place place l (FenceLine fence)) whole rest t (λ t h. on_place-built place whole mid rest l (FenceLine fence) t c p n h) e
 
-closed_quote : (quote : QuoteValue) (fence : Fence) (column n : ℕ) (texts : Option (List ℕ)) (whole rest : Lines) (l : LineValue) → closes fence l ≡ true → QuoteBuilt quote fence column n texts whole (l ∷ rest) → PlaceBuilt (after_quote quote texts) whole rest
+pub closed_text : (Before : Lines → Lines → Type 0) (steps : List StepValue) (st : StepValue) (fence : Fence) (column : ℕ) (texts : Option (List ℕ)) (ls rest : Lines) (l : LineValue) → closes fence l ≡ true → TextBuilt Before steps st fence column texts ls (l ∷ rest) → StepsBuilt Before (Stepped steps (with_block st (Text (whole_text texts)))) ls rest
 unfolding doc_string
-closed_quote quote fence column n texts whole rest l c b =
-    let body = b.place.2.2 in
+closed_text Before steps st fence column texts ls rest l c b =
+    let body = b.body in
     let i = body.4 in
     let k = i.line in
     let here : i.after_line ≡ b.mid = subst (λ (block : BlockValue). IsBlock i.after_line block b.mid) b.empty i.block in
     let said : whole_text texts ≡ doc_string fence b.opening b.content = ap whole_text b.says ∙ joined_text (map (content_of fence (column - 1)) b.content) ∙ ap (λ (column : ℕ). join_with_byte 10 (map (content_of fence (column - 1)) b.content)) b.at in
     let block : IsBlock i.after_line (Text (whole_text texts)) rest = record { fence = fence; opening = b.opening; content = b.content; closing = l; next = subst (λ (ls : Lines). Next IsIgnored ls b.opening (b.content ++ l ∷ rest)) (sym here) b.next; is = b.is; inside = b.inside; closed = c; says = said } in
-    let made : IsStep body.1 (with_block quote.step (Text (whole_text texts))) rest = record { after_line = i.after_line; line = record { line = k.line; next = k.next; is = k.is; keyword = k.keyword; text = k.text; number = k.number }; block = block } in
-    (b.place.0, b.place.1, (b.place.2.0, b.place.2.1, (body.0, body.1, body.2, body.3, made, typed_block Given quote.steps quote.step (Text (whole_text texts)) body.5)))
+    let made : IsStep body.1 (with_block st (Text (whole_text texts))) rest = record { after_line = i.after_line; line = record { line = k.line; next = k.next; is = k.is; keyword = k.keyword; text = k.text; number = k.number }; block = block } in
+    (body.0, body.1, body.2, body.3, made, typed_block Given steps st (Text (whole_text texts)) body.5)
 
-quote_built : (b : Bool) (quote : QuoteValue) (fence : Fence) (column n : ℕ) (texts : Option (List ℕ)) (whole rest : Lines) (l : LineValue) → closes fence l ≡ b → QuoteBuilt quote fence column n texts whole (l ∷ rest) → Built (in_quote b quote fence column n texts l) whole rest
-quote_built true quote fence column n texts whole rest l c b = (rest, closed_quote quote fence column n texts whole rest l c b, skip_none)
-quote_built false quote fence column n texts whole rest l c b =
-    record { mid = b.mid; place = b.place; empty = b.empty; opening = b.opening; content = b.content ++ l ∷ []; next = subst (λ (ls : Lines). Next IsIgnored b.mid b.opening ls) (sym (append_assoc b.content (l ∷ []) rest)) b.next; is = b.is; inside = All-push (λ line. closes fence line ≡ false) b.content l b.inside c; at = b.at; says = ap (λ (texts : Option (List ℕ)). Some (with_line texts (content_of fence (column - 1) l))) b.says ∙ joined_push (map (content_of fence (column - 1)) b.content) (content_of fence (column - 1) l) ∙ ap joined (sym (map_push (content_of fence (column - 1)) b.content l)) }
+pub longer_text : (Before : Lines → Lines → Type 0) (steps : List StepValue) (st : StepValue) (fence : Fence) (column : ℕ) (texts : Option (List ℕ)) (ls rest : Lines) (l : LineValue) → closes fence l ≡ false → TextBuilt Before steps st fence column texts ls (l ∷ rest) → TextBuilt Before steps st fence column (text_after texts fence column l) ls rest
+longer_text Before steps st fence column texts ls rest l c b =
+    record { mid = b.mid; body = b.body; empty = b.empty; opening = b.opening; content = b.content ++ l ∷ []; next = subst (λ (ls : Lines). Next IsIgnored b.mid b.opening ls) (sym (append_assoc b.content (l ∷ []) rest)) b.next; is = b.is; inside = All-push (λ line. closes fence line ≡ false) b.content l b.inside c; at = b.at; says = ap (λ (texts : Option (List ℕ)). Some (with_line texts (content_of fence (column - 1) l))) b.says ∙ joined_push (map (content_of fence (column - 1)) b.content) (content_of fence (column - 1) l) ∙ ap joined (sym (map_push (content_of fence (column - 1)) b.content l)) }
+
+quote_built : (b : Bool) (quote : QuoteValue) (fence : Fence) (column n : ℕ) (texts : Option (List ℕ)) (whole rest : Lines) (l : LineValue) → closes fence l ≡ b → QuoteBuilt quote fence column texts whole (l ∷ rest) → Built (in_quote b quote fence column n texts l) whole rest
+quote_built true quote fence column n texts whole rest l c b = (rest, (b.0, b.2, (b.1, b.3, closed_text (Describes MayDescribeScenario) quote.steps quote.step fence column texts b.1 rest l c b.4)), skip_none)
+quote_built false quote fence column n texts whole rest l c b = (b.0, b.1, b.2, b.3, longer_text (Describes MayDescribeScenario) quote.steps quote.step fence column texts b.1 rest l c b.4)
 
 -- blank lines name no language
 abbrev language_in : List ℕ → Option (List ℕ)
@@ -456,7 +477,7 @@ after_tags place tags last whole rest l Comment t c b e = let k = comment_ok pla
 after_tags place tags last whole rest l TagLine t c b e = tagged_ok (tags_of l) place tags whole b.0 b.1 rest l t refl c b.2 b.3 b.4 e
 after_tags place tags last whole rest l k t c b e = placed_ok (on_heading place tags l k) whole rest t (λ p h. on_heading-built place tags whole b.0 b.1 rest l k p c b.2 b.3 b.4 h) e
 
-in_quoted : (quote : QuoteValue) (fence : Fence) (column n : ℕ) (texts : Option (List ℕ)) (whole rest : Lines) (l : LineValue) (c : Class) (t : State) → QuoteBuilt quote fence column n texts whole (l ∷ rest) → on (Quoted quote fence column n texts) l c ≡ Ok t → Built t whole rest
+in_quoted : (quote : QuoteValue) (fence : Fence) (column n : ℕ) (texts : Option (List ℕ)) (whole rest : Lines) (l : LineValue) (c : Class) (t : State) → QuoteBuilt quote fence column texts whole (l ∷ rest) → on (Quoted quote fence column n texts) l c ≡ Ok t → Built t whole rest
 unfolding on
 in_quoted quote fence column n texts whole rest l c t b e = goes whole rest e (quote_built (closes fence l) quote fence column n texts whole rest l refl b)
 
@@ -466,13 +487,13 @@ Built-step (At place) whole rest l t b e = at place whole rest l (class l) t ref
 Built-step (Tagged place tags last) whole rest l t b e = after_tags place tags last whole rest l (class l) t refl b e
 Built-step (Quoted quote fence column n texts) whole rest l t b e = in_quoted quote fence column n texts whole rest l (class l) t b e
 
-bind_ok : (r : Read) (f : State → Read) (t : State) → (r >>= f) ≡ Ok t → (s : State) × (r ≡ Ok s) × (f s ≡ Ok t)
+pub bind_ok : {A B : Type 0} (r : Result A ReadFault) (f : A → Result B ReadFault) (t : B) → (r >>= f) ≡ Ok t → (s : A) × (r ≡ Ok s) × (f s ≡ Ok t)
 bind_ok (Ok s) f t e = (s, refl, e)
 bind_ok (Err x) f t e = no_ok e
 
 -- What is run over stands in the state.
 pub Built-run : (s : State) (whole rest : Lines) (t : State) → Built s whole rest → run s rest ≡ Ok t → Built t whole []
-unfolding run
+unfolding run_by
 Built-run s whole [] t b e = goes whole [] e b
 Built-run s whole (l ∷ rest) t b e =
     let r = bind_ok (step s l) (λ t. run t rest) t e in
@@ -491,11 +512,7 @@ finish_ok (At place) ls g b e = final (answer place) g ls e (answered place ls b
 finish_ok (Tagged place tags last) ls g b e = let no : ⊥ = cc in absurd no
 finish_ok (Quoted quote fence column n texts) ls g b e = let no : ⊥ = cc in absurd no
 
-bind_finish : (r : Read) (g : Option FeatureValue) → (r >>= finish) ≡ Ok g → (s : State) × (r ≡ Ok s) × (finish s ≡ Ok g)
-bind_finish (Ok s) g e = (s, refl, e)
-bind_finish (Err x) g e = let no : ⊥ = cc in absurd no
-
 -- What is read has that reading.
 pub sound : (ls : Lines) (g : Option FeatureValue) → reading ls ≡ Ok g → Reads ls g
 unfolding reading
-sound ls g e = let r = bind_finish (run (At Above) ls) g e in finish_ok r.0 ls g (Built-run (At Above) ls ls r.0 (ls, refl, skip_none) r.1) r.2
+sound ls g e = let r = bind_ok (run (At Above) ls) finish g e in finish_ok r.0 ls g (Built-run (At Above) ls ls r.0 (ls, refl, skip_none) r.1) r.2

@@ -1,15 +1,14 @@
 -- Where a run stops, and what the fault there says.
-use Rattle.std.proofs.Common.{◌≡◌, ◌≢◌, ℕ, Bool, true, false, cond, ◌==◌, length, map, List, [], ◌∷◌, ◌++◌, Option, Some, None, Result, Ok, Err, refl, ap, sym, subst, ◌∙◌, append_assoc, ◌⊎◌, inl, inr, arith, IfSome}
+use Rattle.std.proofs.Common.{◌≡◌, ◌≢◌, ℕ, Bool, true, false, length, List, [], ◌∷◌, ◌++◌, Option, Some, None, Result, Ok, Err, refl, ap, sym, subst, ◌∙◌, append_assoc, ◌⊎◌, inl, inr}
 use Rattle.std.specs.Prelude.{codes}
 use Rattle.std.proofs.lemmas.List.{append-nil}
-use Rattle.std.proofs.lemmas.Bool.Decides.{nat_tests}
 use Rattle.std.specs.List.{AllByRecursion}
 use Rattle.gk_gherkin.specs.declared.class.Fence.{Fence}
 use Rattle.gk_gherkin.specs.DocStrings.{closes}
 use Rattle.std.specs.Str.{bytes_eq}
 use Rattle.std.proofs.lemmas.Slice.Eq.{bytes_eq-Decides}
 use Rattle.gk_gherkin.specs.Language.{language_of}
-use Rattle.gk_gherkin.specs.Rows.{cells_of, parts_of, unescaped}
+use Rattle.gk_gherkin.specs.Rows.{cells_of}
 use Rattle.gk_gherkin.specs.declared.class.Class.{Class}
 use Rattle.gk_gherkin.specs.declared.class.Class.TheVariants.{Blank, Comment, TagLine, FeatureHeading, RuleHeading, BackgroundHeading, ScenarioHeading, ExamplesHeading, StepLine, RowLine, FenceLine, Other}
 use Rattle.gk_gherkin.specs.declared.read_fault.ReadFault.{ReadFault}
@@ -17,72 +16,27 @@ use Rattle.gk_gherkin.specs.declared.read_fault.ReadFault.TheVariants.{Unexpecte
 use Rattle.gk_gherkin.specs.Lines.{LineValue, Lines}
 use Rattle.gk_gherkin.specs.Class.{class, class_of, class_of_words, heading_keyword}
 use Rattle.gk_gherkin.specs.Tags.{tags_of}
-use Rattle.gk_gherkin.specs.Feature.{BlockValue, Empty, Text, Table, RowValue}
-use Rattle.gk_gherkin.specs.Grammar.{IsIgnoredClass, IsIgnored, Skips, IsIgnoredAbove, AreTags, untagged, tagged, skip_none, skip, Many, more, IsRow, IsTable, IsBlock, IsReadable}
-use Rattle.gk_gherkin.specs.ReadFault.{BeginsSome, BeginsNone, NoneLikeIt, StopsAt, IsBadTag, IsOtherLanguage, IsBadRow, IsOtherWidth, EndsInDocString, TakesTags, EndsInTags, FeatureFault}
-use Rattle.gk_gherkin.specs.Machine.{Top, OfFeature, Body, Describing, Stepped, OfScenario, Grid, NoRows, Rows, OutlineValue, Open, Headed, Bodied, Exampled, Place, Above, Inside, QuoteValue, State, At, Tagged, Quoted, quote_of, on_fence, after_quote, in_quote, by_language, on_comment, Read, ◌>>=◌, head_from, outline_of, examples_after, row_of, on_row, width_of, with_block, on_block, row_from, on_grid, section_of, tag_line, on_heading, on_body, on_open, on_place, placed, on, step, run, answer, finish, reading}
-use Rattle.gk_gherkin.proofs.ReaderSound.{sound, ok_same, no_ok, eqb_same, All-push, BodyBuilt, GridBuilt, OpenBuilt, PlaceBuilt, Built, Built-run, comment_ok}
+use Rattle.gk_gherkin.specs.Feature.{RowValue}
+use Rattle.gk_gherkin.specs.Grammar.{IsIgnoredClass, IsIgnored, Skips, IsIgnoredAbove, AreTags, untagged, tagged, skip_none, skip, Describes, MayDescribeScenario, IsReadable}
+use Rattle.gk_gherkin.specs.ReadFault.{BeginsNone, NoneLikeIt, StopsAt, IsBadTag, IsOtherLanguage, IsBadRow, IsOtherWidth, EndsInDocString, TakesTags, EndsInTags, FeatureFault}
+use Rattle.gk_gherkin.specs.Machine.{Top, OfFeature, Body, Describing, Stepped, OfScenario, Grid, NoRows, Rows, OutlineValue, Open, Headed, Bodied, Exampled, Place, Above, Inside, QuoteValue, State, At, Tagged, Quoted, quote_of, on_fence, after_quote, in_quote, by_language, on_comment, Read, ◌>>=◌, head_from, outline_of, examples_after, on_row, row_from, on_grid, section_of, tag_line, on_heading, on_body, on_open, on_place, placed, on, step, run, run_by, answer, finish, reading}
+use Rattle.gk_gherkin.proofs.ReaderSound.{sound, ok_same, no_ok, All-push, BodyBuilt, GridBuilt, OpenBuilt, PlaceBuilt, Built, Built-run, comment_ok}
 use Rattle.gk_gherkin.proofs.ReaderComplete.{runs}
-
--- a run over two lists
-bind_both : (r : Read) (f g h : State → Read) → ((s : State) → f s ≡ (g s >>= h)) → (r >>= f) ≡ ((r >>= g) >>= h)
-bind_both (Ok s) f g h e = e s
-bind_both (Err x) f g h e = refl
-
-run-append : (s : State) (a b : Lines) → run s (a ++ b) ≡ (run s a >>= λ t. run t b)
-unfolding run
-run-append s [] b = refl
-run-append s (l ∷ a) b = bind_both (step s l) (λ t. run t (a ++ b)) (λ t. run t a) (λ t. run t b) (λ t. run-append t a b)
-
-no_err : {A : Type 0} {x : A} {e : ReadFault} {P : Type 0} → ◌≡◌ {A = Result A ReadFault} (Ok x) (Err e) → P
-no_err e = cc
-
-err_same : {A : Type 0} {x e : ReadFault} → ◌≡◌ {A = Result A ReadFault} (Err x) (Err e) → x ≡ e
-err_same e = cc
-
--- where a run stops
-record Halts (s : State) (ls : Lines) (e : ReadFault) : Type 0 where
-  before : Lines
-  line : LineValue
-  after : Lines
-  state : State
-  whole : ls ≡ before ++ line ∷ after
-  reached : run s before ≡ Ok state
-  stops : step state line ≡ Err e
-
-halts_by : (s : State) (l : LineValue) (ls : Lines) (e : ReadFault) (r : Read) → step s l ≡ r → ((t : State) → run t ls ≡ Err e → Halts t ls e) → (r >>= λ t. run t ls) ≡ Err e → Halts s (l ∷ ls) e
-unfolding run
-halts_by s l ls e (Ok t) same again h =
-    let k = again t h in
-    record { before = l ∷ k.before; line = k.line; after = k.after; state = k.state; whole = ap (λ (ls : Lines). l ∷ ls) k.whole; reached = ap (λ (r : Read). r >>= λ t. run t k.before) same ∙ k.reached; stops = k.stops }
-halts_by s l ls e (Err x) same again h = record { before = []; line = l; after = ls; state = s; whole = refl; reached = refl; stops = same ∙ h }
-
-halts : (s : State) (ls : Lines) (e : ReadFault) → run s ls ≡ Err e → Halts s ls e
-unfolding run
-halts s [] e h = no_err h
-halts s (l ∷ ls) e h = halts_by s l ls e (step s l) refl (λ t k. halts t ls e k) h
+use Rattle.gk_gherkin.proofs.ReaderRuns.{no_err, err_same, bind_err, Halts, halts, halted_run, one_more_line}
+use Rattle.gk_gherkin.proofs.RowStops.{line_of, Refuses, RowStop, Stopped, stopped_then, row_takes, first_row, first_of, stepped_stops, other_width, row_stops, RowSays, row_says}
 
 -- after a line that halts, nothing is readable
 halted : (before : Lines) (l : LineValue) (s : State) (e : ReadFault) → run (At Above) before ≡ Ok s → step s l ≡ Err e → BeginsNone IsReadable class (before ++ l ∷ [])
-unfolding run
 halted before l s e r h rest readable =
     let k = runs ((before ++ l ∷ []) ++ rest) readable.0 readable.1 in
-    let whole : run (At Above) ((before ++ l ∷ []) ++ rest) ≡ Err e = ap (run (At Above)) (append_assoc before (l ∷ []) rest) ∙ run-append (At Above) before (l ∷ rest) ∙ ap (λ (r : Read). r >>= λ t. run t (l ∷ rest)) r ∙ ap (λ (r : Read). r >>= λ t. run t rest) h in
-    no_err (sym k.1 ∙ whole)
+    no_err (sym k.1 ∙ halted_run step (At Above) s before l e rest r h)
 
 -- what is reached at a place is readable
 readable_at : (ls : Lines) (place : Place) → run (At Above) ls ≡ Ok (At place) → IsReadable ls
 unfolding reading finish
 readable_at ls place r = (answer place, sound ls (answer place) (ap (λ (r : Read). r >>= finish) r))
 
-one_more_line : (ls : Lines) (s t : State) (l : LineValue) → run (At Above) ls ≡ Ok s → step s l ≡ Ok t → run (At Above) (ls ++ l ∷ []) ≡ Ok t
-unfolding run
-one_more_line ls s t l r e = run-append (At Above) ls (l ∷ []) ∙ ap (λ (r : Read). r >>= λ t. run t (l ∷ [])) r ∙ ap (λ (r : Read). r >>= λ t. run t []) e
-
 -- lines that can stand
-abbrev line_of : List ℕ → LineValue
-line_of text = record { line = 0; column = 1; text = text }
-
 abbrev feature_heading : LineValue
 feature_heading = line_of (codes "Feature:")
 
@@ -123,7 +77,7 @@ heading_step Above tags n = ap (on (Tagged Above tags n) feature_heading) featur
 heading_step (Inside top part) tags n = ap (on (Tagged (Inside top part) tags n) scenario_heading) scenario_heading_class
 
 readable_after_tags : (ls : Lines) (place : Place) (tags : List (List ℕ)) (n : ℕ) → run (At Above) ls ≡ Ok (Tagged place tags n) → IsReadable (ls ++ heading_for place ∷ [])
-readable_after_tags ls place tags n r = readable_at (ls ++ heading_for place ∷ []) (after_heading place tags) (one_more_line ls (Tagged place tags n) (At (after_heading place tags)) (heading_for place) r (heading_step place tags n))
+readable_after_tags ls place tags n r = readable_at (ls ++ heading_for place ∷ []) (after_heading place tags) (one_more_line step (At Above) ls (Tagged place tags n) (At (after_heading place tags)) (heading_for place) r (heading_step place tags n))
 
 heading_takes_tags : (place : Place) → TakesTags (class (heading_for place))
 heading_takes_tags Above = subst TakesTags (sym feature_heading_class) tt
@@ -147,10 +101,6 @@ Says (CellCount n) before l = (l.line ≡ n) × IsOtherWidth IsReadable class be
 Says (Language n) before l = (l.line ≡ n) × IsOtherLanguage before l
 Says _ before l = ⊥
 
--- a class that is refused, whichever line it is
-abbrev Refuses : {A : Type 0} → (LineValue → Result A ReadFault) → LineValue → ReadFault → Type 0
-Refuses f l e = (Unexpected l.line ≡ e) × ((o : LineValue) → f o ≡ Err (Unexpected o.line))
-
 examples_refuse : (o : Option OutlineValue) (top : Top) (tags : List (List ℕ)) (l : LineValue) (e : ReadFault) → examples_after o top tags l ≡ Err e → Refuses (examples_after o top tags) l e
 examples_refuse (Some outline) top tags l e h = no_err h
 examples_refuse None top tags l e h = (err_same h, λ o. refl)
@@ -164,109 +114,6 @@ heading_refuses (Inside top part) tags l ScenarioHeading e h = no_err h
 heading_refuses (Inside top part) tags l ExamplesHeading e h = examples_refuse (outline_of part) top tags l e h
 heading_refuses (Inside top part) tags l _ e h = (err_same h, λ o. refl)
 
--- what a further step makes of a result is refused where the result is
-bind_err : {A B : Type 0} (r : Result A ReadFault) (f : A → B) (e : ReadFault) → (r >>= λ x. Ok (f x)) ≡ Err e → r ≡ Err e
-bind_err (Ok x) f e h = no_err h
-bind_err (Err x) f e h = ap Err (err_same h)
-
-refuses_then : {A B : Type 0} (g : LineValue → Result A ReadFault) (f : A → B) (l : LineValue) (e : ReadFault) → Refuses g l e → Refuses (λ o. g o >>= λ x. Ok (f x)) l e
-refuses_then {A} {B} g f l e r = (r.0, λ o. ap (λ (k : Result A ReadFault). k >>= λ x. Ok (f x)) (r.1 o))
-
--- a row that is refused where a row may stand: this one may, and the others do as the width wants
-record RowStop {A : Type 0} (f : LineValue → Result A ReadFault) (l : LineValue) (c : Class) (e : ReadFault) : Type 0 where
-  is : c ≡ RowLine
-  width : Option ℕ
-  row : LineValue
-  cells : List (List ℕ)
-  row_is : class row ≡ RowLine
-  row_cells : on_row width row ≡ Ok cells
-  takes : (o : LineValue) (cells : List (List ℕ)) → on_row width o ≡ Ok cells → (x : A) × (f o ≡ Ok x)
-  refuses : (o : LineValue) (e : ReadFault) → on_row width o ≡ Err e → f o ≡ Err e
-  stops : on_row width l ≡ Err e
-
-abbrev Stopped : {A : Type 0} → (LineValue → Result A ReadFault) → LineValue → Class → ReadFault → Type 0
-Stopped f l c e = Refuses f l e ⊎ RowStop f l c e
-
-stopped_then : {A B : Type 0} (g : LineValue → Result A ReadFault) (f : A → B) (l : LineValue) (c : Class) (e : ReadFault) → Stopped g l c e → Stopped (λ o. g o >>= λ x. Ok (f x)) l c e
-stopped_then g f l c e (inl r) = inl (refuses_then g f l e r)
-stopped_then {A} {B} g f l c e (inr r) = inr (record {
-  is = r.is;
-  width = r.width;
-  row = r.row;
-  cells = r.cells;
-  row_is = r.row_is;
-  row_cells = r.row_cells;
-  takes = λ o cells h. let t = r.takes o cells h in (f t.0, ap (λ (k : Result A ReadFault). k >>= λ x. Ok (f x)) t.1);
-  refuses = λ o e h. ap (λ (k : Result A ReadFault). k >>= λ x. Ok (f x)) (r.refuses o e h);
-  stops = r.stops;
-})
-
-good_row : LineValue
-good_row = line_of (codes "|a|")
-
-good_row_class : class good_row ≡ RowLine
-unfolding good_row class class_of class_of_words
-good_row_class = refl
-
-good_row_cells : on_row None good_row ≡ Ok (codes "a" ∷ [])
-unfolding good_row on_row cells_of parts_of unescaped
-good_row_cells = refl
-
-same_eqb : (m n : ℕ) → m ≡ n → (m == n) ≡ true
-same_eqb m n h = grind (arith, nat_tests)
-
-row_takes : (width : ℕ) (l : LineValue) (cells : List (List ℕ)) → cells_of l ≡ Some cells → length cells ≡ width → on_row (Some width) l ≡ Ok cells
-unfolding on_row
-row_takes width l cells w f = ap (row_of (Some width) l) w ∙ ap (λ (b : Bool). let r : Result (List (List ℕ)) ReadFault = cond b (Ok cells) (Err (CellCount l.line)) in r) (same_eqb (length cells) width f)
-
--- any width: the row of one cell
-first_row : {A : Type 0} (f : List (List ℕ) → A) (l : LineValue) (e : ReadFault) → on_row None l ≡ Err e → RowStop (λ o. on_row None o >>= λ cells. Ok (f cells)) l RowLine e
-first_row {A} f l e h = record {
-  is = refl;
-  width = None;
-  row = good_row;
-  cells = codes "a" ∷ [];
-  row_is = good_row_class;
-  row_cells = good_row_cells;
-  takes = λ o cells k. (f cells, ap (λ (r : Result (List (List ℕ)) ReadFault). r >>= λ cells. let a : Result A ReadFault = Ok (f cells) in a) k);
-  refuses = λ o e k. ap (λ (r : Result (List (List ℕ)) ReadFault). r >>= λ cells. let a : Result A ReadFault = Ok (f cells) in a) k;
-  stops = h;
-}
-
--- a known width: a row that stands there
-next_row : {A : Type 0} (f : List (List ℕ) → A) (l : LineValue) (e : ReadFault) (width : ℕ) (row : LineValue) (cells : List (List ℕ)) → class row ≡ RowLine → cells_of row ≡ Some cells → length cells ≡ width → on_row (Some width) l ≡ Err e → RowStop (λ o. on_row (Some width) o >>= λ cells. Ok (f cells)) l RowLine e
-next_row {A} f l e width row cells is w fits h = record {
-  is = refl;
-  width = Some width;
-  row = row;
-  cells = cells;
-  row_is = is;
-  row_cells = row_takes width row cells w fits;
-  takes = λ o cells k. (f cells, ap (λ (r : Result (List (List ℕ)) ReadFault). r >>= λ cells. let a : Result A ReadFault = Ok (f cells) in a) k);
-  refuses = λ o e k. ap (λ (r : Result (List (List ℕ)) ReadFault). r >>= λ cells. let a : Result A ReadFault = Ok (f cells) in a) k;
-  stops = h;
-}
-
--- the first row of a table
-first_of : {ls rest : Lines} {first : RowValue} {rows : List RowValue} → Many IsRow ls (first ∷ rows) rest → (line : LineValue) × (class line ≡ RowLine) × (cells_of line ≡ Some first.cells)
-first_of (more p many) = (p.line, p.is, p.cells)
-
-rows_stop : (rows : List RowValue) (ls mid : Lines) (l : LineValue) (e : ReadFault) → IsTable ls rows mid → (cells : List (List (List ℕ))) → on_row (width_of (map (λ (row : RowValue). row.cells) rows)) l ≡ Err e
-    → RowStop (λ o. on_row (width_of (map (λ (row : RowValue). row.cells) rows)) o >>= λ new. Ok (Table (cells ++ new ∷ []))) l RowLine e
-rows_stop [] ls mid l e t cells h = absurd t.width
-rows_stop (first ∷ rows) ls mid l e t cells h =
-    let r = first_of t.lines in
-    next_row (λ new. Table (cells ++ new ∷ [])) l e (length first.cells) r.0 first.cells r.1 r.2 refl h
-
-block_stops : (block : BlockValue) (ls mid : Lines) (l : LineValue) (e : ReadFault) → IsBlock ls block mid → on_block block l ≡ Err e → Stopped (on_block block) l RowLine e
-unfolding on_block
-block_stops Empty ls mid l e b h = inr (first_row (λ cells. Table (cells ∷ [])) l e (bind_err (on_row None l) (λ (cells : List (List ℕ)). Table (cells ∷ [])) e h))
-block_stops (Table cells) ls mid l e b h =
-    let k : on_row (width_of cells) l ≡ Err e = bind_err (on_row (width_of cells) l) (λ (new : List (List ℕ)). Table (cells ++ new ∷ [])) e h in
-    let k2 = subst (λ (c : List (List (List ℕ))). on_row (width_of c) l ≡ Err e) b.2 k in
-    inr (subst (λ (c : List (List (List ℕ))). RowStop (λ o. on_row (width_of c) o >>= λ new. Ok (Table (cells ++ new ∷ []))) l RowLine e) (sym b.2) (rows_stop b.0 ls mid l e b.1 cells k2))
-block_stops (Text text) ls mid l e b h = inl (err_same h, λ o. refl)
-
 body_stops : (body : Body) (ls mid : Lines) (l : LineValue) (c : Class) (e : ReadFault) → BodyBuilt body ls mid → on_body body l c ≡ Err e → Stopped (λ o. on_body body o c) l c e
 unfolding on_body
 body_stops Describing ls mid l StepLine e b h = no_err h
@@ -274,10 +121,7 @@ body_stops Describing ls mid l RowLine e b h = no_err h
 body_stops Describing ls mid l (FenceLine fence) e b h = no_err h
 body_stops Describing ls mid l Other e b h = no_err h
 body_stops Describing ls mid l _ e b h = inl (err_same h, λ o. refl)
-body_stops (Stepped steps st) ls mid l StepLine e b h = no_err h
-body_stops (Stepped steps st) ls mid l RowLine e b h =
-    stopped_then (on_block st.block) (λ block. Stepped steps (with_block st block)) l RowLine e (block_stops st.block b.4.after_line mid l e b.4.block (bind_err (on_block st.block l) (λ (block : BlockValue). Stepped steps (with_block st block)) e h))
-body_stops (Stepped steps st) ls mid l _ e b h = inl (err_same h, λ o. refl)
+body_stops (Stepped steps st) ls mid l k e b h = stepped_stops (Describes MayDescribeScenario) steps st ls mid l k e b h
 
 -- a row under a header: what is kept is the row with its line, so its result is a function of the line too
 row_err : (header : List (List ℕ)) (rows : List RowValue) (l : LineValue) (e : ReadFault) → (on_row (Some (length header)) l >>= λ cells. Ok (Rows header (rows ++ row_from l cells ∷ []))) ≡ Err e → on_row (Some (length header)) l ≡ Err e
@@ -345,67 +189,19 @@ module _ (before : Lines) (s : State) (reached : run (At Above) before ≡ Ok s)
   bad_tag place tags None l e is same w h =
       let t : State = Tagged place (tags ++ codes "@a" ∷ []) 0 in
       let stands : step s good_tag ≡ Ok t = ap (on s good_tag) good_tag_class ∙ same good_tag ∙ ap (λ (r : Option (List (List ℕ))). tag_line r place tags good_tag) good_tag_tags in
-      let readable = readable_after_tags (before ++ good_tag ∷ []) place (tags ++ codes "@a" ∷ []) 0 (one_more_line before s t good_tag reached stands) in
+      let readable = readable_after_tags (before ++ good_tag ∷ []) place (tags ++ codes "@a" ∷ []) 0 (one_more_line step (At Above) before s t good_tag reached stands) in
       let bad : IsBadTag before l = record { is = is; fits = (good_tag, good_tag_class ∙ sym is, (heading_for place ∷ [], readable)); bad = w } in
       let named : BadTag l.line ≡ e = err_same h in
       subst (λ e. Says e before l) named (refl, bad)
 
-no_cells : (width : Option ℕ) (l : LineValue) (e : ReadFault) → row_of width l None ≡ Err e → BadRow l.line ≡ e
-no_cells None l e h = err_same h
-no_cells (Some width) l e h = err_same h
-
-other_width : {A : Type 0} (b : Bool) (x : A) (e f : ReadFault) → ◌≡◌ {A = Result A ReadFault} (cond b (Ok x) (Err f)) (Err e) → (b ≡ false) × (f ≡ e)
-other_width true x e f h = no_err h
-other_width false x e f h = (refl, err_same h)
-
-not_same : (m n : ℕ) → (m == n) ≡ false → m ≢ n
-not_same m n h e = let t : (m == n) ≡ true = same_eqb m n e in let no : ⊥ = cc in absurd no
-
-width_by : (b : Bool) (n width : ℕ) → (n == width) ≡ b → (b ≡ false → ⊥) → n ≡ width
-width_by true n width e h = eqb_same n width e
-width_by false n width e h = absurd (h refl)
-
-width_stops : (width : ℕ) (l : LineValue) (cells : List (List ℕ)) → cells_of l ≡ Some cells → (length cells == width) ≡ false → on_row (Some width) l ≡ Err (CellCount l.line)
-unfolding on_row
-width_stops width l cells w f = ap (row_of (Some width) l) w ∙ ap (λ (b : Bool). let r : Result (List (List ℕ)) ReadFault = cond b (Ok cells) (Err (CellCount l.line)) in r) f
-
--- a row that stands has the width
-wants : (before : Lines) (place : Place) (width : ℕ) (r : Option (List (List ℕ))) (l : LineValue) → run (At Above) before ≡ Ok (At place) → class l ≡ RowLine → ((o : LineValue) (e : ReadFault) → class o ≡ RowLine → on_row (Some width) o ≡ Err e → step (At place) o ≡ Err e)
-    → cells_of l ≡ r → BeginsSome IsReadable class (before ++ l ∷ []) → IfSome r (λ wanted. length wanted ≡ width)
-wants before place width None l reached is refuses w some = tt
-wants before place width (Some cells) l reached is refuses w some =
-    width_by (length cells == width) (length cells) width refl
-    (λ differs. halted before l (At place) (CellCount l.line) reached (refuses l (CellCount l.line) is (width_stops width l cells w differs)) some.0 some.1)
-
-row_says : (before : Lines) (place : Place) (width : Option ℕ) (r : Option (List (List ℕ))) (row l : LineValue) (cells : List (List ℕ)) (e : ReadFault) → class row ≡ RowLine → on_row width row ≡ Ok cells → class l ≡ RowLine → run (At Above) before ≡ Ok (At place)
-    → ((o : LineValue) (cells : List (List ℕ)) → class o ≡ RowLine → on_row width o ≡ Ok cells → (p : Place) × (step (At place) o ≡ Ok (At p)))
-    → ((o : LineValue) (e : ReadFault) → class o ≡ RowLine → on_row width o ≡ Err e → step (At place) o ≡ Err e)
-    → cells_of l ≡ r → row_of width l r ≡ Err e → Says e before l
-row_says before place width None row l cells e row_is row_cells is reached takes refuses w h =
-    let t = takes row cells row_is row_cells in
-    let readable = readable_at (before ++ row ∷ []) t.0 (one_more_line before (At place) (At t.0) row reached t.1) in
-    let begins : BeginsSome IsReadable class (before ++ row ∷ []) = ([], subst IsReadable (sym (append-nil (before ++ row ∷ []))) readable) in
-    let bad : IsBadRow IsReadable class before l = record { is = is; fits = (row, row_is ∙ sym is, begins); bad = w } in
-    let named : BadRow l.line ≡ e = no_cells width l e h in
-    subst (λ e. Says e before l) named (refl, bad)
-row_says before place None (Some found) row l cells e row_is row_cells is reached takes refuses w h = no_err h
-row_says before place (Some width) (Some found) row l cells e row_is row_cells is reached takes refuses w h =
-    let t = takes row cells row_is row_cells in
-    let readable = readable_at (before ++ row ∷ []) t.0 (one_more_line before (At place) (At t.0) row reached t.1) in
-    let begins : BeginsSome IsReadable class (before ++ row ∷ []) = ([], subst IsReadable (sym (append-nil (before ++ row ∷ []))) readable) in
-    let k = other_width (length found == width) found e (CellCount l.line) h in
-    let wanted : (other : LineValue) → class other ≡ RowLine → BeginsSome IsReadable class (before ++ other ∷ []) → IfSome (cells_of other) (λ wanted. length wanted ≡ width) =
-    λ other other_is some. wants before place width (cells_of other) other reached other_is refuses refl some in
-    let bad : IsOtherWidth IsReadable class before l = record { is = is; fits = (row, row_is ∙ sym is, begins); cells = found; good = w; width = width; wanted = wanted; differs = not_same (length found) width k.0 } in
-    subst (λ e. Says e before l) k.1 (refl, bad)
+row_fault : (before : Lines) (l : LineValue) (e : ReadFault) → RowSays IsReadable class e before l → Says e before l
+row_fault before l (BadRow n) h = h
+row_fault before l (CellCount n) h = h
+row_fault before l _ h = absurd h
 
 row_step : (place : Place) (o : LineValue) (c : Class) → class o ≡ c → step (At place) o ≡ on (At place) o c
 unfolding step
 row_step place o c is = ap (on (At place) o) is
-
-row_stops : (width : Option ℕ) (l : LineValue) (e : ReadFault) → on_row width l ≡ Err e → row_of width l (cells_of l) ≡ Err e
-unfolding on_row
-row_stops width l e h = h
 
 no_fence : (place : Place) (o : LineValue) (fence : Fence) → quote_of place ≡ None → on (At place) o (FenceLine fence) ≡ placed (on_place place o (FenceLine fence))
 unfolding on
@@ -418,10 +214,10 @@ stopped_says : (before : Lines) (place : Place) (l : LineValue) (c : Class) (e :
 stopped_says before place l c e r is same (inl k) = says before (At place) r l c e (λ o. on_place place o c) is same k
 stopped_says before place l c e r is same (inr k) =
     let row : (o : LineValue) → class o ≡ RowLine → step (At place) o ≡ placed (on_place place o c) = λ o o_is. row_step place o c (o_is ∙ sym k.is) ∙ same o in
-    row_says before place k.width (cells_of l) k.row l k.cells e k.row_is k.row_cells (is ∙ k.is) r
-    (λ o cells o_is h. let t = k.takes o cells h in (t.0, row o o_is ∙ ap placed t.1))
-    (λ o e o_is h. row o o_is ∙ ap placed (k.refuses o e h))
-    refl (row_stops k.width l e k.stops)
+    row_fault before l e (row_says IsReadable class before k.width (cells_of l) k.row l k.cells e k.row_is (k.row_is ∙ sym (is ∙ k.is)) k.row_cells (is ∙ k.is)
+    (λ o cells o_is h. let t = k.takes o cells h in readable_at (before ++ o ∷ []) t.0 (one_more_line step (At Above) before (At place) (At t.0) o r (row o o_is ∙ ap placed t.1)))
+    (λ o e o_is h. halted before o (At place) e r (row o o_is ∙ ap placed (k.refuses o e h)))
+    refl (row_stops k.width l e k.stops))
 
 plain_says : (before : Lines) (place : Place) (l : LineValue) (c : Class) (e : ReadFault) → run (At Above) before ≡ Ok (At place) → class l ≡ c → ((o : LineValue) → on (At place) o c ≡ placed (on_place place o c)) → on_place place l c ≡ Err e → Says e before l
 plain_says before place l c e r is same h =
@@ -505,10 +301,10 @@ stop_says before (At place) l e r h = at_says before place l (class l) e r refl 
 stop_says before (Tagged place tags n) l e r h = tagged_says before place tags n l (class l) e r refl h
 stop_says before (Quoted quote fence column n texts) l e r h = in_quote_never quote fence column n texts l e h
 
-stops_at : (ls : Lines) (e : ReadFault) (n : ℕ) (Fault : Lines → LineValue → Type 0) (k : Halts (At Above) ls e) → k.line.line ≡ n → Fault k.before k.line → StopsAt IsReadable class ls n Fault
+stops_at : (ls : Lines) (e : ReadFault) (n : ℕ) (Fault : Lines → LineValue → Type 0) (k : Halts step (At Above) ls e) → k.line.line ≡ n → Fault k.before k.line → StopsAt IsReadable class ls n Fault
 stops_at ls e n Fault k number fault = record { before = k.before; line = k.line; after = k.after; whole = k.whole; number = number; fits = fits k.before k.state k.line e k.reached k.stops; stops = halted k.before k.line k.state e k.reached k.stops; fault = fault }
 
-line_fault : (ls : Lines) (e : ReadFault) (k : Halts (At Above) ls e) → Says e k.before k.line → FeatureFault e ls
+line_fault : (ls : Lines) (e : ReadFault) (k : Halts step (At Above) ls e) → Says e k.before k.line → FeatureFault e ls
 line_fault ls (Unexpected n) k h = stops_at ls (Unexpected n) n (NoneLikeIt IsReadable class) k h.0 h.1
 line_fault ls (BadTag n) k h = stops_at ls (BadTag n) n IsBadTag k h.0 h.1
 line_fault ls (BadRow n) k h = stops_at ls (BadRow n) n (IsBadRow IsReadable class) k h.0 h.1
@@ -594,14 +390,14 @@ marks_by (Ok u) ls t done again e = again u refl e
 marks_by (Err x) ls t done again e = no_ok e
 
 marks : (s : State) (ls : Lines) (t : State) (done : Lines) → run (At Above) done ≡ Ok s → Marks s done → run s ls ≡ Ok t → Marks t (done ++ ls)
-unfolding run
+unfolding run_by
 marks s [] t done r m e = to (done ++ []) e (subst (Marks s) (sym (append-nil done)) m)
 marks s (l ∷ ls) t done r m e =
     subst (Marks t) (append_assoc done (l ∷ []) ls)
-    (marks_by (step s l) ls t (done ++ l ∷ []) (λ u h k. marks u ls t (done ++ l ∷ []) (one_more_line done s u l r h) (marks_step s l u done r m h) k) e)
+    (marks_by (step s l) ls t (done ++ l ∷ []) (λ u h k. marks u ls t (done ++ l ∷ []) (one_more_line step (At Above) done s u l r h) (marks_step s l u done r m h) k) e)
 
 run_nil : (s : State) → run s [] ≡ Ok s
-unfolding run
+unfolding run_by
 run_nil s = refl
 
 not_at : {p : Place} {P : Type 0} (place : Place) (tags : List (List ℕ)) (n : ℕ) → ◌≡◌ {A = Read} (Ok (At p)) (Ok (Tagged place tags n)) → P
@@ -625,7 +421,7 @@ end_fault ls (Tagged place tags n) e r h =
 end_fault ls (Quoted quote fence column n texts) e r h =
     let b = marks (At Above) ls (Quoted quote fence column n texts) [] (run_nil (At Above)) tt r in
     let closed : (closing : LineValue) → closes fence closing ≡ true → IsReadable (ls ++ closing ∷ []) =
-    λ closing c. readable_at (ls ++ closing ∷ []) (after_quote quote texts) (one_more_line ls (Quoted quote fence column n texts) (At (after_quote quote texts)) closing r (closing_step quote fence column n texts closing c)) in
+    λ closing c. readable_at (ls ++ closing ∷ []) (after_quote quote texts) (one_more_line step (At Above) ls (Quoted quote fence column n texts) (At (after_quote quote texts)) closing r (closing_step quote fence column n texts closing c)) in
     let ends : EndsInDocString IsReadable class ls n = record { before = b.before; fence = fence; opening = b.opening; content = b.content; whole = b.whole; number = b.number; is = b.is; inside = b.inside; fits = readable_at b.before b.place b.reached; unread = λ readable. not_quoted quote fence column n texts (sym (runs ls readable.0 readable.1).1 ∙ r); closed = closed } in
     let same : UnclosedText n ≡ e = err_same h in
     subst (λ e. FeatureFault e ls) same ends
@@ -634,7 +430,7 @@ fault_by : (ls : Lines) (r : Read) (e : ReadFault) → run (At Above) ls ≡ r �
 fault_by ls (Ok s) e same h = end_fault ls s e same h
 fault_by ls (Err x) e same h =
     let named : x ≡ e = err_same h in
-    let k = halts (At Above) ls x same in
+    let k = halts step (At Above) ls x same in
     subst (λ e. FeatureFault e ls) named (line_fault ls x k (stop_says k.before k.state k.line x k.reached k.stops))
 
 -- Each fault is what it says.

@@ -13,17 +13,18 @@ use Rattle.gk_gherkin.proofs.ReaderSound.{sound}
 use Rattle.gk_gherkin.proofs.ReaderComplete.{complete}
 use Rattle.gk_gherkin.proofs.ReaderStops.{faulty}
 
-pub lines_fault : (e : ReadFault) (bytes : List ℕ) → LinesFaultSays e bytes → FaultSays FeatureFault e bytes
-lines_fault faults.Memory bytes h = h
-lines_fault faults.TooLong bytes h = h
-lines_fault (faults.NotUtf8 n) bytes h = h
-lines_fault (faults.Unexpected n) bytes h = absurd h.1
-lines_fault (faults.BadTag n) bytes h = absurd h.1
-lines_fault (faults.CellCount n) bytes h = absurd h.1
-lines_fault (faults.UnclosedText n) bytes h = absurd h.1
-lines_fault (faults.TagsAtEnd n) bytes h = absurd h.1
-lines_fault (faults.Language n) bytes h = absurd h.1
-lines_fault (faults.BadRow n) bytes h = absurd h.1
+pub lines_fault : (OfLines : ReadFault → Lines → Type 0) (e : ReadFault) (bytes : List ℕ) → LinesFaultSays e bytes → FaultSays OfLines e bytes
+lines_fault OfLines faults.Memory bytes h = h
+lines_fault OfLines faults.TooLong bytes h = h
+lines_fault OfLines (faults.NotUtf8 n) bytes h = h
+lines_fault OfLines (faults.Unexpected n) bytes h = absurd h.1
+lines_fault OfLines (faults.BadTag n) bytes h = absurd h.1
+lines_fault OfLines (faults.CellCount n) bytes h = absurd h.1
+lines_fault OfLines (faults.UnclosedText n) bytes h = absurd h.1
+lines_fault OfLines (faults.TagsAtEnd n) bytes h = absurd h.1
+lines_fault OfLines (faults.Language n) bytes h = absurd h.1
+lines_fault OfLines (faults.BadRow n) bytes h = absurd h.1
+lines_fault OfLines (faults.BadHook n) bytes h = absurd h.1
 
 same_answer : {f g : Option FeatureValue} → ◌≡◌ {A = Result (Option FeatureValue) ReadFault} (Ok f) (Ok g) → f ≡ g
 same_answer e = cc
@@ -48,6 +49,7 @@ module _ (bytes : List ℕ) (ls : Lines) (same : ls ≡ lines_of bytes) where
   only (Err (faults.TagsAtEnd n)) f g h = not_both (sym g ∙ complete ls f (subst (λ ls. Reads ls f) (sym same) h))
   only (Err (faults.Language n)) f g h = not_both (sym g ∙ complete ls f (subst (λ ls. Reads ls f) (sym same) h))
   only (Err (faults.BadRow n)) f g h = not_both (sym g ∙ complete ls f (subst (λ ls. Reads ls f) (sym same) h))
+  only (Err (faults.BadHook n)) f g h = not_both (sym g ∙ complete ls f (subst (λ ls. Reads ls f) (sym same) h))
 
   pub fault : (r : Result (Option Feature) ReadFault) → IsText bytes → Gives (λ f. option_map feature_value f) r (reading ls) → IfErr r (λ e. FaultSays FeatureFault e bytes)
   fault (Ok x) t g = tt
@@ -59,5 +61,6 @@ module _ (bytes : List ℕ) (ls : Lines) (same : ls ≡ lines_of bytes) where
   fault (Err (faults.TagsAtEnd n)) t g = (t, subst (FeatureFault (faults.TagsAtEnd n)) same (faulty ls (faults.TagsAtEnd n) g))
   fault (Err (faults.Language n)) t g = (t, subst (FeatureFault (faults.Language n)) same (faulty ls (faults.Language n) g))
   fault (Err (faults.BadRow n)) t g = (t, subst (FeatureFault (faults.BadRow n)) same (faulty ls (faults.BadRow n) g))
+  fault (Err (faults.BadHook n)) t g = absurd (faulty ls (faults.BadHook n) g)
   fault (Err faults.TooLong) t g = absurd (faulty ls faults.TooLong g)
   fault (Err (faults.NotUtf8 n)) t g = absurd (faulty ls (faults.NotUtf8 n) g)

@@ -13,3 +13,4 @@ pub mod HookHeadings
 pub mod HooksGrammar
 pub mod ReadFault
 pub mod Machine
+pub mod HooksMachine

@@ -351,10 +351,14 @@ Changes (Quoted quote fence column n content) line class = closes fence line ≡
 unfoldable pub step : State → LineValue → Read
 step state line = on state line (class line)
 
+-- Line after line, by what a line makes of a state. (proof machinery)
+unfoldable pub run_by : {S : Type 0} → (S → LineValue → Result S ReadFault) → S → Lines → Result S ReadFault
+run_by step state [] = Ok state
+run_by step state (line ∷ lines) = step state line >>= λ next. run_by step next lines
+
 -- Line after line. (proof machinery)
-unfoldable pub run : State → Lines → Read
-run state [] = Ok state
-run state (line ∷ lines) = step state line >>= λ next. run next lines
+abbrev pub run : State → Lines → Read
+run state lines = run_by step state lines
 
 -- What a place says at the end of the lines. (proof machinery)
 abbrev pub answer : Place → Option FeatureValue

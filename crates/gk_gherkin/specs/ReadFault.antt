@@ -1,8 +1,8 @@
--- What each fault of a feature file says.
+-- What each fault of a feature file and of a hooks file says.
 use Rattle.std.specs.Prelude.{codes, ◌≡◌, ◌≢◌, ℕ, true, false, ◌⊎◌, List, [], ◌∷◌, ◌++◌, length, Option, Some, None, IfSome, Result, Ok, Err, option_map}
 use Rattle.std.specs.List.{AllByRecursion}
 use Rattle.gk_gherkin.specs.declared.read_fault.ReadFault.{ReadFault}
-use Rattle.gk_gherkin.specs.declared.read_fault.ReadFault.TheVariants.{NotUtf8, Unexpected, BadTag, CellCount, UnclosedText, TagsAtEnd, Language, TooLong, Memory, BadRow}
+use Rattle.gk_gherkin.specs.declared.read_fault.ReadFault.TheVariants.{NotUtf8, Unexpected, BadTag, CellCount, UnclosedText, TagsAtEnd, Language, TooLong, Memory, BadHook, BadRow}
 use Rattle.gk_gherkin.specs.Lines.{LineValue, Lines, lines_of, IsText, IsTooLong, IsNotUtf8At}
 use Rattle.gk_gherkin.specs.declared.class.Class.{Class}
 use Rattle.gk_gherkin.specs.declared.class.Class.TheVariants.{Comment, TagLine, FeatureHeading, RuleHeading, ScenarioHeading, ExamplesHeading, RowLine, FenceLine}
@@ -15,6 +15,11 @@ use Rattle.gk_gherkin.specs.Language.{NamesOtherLanguage}
 use Rattle.gk_gherkin.specs.declared.feature.Feature.{Feature}
 use Rattle.gk_gherkin.specs.Feature.{FeatureValue, feature_value}
 use Rattle.gk_gherkin.specs.Grammar.{IsIgnored, Skips, IsReadable}
+use Rattle.gk_gherkin.specs.declared.hooks.HookFile.{HookFile}
+use Rattle.gk_gherkin.specs.declared.hook_headings.HooksClass.TheVariants.{HookLine}
+use Rattle.gk_gherkin.specs.Hooks.{HookValue, hooks_value}
+use Rattle.gk_gherkin.specs.HookHeadings.{hooks_class, hook_heading}
+use Rattle.gk_gherkin.specs.HooksGrammar.{heading_of, ReadsHooks, AreHooksReadable}
 
 -- The same is said of both grammars: Readable says which lists of lines have a reading, kind gives the class of a line there.
 module _ (Readable : Lines → Type 0) {C : Type 0} (kind : LineValue → C) where
@@ -118,6 +123,31 @@ FeatureFault (UnclosedText n) ls = EndsInDocString IsReadable class ls n
 FeatureFault (TagsAtEnd n) ls = EndsInTags ls n
 FeatureFault _ ls = ⊥
 
+-- A heading that stood before, with its tag. (this project's profile)
+pub record StoodBefore (before : Lines) (line : LineValue) : Type 0 where
+  pub hooks : List HookValue
+  pub reading : ReadsHooks before hooks
+  pub earlier : List HookValue
+  pub hook : HookValue
+  pub later : List HookValue
+  pub whole : hooks ≡ earlier ++ hook ∷ later
+  pub same : hook_heading line ≡ Some (heading_of hook)
+
+-- A hook line, where one can stand, that is no heading or one that stood before. (this project's profile)
+pub record IsBadHook (before : Lines) (line : LineValue) : Type 0 where
+  pub is : hooks_class line ≡ HookLine
+  pub fits : SomeLikeIt AreHooksReadable hooks_class before line
+  pub bad : (hook_heading line ≡ None) ⊎ StoodBefore before line
+
+-- What a fault says of the lines of a hooks file. (this project's profile)
+abbrev pub HooksFault : ReadFault → Lines → Type 0
+HooksFault (Unexpected n) ls = StopsAt AreHooksReadable hooks_class ls n (NoneLikeIt AreHooksReadable hooks_class)
+HooksFault (BadHook n) ls = StopsAt AreHooksReadable hooks_class ls n IsBadHook
+HooksFault (BadRow n) ls = StopsAt AreHooksReadable hooks_class ls n (IsBadRow AreHooksReadable hooks_class)
+HooksFault (CellCount n) ls = StopsAt AreHooksReadable hooks_class ls n (IsOtherWidth AreHooksReadable hooks_class)
+HooksFault (UnclosedText n) ls = EndsInDocString AreHooksReadable hooks_class ls n
+HooksFault _ ls = ⊥
+
 -- What a fault says of the bytes: too many before no UTF-8, and both before any fault of the lines. (this project's profile)
 abbrev pub FaultSays : (ReadFault → Lines → Type 0) → ReadFault → List ℕ → Type 0
 FaultSays OfLines Memory bytes = IsText bytes
@@ -134,6 +164,11 @@ abbrev pub AnswersOrLacksMemory : Result (Option Feature) ReadFault → Option F
 AnswersOrLacksMemory (Ok answer) reading = option_map feature_value answer ≡ reading
 AnswersOrLacksMemory (Err fault) reading = fault ≡ Memory
 
+-- What was answered are these hooks, or memory ran out. (this project's profile)
+abbrev pub AnswersHooksOrLacksMemory : Result HookFile ReadFault → List HookValue → Type 0
+AnswersHooksOrLacksMemory (Ok file) hooks = hooks_value file ≡ hooks
+AnswersHooksOrLacksMemory (Err fault) hooks = fault ≡ Memory
+
 -- The line that a fault names. (this project's profile)
 abbrev pub line_of_fault : ReadFault → Option ℕ
 line_of_fault (NotUtf8 n) = Some n
@@ -144,6 +179,7 @@ line_of_fault (UnclosedText n) = Some n
 line_of_fault (TagsAtEnd n) = Some n
 line_of_fault (Language n) = Some n
 line_of_fault (BadRow n) = Some n
+line_of_fault (BadHook n) = Some n
 line_of_fault TooLong = None
 line_of_fault Memory = None
 
@@ -157,5 +193,6 @@ text_of_fault (UnclosedText n) = codes "doc string without end"
 text_of_fault (TagsAtEnd n) = codes "tags before nothing"
 text_of_fault (Language n) = codes "language not known"
 text_of_fault (BadRow n) = codes "row without closing bar"
+text_of_fault (BadHook n) = codes "bad hook heading"
 text_of_fault TooLong = codes "longer than 16777216 bytes"
 text_of_fault Memory = codes "out of memory"

@@ -1,5 +1,6 @@
 //! Laws of the grammar: what its relations say of whole lists of lines.
 ghost use Rattle.gk_gherkin.specs.Grammar.{HasOneReading, IsConcatenation, IsFeature, IsRule, IsScenario, IsBackground, IsStep, AreExamples, IsTable, IsDocString};
+ghost use Rattle.gk_gherkin.specs.HooksGrammar.{HaveOneHooksReading};
 
 /// A step, a table, a doc string, a background, examples, a scenario, a rule or a feature leads from
 /// some lines to a rest exactly where these are the part's own lines and then that rest. (the grammar
@@ -13,6 +14,11 @@ pub fn parts_are_concatenations()
     ensures doc_strings { IsConcatenation IsDocString }
     ensures rules { IsConcatenation IsRule }
     ensures features { IsConcatenation IsFeature }
+{}
+
+/// No list of lines says two different things as a hooks file. (the grammar of this project's profile)
+pub fn hooks_reading_is_unique()
+    ensures { HaveOneHooksReading }
 {}
 
 /// No list of lines says two different things. (the grammar of this project's profile)

@@ -1,5 +1,6 @@
-//! Gherkin: the lines of a text, and what a feature file says. Bytes come in; a `Document` or a
-//! `Feature` goes out exactly where the bytes spell one, unless memory is refused.
+//! Gherkin: the lines of a text, and what a feature file or a hooks file says. Bytes come in; a
+//! `Document`, a `Feature` or a `HookFile` goes out exactly where the bytes spell one, unless memory
+//! is refused.
 #![tactic(auto)]
 
 mod class;
@@ -8,6 +9,8 @@ mod feature;
 mod grammar;
 mod hook_headings;
 mod hooks;
+mod hooks_machine;
+mod hooks_reader;
 mod language;
 mod lines;
 mod machine;
@@ -19,8 +22,9 @@ mod step_types;
 mod tags;
 
 pub use feature::{Background, Block, Examples, Feature, Row, Rule, Scenario, Step, StepType};
-pub use grammar::{parts_are_concatenations, reading_is_unique};
+pub use grammar::{hooks_reading_is_unique, parts_are_concatenations, reading_is_unique};
 pub use hooks::{Hook, HookFile, HookKind};
+pub use hooks_reader::read_hooks;
 pub use lines::{Document, LIMIT, Line, Place, read_lines, trim_back};
 pub use read_fault::ReadFault;
 pub use reader::read_feature;

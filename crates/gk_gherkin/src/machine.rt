@@ -175,7 +175,7 @@ fn step_from(alloc: Global, before: StepType, line: &Piece<'_>) -> Result<Step, 
     })
 }
 
-fn steps_of(alloc: Global, body: Body) -> Result<Vec<Step>, ReadFault>
+pub fn steps_of(alloc: Global, body: Body) -> Result<Vec<Step>, ReadFault>
     ensures { Gives (λ v. map step_value v.items) result (Ok (spec.steps_of (body_value body))) }
 {
     match body {
@@ -598,7 +598,12 @@ pub fn on_grid(
 }
 
 #[tactic(auto, unfolding(crate::specs::Machine::on_body))]
-fn on_body(alloc: Global, body: &mut Body, line: &Piece<'_>, class: Class) -> Result<(), ReadFault>
+pub fn on_body(
+    alloc: Global,
+    body: &mut Body,
+    line: &Piece<'_>,
+    class: Class,
+) -> Result<(), ReadFault>
     ensures { Gives (λ _. body_value body.new) result (spec.on_body (body_value body.old) (piece_value line.now) class) }
 {
     match body {

@@ -27,6 +27,8 @@ pub enum ReadFault {
     Language { line: u32 },
     /// A row that doesn't stand between two bars.
     BadRow { line: u32 },
+    /// A hook line that is no heading of a hook, or one that stood before.
+    BadHook { line: u32 },
     /// More bytes than `LIMIT`, whatever they spell.
     TooLong,
     /// A growth of memory was refused.
@@ -47,6 +49,7 @@ impl ReadFault {
             ReadFault::TagsAtEnd { line } => Some(*line),
             ReadFault::Language { line } => Some(*line),
             ReadFault::BadRow { line } => Some(*line),
+            ReadFault::BadHook { line } => Some(*line),
             ReadFault::TooLong => None,
             ReadFault::Memory => None,
         }
@@ -83,6 +86,7 @@ impl fmt::Display for ReadFault {
             ReadFault::TagsAtEnd { .. } => "tags before nothing",
             ReadFault::Language { .. } => "language not known",
             ReadFault::BadRow { .. } => "row without closing bar",
+            ReadFault::BadHook { .. } => "bad hook heading",
             ReadFault::TooLong => "longer than 16777216 bytes",
             ReadFault::Memory => "out of memory",
         };

@@ -151,7 +151,7 @@ fn after_quote(alloc: Global, quote: Quote, content: Option<String>) -> Place
     }
 }
 
-fn add_line(
+pub fn add_line(
     alloc: Global,
     content: &mut Option<String>,
     fence: Fence,

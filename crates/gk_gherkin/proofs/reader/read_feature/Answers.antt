@@ -2,13 +2,14 @@ use Rattle.std.proofs.Common.{ap}
 use Rattle.std.proofs.lemmas.Result.{err_from_is_err_and}
 use Rattle.std.specs.Str.Lines.{lines}
 use Rattle.gk_gherkin.specs.Lines.{numbered_from}
+use Rattle.gk_gherkin.specs.ReadFault.{FeatureFault}
 use Rattle.gk_gherkin.proofs.ReaderWhole.{lines_fault, found, only, fault}
 use Rattle.gk_gherkin.proofs.reader.read_feature.Goals as goal
 
 pub returns-in_err-text-clause-fault : goal.returns-in_err-text-clause-fault
 returns-in_err-text-clause-fault c =
     let p = err_from_is_err_and c.from_residual.result c.from_residual.ensures.1 in
-    rw (p.1, p.2) (lines_fault c.in_err-text.field-0.0 c.args.bytes.now c.in_err-text.ensures.fault)
+    rw (p.1, p.2) (lines_fault FeatureFault c.in_err-text.field-0.0 c.args.bytes.now c.in_err-text.ensures.fault)
 
 pub returns-clause-found : goal.returns-clause-found
 returns-clause-found c =

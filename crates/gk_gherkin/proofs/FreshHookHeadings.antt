@@ -1,0 +1,158 @@
+-- A heading that none of some hooks has: that of a longer tag.
+use Rattle.std.proofs.Common.{◌≡◌, ◌≢◌, ℕ, zero, suc, ◌+◌, ◌-◌, ◌<◌, Bool, true, false, not, cond, ◌&&◌, ◌||◌, nat_eq, List, [], ◌∷◌, ◌++◌, length, take, drop, get_or, Option, Some, None, refl, ap, sym, ◌∙◌, arith, length-append}
+use Rattle.std.specs.Prelude.{codes, option_map}
+use Rattle.std.proofs.lemmas.List.{take_all}
+use Rattle.std.proofs.lemmas.List.Sums.{suffix_len-take_no}
+use Rattle.std.proofs.lemmas.Bool.Decides.{nat_tests}
+use Rattle.std.specs.List.{ends_with, before_last, suffix_len, list_all}
+use Rattle.std.specs.Cmp.Lexicographic.{pointwise}
+use Rattle.gk_gherkin.specs.declared.hooks.HookKind.TheVariants.{BeforeTag, AfterTag}
+use Rattle.gk_gherkin.specs.declared.hook_headings.HooksClass.{HooksClass}
+use Rattle.gk_gherkin.specs.declared.hook_headings.HooksClass.TheVariants.{HookLine, Plain}
+use Rattle.gk_gherkin.specs.Lines.{LineValue, is_blank, trim, trim_front, trim_back}
+use Rattle.gk_gherkin.specs.Class.{begins, class, is_colon}
+use Rattle.gk_gherkin.specs.Tags.{is_tag}
+use Rattle.gk_gherkin.specs.Hooks.{HookValue}
+use Rattle.gk_gherkin.specs.HookHeadings.{hooks_class, HookHeading, hook_heading, plain_heading, tag_alone, tag_between, tag_heading, or_else}
+use Rattle.gk_gherkin.specs.HooksGrammar.{heading_of}
+use Rattle.gk_gherkin.proofs.HookHeadingTexts.{but_last}
+use Rattle.gk_gherkin.proofs.HookHeadingsDecided.{IsFresh}
+use Rattle.gk_gherkin.proofs.RowStops.{line_of}
+
+-- the last byte of a text
+module _ (front : List ℕ) (b : ℕ) where
+  long : length (front ++ b ∷ []) ≡ length front + 1
+  long = length-append front (b ∷ [])
+
+last_at : (front : List ℕ) (b : ℕ) → get_or (front ++ b ∷ []) (length front) 0 ≡ b
+last_at [] b = refl
+last_at (x ∷ front) b = last_at front b
+
+rest_at : (front : List ℕ) (b : ℕ) → drop (length front) (front ++ b ∷ []) ≡ b ∷ []
+rest_at [] b = refl
+rest_at (x ∷ front) b = rest_at front b
+
+front_at : (front : List ℕ) (b : ℕ) → take (length front) (front ++ b ∷ []) ≡ front
+front_at [] b = refl
+front_at (x ∷ front) b = ap (λ (xs : List ℕ). x ∷ xs) (front_at front b)
+
+one_less : (front : List ℕ) (b : ℕ) → length (front ++ b ∷ []) - 1 ≡ length front
+one_less front b = omega (arith, long front b)
+
+last_byte : (front : List ℕ) (b : ℕ) → get_or (front ++ b ∷ []) (length (front ++ b ∷ []) - 1) 0 ≡ b
+last_byte front b = ap (λ (n : ℕ). get_or (front ++ b ∷ []) n 0) (one_less front b) ∙ last_at front b
+
+some_bytes : (front : List ℕ) (b : ℕ) → 0 < length (front ++ b ∷ [])
+some_bytes front b = omega (arith, long front b)
+
+no_blank_end : (front : List ℕ) (b : ℕ) → is_blank b ≡ false → trim_back (front ++ b ∷ []) ≡ front ++ b ∷ []
+no_blank_end front b k =
+    let text = front ++ b ∷ [] in
+    let whole : take (length text) text ≡ text = take_all (length text) text (omega arith) in
+    let none : suffix_len is_blank (take (length text) text) ≡ 0 = suffix_len-take_no is_blank text (length text) 0 (some_bytes front b) (omega arith) (ap is_blank (last_byte front b) ∙ k) in
+    let zero : suffix_len is_blank text ≡ 0 = sym (ap (suffix_len is_blank) whole) ∙ none in
+    let same : length text - suffix_len is_blank text ≡ length text = omega (arith, zero) in
+    ap (λ (n : ℕ). take n text) same ∙ whole
+
+ends_so : (front : List ℕ) → ends_with nat_eq (front ++ 58 ∷ []) (58 ∷ []) ≡ true
+ends_so front = ap (λ (n : ℕ). pointwise nat_eq (58 ∷ []) (drop n (front ++ 58 ∷ []))) (one_less front 58) ∙ ap (pointwise nat_eq (58 ∷ [])) (rest_at front 58)
+
+before_colon : (front : List ℕ) → before_last is_colon (front ++ 58 ∷ []) ≡ front
+before_colon front = but_last (front ++ 58 ∷ []) (some_bytes front 58) (last_byte front 58) ∙ ap (λ (n : ℕ). take n (front ++ 58 ∷ [])) (one_less front 58) ∙ front_at front 58
+
+-- tags of any length
+letters : ℕ → List ℕ
+letters zero = []
+letters (suc n) = 97 ∷ letters n
+
+pub tag_of : ℕ → List ℕ
+tag_of n = 64 ∷ 97 ∷ letters n
+
+letters_size : (n : ℕ) → length (letters n) ≡ n
+unfolding letters
+letters_size zero = refl
+letters_size (suc n) = ap suc (letters_size n)
+
+pub size_of_tag : (n : ℕ) → n < length (tag_of n)
+unfolding tag_of
+size_of_tag n = omega (arith, letters_size n)
+
+no_blanks : (n : ℕ) → list_all (λ b. not (is_blank b)) (letters n) ≡ true
+unfolding letters
+no_blanks zero = refl
+no_blanks (suc n) = no_blanks n
+
+two_bytes : (n : ℕ) → is_tag (tag_of n) ≡ true
+unfolding tag_of
+two_bytes n = grind (arith, nat_tests)
+
+and_true : (a b : Bool) → a ≡ true → b ≡ true → (a && b) ≡ true
+and_true true true e f = refl
+and_true true false e f = f
+and_true false b e f = e
+
+tag_stands : (n : ℕ) → tag_alone (tag_of n) ≡ Some (tag_of n)
+unfolding tag_of
+tag_stands n =
+    ap (λ (b : Bool). let r : Option (List ℕ) = cond b (Some (64 ∷ 97 ∷ letters n)) None in r)
+    (and_true (is_tag (64 ∷ 97 ∷ letters n)) (list_all (λ b. not (is_blank b)) (64 ∷ 97 ∷ letters n)) (two_bytes n) (no_blanks n))
+
+-- the heading with such a tag
+heading_front : ℕ → List ℕ
+heading_front n = codes "before_tag @a" ++ letters n
+
+heading_text : ℕ → List ℕ
+heading_text n = heading_front n ++ 58 ∷ []
+
+trimmed : (n : ℕ) → trim (heading_text n) ≡ heading_text n
+unfolding heading_text heading_front
+trimmed n = no_blank_end (codes "before_tag @a" ++ letters n) 58 refl
+
+tag_found : (n : ℕ) → tag_between (codes "before_tag") (heading_text n) ≡ Some (tag_of n)
+unfolding heading_text heading_front tag_of
+tag_found n =
+    let text = codes "before_tag @a" ++ (letters n ++ 58 ∷ []) in
+    let ends : ends_with nat_eq text (58 ∷ []) ≡ true = ends_so (codes "before_tag @a" ++ letters n) in
+    ap (λ (b : Bool). let r : Option (List ℕ) = cond b (tag_alone (trim_front (before_last is_colon (drop 10 text)))) None in r) ends
+    ∙ ap (λ (t : List ℕ). tag_alone (trim_front t)) (before_colon (codes " @a" ++ letters n))
+    ∙ tag_stands n
+
+abbrev heading_with : ℕ → HookHeading
+heading_with n = record { kind = BeforeTag; tag = Some (tag_of n) }
+
+pub fresh_line : ℕ → LineValue
+fresh_line n = line_of (heading_text n)
+
+pub fresh_class : (n : ℕ) → hooks_class (fresh_line n) ≡ HookLine
+unfolding hooks_class fresh_line heading_text heading_front
+fresh_class n = ap (λ (t : List ℕ). let r : HooksClass = cond (begins t (codes "before_") || begins t (codes "after_")) HookLine (Plain (class (fresh_line n))) in r) (trimmed n)
+
+no_plain : (n : ℕ) → plain_heading (heading_text n) ≡ None
+unfolding heading_text heading_front
+no_plain n = refl
+
+pub fresh_heading : (n : ℕ) → hook_heading (fresh_line n) ≡ Some (heading_with n)
+unfolding hook_heading fresh_line
+fresh_heading n =
+    ap (λ (t : List ℕ). or_else (plain_heading t) (or_else (tag_heading (codes "before_tag") BeforeTag t) (tag_heading (codes "after_tag") AfterTag t))) (trimmed n)
+    ∙ ap (λ (h : Option HookHeading). or_else h (or_else (tag_heading (codes "before_tag") BeforeTag (heading_text n)) (tag_heading (codes "after_tag") AfterTag (heading_text n)))) (no_plain n)
+    ∙ ap (λ (t : Option (List ℕ)). let h : Option HookHeading = option_map (λ tag. record { kind = BeforeTag; tag = Some tag }) t in or_else h (tag_heading (codes "after_tag") AfterTag (heading_text n))) (tag_found n)
+
+-- a tag longer than all tags of some hooks together
+abbrev tag_size : Option (List ℕ) → ℕ
+tag_size None = 0
+tag_size (Some tag) = length tag
+
+pub size_of : List HookValue → ℕ
+size_of [] = 0
+size_of (hook ∷ hooks) = tag_size hook.tag + size_of hooks
+
+fresh_by : (heading : HookHeading) (hooks : List HookValue) → size_of hooks < tag_size heading.tag → IsFresh heading hooks
+unfolding size_of
+fresh_by heading [] h = tt
+fresh_by heading (hook ∷ hooks) h =
+    let differs : heading ≢ heading_of hook = λ e. let same : tag_size heading.tag ≡ tag_size hook.tag = ap (λ (h : HookHeading). tag_size h.tag) e in absurd (omega (arith, h, same)) in
+    (differs, fresh_by heading hooks (omega (arith, h)))
+
+pub is_fresh : (hooks : List HookValue) → IsFresh (heading_with (size_of hooks)) hooks
+is_fresh hooks = fresh_by (heading_with (size_of hooks)) hooks (size_of_tag (size_of hooks))

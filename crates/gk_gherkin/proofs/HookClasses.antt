@@ -1,0 +1,59 @@
+-- The classes of lines in a hooks file, by their classes in a feature file.
+use Rattle.std.proofs.Common.{◌≡◌, ◌≢◌, ℕ, suc, Bool, true, false, cond, ◌==◌, ◌||◌, List, [], ◌∷◌, length, refl, ap, sym, ◌∙◌, arith}
+use Rattle.std.specs.Prelude.{codes}
+use Rattle.std.proofs.lemmas.Bool.Decides.{nat_tests}
+use Rattle.gk_gherkin.specs.declared.class.Class.{Class}
+use Rattle.gk_gherkin.specs.declared.class.Class.TheVariants.{Blank, Other}
+use Rattle.gk_gherkin.specs.declared.hook_headings.HooksClass.{HooksClass}
+use Rattle.gk_gherkin.specs.declared.hook_headings.HooksClass.TheVariants.{HookLine, Plain}
+use Rattle.gk_gherkin.specs.Lines.{LineValue, trim}
+use Rattle.gk_gherkin.specs.Class.{begins, class, class_of, class_of_words}
+use Rattle.gk_gherkin.specs.HookHeadings.{hooks_class}
+
+-- whether a text begins as a hook line does
+abbrev as_hook : List ℕ → Bool
+as_hook text = begins text (codes "before_") || begins text (codes "after_")
+
+class_by : (b : Bool) (k c : Class) → ◌≡◌ {A = HooksClass} (cond b HookLine (Plain k)) (Plain c) → k ≡ c
+class_by true k c e = let no : ⊥ = cc in absurd no
+class_by false k c e = cc
+
+-- A line that is no hook line has its class.
+pub plain_class : (l : LineValue) (c : Class) → hooks_class l ≡ Plain c → class l ≡ c
+unfolding hooks_class
+plain_class l c e = class_by (as_hook (trim l.text)) (class l) c e
+
+not_empty : (n : ℕ) → (suc n == 0) ≡ false
+not_empty n = grind (arith, nat_tests)
+
+first_b : (b : ℕ) (rest : List ℕ) → begins (b ∷ rest) (codes "before_") ≡ true → b ≡ 98
+first_b b rest h = grind (arith, nat_tests)
+
+first_a : (b : ℕ) (rest : List ℕ) → begins (b ∷ rest) (codes "after_") ≡ true → b ≡ 97
+first_a b rest h = grind (arith, nat_tests)
+
+of_b : (rest : List ℕ) → class_of (98 ∷ rest) ≡ Other
+unfolding class_of class_of_words
+of_b rest = ap (λ (c : Bool). cond c Blank Other) (not_empty (length rest))
+
+of_a : (rest : List ℕ) → class_of (97 ∷ rest) ≡ Other
+unfolding class_of class_of_words
+of_a rest = ap (λ (c : Bool). cond c Blank Other) (not_empty (length rest))
+
+other_by : (b : ℕ) (rest : List ℕ) (x y : Bool) → begins (b ∷ rest) (codes "before_") ≡ x → begins (b ∷ rest) (codes "after_") ≡ y → (x || y) ≡ true → class_of (b ∷ rest) ≡ Other
+other_by b rest true y e f h = ap (λ (b : ℕ). class_of (b ∷ rest)) (first_b b rest e) ∙ of_b rest
+other_by b rest false true e f h = ap (λ (b : ℕ). class_of (b ∷ rest)) (first_a b rest f) ∙ of_a rest
+other_by b rest false false e f h = let no : ⊥ = cc in absurd no
+
+other_text : (text : List ℕ) → as_hook text ≡ true → class_of text ≡ Other
+other_text [] h = let no : ⊥ = cc in absurd no
+other_text (b ∷ rest) h = other_by b rest (begins (b ∷ rest) (codes "before_")) (begins (b ∷ rest) (codes "after_")) refl refl h
+
+hooks_class_by : (l : LineValue) (b : Bool) → as_hook (trim l.text) ≡ b → class l ≢ Other → hooks_class l ≡ Plain (class l)
+unfolding hooks_class class
+hooks_class_by l true e n = absurd (n (other_text (trim l.text) e))
+hooks_class_by l false e n = ap (λ (b : Bool). cond b HookLine (Plain (class l))) e
+
+-- A line of a class that isn't Other is no hook line.
+pub class_plain : (l : LineValue) (c : Class) → class l ≡ c → c ≢ Other → hooks_class l ≡ Plain c
+class_plain l c e n = hooks_class_by l (as_hook (trim l.text)) refl (λ other. n (sym e ∙ other)) ∙ ap Plain e

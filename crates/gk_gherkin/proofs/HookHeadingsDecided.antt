@@ -1,0 +1,120 @@
+-- What the test of two headings says.
+use Rattle.std.proofs.Common.{◌≡◌, ◌≢◌, ℕ, zero, suc, Bool, true, false, ◌==◌, ◌&&◌, ◌||◌, List, [], ◌∷◌, ◌++◌, Option, Some, None, refl, ap, sym, ◌∙◌, arith}
+use Rattle.std.proofs.lemmas.Bool.Decides.{nat_tests}
+use Rattle.std.proofs.lemmas.Slice.Eq.{bytes_eq-Decides}
+use Rattle.std.specs.List.{AllByRecursion}
+use Rattle.gk_gherkin.specs.declared.hooks.HookKind.{HookKind}
+use Rattle.gk_gherkin.specs.declared.hooks.HookKind.TheVariants.{BeforeAll, AfterAll, BeforeFeature, AfterFeature, BeforeScenario, AfterScenario, BeforeTag, AfterTag}
+use Rattle.gk_gherkin.specs.Hooks.{HookValue}
+use Rattle.gk_gherkin.specs.HookHeadings.{HookHeading}
+use Rattle.gk_gherkin.specs.HooksGrammar.{heading_of, AreDistinct}
+use Rattle.gk_gherkin.specs.HooksMachine.{number_of, is_same_kind, is_same_tag, is_same_heading, stands}
+
+both : (a b : Bool) → (a && b) ≡ true → (a ≡ true) × (b ≡ true)
+both true true h = (refl, refl)
+both true false h = (refl, h)
+both false b h = let no : ⊥ = cc in absurd no
+
+either : (a b : Bool) → (a || b) ≡ false → (a ≡ false) × (b ≡ false)
+either false false h = (refl, refl)
+either false true h = (refl, h)
+either true b h = let no : ⊥ = cc in absurd no
+
+-- the kind of each number
+kind_at : ℕ → HookKind
+kind_at zero = BeforeAll
+kind_at (suc zero) = AfterAll
+kind_at (suc (suc zero)) = BeforeFeature
+kind_at (suc (suc (suc zero))) = AfterFeature
+kind_at (suc (suc (suc (suc zero)))) = BeforeScenario
+kind_at (suc (suc (suc (suc (suc zero))))) = AfterScenario
+kind_at (suc (suc (suc (suc (suc (suc zero)))))) = BeforeTag
+kind_at _ = AfterTag
+
+kind_back : (k : HookKind) → kind_at (number_of k) ≡ k
+unfolding kind_at
+kind_back BeforeAll = refl
+kind_back AfterAll = refl
+kind_back BeforeFeature = refl
+kind_back AfterFeature = refl
+kind_back BeforeScenario = refl
+kind_back AfterScenario = refl
+kind_back BeforeTag = refl
+kind_back AfterTag = refl
+
+eqb_same : (m n : ℕ) → (m == n) ≡ true → m ≡ n
+eqb_same m n h = grind (arith, nat_tests)
+
+same_eqb : (m : ℕ) → (m == m) ≡ true
+same_eqb m = grind (arith, nat_tests)
+
+kind_so : (a b : HookKind) → is_same_kind a b ≡ true → a ≡ b
+kind_so a b h = sym (kind_back a) ∙ ap kind_at (eqb_same (number_of a) (number_of b) h) ∙ kind_back b
+
+tag_so : (a b : Option (List ℕ)) → is_same_tag a b ≡ true → a ≡ b
+tag_so None None h = refl
+tag_so None (Some b) h = let no : ⊥ = cc in absurd no
+tag_so (Some a) None h = let no : ⊥ = cc in absurd no
+tag_so (Some a) (Some b) h = ap Some ((bytes_eq-Decides a b).0 h)
+
+tag_itself : (a : Option (List ℕ)) → is_same_tag a a ≡ true
+tag_itself None = refl
+tag_itself (Some a) = (bytes_eq-Decides a a).1 refl
+
+and_true : (a b : Bool) → a ≡ true → b ≡ true → (a && b) ≡ true
+and_true true true e f = refl
+and_true true false e f = f
+and_true false b e f = e
+
+pub heading_so : (a b : HookHeading) → is_same_heading a b ≡ true → a ≡ b
+heading_so a b h =
+    let k = both (is_same_kind a.kind b.kind) (is_same_tag a.tag b.tag) h in
+    ap (λ (kind : HookKind). let made : HookHeading = record { kind = kind; tag = a.tag } in made) (kind_so a.kind b.kind k.0)
+    ∙ ap (λ (tag : Option (List ℕ)). let made : HookHeading = record { kind = b.kind; tag = tag } in made) (tag_so a.tag b.tag k.1)
+
+heading_itself : (a : HookHeading) → is_same_heading a a ≡ true
+heading_itself a = and_true (is_same_kind a.kind a.kind) (is_same_tag a.tag a.tag) (same_eqb (number_of a.kind)) (tag_itself a.tag)
+
+not_true : (b : Bool) → b ≡ false → b ≡ true → ⊥
+not_true true e f = cc
+not_true false e f = cc
+
+heading_differs : (a b : HookHeading) → is_same_heading a b ≡ false → b ≢ a
+heading_differs a b h e = not_true (is_same_heading a b) h (ap (λ (b : HookHeading). is_same_heading a b) e ∙ heading_itself a)
+
+-- a heading that none of some hooks has
+abbrev pub IsFresh : HookHeading → List HookValue → Type 0
+IsFresh heading hooks = AllByRecursion (λ hook. heading ≢ heading_of hook) hooks
+
+pub fresh_so : (heading : HookHeading) (hooks : List HookValue) → stands heading hooks ≡ false → IsFresh heading hooks
+fresh_so heading [] h = tt
+fresh_so heading (hook ∷ hooks) h =
+    let k = either (is_same_heading (heading_of hook) heading) (stands heading hooks) h in
+    (heading_differs (heading_of hook) heading k.0, fresh_so heading hooks k.1)
+
+none_same : (a b : HookHeading) (r : Bool) → is_same_heading a b ≡ r → b ≢ a → r ≡ false
+none_same a b true e n = absurd (n (sym (heading_so a b e)))
+none_same a b false e n = refl
+
+pub fresh_stands : (heading : HookHeading) (hooks : List HookValue) → IsFresh heading hooks → stands heading hooks ≡ false
+fresh_stands heading [] f = refl
+fresh_stands heading (hook ∷ hooks) f =
+    ap (λ (b : Bool). b || stands heading hooks) (none_same (heading_of hook) heading (is_same_heading (heading_of hook) heading) refl f.0) ∙ fresh_stands heading hooks f.1
+
+differ_push : (heading : HookHeading) (hooks : List HookValue) (hook : HookValue) → AllByRecursion (λ other. heading_of other ≢ heading) hooks → heading_of hook ≢ heading → AllByRecursion (λ other. heading_of other ≢ heading) (hooks ++ hook ∷ [])
+differ_push heading [] hook a n = (n, tt)
+differ_push heading (first ∷ hooks) hook a n = (a.0, differ_push heading hooks hook a.1 n)
+
+-- one hook more, with a heading that none of them has
+pub distinct_push : (hooks : List HookValue) (hook : HookValue) → AreDistinct hooks → IsFresh (heading_of hook) hooks → AreDistinct (hooks ++ hook ∷ [])
+distinct_push [] hook d f = (tt, tt)
+distinct_push (first ∷ hooks) hook d f = (differ_push (heading_of first) hooks hook d.0 f.0, distinct_push hooks hook d.1 f.1)
+
+differ_at : (heading : HookHeading) (hooks : List HookValue) (hook : HookValue) (others : List HookValue) → AllByRecursion (λ other. heading_of other ≢ heading) (hooks ++ hook ∷ others) → heading_of hook ≢ heading
+differ_at heading [] hook others a = a.0
+differ_at heading (first ∷ hooks) hook others a = differ_at heading hooks hook others a.1
+
+-- of distinct hooks, the one after some has a heading that none of these has
+pub fresh_after : (hooks : List HookValue) (hook : HookValue) (others : List HookValue) → AreDistinct (hooks ++ hook ∷ others) → IsFresh (heading_of hook) hooks
+fresh_after [] hook others d = tt
+fresh_after (first ∷ hooks) hook others d = (differ_at (heading_of first) hooks hook others d.0, fresh_after hooks hook others d.1)

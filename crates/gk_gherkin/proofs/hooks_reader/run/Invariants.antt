@@ -1,0 +1,12 @@
+use Rattle.std.proofs.Common.{◌≡◌, ◌+◌, length, drop}
+use Rattle.std.specs.Str.Lines.{lines}
+use Rattle.gk_gherkin.specs.Lines.{numbered_from}
+use Rattle.gk_gherkin.specs.HooksMachine.Views.{state_value}
+use Rattle.gk_gherkin.specs.HooksMachine as spec
+use Rattle.gk_gherkin.proofs.hooks_reader.run.Given as goal
+
+abbrev pub invariant-loop-part : goal.invariant-loop-part
+invariant-loop-part l = record {
+  so_far : spec.run (state_value l.state) (numbered_from l.number (drop (length l.yielded) (lines l.text))) ≡ spec.run (spec.At spec.NoHook) (numbered_from 1 (lines l.text));
+  counted : l.number ≡ 1 + length l.yielded;
+}
