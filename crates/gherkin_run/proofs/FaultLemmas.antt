@@ -22,6 +22,7 @@ read_row name (read.CellCount n) = refl
 read_row name (read.UnclosedText n) = refl
 read_row name (read.TagsAtEnd n) = refl
 read_row name (read.Language n) = refl
+read_row name (read.BadHook n) = refl
 
 pub library_row : (name : String Global) (fault : LibraryFault) → row_of (Library name fault) ≡ record { file = Some (string_bytes name); line = line_of_library_fault fault; text = Some (library_fault_text fault); status = 3 }
 library_row name library.TooLong = refl

@@ -25,7 +25,7 @@ names file text status = record { file = Some file; line = None; text = Some tex
 abbrev pub points_at : List ℕ → ℕ → List ℕ → ℕ → FaultRow
 points_at file line text status = record { file = Some file; line = Some line; text = Some text; status = status }
 
--- The table of faults. A library or a source for which memory is refused is no fault of its file: it comes as the last row, and the two rows of `out of memory` with a file are never met. (this project's profile)
+-- The table of faults. A library or a source for which memory is refused is no fault of its file: it comes as the last row, and the two rows of `out of memory` with a file are never met; nor is that of a bad hook, which no feature file has. (this project's profile)
 abbrev pub row_of : Fault → FaultRow
 row_of NotUtf8 = says (codes "not UTF-8") 2
 row_of (Usage error) = record { file = None; line = None; text = None; status = 2 }
@@ -50,6 +50,7 @@ row_of (Read f (read.CellCount n)) = points_at (string_bytes f) n (codes "row wi
 row_of (Read f (read.UnclosedText n)) = points_at (string_bytes f) n (codes "doc string without end") 3
 row_of (Read f (read.TagsAtEnd n)) = points_at (string_bytes f) n (codes "tags before nothing") 3
 row_of (Read f (read.Language n)) = points_at (string_bytes f) n (codes "language not known") 3
+row_of (Read f (read.BadHook n)) = points_at (string_bytes f) n (codes "bad hook heading") 3
 row_of (Read f read.Memory) = names (string_bytes f) (codes "out of memory") 3
 row_of (TooMany f) = names (string_bytes f) (codes "more than 1000000 steps") 3
 row_of BadTags = says (codes "bad tag expression") 2

@@ -103,6 +103,7 @@ read_fault_said input (read_faults.UnclosedText n) bytes h = (refl, h, λ e. cc)
 read_fault_said input (read_faults.TagsAtEnd n) bytes h = (refl, h, λ e. cc)
 read_fault_said input (read_faults.Language n) bytes h = (refl, h, λ e. cc)
 read_fault_said input (read_faults.BadRow n) bytes h = (refl, h, λ e. cc)
+read_fault_said input (read_faults.BadHook n) bytes h = (refl, h, λ e. cc)
 
 pub select_fault_said : (input : ℕ) (fault : SelectFault) (bytes : List ℕ) (f : FeatureValue) → IsText bytes → Reads (lines_of bytes) (Some f) → SaysExpansion f fault → SaysSourceAt input bytes (select_fault_at input fault)
 select_fault_said input select_faults.TooMany bytes f text reads h = (refl, (f, text, reads, h))
