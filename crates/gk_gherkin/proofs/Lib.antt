@@ -26,3 +26,4 @@ pub mod WorkedLines
 pub mod WorkedFiles
 pub mod WorkedFaults
 pub mod WorkedHookHeadings
+pub mod WorkedHooks

@@ -5,6 +5,8 @@ use Rattle.gk_gherkin.specs.declared.class.Class.{Class}
 use Rattle.gk_gherkin.specs.declared.class.Class.TheVariants.{FeatureHeading, RuleHeading, BackgroundHeading, ScenarioHeading, ExamplesHeading}
 use Rattle.gk_gherkin.specs.Lines.{LineValue, Lines}
 use Rattle.gk_gherkin.specs.Feature.{BlockValue, Empty, Text, Table, StepValue, RowValue, ExamplesValue, BackgroundValue, ScenarioValue, RuleValue, FeatureValue}
+use Rattle.gk_gherkin.specs.Hooks.{HookValue}
+use Rattle.gk_gherkin.specs.HooksGrammar.{IsHook}
 use Rattle.gk_gherkin.specs.Grammar.{IsIgnored, IsIgnoredAbove, Skips, skip_none, skip, Next, Many, none, more, Perhaps, IsTagLine, AreTags, untagged, tagged, IsHeading, IsTaggedHeading, MayDescribeFeature, MayDescribeScenario, MayDescribeExamples, IsRow, IsTable, IsDocString, IsBlock, HasTable, AreExamples, Describes, described, describe, IsStep, AreSteps, IsBackground, IsScenario, IsRule, IsFeature, IsConcatenation}
 
 -- P holds of a prefix of ls, up to rest, and of that prefix before anything else.
@@ -116,6 +118,13 @@ steps_prefix : (ls : Lines) (sts : List StepValue) (rest : Lines) → AreSteps l
 steps_prefix ls sts rest i =
     same (λ a b. Many IsStep a sts b) (λ a b. AreSteps a sts b) ls rest (λ a b p. record { parts = p; types = i.types }) (many_prefix IsStep step_prefix i.parts)
 
+hook_prefix : (ls : Lines) (x : HookValue) (rest : Lines) → IsHook ls x rest → Fronts (λ a b. IsHook a x b) ls rest
+hook_prefix ls x rest i =
+    then (λ a b. Next IsIgnored a i.line b) (λ a b. AreSteps a x.steps b) (λ a b. IsHook a x b) ls i.after_heading rest
+    (λ a b c p q. record { line = i.line; after_heading = b; next = p; is = i.is; heading = i.heading; number = i.number; steps = q })
+    (next_prefix i.line i.after_heading i.next refl)
+    (steps_prefix i.after_heading x.steps rest i.steps)
+
 background_prefix : (ls : Lines) (x : BackgroundValue) (rest : Lines) → IsBackground ls x rest → Fronts (λ a b. IsBackground a x b) ls rest
 background_prefix ls x rest i =
     let D = Describes MayDescribeScenario in
@@ -199,6 +208,9 @@ examples_lines ls rest x = own_lines (λ a b. AreExamples a x b) (λ a b p. exam
 
 pub table_lines : IsConcatenation IsTable
 table_lines ls rest x = own_lines (λ a b. IsTable a x b) (λ a b p. table_prefix a x b p) ls rest
+
+pub hook_lines : IsConcatenation IsHook
+hook_lines ls rest x = own_lines (λ a b. IsHook a x b) (λ a b p. hook_prefix a x b p) ls rest
 
 pub doc_string_lines : IsConcatenation IsDocString
 doc_string_lines ls rest x = own_lines (λ a b. IsDocString a x b) (λ a b p. doc_string_prefix a x b p) ls rest

@@ -1,26 +1,20 @@
 -- What has a reading is read so, and so no lines have two.
-use Rattle.std.proofs.Common.{◌≡◌, ℕ, ◌-◌, Bool, true, false, cond, ◌==◌, List, [], ◌∷◌, ◌++◌, length, map, Option, Some, None, Result, Ok, Err, refl, ap, sym, subst, ◌∙◌, append_assoc, arith, inl, inr}
+use Rattle.std.proofs.Common.{◌≡◌, ℕ, Bool, true, false, List, [], ◌∷◌, ◌++◌, length, Option, Some, None, Result, Ok, Err, refl, ap, sym, subst, ◌∙◌, append_assoc, inl, inr}
 use Rattle.std.proofs.lemmas.List.{append-nil}
-use Rattle.std.proofs.lemmas.Bool.Decides.{nat_tests}
-use Rattle.std.specs.List.{AllByRecursion}
 use Rattle.gk_gherkin.specs.declared.class.Fence.{Fence}
-use Rattle.gk_gherkin.specs.DocStrings.{closes, content_of, doc_string}
+use Rattle.gk_gherkin.specs.DocStrings.{closes}
 use Rattle.gk_gherkin.specs.Language.{language_of, IsEnglishOrNone}
-use Rattle.gk_gherkin.specs.Rows.{cells_of}
 use Rattle.gk_gherkin.specs.declared.class.Class.{Class}
 use Rattle.gk_gherkin.specs.declared.class.Class.TheVariants.{Blank, Comment, TagLine, FeatureHeading, RuleHeading, BackgroundHeading, ScenarioHeading, ExamplesHeading, StepLine, RowLine, FenceLine, Other}
 use Rattle.gk_gherkin.specs.declared.read_fault.ReadFault.{ReadFault}
-use Rattle.gk_gherkin.specs.declared.read_fault.ReadFault.TheVariants.{CellCount}
-use Rattle.gk_gherkin.specs.declared.feature.StepType.{StepType}
-use Rattle.gk_gherkin.specs.declared.feature.StepType.TheVariants.{Given}
 use Rattle.gk_gherkin.specs.Lines.{LineValue, Lines}
-use Rattle.gk_gherkin.specs.Class.{class, heading_name, step_keyword, step_text}
+use Rattle.gk_gherkin.specs.Class.{class, heading_name}
 use Rattle.gk_gherkin.specs.Tags.{tags_of}
-use Rattle.gk_gherkin.specs.StepTypes.{type_after, AreTypedAfter}
-use Rattle.gk_gherkin.specs.Feature.{BlockValue, Empty, Text, Table, StepValue, RowValue, ExamplesValue, BackgroundValue, ScenarioValue, RuleValue, FeatureValue}
-use Rattle.gk_gherkin.specs.Grammar.{IsIgnoredClass, IsIgnored, Skips, skip_none, skip, Next, Many, none, more, Perhaps, AreTags, untagged, tagged, IsTaggedHeading, MayDescribeFeature, MayDescribeScenario, MayDescribeExamples, IsRow, AreOfOneWidth, IsDocString, IsBlock, HasTable, AreExamples, Describes, described, describe, IsStep, AreSteps, IsBackground, IsScenario, IsRule, IsFeature, Reads, HasOneReading}
-use Rattle.gk_gherkin.specs.Machine.{HeadValue, SectionValue, Top, OfFeature, OfRule, Body, Describing, Stepped, Owner, OfBackground, OfScenario, Grid, NoRows, Rows, OutlineValue, Open, Headed, Bodied, Exampled, Place, Above, Inside, QuoteValue, State, At, Tagged, Quoted, quote_of, on_fence, after_quote, in_quote, by_language, on_comment, Read, ◌>>=◌, head_from, step_from, steps_of, scenario_of, with_scenario, background_section, header_of, rows_of, examples_of, with_examples, outline_of, examples_after, section_of, row_of, on_row, with_block, on_block, row_from, on_grid, rule_of, with_rule, feature_of, tag_line, on_heading, on_body, on_open, on_place, placed, on, step, run, run_by, answer, finish, reading}
-use Rattle.gk_gherkin.proofs.ReaderSound.{IgnoredAt, Fits, joined, joined_text, joined_push}
+use Rattle.gk_gherkin.specs.Feature.{BlockValue, Empty, Text, StepValue, RowValue, ExamplesValue, BackgroundValue, ScenarioValue, RuleValue, FeatureValue}
+use Rattle.gk_gherkin.specs.Grammar.{IsIgnoredClass, IsIgnored, Skips, skip_none, skip, Next, Many, none, more, Perhaps, AreTags, untagged, tagged, IsTaggedHeading, MayDescribeFeature, MayDescribeScenario, MayDescribeExamples, IsRow, HasTable, AreExamples, Describes, described, describe, AreSteps, IsBackground, IsScenario, IsRule, IsFeature, Reads, HasOneReading}
+use Rattle.gk_gherkin.specs.Machine.{HeadValue, SectionValue, Top, OfFeature, OfRule, Body, Describing, Stepped, Owner, OfBackground, OfScenario, Grid, NoRows, Rows, OutlineValue, Open, Headed, Bodied, Exampled, Place, Above, Inside, QuoteValue, State, At, Tagged, Quoted, quote_by, quote_of, on_fence, in_quote, text_after, whole_text, by_language, on_comment, Read, ◌>>=◌, head_from, steps_of, scenario_of, with_scenario, background_section, header_of, rows_of, examples_of, with_examples, outline_of, examples_after, section_of, with_block, row_from, on_grid, rule_of, with_rule, feature_of, tag_line, on_heading, on_body, on_open, on_place, placed, on, step, run, run_by, answer, finish, reading}
+use Rattle.gk_gherkin.proofs.ReaderSound.{IgnoredAt}
+use Rattle.gk_gherkin.proofs.ReaderSteps.{row_takes, AllAre, run_steps}
 
 -- ignored lines are passed over
 abbrev Free : State → Type 0
@@ -177,115 +171,48 @@ stays_bodied owner l (FenceLine fence) m = (tt, refl)
 stays_bodied owner l Other m = (tt, refl)
 stays_bodied owner l _ m = absurd m
 
--- steps
-same_step : (st : StepValue) (before : StepType) (l : LineValue) → st.keyword ≡ step_keyword l → st.step_type ≡ type_after before st.keyword → st.text ≡ step_text l → st.line ≡ l.line → step_from before l ≡ with_block st Empty
-same_step st before l k ty t n = rw (← k, ← ty, ← t, ← n) refl
+-- the steps of a background or a scenario
+module _ (top : Top) (owner : Owner) where
+  abbrev at : Body → State
+  at body = At (Inside top (Bodied owner body))
 
--- rows
-same_eqb : (m n : ℕ) → m ≡ n → (m == n) ≡ true
-same_eqb m n h = grind (arith, nat_tests)
+  abbrev quoted : List StepValue → StepValue → Fence → ℕ → ℕ → Option (List ℕ) → State
+  quoted steps st fence column n texts = Quoted (record { top = top; owner = owner; steps = steps; step = st }) fence column n texts
 
-row_takes : (width : Option ℕ) (l : LineValue) (cells : List (List ℕ)) → cells_of l ≡ Some cells → Fits width cells → on_row width l ≡ Ok cells
-unfolding on_row
-row_takes None l cells w f = ap (row_of None l) w
-row_takes (Some width) l cells w f = ap (row_of (Some width) l) w ∙ ap (λ (b : Bool). let r : Result (List (List ℕ)) ReadFault = cond b (Ok cells) (Err (CellCount l.line)) in r) (same_eqb (length cells) width f)
+  quiet_at : (body : Body) (l : LineValue) → IsIgnored l → step (at body) l ≡ Ok (at body)
+  unfolding step
+  quiet_at body l i = quiet (at body) l tt i
 
-abbrev cells_in : List RowValue → List (List (List ℕ))
-cells_in rows = map (λ (row : RowValue). row.cells) rows
+  on_plain : (body next : Body) (l : LineValue) (c : Class) → class l ≡ c → IsPlainClass c → on_body body l c ≡ Ok next → step (at body) l ≡ Ok (at next)
+  unfolding step on_open
+  on_plain body next l c is i e = ap (on (at body) l) is ∙ takes_plain top (Bodied owner body) (Bodied owner next) l c i (ap (λ (r : Result Body ReadFault). r >>= λ next. Ok (Bodied owner next)) e)
 
-AllAre : ℕ → List RowValue → Type 0
-AllAre width rows = AllByRecursion (λ (row : RowValue). length row.cells ≡ width) rows
+  on_step : (body next : Body) (l : LineValue) → class l ≡ StepLine → on_body body l StepLine ≡ Ok next → step (at body) l ≡ Ok (at next)
+  on_step body next l is e = on_plain body next l StepLine is tt e
 
-abbrev Behind : Top → Owner → List StepValue → StepValue → BlockValue → State
-Behind top owner steps st block = At (Inside top (Bodied owner (Stepped steps (with_block st block))))
+  on_row_under : (steps : List StepValue) (st : StepValue) (next : Body) (l : LineValue) → class l ≡ RowLine → on_body (Stepped steps st) l RowLine ≡ Ok next → step (at (Stepped steps st)) l ≡ Ok (at next)
+  on_row_under steps st next l is e = on_plain (Stepped steps st) next l RowLine is tt e
 
-run_row : {ls rest : Lines} (top : Top) (owner : Owner) (steps : List StepValue) (st : StepValue) (block next : BlockValue) (row : RowValue) → (i : IsRow ls row rest) → on_block block i.line ≡ Ok next → run (Behind top owner steps st block) ls ≡ run (Behind top owner steps st next) rest
-unfolding on_open on_body
-run_row top owner steps st block next row i e =
-    run_plain top (Bodied owner (Stepped steps (with_block st block))) (Bodied owner (Stepped steps (with_block st next))) i.line RowLine i.next i.is tt
-    (ap (λ (r : Result BlockValue ReadFault). let r : Result Body ReadFault = r >>= λ block. Ok (Stepped steps (with_block st block)) in r >>= λ next. Ok (Bodied owner next)) e)
+  on_fence_under : (steps : List StepValue) (st : StepValue) (l : LineValue) (fence : Fence) → class l ≡ FenceLine fence → st.block ≡ Empty → step (at (Stepped steps st)) l ≡ Ok (quoted steps st fence l.column l.line None)
+  unfolding step on
+  on_fence_under steps st l fence is empty =
+      ap (on (at (Stepped steps st)) l) is
+      ∙ ap (λ (block : BlockValue). on_fence (quote_by block (record { top = top; owner = owner; steps = steps; step = st })) (Inside top (Bodied owner (Stepped steps st))) l fence) empty
 
-run_rows : {ls rest : Lines} {rows : List RowValue} (top : Top) (owner : Owner) (steps : List StepValue) (st : StepValue) (first : List (List ℕ)) (others : List (List (List ℕ))) → Many IsRow ls rows rest → AllAre (length first) rows
-    → run (Behind top owner steps st (Table (first ∷ others))) ls ≡ run (Behind top owner steps st (Table (first ∷ others ++ cells_in rows))) rest
-unfolding AllAre on_block
-run_rows {rest = rest} top owner steps st first others none w = ap (λ (cells : List (List (List ℕ))). run (Behind top owner steps st (Table (first ∷ cells))) rest) (sym (append-nil others))
-run_rows {rest = rest} top owner steps st first others (more {x = x} {xs = xs} p many) w =
-    run_row top owner steps st (Table (first ∷ others)) (Table (first ∷ others ++ x.cells ∷ [])) x p (ap (λ (r : Result (List (List ℕ)) ReadFault). r >>= λ cells. let b : Result BlockValue ReadFault = Ok (Table (first ∷ others ++ cells ∷ [])) in b) (row_takes (Some (length first)) p.line x.cells p.cells w.0))
-    ∙ run_rows top owner steps st first (others ++ x.cells ∷ []) many w.1
-    ∙ ap (λ (cells : List (List (List ℕ))). run (Behind top owner steps st (Table (first ∷ cells))) rest) (append_assoc others (x.cells ∷ []) (cells_in xs))
+  on_line : (b : Bool) (steps : List StepValue) (st : StepValue) (fence : Fence) (column n : ℕ) (texts : Option (List ℕ)) (l : LineValue) → closes fence l ≡ b → step (quoted steps st fence column n texts) l ≡ Ok (in_quote b (record { top = top; owner = owner; steps = steps; step = st }) fence column n texts l)
+  unfolding step on
+  on_line b steps st fence column n texts l e = ap (λ (b : Bool). let r : Read = Ok (in_quote b (record { top = top; owner = owner; steps = steps; step = st }) fence column n texts l) in r) e
 
-run_table : {ls rest : Lines} {rows : List RowValue} (top : Top) (owner : Owner) (steps : List StepValue) (st : StepValue) → Many IsRow ls rows rest → AreOfOneWidth rows
-    → run (Behind top owner steps st Empty) ls ≡ run (Behind top owner steps st (Table (cells_in rows))) rest
-unfolding AllAre on_block
-run_table top owner steps st none w = absurd w
-run_table top owner steps st (more {x = x} {xs = xs} p many) w =
-    run_row top owner steps st Empty (Table (x.cells ∷ [])) x p (ap (λ (r : Result (List (List ℕ)) ReadFault). r >>= λ cells. let b : Result BlockValue ReadFault = Ok (Table (cells ∷ [])) in b) (row_takes None p.line x.cells p.cells tt))
-    ∙ run_rows top owner steps st x.cells [] many w
+  on_closing : (steps : List StepValue) (st : StepValue) (fence : Fence) (column n : ℕ) (texts : Option (List ℕ)) (l : LineValue) → closes fence l ≡ true → step (quoted steps st fence column n texts) l ≡ Ok (at (Stepped steps (with_block st (Text (whole_text texts)))))
+  on_closing steps st fence column n texts l e = on_line true steps st fence column n texts l e
 
--- doc strings
-quote_for : Top → Owner → List StepValue → StepValue → QuoteValue
-quote_for top owner steps st = record { top = top; owner = owner; steps = steps; step = with_block st Empty }
-
-quote_line : (quote : QuoteValue) (fence : Fence) (column n : ℕ) (texts : Option (List ℕ)) (l : LineValue) (rest : Lines) (b : Bool) → closes fence l ≡ b → run (Quoted quote fence column n texts) (l ∷ rest) ≡ run (in_quote b quote fence column n texts l) rest
-unfolding on
-quote_line quote fence column n texts l rest b e = run_over (Quoted quote fence column n texts) (in_quote b quote fence column n texts l) l rest (ap (λ (b : Bool). let r : Read = Ok (in_quote b quote fence column n texts l) in r) e)
-
-run_quote : (quote : QuoteValue) (fence : Fence) (column n : ℕ) (texts : List (List ℕ)) (content : Lines) (closing : LineValue) (rest : Lines) → AllByRecursion (λ line. closes fence line ≡ false) content → closes fence closing ≡ true
-    → run (Quoted quote fence column n (joined texts)) (content ++ closing ∷ rest) ≡ run (At (after_quote quote (joined (texts ++ map (content_of fence (column - 1)) content)))) rest
-run_quote quote fence column n texts [] closing rest a c =
-    quote_line quote fence column n (joined texts) closing rest true c ∙ ap (λ (texts : List (List ℕ)). run (At (after_quote quote (joined texts))) rest) (sym (append-nil texts))
-run_quote quote fence column n texts (l ∷ content) closing rest a c =
-    let text = content_of fence (column - 1) l in
-    quote_line quote fence column n (joined texts) l (content ++ closing ∷ rest) false a.0
-    ∙ ap (λ (texts : Option (List ℕ)). run (Quoted quote fence column n texts) (content ++ closing ∷ rest)) (joined_push texts text)
-    ∙ run_quote quote fence column n (texts ++ text ∷ []) content closing rest a.1 c
-    ∙ ap (λ (texts : List (List ℕ)). run (At (after_quote quote (joined texts))) rest) (append_assoc texts (text ∷ []) (map (content_of fence (column - 1)) content))
-
-run_doc_string : {ls rest : Lines} {text : List ℕ} (top : Top) (owner : Owner) (steps : List StepValue) (st : StepValue) → IsDocString ls text rest → run (Behind top owner steps st Empty) ls ≡ run (Behind top owner steps st (Text text)) rest
-unfolding on quote_for doc_string
-run_doc_string {rest = rest} top owner steps st i =
-    let quote = quote_for top owner steps st in
-    let o = i.opening in
-    run_next (Behind top owner steps st Empty) (Quoted quote i.fence o.column o.line None) o (FenceLine i.fence) tt i.next i.is refl
-    ∙ run_quote quote i.fence o.column o.line [] i.content i.closing rest i.inside i.closed
-    ∙ ap (λ (text : List ℕ). run (Behind top owner steps st (Text text)) rest) (joined_text (map (content_of i.fence (o.column - 1)) i.content) ∙ sym i.says)
-
-run_block : (ls rest : Lines) (top : Top) (owner : Owner) (steps : List StepValue) (st : StepValue) (block : BlockValue) → IsBlock ls block rest → run (Behind top owner steps st Empty) ls ≡ run (Behind top owner steps st block) rest
-run_block ls rest top owner steps st Empty i = ap (run (Behind top owner steps st Empty)) i
-run_block ls rest top owner steps st (Text text) i = run_doc_string top owner steps st i
-run_block ls rest top owner steps st (Table cells) i = run_table top owner steps st i.1.lines i.1.width ∙ ap (λ (cells : List (List (List ℕ))). run (Behind top owner steps st (Table cells)) rest) (sym i.2)
-
-type_before : Body → StepType
-type_before Describing = Given
-type_before (Stepped steps st) = st.step_type
-
-takes_step : (body : Body) (l : LineValue) → on_body body l StepLine ≡ Ok (Stepped (steps_of body) (step_from (type_before body) l))
-unfolding on_body type_before
-takes_step Describing l = refl
-takes_step (Stepped steps st) l = refl
-
-run_step : {ls rest : Lines} (top : Top) (owner : Owner) (body : Body) (st : StepValue) → IsStep ls st rest → st.step_type ≡ type_after (type_before body) st.keyword
-    → run (At (Inside top (Bodied owner body))) ls ≡ run (At (Inside top (Bodied owner (Stepped (steps_of body) st)))) rest
-unfolding on_open
-run_step {ls} {rest} top owner body st i ty =
-    let l = i.line.line in
-    let taken : on_body body l StepLine ≡ Ok (Stepped (steps_of body) (with_block st Empty)) = takes_step body l ∙ ap (λ (st : StepValue). let r : Result Body ReadFault = Ok (Stepped (steps_of body) st) in r) (same_step st (type_before body) l i.line.keyword ty i.line.text i.line.number) in
-    run_plain top (Bodied owner body) (Bodied owner (Stepped (steps_of body) (with_block st Empty))) l StepLine i.line.next i.line.is tt (ap (λ (r : Result Body ReadFault). r >>= λ next. Ok (Bodied owner next)) taken)
-    ∙ run_block i.after_line rest top owner (steps_of body) st st.block i.block
-
-run_steps : {ls rest : Lines} {sts : List StepValue} (top : Top) (owner : Owner) (body : Body) → Many IsStep ls sts rest → AreTypedAfter (type_before body) sts
-    → (next : Body) × (run (At (Inside top (Bodied owner body))) ls ≡ run (At (Inside top (Bodied owner next))) rest) × (steps_of next ≡ steps_of body ++ sts)
-unfolding type_before
-run_steps top owner body none ty = (body, refl, sym (append-nil (steps_of body)))
-run_steps top owner body (more {x = st} {xs = sts} p many) ty =
-    let r = run_steps top owner (Stepped (steps_of body) st) many ty.1 in
-    (r.0, run_step top owner body st p ty.0 ∙ r.1, r.2 ∙ append_assoc (steps_of body) (st ∷ []) sts)
+  on_content : (steps : List StepValue) (st : StepValue) (fence : Fence) (column n : ℕ) (texts : Option (List ℕ)) (l : LineValue) → closes fence l ≡ false → step (quoted steps st fence column n texts) l ≡ Ok (quoted steps st fence column n (text_after texts fence column l))
+  on_content steps st fence column n texts l e = on_line false steps st fence column n texts l e
 
 run_body : {ls mid rest : Lines} {sts : List StepValue} (top : Top) (owner : Owner) → Describes MayDescribeScenario ls mid → AreSteps mid sts rest
     → (body : Body) × (run (At (Inside top (Bodied owner Describing))) ls ≡ run (At (Inside top (Bodied owner body))) rest) × (steps_of body ≡ sts)
-unfolding type_before
 run_body top owner d s =
-    let r = run_steps top owner Describing s.parts s.types in
+    let r = run_steps step (at top owner) (quoted top owner) (quiet_at top owner) (on_step top owner) (on_row_under top owner) (on_fence_under top owner) (on_closing top owner) (on_content top owner) Describing s.parts s.types in
     (r.0, run_describes top (Bodied owner Describing) (stays_bodied owner) d ∙ r.1, r.2)
 
 -- what a heading says
@@ -312,7 +239,7 @@ same_row row l n = rw (← n) refl
 
 run_grid : {ls rest : Lines} {more_rows : List RowValue} (top : Top) (section : SectionValue) (s : ScenarioValue) (head : HeadValue) (header : List (List ℕ)) (rows : List RowValue) → Many IsRow ls more_rows rest → AllAre (length header) more_rows
     → run (At (Inside top (Exampled section s head (Rows header rows)))) ls ≡ run (At (Inside top (Exampled section s head (Rows header (rows ++ more_rows))))) rest
-unfolding AllAre on_grid
+unfolding on_grid
 run_grid {rest = rest} top section s head header rows none w = ap (λ (rows : List RowValue). run (At (Inside top (Exampled section s head (Rows header rows)))) rest) (sym (append-nil rows))
 run_grid {rest = rest} top section s head header rows (more {x = x} {xs = xs} p many) w =
     let taken : on_grid (Rows header rows) p.line RowLine ≡ Ok (Rows header (rows ++ x ∷ [])) =
@@ -331,7 +258,6 @@ run_table_of top section s head first rows (more p many) w =
 
 run_has_table : (ls rest : Lines) (top : Top) (section : SectionValue) (s : ScenarioValue) (head : HeadValue) (header : List (List ℕ)) (rows : List RowValue) → HasTable ls header rows rest
     → (grid : Grid) × (run (At (Inside top (Exampled section s head NoRows))) ls ≡ run (At (Inside top (Exampled section s head grid))) rest) × (header_of grid ≡ header) × (rows_of grid ≡ rows)
-unfolding AllAre
 run_has_table ls rest top section s head header rows (inl e) = (NoRows, ap (run (At (Inside top (Exampled section s head NoRows)))) e.2, sym e.0, sym e.1)
 run_has_table ls rest top section s head header rows (inr t) = (Rows t.0.cells rows, run_table_of top section s head t.0 rows t.2.lines t.2.width, sym t.1, refl)
 

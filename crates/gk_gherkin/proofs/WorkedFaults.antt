@@ -8,7 +8,12 @@ use Rattle.gk_gherkin.specs.declared.class.Fence.{Fence}
 use Rattle.gk_gherkin.specs.declared.class.Fence.TheVariants.{Quotes, Backticks}
 use Rattle.gk_gherkin.specs.Class.{class, fence_text}
 use Rattle.gk_gherkin.specs.Grammar.{IsReadable}
-use Rattle.gk_gherkin.specs.ReadFault.{SomeLikeIt, NoneLikeIt, IsBadRow, IsOtherWidth, IsBadTag, StopsAt, EndsInDocString, EndsInTags}
+use Rattle.gk_gherkin.specs.ReadFault.{SomeLikeIt, NoneLikeIt, IsBadRow, IsOtherWidth, IsBadTag, StopsAt, EndsInDocString, EndsInTags, IsBadHook}
+use Rattle.gk_gherkin.specs.declared.class.Class.TheVariants.{RowLine}
+use Rattle.gk_gherkin.specs.declared.hook_headings.HooksClass.TheVariants.{HookLine, Plain}
+use Rattle.gk_gherkin.specs.HookHeadings.{hooks_class}
+use Rattle.gk_gherkin.specs.HooksGrammar.{AreHooksReadable}
+use Rattle.gk_gherkin.proofs.HookClasses.{class_plain}
 
 -- Where a list is cut at two places: these are the same, or one lies after the other.
 data Cuts (a b : Lines) (x y : LineValue) : Type 0 where
@@ -29,6 +34,11 @@ cuts [] [] more others x y e = same cc
 cuts [] (l ∷ b) more others x y e = first b cc
 cuts (l ∷ a) [] more others x y e = second a cc
 cuts (l ∷ a) (k ∷ b) more others x y e = subst (λ k. Cuts (l ∷ a) (k ∷ b) x y) (head_same l k (a ++ x ∷ more) (b ++ y ∷ others) e) (further l a b x y (cuts a b more others x y cc))
+
+closing_line : (fence : Fence) → closes fence (line_at 1 (fence_text fence)) ≡ true
+unfolding closes
+closing_line Quotes = refl
+closing_line Backticks = refl
 
 module _ (Readable : Lines → Type 0) {C : Type 0} (kind : LineValue → C) where
   some_or_none : (before : Lines) (line : LineValue) → NoneLikeIt Readable kind before line → SomeLikeIt Readable kind before line → ⊥
@@ -67,6 +77,10 @@ module _ (Readable : Lines → Type 0) {C : Type 0} (kind : LineValue → C) whe
   no_fault : (ls : Lines) (n : ℕ) (F : Lines → LineValue → Type 0) (extra : LineValue) → StopsAt Readable kind ls n F → Readable (ls ++ extra ∷ []) → ⊥
   no_fault ls n F extra f readable = not_before f.before f.after f.line f.stops (inr (extra, subst (λ t. Readable (t ++ extra ∷ [])) f.whole readable))
 
+  -- lines that end in a doc string have no faulty line
+  no_fault_in_doc_string : (ls : Lines) (n m : ℕ) (F : Lines → LineValue → Type 0) → StopsAt Readable kind ls n F → EndsInDocString Readable kind ls m → ⊥
+  no_fault_in_doc_string ls n m F f ends = no_fault ls n F (line_at 1 (fence_text ends.fence)) f (ends.closed (line_at 1 (fence_text ends.fence)) (closing_line ends.fence))
+
 -- a tag line that can't stand there is no bad tag
 unexpected_before_bad_tag : (before : Lines) (line : LineValue) → NoneLikeIt IsReadable class before line → IsBadTag before line → ⊥
 unexpected_before_bad_tag before line none bad = some_or_none IsReadable class before line none bad.fits
@@ -75,11 +89,15 @@ unexpected_before_bad_tag before line none bad = some_or_none IsReadable class b
 no_fault_before_end : (ls : Lines) (n m : ℕ) (F : Lines → LineValue → Type 0) → StopsAt IsReadable class ls n F → EndsInTags ls m → ⊥
 no_fault_before_end ls n m F f ends = no_fault IsReadable class ls n F ends.fits.0 f ends.fits.2
 
--- lines that end in a doc string have no faulty line
-closing_line : (fence : Fence) → closes fence (line_at 1 (fence_text fence)) ≡ true
-unfolding closes
-closing_line Quotes = refl
-closing_line Backticks = refl
+-- in a hooks file, a hook line that can't stand there is no bad hook, and a bad hook is no row
+unexpected_before_bad_hook : (before : Lines) (line : LineValue) → NoneLikeIt AreHooksReadable hooks_class before line → IsBadHook before line → ⊥
+unexpected_before_bad_hook before line none bad = some_or_none AreHooksReadable hooks_class before line none bad.fits
 
-no_fault_in_doc_string : (ls : Lines) (n m : ℕ) (F : Lines → LineValue → Type 0) → StopsAt IsReadable class ls n F → EndsInDocString IsReadable class ls m → ⊥
-no_fault_in_doc_string ls n m F f ends = no_fault IsReadable class ls n F (line_at 1 (fence_text ends.fence)) f (ends.closed (line_at 1 (fence_text ends.fence)) (closing_line ends.fence))
+no_row : (line : LineValue) → hooks_class line ≡ HookLine → class line ≡ RowLine → ⊥
+no_row line is row = let plain : hooks_class line ≡ Plain RowLine = class_plain line RowLine row (λ e. cc) in let no : ⊥ = cc in no
+
+bad_hook_before_bad_row : (before : Lines) (line : LineValue) → IsBadHook before line → IsBadRow AreHooksReadable hooks_class before line → ⊥
+bad_hook_before_bad_row before line bad row = no_row line bad.is row.is
+
+bad_hook_before_width : (before : Lines) (line : LineValue) → IsBadHook before line → IsOtherWidth AreHooksReadable hooks_class before line → ⊥
+bad_hook_before_width before line bad row = no_row line bad.is row.is

@@ -1,10 +1,10 @@
 //! Laws of the grammar: what its relations say of whole lists of lines.
 ghost use Rattle.gk_gherkin.specs.Grammar.{HasOneReading, IsConcatenation, IsFeature, IsRule, IsScenario, IsBackground, IsStep, AreExamples, IsTable, IsDocString};
-ghost use Rattle.gk_gherkin.specs.HooksGrammar.{HaveOneHooksReading};
+ghost use Rattle.gk_gherkin.specs.HooksGrammar.{IsHook, HaveOneHooksReading};
 
-/// A step, a table, a doc string, a background, examples, a scenario, a rule or a feature leads from
-/// some lines to a rest exactly where these are the part's own lines and then that rest. (the grammar
-/// of this project's profile)
+/// A step, a table, a doc string, a background, examples, a scenario, a rule, a feature or a hook leads
+/// from some lines to a rest exactly where these are the part's own lines and then that rest. (the
+/// grammar of this project's profile)
 pub fn parts_are_concatenations()
     ensures steps { IsConcatenation IsStep }
     ensures backgrounds { IsConcatenation IsBackground }
@@ -14,6 +14,7 @@ pub fn parts_are_concatenations()
     ensures doc_strings { IsConcatenation IsDocString }
     ensures rules { IsConcatenation IsRule }
     ensures features { IsConcatenation IsFeature }
+    ensures hooks { IsConcatenation IsHook }
 {}
 
 /// No list of lines says two different things as a hooks file. (the grammar of this project's profile)

@@ -1,4 +1,4 @@
-use Rattle.gk_gherkin.proofs.Prefixes.{examples_lines, table_lines, doc_string_lines, step_lines, background_lines, scenario_lines, rule_lines, feature_lines}
+use Rattle.gk_gherkin.proofs.Prefixes.{examples_lines, table_lines, doc_string_lines, hook_lines, step_lines, background_lines, scenario_lines, rule_lines, feature_lines}
 use Rattle.gk_gherkin.proofs.grammar.parts_are_concatenations.Goals as goal
 
 pub returns-clause-steps : goal.returns-clause-steps
@@ -24,3 +24,6 @@ returns-clause-tables c = table_lines
 
 pub returns-clause-doc_strings : goal.returns-clause-doc_strings
 returns-clause-doc_strings c = doc_string_lines
+
+pub returns-clause-hooks : goal.returns-clause-hooks
+returns-clause-hooks c = hook_lines
