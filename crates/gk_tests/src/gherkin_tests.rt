@@ -1,5 +1,6 @@
 use gk_gherkin::{
-    Block, Examples, Feature, LIMIT, ReadFault, Step, read_feature, read_lines, trim_back,
+    Block, Examples, Feature, HookKind, LIMIT, ReadFault, Step, read_feature, read_hooks,
+    read_lines, trim_back,
 };
 use std::alloc::Global;
 use std::fmt::Write as _;
@@ -86,7 +87,8 @@ const REFUSED: [(&[u8], ReadFault); 11] = [
 ];
 
 // A fault, its line and its text.
-const FAULTS: [(ReadFault, Option<u32>, &str); 8] = [
+const FAULTS: [(ReadFault, Option<u32>, &str); 9] = [
+    (ReadFault::BadHook { line: 7 }, Some(7), "bad hook heading"),
     (ReadFault::NotUtf8 { line: 2 }, Some(2), "not UTF-8"),
     (
         ReadFault::Unexpected { line: 2 },
@@ -314,5 +316,104 @@ fn trims_blanks_at_the_end(rt: HostRuntime) -> Result<(), Fail> {
     for (text, trimmed) in cases {
         assert_eq!(rt; trim_back(text), trimmed);
     }
+    Ok(())
+}
+
+// A hooks file that has every construct.
+const HOOKS: &str =
+    "# language: de\nbefore_all:\n  Given a\n    | x | |\n\n  And b\n    \"\"\"\n    after_all:\n    \"\"\"\nafter_all:\nbefore_feature:\nafter_feature:\nbefore_scenario:\nafter_scenario:\nbefore_tag @a:b:\n  * c\nafter_tag\t @a:\nafter_tag @b:\n";
+
+// What it reads as.
+const SHOWN_HOOKS: &str =
+    "HookFile { hooks: [Hook { kind: BeforeAll, tag: None, line: 2, steps: [Step { keyword: \"Given\", step_type: Given, text: \"a\", block: Table([[\"x\", \"\"]]), line: 3 }, Step { keyword: \"And\", step_type: Given, text: \"b\", block: Text(\"after_all:\"), line: 6 }] }, Hook { kind: AfterAll, tag: None, line: 10, steps: [] }, Hook { kind: BeforeFeature, tag: None, line: 11, steps: [] }, Hook { kind: AfterFeature, tag: None, line: 12, steps: [] }, Hook { kind: BeforeScenario, tag: None, line: 13, steps: [] }, Hook { kind: AfterScenario, tag: None, line: 14, steps: [] }, Hook { kind: BeforeTag, tag: Some(\"@a:b\"), line: 15, steps: [Step { keyword: \"*\", step_type: Given, text: \"c\", block: Empty, line: 16 }] }, Hook { kind: AfterTag, tag: Some(\"@a\"), line: 17, steps: [] }, Hook { kind: AfterTag, tag: Some(\"@b\"), line: 18, steps: [] }] }";
+
+#[test]
+fn reads_each_hook(rt: HostRuntime) -> Result<(), Fail> {
+    let file = read_hooks(rt.alloc(), HOOKS.as_bytes())?;
+    let shown = format!(in rt.alloc(); "{file:?}")?;
+    assert_eq!(rt; shown.as_str(), SHOWN_HOOKS);
+    assert_eq!(rt; read_hooks(rt.alloc(), b"")?.hooks.is_empty(), true);
+    Ok(())
+}
+
+// Bytes of hooks files, and why they are refused.
+const REFUSED_HOOKS: [(&[u8], ReadFault); 14] = [
+    (b"before_all:\n\xFF", ReadFault::NotUtf8 { line: 2 }),
+    (b"# c\nGiven x", ReadFault::Unexpected { line: 2 }),
+    (b"before_all:\n@a", ReadFault::Unexpected { line: 2 }),
+    (
+        b"before_all:\nFeature: a",
+        ReadFault::Unexpected { line: 2 },
+    ),
+    (b"before_all:\n|a|", ReadFault::Unexpected { line: 2 }),
+    (b"before_rule:", ReadFault::BadHook { line: 1 }),
+    (b"\nafter_step:", ReadFault::BadHook { line: 2 }),
+    (b"before_all :", ReadFault::BadHook { line: 1 }),
+    (b"before_tag @a @b:", ReadFault::BadHook { line: 1 }),
+    (
+        b"before_all:\nafter_all:\nbefore_all:",
+        ReadFault::BadHook { line: 3 },
+    ),
+    (
+        b"before_tag @a:\nGiven x\nbefore_tag\t@a:",
+        ReadFault::BadHook { line: 3 },
+    ),
+    (
+        b"before_all:\nGiven x\n|a|\n|b",
+        ReadFault::BadRow { line: 4 },
+    ),
+    (
+        b"before_all:\nGiven x\n|a|\n|b|c|",
+        ReadFault::CellCount { line: 4 },
+    ),
+    (
+        b"before_all:\nGiven x\n```\nafter_all:",
+        ReadFault::UnclosedText { line: 3 },
+    ),
+];
+
+#[test]
+fn refuses_hooks(rt: HostRuntime) -> Result<(), Fail> {
+    for (bytes, fault) in REFUSED_HOOKS {
+        assert_eq!(rt; read_hooks(rt.alloc(), bytes).err(), Some(fault));
+    }
+    Ok(())
+}
+
+#[test]
+fn each_prefix_of_hooks_is_read_or_refused(rt: HostRuntime) -> Result<(), Fail> {
+    for end in 0..=HOOKS.len() {
+        if let Err(fault) = read_hooks(rt.alloc(), &HOOKS.as_bytes()[..end]) {
+            assert_eq!(rt; fault == ReadFault::Memory, false);
+            assert_eq!(rt; fault.line().is_some(), true);
+        }
+    }
+    Ok(())
+}
+
+#[test]
+fn reads_long_hooks_files(rt: HostRuntime) -> Result<(), Fail> {
+    let mut comment = text(rt.alloc(), "################", LIMIT / 16)?;
+    assert_eq!(rt; read_hooks(rt.alloc(), comment.as_bytes())?.hooks.len(), 0);
+    comment.push_str("#")?;
+    assert_eq!(rt;
+        read_hooks(rt.alloc(), comment.as_bytes()).err(),
+        Some(ReadFault::TooLong)
+    );
+    let mut steps = text(rt.alloc(), "before_tag @a:\n", 1)?;
+    steps.push_str(text(rt.alloc(), "* x\n", 70_000)?.as_str())?;
+    let file = read_hooks(rt.alloc(), steps.as_bytes())?;
+    match file.hooks.as_slice().first() {
+        Some(hook) => {
+            assert_eq!(rt; hook.kind, HookKind::BeforeTag);
+            assert_eq!(rt; hook.steps.len(), 70_000);
+        }
+        None => return Err(Fail::from("no hook")),
+    }
+    let mut many = String::new(rt.alloc());
+    for number in 0..1_000 {
+        write!(many, "after_tag @{number}:\n* x\n")?;
+    }
+    assert_eq!(rt; read_hooks(rt.alloc(), many.as_bytes())?.hooks.len(), 1_000);
     Ok(())
 }
