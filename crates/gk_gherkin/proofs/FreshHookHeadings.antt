@@ -20,45 +20,45 @@ use Rattle.gk_gherkin.proofs.HookHeadingsDecided.{IsFresh}
 use Rattle.gk_gherkin.proofs.RowStops.{line_of}
 
 -- the last byte of a text
-module _ (front : List ℕ) (b : ℕ) where
-  long : length (front ++ b ∷ []) ≡ length front + 1
-  long = length-append front (b ∷ [])
+module _ (prefix : List ℕ) (b : ℕ) where
+  long : length (prefix ++ b ∷ []) ≡ length prefix + 1
+  long = length-append prefix (b ∷ [])
 
-last_at : (front : List ℕ) (b : ℕ) → get_or (front ++ b ∷ []) (length front) 0 ≡ b
+last_at : (prefix : List ℕ) (b : ℕ) → get_or (prefix ++ b ∷ []) (length prefix) 0 ≡ b
 last_at [] b = refl
-last_at (x ∷ front) b = last_at front b
+last_at (x ∷ prefix) b = last_at prefix b
 
-rest_at : (front : List ℕ) (b : ℕ) → drop (length front) (front ++ b ∷ []) ≡ b ∷ []
+rest_at : (prefix : List ℕ) (b : ℕ) → drop (length prefix) (prefix ++ b ∷ []) ≡ b ∷ []
 rest_at [] b = refl
-rest_at (x ∷ front) b = rest_at front b
+rest_at (x ∷ prefix) b = rest_at prefix b
 
-front_at : (front : List ℕ) (b : ℕ) → take (length front) (front ++ b ∷ []) ≡ front
-front_at [] b = refl
-front_at (x ∷ front) b = ap (λ (xs : List ℕ). x ∷ xs) (front_at front b)
+prefix_at : (prefix : List ℕ) (b : ℕ) → take (length prefix) (prefix ++ b ∷ []) ≡ prefix
+prefix_at [] b = refl
+prefix_at (x ∷ prefix) b = ap (λ (xs : List ℕ). x ∷ xs) (prefix_at prefix b)
 
-one_less : (front : List ℕ) (b : ℕ) → length (front ++ b ∷ []) - 1 ≡ length front
-one_less front b = omega (arith, long front b)
+one_less : (prefix : List ℕ) (b : ℕ) → length (prefix ++ b ∷ []) - 1 ≡ length prefix
+one_less prefix b = omega (arith, long prefix b)
 
-last_byte : (front : List ℕ) (b : ℕ) → get_or (front ++ b ∷ []) (length (front ++ b ∷ []) - 1) 0 ≡ b
-last_byte front b = ap (λ (n : ℕ). get_or (front ++ b ∷ []) n 0) (one_less front b) ∙ last_at front b
+last_byte : (prefix : List ℕ) (b : ℕ) → get_or (prefix ++ b ∷ []) (length (prefix ++ b ∷ []) - 1) 0 ≡ b
+last_byte prefix b = ap (λ (n : ℕ). get_or (prefix ++ b ∷ []) n 0) (one_less prefix b) ∙ last_at prefix b
 
-some_bytes : (front : List ℕ) (b : ℕ) → 0 < length (front ++ b ∷ [])
-some_bytes front b = omega (arith, long front b)
+some_bytes : (prefix : List ℕ) (b : ℕ) → 0 < length (prefix ++ b ∷ [])
+some_bytes prefix b = omega (arith, long prefix b)
 
-no_blank_end : (front : List ℕ) (b : ℕ) → is_blank b ≡ false → trim_back (front ++ b ∷ []) ≡ front ++ b ∷ []
-no_blank_end front b k =
-    let text = front ++ b ∷ [] in
+no_blank_end : (prefix : List ℕ) (b : ℕ) → is_blank b ≡ false → trim_back (prefix ++ b ∷ []) ≡ prefix ++ b ∷ []
+no_blank_end prefix b k =
+    let text = prefix ++ b ∷ [] in
     let whole : take (length text) text ≡ text = take_all (length text) text (omega arith) in
-    let none : suffix_len is_blank (take (length text) text) ≡ 0 = suffix_len-take_no is_blank text (length text) 0 (some_bytes front b) (omega arith) (ap is_blank (last_byte front b) ∙ k) in
+    let none : suffix_len is_blank (take (length text) text) ≡ 0 = suffix_len-take_no is_blank text (length text) 0 (some_bytes prefix b) (omega arith) (ap is_blank (last_byte prefix b) ∙ k) in
     let zero : suffix_len is_blank text ≡ 0 = sym (ap (suffix_len is_blank) whole) ∙ none in
     let same : length text - suffix_len is_blank text ≡ length text = omega (arith, zero) in
     ap (λ (n : ℕ). take n text) same ∙ whole
 
-ends_so : (front : List ℕ) → ends_with nat_eq (front ++ 58 ∷ []) (58 ∷ []) ≡ true
-ends_so front = ap (λ (n : ℕ). pointwise nat_eq (58 ∷ []) (drop n (front ++ 58 ∷ []))) (one_less front 58) ∙ ap (pointwise nat_eq (58 ∷ [])) (rest_at front 58)
+ends_so : (prefix : List ℕ) → ends_with nat_eq (prefix ++ 58 ∷ []) (58 ∷ []) ≡ true
+ends_so prefix = ap (λ (n : ℕ). pointwise nat_eq (58 ∷ []) (drop n (prefix ++ 58 ∷ []))) (one_less prefix 58) ∙ ap (pointwise nat_eq (58 ∷ [])) (rest_at prefix 58)
 
-before_colon : (front : List ℕ) → before_last is_colon (front ++ 58 ∷ []) ≡ front
-before_colon front = but_last (front ++ 58 ∷ []) (some_bytes front 58) (last_byte front 58) ∙ ap (λ (n : ℕ). take n (front ++ 58 ∷ [])) (one_less front 58) ∙ front_at front 58
+before_colon : (prefix : List ℕ) → before_last is_colon (prefix ++ 58 ∷ []) ≡ prefix
+before_colon prefix = but_last (prefix ++ 58 ∷ []) (some_bytes prefix 58) (last_byte prefix 58) ∙ ap (λ (n : ℕ). take n (prefix ++ 58 ∷ [])) (one_less prefix 58) ∙ prefix_at prefix 58
 
 -- tags of any length
 letters : ℕ → List ℕ
@@ -98,18 +98,18 @@ tag_stands n =
     (and_true (is_tag (64 ∷ 97 ∷ letters n)) (list_all (λ b. not (is_blank b)) (64 ∷ 97 ∷ letters n)) (two_bytes n) (no_blanks n))
 
 -- the heading with such a tag
-heading_front : ℕ → List ℕ
-heading_front n = codes "before_tag @a" ++ letters n
+heading_prefix : ℕ → List ℕ
+heading_prefix n = codes "before_tag @a" ++ letters n
 
 heading_text : ℕ → List ℕ
-heading_text n = heading_front n ++ 58 ∷ []
+heading_text n = heading_prefix n ++ 58 ∷ []
 
 trimmed : (n : ℕ) → trim (heading_text n) ≡ heading_text n
-unfolding heading_text heading_front
+unfolding heading_text heading_prefix
 trimmed n = no_blank_end (codes "before_tag @a" ++ letters n) 58 refl
 
 tag_found : (n : ℕ) → tag_between (codes "before_tag") (heading_text n) ≡ Some (tag_of n)
-unfolding heading_text heading_front tag_of
+unfolding heading_text heading_prefix tag_of
 tag_found n =
     let text = codes "before_tag @a" ++ (letters n ++ 58 ∷ []) in
     let ends : ends_with nat_eq text (58 ∷ []) ≡ true = ends_so (codes "before_tag @a" ++ letters n) in
@@ -124,11 +124,11 @@ pub fresh_line : ℕ → LineValue
 fresh_line n = line_of (heading_text n)
 
 pub fresh_class : (n : ℕ) → hooks_class (fresh_line n) ≡ HookLine
-unfolding hooks_class fresh_line heading_text heading_front
+unfolding hooks_class fresh_line heading_text heading_prefix
 fresh_class n = ap (λ (t : List ℕ). let r : HooksClass = cond (begins t (codes "before_") || begins t (codes "after_")) HookLine (Plain (class (fresh_line n))) in r) (trimmed n)
 
 no_plain : (n : ℕ) → plain_heading (heading_text n) ≡ None
-unfolding heading_text heading_front
+unfolding heading_text heading_prefix
 no_plain n = refl
 
 pub fresh_heading : (n : ℕ) → hook_heading (fresh_line n) ≡ Some (heading_with n)

@@ -71,24 +71,24 @@ module _ {S : Type 0} (step : S → LineValue → Result S ReadFault) (at : Body
     pub run_next : {ls rest : Lines} (body : Body) (t : S) (l : LineValue) → Next IsIgnored ls l rest → step (at body) l ≡ Ok t → run_by step (at body) ls ≡ run_by step t rest
     run_next {ls} {rest} body t l n e = run_skips body n ∙ run_over step (at body) t l rest e
 
-    abbrev Behind : List StepValue → StepValue → BlockValue → S
-    Behind steps st block = at (Stepped steps (with_block st block))
+    abbrev Under : List StepValue → StepValue → BlockValue → S
+    Under steps st block = at (Stepped steps (with_block st block))
 
-    run_row : {ls rest : Lines} (steps : List StepValue) (st : StepValue) (block next : BlockValue) (row : RowValue) → (i : IsRow ls row rest) → on_block block i.line ≡ Ok next → run_by step (Behind steps st block) ls ≡ run_by step (Behind steps st next) rest
+    run_row : {ls rest : Lines} (steps : List StepValue) (st : StepValue) (block next : BlockValue) (row : RowValue) → (i : IsRow ls row rest) → on_block block i.line ≡ Ok next → run_by step (Under steps st block) ls ≡ run_by step (Under steps st next) rest
     run_row steps st block next row i e =
-        run_next (Stepped steps (with_block st block)) (Behind steps st next) i.line i.next (on_row_under steps (with_block st block) (Stepped steps (with_block st next)) i.line i.is (takes_row steps (with_block st block) i.line next e))
+        run_next (Stepped steps (with_block st block)) (Under steps st next) i.line i.next (on_row_under steps (with_block st block) (Stepped steps (with_block st next)) i.line i.is (takes_row steps (with_block st block) i.line next e))
 
     run_rows : {ls rest : Lines} {rows : List RowValue} (steps : List StepValue) (st : StepValue) (first : List (List ℕ)) (others : List (List (List ℕ))) → Many IsRow ls rows rest → AllAre (length first) rows
-        → run_by step (Behind steps st (Table (first ∷ others))) ls ≡ run_by step (Behind steps st (Table (first ∷ others ++ cells_in rows))) rest
+        → run_by step (Under steps st (Table (first ∷ others))) ls ≡ run_by step (Under steps st (Table (first ∷ others ++ cells_in rows))) rest
     unfolding on_block
-    run_rows {rest = rest} steps st first others none w = ap (λ (cells : List (List (List ℕ))). run_by step (Behind steps st (Table (first ∷ cells))) rest) (sym (append-nil others))
+    run_rows {rest = rest} steps st first others none w = ap (λ (cells : List (List (List ℕ))). run_by step (Under steps st (Table (first ∷ cells))) rest) (sym (append-nil others))
     run_rows {rest = rest} steps st first others (more {x = x} {xs = xs} p many) w =
         run_row steps st (Table (first ∷ others)) (Table (first ∷ others ++ x.cells ∷ [])) x p (ap (λ (r : Result (List (List ℕ)) ReadFault). r >>= λ cells. let b : Result BlockValue ReadFault = Ok (Table (first ∷ others ++ cells ∷ [])) in b) (row_takes (Some (length first)) p.line x.cells p.cells w.0))
         ∙ run_rows steps st first (others ++ x.cells ∷ []) many w.1
-        ∙ ap (λ (cells : List (List (List ℕ))). run_by step (Behind steps st (Table (first ∷ cells))) rest) (append_assoc others (x.cells ∷ []) (cells_in xs))
+        ∙ ap (λ (cells : List (List (List ℕ))). run_by step (Under steps st (Table (first ∷ cells))) rest) (append_assoc others (x.cells ∷ []) (cells_in xs))
 
     run_table : {ls rest : Lines} {rows : List RowValue} (steps : List StepValue) (st : StepValue) → Many IsRow ls rows rest → AreOfOneWidth rows
-        → run_by step (Behind steps st Empty) ls ≡ run_by step (Behind steps st (Table (cells_in rows))) rest
+        → run_by step (Under steps st Empty) ls ≡ run_by step (Under steps st (Table (cells_in rows))) rest
     unfolding on_block
     run_table steps st none w = absurd w
     run_table steps st (more {x = x} {xs = xs} p many) w =
@@ -107,19 +107,19 @@ module _ {S : Type 0} (step : S → LineValue → Result S ReadFault) (at : Body
         ∙ run_quote steps st fence column n (texts ++ text ∷ []) content closing rest a.1 c
         ∙ ap (λ (texts : List (List ℕ)). run_by step (at (Stepped steps (with_block st (Text (whole_text (joined texts)))))) rest) (append_assoc texts (text ∷ []) (map (content_of fence (column - 1)) content))
 
-    run_doc_string : {ls rest : Lines} {text : List ℕ} (steps : List StepValue) (st : StepValue) → IsDocString ls text rest → run_by step (Behind steps st Empty) ls ≡ run_by step (Behind steps st (Text text)) rest
+    run_doc_string : {ls rest : Lines} {text : List ℕ} (steps : List StepValue) (st : StepValue) → IsDocString ls text rest → run_by step (Under steps st Empty) ls ≡ run_by step (Under steps st (Text text)) rest
     unfolding doc_string
     run_doc_string {rest = rest} steps st i =
         let o = i.opening in
         let empty : StepValue = with_block st Empty in
         run_next (Stepped steps empty) (quoted steps empty i.fence o.column o.line None) o i.next (on_fence_under steps empty o i.fence i.is refl)
         ∙ run_quote steps empty i.fence o.column o.line [] i.content i.closing rest i.inside i.closed
-        ∙ ap (λ (text : List ℕ). run_by step (Behind steps st (Text text)) rest) (joined_text (map (content_of i.fence (o.column - 1)) i.content) ∙ sym i.says)
+        ∙ ap (λ (text : List ℕ). run_by step (Under steps st (Text text)) rest) (joined_text (map (content_of i.fence (o.column - 1)) i.content) ∙ sym i.says)
 
-    run_block : (ls rest : Lines) (steps : List StepValue) (st : StepValue) (block : BlockValue) → IsBlock ls block rest → run_by step (Behind steps st Empty) ls ≡ run_by step (Behind steps st block) rest
-    run_block ls rest steps st Empty i = ap (run_by step (Behind steps st Empty)) i
+    run_block : (ls rest : Lines) (steps : List StepValue) (st : StepValue) (block : BlockValue) → IsBlock ls block rest → run_by step (Under steps st Empty) ls ≡ run_by step (Under steps st block) rest
+    run_block ls rest steps st Empty i = ap (run_by step (Under steps st Empty)) i
     run_block ls rest steps st (Text text) i = run_doc_string steps st i
-    run_block ls rest steps st (Table cells) i = run_table steps st i.1.lines i.1.width ∙ ap (λ (cells : List (List (List ℕ))). run_by step (Behind steps st (Table cells)) rest) (sym i.2)
+    run_block ls rest steps st (Table cells) i = run_table steps st i.1.lines i.1.width ∙ ap (λ (cells : List (List (List ℕ))). run_by step (Under steps st (Table cells)) rest) (sym i.2)
 
     run_step : {ls rest : Lines} (body : Body) (st : StepValue) → IsStep ls st rest → st.step_type ≡ type_after (type_before body) st.keyword → run_by step (at body) ls ≡ run_by step (at (Stepped (steps_of body) st)) rest
     run_step {ls} {rest} body st i ty =
