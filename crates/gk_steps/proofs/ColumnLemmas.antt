@@ -1,9 +1,8 @@
 -- The steps that the code takes.
-use Rattle.std.proofs.Common.{◌≡◌, ℕ, zero, suc, cond, ◌==◌, ◌+◌, ◌-◌, ◌<◌, ◌≤◌, inl, inr, Bool, true, false, List, [], ◌∷◌, ◌++◌, length, take, drop, get_or, Option, Some, None, ap, sym, subst, ◌∙◌, arith, length-append, length-drop}
+use Rattle.std.proofs.Common.{◌≡◌, ℕ, zero, suc, ◌+◌, ◌-◌, ◌<◌, ◌≤◌, inl, inr, Bool, true, false, List, [], ◌∷◌, ◌++◌, length, take, drop, get_or, Option, Some, None, ap, sym, ◌∙◌, arith, length-append, length-drop}
 use Rattle.std.specs.Prelude.{IsUtf8}
 use Rattle.std.proofs.Math.Nat.{eq-or-lt_of_le}
 use Rattle.std.proofs.Math.Seq.{take-append_seam}
-use Rattle.std.proofs.lemmas.List.{get_or-take, get_or-drop}
 use Rattle.std.proofs.lemmas.Str.{IsUtf8-between, IsUtf8-string_bytes}
 use Rattle.gk_steps.specs.declared.pattern.FieldKind.TheVariants.{Plain, Decimal}
 use Rattle.std.specs.Prelude.{String, string_bytes}
@@ -13,10 +12,10 @@ use Rattle.gk_steps.specs.declared.pattern.Piece.{Piece}
 use Rattle.gk_steps.specs.declared.pattern.Piece.TheVariants as pieces
 use Rattle.gk_steps.specs.Pattern.{PieceValue, Literal, FieldPiece, piece_value}
 use Rattle.std.specs.Char.{digit_value}
-use Rattle.std.specs.Str.Parse.{AllDigits, IsNumeral, without_leading_sign, without_leading_plus}
+use Rattle.std.specs.Str.Parse.{AllDigits}
 use Rattle.std.proofs.lemmas.Bool.Decides.{nat_tests}
 use Rattle.gk_steps.specs.Matching.{IsSpan}
-use Rattle.gk_steps.specs.Columns.{ArePlaces, part, IsStepTo, IsStep, IsNearest, IsLongestTo}
+use Rattle.gk_steps.specs.Columns.{ArePlaces, part, IsStepTo, IsStep, IsNearest}
 use Rattle.gk_steps.proofs.TableLemmas.{IsTextPiece, cut_at, part_size}
 
 one_column : (text places : List ℕ) (d e : ℕ) → ArePlaces text places → d < length places → e < length places → get_or places d 0 ≡ get_or places e 0 → d ≡ e
@@ -96,51 +95,9 @@ digits_range [] h i l = absurd (omega arith)
 digits_range (b ∷ bs) h zero l = digit_range b h.0
 digits_range (b ∷ bs) h (suc i) l = digits_range bs h.1 i (omega arith)
 
-tail_range : (x : List ℕ) → AllDigits 10 (drop 1 x) → (i : ℕ) → 0 < i → i < length x → (48 ≤ get_or x i 0) × (get_or x i 0 < 58)
-tail_range [] h i some l = absurd (omega arith)
-tail_range (b ∷ bs) h zero some l = absurd (omega arith)
-tail_range (b ∷ bs) h (suc i) some l = digits_range bs h i (omega arith)
-
-plus_digit : (x : List ℕ) (b : Bool) → AllDigits 10 (drop (cond b 1 0) x) → (i : ℕ) → 0 < i → i < length x → (48 ≤ get_or x i 0) × (get_or x i 0 < 58)
-plus_digit x true h i some l = tail_range x h i some l
-plus_digit x false h i some l = digits_range x h i l
-
-minus_digit : (x : List ℕ) (b : Bool) → AllDigits 10 (cond b (drop 1 x) (without_leading_plus x)) → (i : ℕ) → 0 < i → i < length x → (48 ≤ get_or x i 0) × (get_or x i 0 < 58)
-minus_digit x true h i some l = tail_range x h i some l
-minus_digit x false h i some l = plus_digit x (get_or x 0 0 == 43) h i some l
-
-tail_digit : (x : List ℕ) → IsNumeral 10 (without_leading_sign x) → (i : ℕ) → 0 < i → i < length x → (48 ≤ get_or x i 0) × (get_or x i 0 < 58)
-tail_digit x h i some l = minus_digit x (get_or x 0 0 == 45) h.1 i some l
-
 pub decimal_some : (x : List ℕ) → IsSpan Decimal x → 0 < length x
 decimal_some [] h = absurd (omega (arith, h.0.0))
 decimal_some (b ∷ bs) h = omega arith
-
--- a step down to a column, and those down to the next one
-pub longest_none : (low : ℕ) (text places : List ℕ) (row : List Bool) (c : ℕ) → ArePlaces text places → c < length places → c ≤ low → IsLongestTo low (FieldPiece [] Decimal) text places row c None
-longest_none low text places row c h l most = λ d up s. let less = before (FieldPiece [] Decimal) text places row c d h l s (decimal_some (part text places c d) s.takes) in absurd (omega arith)
-
-pub longest_more : (low next : ℕ) (text places : List ℕ) (row : List Bool) (c : ℕ) (o : Option ℕ) → low ≡ next + 1 → (IsStepTo (FieldPiece [] Decimal) text places row c next → ⊥) → IsLongestTo low (FieldPiece [] Decimal) text places row c o → IsLongestTo next (FieldPiece [] Decimal) text places row c o
-longest_more low next text places row c None e not_next h = λ d up s. elim (eq-or-lt_of_le up) [ inl same ↦ not_next (subst (IsStepTo (FieldPiece [] Decimal) text places row c) (sym same) s) | inr more ↦ h d (omega arith) s ]
-longest_more low next text places row c (Some b) e not_next h = (h.0, λ d up s. elim (eq-or-lt_of_le up) [ inl same ↦ absurd (not_next (subst (IsStepTo (FieldPiece [] Decimal) text places row c) (sym same) s)) | inr more ↦ h.1 d (omega arith) s ])
-
-pub longest_at : (next : ℕ) (text places : List ℕ) (row : List Bool) (c : ℕ) → IsStepTo (FieldPiece [] Decimal) text places row c next → IsLongestTo next (FieldPiece [] Decimal) text places row c (Some next)
-longest_at next text places row c s = (s, λ d up t. up)
-
-pub longest_is : (low : ℕ) (text places : List ℕ) (row : List Bool) (c : ℕ) (o : Option ℕ) → ((d : ℕ) → d < low → IsStepTo (FieldPiece [] Decimal) text places row c d → ⊥) → IsLongestTo low (FieldPiece [] Decimal) text places row c o → IsStep (FieldPiece [] Decimal) text places row c o
-longest_is low text places row c None none h = λ d s. let not_less : d < low → ⊥ = λ less. none d less s in h d (omega (arith, not_less)) s
-longest_is low text places row c (Some b) none h = (h.0, λ d s. let not_less : d < low → ⊥ = λ less. none d less s in h.1 d (omega (arith, not_less)) s)
-
--- no number goes past a byte that is no digit
-pub no_longer : (text places : List ℕ) (row : List Bool) (c next d : ℕ) → ArePlaces text places → c < length places → next < c → d ≤ next → get_or places c 0 < get_or places next 0 - 1 → (48 ≤ get_or text (get_or places next 0 - 1) 0 → get_or text (get_or places next 0 - 1) 0 < 58 → ⊥) → IsStepTo (FieldPiece [] Decimal) text places row c d → ⊥
-no_longer text places row c next d h l less down past not_digit s =
-    let p = get_or places c 0 in
-    let last = get_or places next 0 - 1 in
-    let size = part_size text places c d h l (omega arith) in
-    let up : get_or places next 0 ≤ get_or places d 0 = elim (eq-or-lt_of_le down) [ inl same ↦ omega (arith, ap (λ k. get_or places k 0) same) | inr under ↦ let more = h.falling d next under (omega arith) in omega arith ] in
-    let at : get_or (part text places c d) (last - p) 0 ≡ get_or text last 0 = get_or-take (get_or places d 0 - p) (drop p text) (last - p) 0 (omega arith) ∙ get_or-drop p text (last - p) 0 ∙ ap (λ k. get_or text k 0) (let sum : p + (last - p) ≡ last = omega arith in sum) in
-    let digit = tail_digit (part text places c d) s.takes.0 (last - p) (omega arith) (omega arith) in
-    not_digit (omega (arith, digit.0)) (omega (arith, digit.1))
 
 -- what a piece says, from its variant
 pub field_piece : (piece : Piece) (name : String Global) (kind kind' : FieldKind) → piece ≡ pieces.Field name kind → kind ≡ kind' → piece_value piece ≡ FieldPiece (string_bytes name) kind'

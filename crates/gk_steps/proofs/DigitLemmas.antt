@@ -1,5 +1,5 @@
 -- Runs of digits between two columns.
-use Rattle.std.proofs.Common.{◌≡◌, ℕ, ◌+◌, ◌-◌, ◌*◌, ◌<◌, ◌≤◌, inl, inr, Bool, true, false, List, [], ◌∷◌, ◌++◌, length, take, drop, get_or, ap, sym, subst, ◌∙◌, arith, length-drop}
+use Rattle.std.proofs.Common.{◌≡◌, ℕ, ◌+◌, ◌-◌, ◌*◌, ◌<◌, ◌≤◌, inl, inr, Bool, true, false, List, [], ◌∷◌, ◌++◌, length, take, drop, get_or, Option, Some, None, ap, sym, subst, ◌∙◌, arith, length-drop}
 use Rattle.std.specs.Prelude.{IsUtf8}
 use Rattle.std.specs.Char.{digit_value}
 use Rattle.std.specs.Str.Parse.{AllDigits, digits_value}
@@ -9,7 +9,7 @@ use Rattle.std.proofs.lemmas.Str.{IsCharBoundary-after_ascii}
 use Rattle.std.proofs.lemmas.Bool.Decides.{nat_tests}
 use Rattle.std.proofs.lemmas.Int.Digits.{digits_value_push}
 use Rattle.std.proofs.lemmas.Str.Parse.{digits_value-take-le}
-use Rattle.gk_steps.specs.Columns.{ArePlaces, part, IsDigitsTo, IsRunTo}
+use Rattle.gk_steps.specs.Columns.{ArePlaces, part, IsDigitsTo, IsRunTo, IsLongestTo, IsLongest}
 use Rattle.gk_steps.proofs.TableLemmas.{part_size}
 use Rattle.gk_steps.proofs.ColumnLemmas.{digits_range}
 
@@ -66,15 +66,18 @@ run_start most text places below c = record {
 }
 
 -- one digit more
-pub run_digits : (most : ℕ) (text places : List ℕ) (below : List Bool) (c d b value value' : ℕ) → ArePlaces text places → c < length places → d + 1 ≤ c → get_or places d 0 ≡ get_or places (d + 1) 0 + 1 → b ≡ get_or text (get_or places (d + 1) 0) 0 → 48 ≤ b → b < 58 → value' ≡ value * 10 + (b - 48) → IsRunTo (d + 1) most text places below c value
+pub one_digit : (text places : List ℕ) (c d b value value' : ℕ) → ArePlaces text places → c < length places → d + 1 ≤ c → get_or places d 0 ≡ get_or places (d + 1) 0 + 1 → b ≡ get_or text (get_or places (d + 1) 0) 0 → 48 ≤ b → b < 58 → value' ≡ value * 10 + (b - 48) → AllDigits 10 (part text places c (d + 1)) → value ≡ digits_value 10 (part text places c (d + 1))
     → AllDigits 10 (part text places c d) × (value' ≡ digits_value 10 (part text places c d))
-run_digits most text places below c d b value value' h l within next is low high sum r =
+one_digit text places c d b value value' h l within next is low high sum digits before =
     let more : part text places c d ≡ part text places c (d + 1) ++ b ∷ [] = part_more text places c d h l within next ∙ ap (λ x. part text places c (d + 1) ++ x ∷ []) (sym is) in
     let digit = digit_is b low high in
     let pushed = digits_value_push 10 (part text places c (d + 1)) b in
     let whole : digits_value 10 (part text places c d) ≡ digits_value 10 (part text places c (d + 1)) * 10 + digit_value b = ap (digits_value 10) more ∙ pushed in
-    let before = r.value_is in
-    (subst (AllDigits 10) (sym more) (all_more (part text places c (d + 1)) b r.digits (omega arith)), omega arith)
+    (subst (AllDigits 10) (sym more) (all_more (part text places c (d + 1)) b digits (omega arith)), omega arith)
+
+pub run_digits : (most : ℕ) (text places : List ℕ) (below : List Bool) (c d b value value' : ℕ) → ArePlaces text places → c < length places → d + 1 ≤ c → get_or places d 0 ≡ get_or places (d + 1) 0 + 1 → b ≡ get_or text (get_or places (d + 1) 0) 0 → 48 ≤ b → b < 58 → value' ≡ value * 10 + (b - 48) → IsRunTo (d + 1) most text places below c value
+    → AllDigits 10 (part text places c d) × (value' ≡ digits_value 10 (part text places c d))
+run_digits most text places below c d b value value' h l within next is low high sum r = one_digit text places c d b value value' h l within next is low high sum r.digits r.value_is
 
 pub run_more : (most : ℕ) (text places : List ℕ) (below : List Bool) (c d value value' : ℕ) → AllDigits 10 (part text places c d) × (value' ≡ digits_value 10 (part text places c d)) → get_or below d false ≡ false → IsRunTo (d + 1) most text places below c value → IsRunTo d most text places below c value'
 run_more most text places below c d value value' now not_here r = record {
@@ -86,28 +89,61 @@ run_more most text places below c d value value' now not_here r = record {
   ];
 }
 
-pub run_found : (most : ℕ) (text places : List ℕ) (below : List Bool) (c d value : ℕ) → ArePlaces text places → c < length places → d + 1 ≤ c → AllDigits 10 (part text places c d) × (value ≡ digits_value 10 (part text places c d)) → value ≤ most → get_or below d false ≡ true → (e : ℕ) × IsDigitsTo most text places below c e
-run_found most text places below c d value h l within now small here =
+-- digits down to a column
+pub digits_here : (most : ℕ) (text places : List ℕ) (below : List Bool) (c d value : ℕ) → ArePlaces text places → c < length places → d + 1 ≤ c → AllDigits 10 (part text places c d) × (value ≡ digits_value 10 (part text places c d)) → value ≤ most → get_or below d false ≡ true → IsDigitsTo most text places below c d
+digits_here most text places below c d value h l within now small here =
     let size = part_size text places c d h l (omega arith) in
     let up = h.falling d c (omega arith) l in
-    (d, record { within = omega arith; rest = here; numeral = (omega arith, now.0); value = omega (arith, now.1) })
+    record { within = omega arith; rest = here; numeral = (omega arith, now.0); value = omega (arith, now.1) }
+
+pub run_found : (most : ℕ) (text places : List ℕ) (below : List Bool) (c d value : ℕ) → ArePlaces text places → c < length places → d + 1 ≤ c → AllDigits 10 (part text places c d) × (value ≡ digits_value 10 (part text places c d)) → value ≤ most → get_or below d false ≡ true → (e : ℕ) × IsDigitsTo most text places below c e
+run_found most text places below c d value h l within now small here = (d, digits_here most text places below c d value h l within now small here)
 
 -- past a value that is too large
-pub run_over : (most : ℕ) (text places : List ℕ) (below : List Bool) (c d value value' : ℕ) → ArePlaces text places → c < length places → d + 1 ≤ c → AllDigits 10 (part text places c d) × (value' ≡ digits_value 10 (part text places c d)) → most < value' → IsRunTo (d + 1) most text places below c value → (e : ℕ) → IsDigitsTo most text places below c e → ⊥
-run_over most text places below c d value value' h l within now large r = λ e s.
-    let small : e ≤ d = let not_more : d < e → ⊥ = λ more. r.none e (omega arith) s in omega (arith, not_more) in
-    let least : digits_value 10 (part text places c d) ≤ digits_value 10 (part text places c e) = subst (λ x. digits_value 10 x ≤ digits_value 10 (part text places c e)) (sym (prefix_of text places c e d h l small (omega arith))) (digits_value-take-le 10 (part text places c e) (get_or places d 0 - get_or places c 0) (omega arith)) in
+pub none_over : (most : ℕ) (text places : List ℕ) (below : List Bool) (c d e value : ℕ) → ArePlaces text places → c < length places → d + 1 ≤ c → AllDigits 10 (part text places c d) × (value ≡ digits_value 10 (part text places c d)) → most < value → e < d + 1 → IsDigitsTo most text places below c e → ⊥
+none_over most text places below c d e value h l within now large small s =
+    let least : digits_value 10 (part text places c d) ≤ digits_value 10 (part text places c e) = subst (λ x. digits_value 10 x ≤ digits_value 10 (part text places c e)) (sym (prefix_of text places c e d h l (omega arith) (omega arith))) (digits_value-take-le 10 (part text places c e) (get_or places d 0 - get_or places c 0) (omega arith)) in
     absurd (omega (arith, s.value, now.1))
 
+pub run_over : (most : ℕ) (text places : List ℕ) (below : List Bool) (c d value value' : ℕ) → ArePlaces text places → c < length places → d + 1 ≤ c → AllDigits 10 (part text places c d) × (value' ≡ digits_value 10 (part text places c d)) → most < value' → IsRunTo (d + 1) most text places below c value → (e : ℕ) → IsDigitsTo most text places below c e → ⊥
+run_over most text places below c d value value' h l within now large r = λ e s.
+    let small : e < d + 1 = let not_more : d + 1 ≤ e → ⊥ = λ more. r.none e more s in omega (arith, not_more) in
+    none_over most text places below c d e value' h l within now large small s
+
 -- past a byte that is no digit
-pub run_past : (most : ℕ) (text places : List ℕ) (below : List Bool) (c d b value : ℕ) → ArePlaces text places → c < length places → d + 1 ≤ c → b ≡ get_or text (get_or places (d + 1) 0) 0 → (48 ≤ b → b < 58 → ⊥) → IsRunTo (d + 1) most text places below c value → (e : ℕ) → IsDigitsTo most text places below c e → ⊥
-run_past most text places below c d b value h l within is not_digit r = λ e s.
+pub none_past : (most : ℕ) (text places : List ℕ) (below : List Bool) (c d b e : ℕ) → ArePlaces text places → c < length places → d + 1 ≤ c → b ≡ get_or text (get_or places (d + 1) 0) 0 → (48 ≤ b → b < 58 → ⊥) → e < d + 1 → IsDigitsTo most text places below c e → ⊥
+none_past most text places below c d b e h l within is not_digit small s =
     let p = get_or places c 0 in
     let q = get_or places (d + 1) 0 in
-    let small : e < d + 1 = let not_more : d + 1 ≤ e → ⊥ = λ more. r.none e more s in omega (arith, not_more) in
     let up = h.falling e (d + 1) small (omega arith) in
     let size = part_size text places c e h l (omega arith) in
     let size_d = part_size text places c (d + 1) h l within in
     let at : get_or (part text places c e) (q - p) 0 ≡ get_or text q 0 = get_or-take (get_or places e 0 - p) (drop p text) (q - p) 0 (omega arith) ∙ get_or-drop p text (q - p) 0 ∙ ap (λ k. get_or text k 0) (let sum : p + (q - p) ≡ q = omega arith in sum) in
     let digit = digits_range (part text places c e) s.numeral.1 (q - p) (omega arith) in
     not_digit (omega (arith, digit.0)) (omega (arith, digit.1))
+
+pub run_past : (most : ℕ) (text places : List ℕ) (below : List Bool) (c d b value : ℕ) → ArePlaces text places → c < length places → d + 1 ≤ c → b ≡ get_or text (get_or places (d + 1) 0) 0 → (48 ≤ b → b < 58 → ⊥) → IsRunTo (d + 1) most text places below c value → (e : ℕ) → IsDigitsTo most text places below c e → ⊥
+run_past most text places below c d b value h l within is not_digit r = λ e s.
+    let small : e < d + 1 = let not_more : d + 1 ≤ e → ⊥ = λ more. r.none e more s in omega (arith, not_more) in
+    none_past most text places below c d b e h l within is not_digit small s
+
+-- the longest step so far
+pub longest_stays : (most : ℕ) (text places : List ℕ) (below : List Bool) (c d : ℕ) (o : Option ℕ) → get_or below d false ≡ false → IsLongestTo (d + 1) most text places below c o → IsLongestTo d most text places below c o
+longest_stays most text places below c d None not_here h = λ e least s. elim (eq-or-lt_of_le least) [
+  | inr more ↦ h e (omega arith) s
+  | inl same ↦ let is_true = s.rest in let is_false : get_or below e false ≡ false = ap (λ k. get_or below k false) (sym same) ∙ not_here in let bad : ⊥ = cc in bad
+]
+longest_stays most text places below c d (Some b) not_here h = (
+  h.0,
+  λ e least s. elim (eq-or-lt_of_le least) [
+    | inr more ↦ h.1 e (omega arith) s
+    | inl same ↦ let is_true = s.rest in let is_false : get_or below e false ≡ false = ap (λ k. get_or below k false) (sym same) ∙ not_here in let bad : ⊥ = cc in absurd bad
+  ],
+)
+
+pub longest_here : (most : ℕ) (text places : List ℕ) (below : List Bool) (c d : ℕ) → IsDigitsTo most text places below c d → IsLongestTo d most text places below c (Some d)
+longest_here most text places below c d s = (s, λ e least t. least)
+
+pub longest_ends : (low most : ℕ) (text places : List ℕ) (below : List Bool) (c : ℕ) (o : Option ℕ) → ((e : ℕ) → e < low → IsDigitsTo most text places below c e → ⊥) → IsLongestTo low most text places below c o → IsLongest most text places below c o
+longest_ends low most text places below c None none h = λ e least s. let not_less : e < low → ⊥ = λ less. none e less s in h e (omega (arith, not_less)) s
+longest_ends low most text places below c (Some b) none h = (h.0, λ e least s. let not_less : e < low → ⊥ = λ less. none e less s in h.1 e (omega (arith, not_less)) s)

@@ -1,5 +1,5 @@
 -- Numbers from their digits: a zero or a sign in prefix.
-use Rattle.std.proofs.Common.{◌≡◌, ℕ, zero, suc, cond, ◌==◌, ◌+◌, ◌-◌, ◌<◌, ◌≤◌, inl, inr, Bool, true, false, List, [], ◌∷◌, length, take, drop, get_or, ap, sym, subst, ◌∙◌, arith}
+use Rattle.std.proofs.Common.{◌≡◌, ℕ, zero, suc, cond, ◌==◌, ◌+◌, ◌-◌, ◌<◌, ◌≤◌, inl, inr, Bool, true, false, List, [], ◌∷◌, length, take, drop, get_or, Option, Some, None, ap, sym, subst, ◌∙◌, arith}
 use Rattle.std.specs.Prelude.{FitsSigned}
 use Rattle.std.specs.Int.{w64}
 use lib.IntN.{pos, neg_ℤ}
@@ -10,7 +10,7 @@ use Rattle.std.proofs.lemmas.List.{drop_more, get_or-take, get_or-drop}
 use Rattle.gk_steps.specs.declared.pattern.FieldKind.TheVariants.{Decimal}
 use Rattle.gk_steps.specs.Pattern.{FieldPiece}
 use Rattle.gk_steps.specs.Matching.{IsSpan}
-use Rattle.gk_steps.specs.Columns.{ArePlaces, part, IsDigitsTo, HasDigits}
+use Rattle.gk_steps.specs.Columns.{ArePlaces, part, IsStepTo, IsStep, IsDigitsTo, HasDigits, IsLongest}
 use Rattle.gk_steps.specs.Digits.{HasNumber}
 use Rattle.gk_steps.proofs.TableLemmas.{part_size}
 use Rattle.gk_steps.proofs.ColumnLemmas.{before, decimal_some}
@@ -116,33 +116,50 @@ zero_rest most text places below c false h l next is not_here has = λ d s. zero
 signed_part : (text places : List ℕ) (below : List Bool) (c d sign : ℕ) → ArePlaces text places → c + 1 < length places → get_or places c 0 ≡ get_or places (c + 1) 0 + 1 → get_or text (get_or places (c + 1) 0) 0 ≡ sign → d ≤ c → part text places (c + 1) d ≡ sign ∷ part text places c d
 signed_part text places below c d sign h l next is within = part_prefix text places c d h l within next ∙ ap (λ b. b ∷ part text places c d) is
 
-pub plus_at : (text places : List ℕ) (below : List Bool) (c : ℕ) (b : Bool) → ArePlaces text places → c + 1 < length places → get_or places c 0 ≡ get_or places (c + 1) 0 + 1 → get_or text (get_or places (c + 1) 0) 0 ≡ 43 → HasDigits 9223372036854775807 text places below c b → HasNumber text places below (c + 1) b
-plus_at text places below c true h l next is has = (
-  has.0,
-  record {
-    within = let w = has.1.within in omega arith;
-    rest = has.1.rest;
-    takes = subst (IsSpan Decimal) (sym (signed_part text places below c has.0 43 h l next is has.1.within)) (digits_plus (part text places c has.0) has.1.numeral has.1.value);
-  },
-)
-plus_at text places below c false h l next is has = λ d s.
+-- the longest step over a number, from the longest one over its digits
+longest_step : (most : ℕ) (text places : List ℕ) (below : List Bool) (c c' : ℕ) (o : Option ℕ) → ((d : ℕ) → IsDigitsTo most text places below c d → IsStepTo (FieldPiece [] Decimal) text places below c' d) → ((d : ℕ) → IsStepTo (FieldPiece [] Decimal) text places below c' d → IsDigitsTo most text places below c d) → IsLongest most text places below c o → IsStep (FieldPiece [] Decimal) text places below c' o
+longest_step most text places below c c' None to from best = λ d s. best d (omega arith) (from d s)
+longest_step most text places below c c' (Some b) to from best = (to b best.0, λ d s. best.1 d (omega arith) (from d s))
+
+plus_to : (text places : List ℕ) (below : List Bool) (c d : ℕ) → ArePlaces text places → c + 1 < length places → get_or places c 0 ≡ get_or places (c + 1) 0 + 1 → get_or text (get_or places (c + 1) 0) 0 ≡ 43 → IsDigitsTo 9223372036854775807 text places below c d → IsStepTo (FieldPiece [] Decimal) text places below (c + 1) d
+plus_to text places below c d h l next is s = record {
+  within = let w = s.within in omega arith;
+  rest = s.rest;
+  takes = subst (IsSpan Decimal) (sym (signed_part text places below c d 43 h l next is s.within)) (digits_plus (part text places c d) s.numeral s.value);
+}
+
+plus_from : (text places : List ℕ) (below : List Bool) (c d : ℕ) → ArePlaces text places → c + 1 < length places → get_or places c 0 ≡ get_or places (c + 1) 0 + 1 → get_or text (get_or places (c + 1) 0) 0 ≡ 43 → IsStepTo (FieldPiece [] Decimal) text places below (c + 1) d → IsDigitsTo 9223372036854775807 text places below c d
+plus_from text places below c d h l next is s =
     let less = before (FieldPiece [] Decimal) text places below (c + 1) d h l s (decimal_some (part text places (c + 1) d) s.takes) in
     let digits = plus_digits (part text places c d) (subst (IsSpan Decimal) (signed_part text places below c d 43 h l next is (omega arith)) s.takes) in
-    has d (record { within = omega arith; rest = s.rest; numeral = digits.0; value = digits.1 })
+    record { within = omega arith; rest = s.rest; numeral = digits.0; value = digits.1 }
 
-pub minus_at : (text places : List ℕ) (below : List Bool) (c : ℕ) (b : Bool) → ArePlaces text places → c + 1 < length places → get_or places c 0 ≡ get_or places (c + 1) 0 + 1 → get_or text (get_or places (c + 1) 0) 0 ≡ 45 → HasDigits 9223372036854775808 text places below c b → HasNumber text places below (c + 1) b
-minus_at text places below c true h l next is has = (
-  has.0,
-  record {
-    within = let w = has.1.within in omega arith;
-    rest = has.1.rest;
-    takes = subst (IsSpan Decimal) (sym (signed_part text places below c has.0 45 h l next is has.1.within)) (digits_minus (part text places c has.0) has.1.numeral has.1.value);
-  },
-)
-minus_at text places below c false h l next is has = λ d s.
+pub plus_at : (text places : List ℕ) (below : List Bool) (c : ℕ) (b : Bool) → ArePlaces text places → c + 1 < length places → get_or places c 0 ≡ get_or places (c + 1) 0 + 1 → get_or text (get_or places (c + 1) 0) 0 ≡ 43 → HasDigits 9223372036854775807 text places below c b → HasNumber text places below (c + 1) b
+plus_at text places below c true h l next is has = (has.0, plus_to text places below c has.0 h l next is has.1)
+plus_at text places below c false h l next is has = λ d s. has d (plus_from text places below c d h l next is s)
+
+pub plus_longest : (text places : List ℕ) (below : List Bool) (c : ℕ) (o : Option ℕ) → ArePlaces text places → c + 1 < length places → get_or places c 0 ≡ get_or places (c + 1) 0 + 1 → get_or text (get_or places (c + 1) 0) 0 ≡ 43 → IsLongest 9223372036854775807 text places below c o → IsStep (FieldPiece [] Decimal) text places below (c + 1) o
+plus_longest text places below c o h l next is best = longest_step 9223372036854775807 text places below c (c + 1) o (λ d s. plus_to text places below c d h l next is s) (λ d s. plus_from text places below c d h l next is s) best
+
+minus_to : (text places : List ℕ) (below : List Bool) (c d : ℕ) → ArePlaces text places → c + 1 < length places → get_or places c 0 ≡ get_or places (c + 1) 0 + 1 → get_or text (get_or places (c + 1) 0) 0 ≡ 45 → IsDigitsTo 9223372036854775808 text places below c d → IsStepTo (FieldPiece [] Decimal) text places below (c + 1) d
+minus_to text places below c d h l next is s = record {
+  within = let w = s.within in omega arith;
+  rest = s.rest;
+  takes = subst (IsSpan Decimal) (sym (signed_part text places below c d 45 h l next is s.within)) (digits_minus (part text places c d) s.numeral s.value);
+}
+
+minus_from : (text places : List ℕ) (below : List Bool) (c d : ℕ) → ArePlaces text places → c + 1 < length places → get_or places c 0 ≡ get_or places (c + 1) 0 + 1 → get_or text (get_or places (c + 1) 0) 0 ≡ 45 → IsStepTo (FieldPiece [] Decimal) text places below (c + 1) d → IsDigitsTo 9223372036854775808 text places below c d
+minus_from text places below c d h l next is s =
     let less = before (FieldPiece [] Decimal) text places below (c + 1) d h l s (decimal_some (part text places (c + 1) d) s.takes) in
     let digits = minus_digits (part text places c d) (subst (IsSpan Decimal) (signed_part text places below c d 45 h l next is (omega arith)) s.takes) in
-    has d (record { within = omega arith; rest = s.rest; numeral = digits.0; value = digits.1 })
+    record { within = omega arith; rest = s.rest; numeral = digits.0; value = digits.1 }
+
+pub minus_at : (text places : List ℕ) (below : List Bool) (c : ℕ) (b : Bool) → ArePlaces text places → c + 1 < length places → get_or places c 0 ≡ get_or places (c + 1) 0 + 1 → get_or text (get_or places (c + 1) 0) 0 ≡ 45 → HasDigits 9223372036854775808 text places below c b → HasNumber text places below (c + 1) b
+minus_at text places below c true h l next is has = (has.0, minus_to text places below c has.0 h l next is has.1)
+minus_at text places below c false h l next is has = λ d s. has d (minus_from text places below c d h l next is s)
+
+pub minus_longest : (text places : List ℕ) (below : List Bool) (c : ℕ) (o : Option ℕ) → ArePlaces text places → c + 1 < length places → get_or places c 0 ≡ get_or places (c + 1) 0 + 1 → get_or text (get_or places (c + 1) 0) 0 ≡ 45 → IsLongest 9223372036854775808 text places below c o → IsStep (FieldPiece [] Decimal) text places below (c + 1) o
+minus_longest text places below c o h l next is best = longest_step 9223372036854775808 text places below c (c + 1) o (λ d s. minus_to text places below c d h l next is s) (λ d s. minus_from text places below c d h l next is s) best
 
 first_byte : (text places : List ℕ) (c d : ℕ) → ArePlaces text places → c < length places → d < c → get_or (part text places c d) 0 0 ≡ get_or text (get_or places c 0) 0
 first_byte text places c d h l less =
@@ -150,21 +167,28 @@ first_byte text places c d h l less =
     let same : get_or places c 0 + 0 ≡ get_or places c 0 = omega arith in
     get_or-take (get_or places d 0 - get_or places c 0) (drop (get_or places c 0) text) 0 0 (omega arith) ∙ get_or-drop (get_or places c 0) text 0 0 ∙ ap (λ k. get_or text k 0) same
 
-pub bare_at : (text places : List ℕ) (below : List Bool) (c : ℕ) (b : Bool) → ArePlaces text places → c < length places → (get_or text (get_or places c 0) 0 == 45) ≡ false → (get_or text (get_or places c 0) 0 == 43) ≡ false → HasDigits 9223372036854775807 text places below c b → HasNumber text places below c b
-bare_at text places below c true h l m p has =
-    let first = first_byte text places c has.0 h l (digits_before 9223372036854775807 text places below c has.0 has.1) in (
-      has.0,
-      record {
-        within = has.1.within;
-        rest = has.1.rest;
-        takes = digits_bare (part text places c has.0) (ap (λ k. k == 45) first ∙ m) (ap (λ k. k == 43) first ∙ p) has.1.numeral has.1.value;
-      },
-    )
-bare_at text places below c false h l m p has = λ d s.
+bare_to : (text places : List ℕ) (below : List Bool) (c d : ℕ) → ArePlaces text places → c < length places → (get_or text (get_or places c 0) 0 == 45) ≡ false → (get_or text (get_or places c 0) 0 == 43) ≡ false → IsDigitsTo 9223372036854775807 text places below c d → IsStepTo (FieldPiece [] Decimal) text places below c d
+bare_to text places below c d h l m p s =
+    let first = first_byte text places c d h l (digits_before 9223372036854775807 text places below c d s) in
+    record {
+      within = s.within;
+      rest = s.rest;
+      takes = digits_bare (part text places c d) (ap (λ k. k == 45) first ∙ m) (ap (λ k. k == 43) first ∙ p) s.numeral s.value;
+    }
+
+bare_from : (text places : List ℕ) (below : List Bool) (c d : ℕ) → ArePlaces text places → c < length places → (get_or text (get_or places c 0) 0 == 45) ≡ false → (get_or text (get_or places c 0) 0 == 43) ≡ false → IsStepTo (FieldPiece [] Decimal) text places below c d → IsDigitsTo 9223372036854775807 text places below c d
+bare_from text places below c d h l m p s =
     let less = before (FieldPiece [] Decimal) text places below c d h l s (decimal_some (part text places c d) s.takes) in
     let first = first_byte text places c d h l less in
     let digits = bare_digits (part text places c d) (ap (λ k. k == 45) first ∙ m) (ap (λ k. k == 43) first ∙ p) s.takes in
-    has d (record { within = s.within; rest = s.rest; numeral = digits.0; value = digits.1 })
+    record { within = s.within; rest = s.rest; numeral = digits.0; value = digits.1 }
+
+pub bare_at : (text places : List ℕ) (below : List Bool) (c : ℕ) (b : Bool) → ArePlaces text places → c < length places → (get_or text (get_or places c 0) 0 == 45) ≡ false → (get_or text (get_or places c 0) 0 == 43) ≡ false → HasDigits 9223372036854775807 text places below c b → HasNumber text places below c b
+bare_at text places below c true h l m p has = (has.0, bare_to text places below c has.0 h l m p has.1)
+bare_at text places below c false h l m p has = λ d s. has d (bare_from text places below c d h l m p s)
+
+pub bare_longest : (text places : List ℕ) (below : List Bool) (c : ℕ) (o : Option ℕ) → ArePlaces text places → c < length places → (get_or text (get_or places c 0) 0 == 45) ≡ false → (get_or text (get_or places c 0) 0 == 43) ≡ false → IsLongest 9223372036854775807 text places below c o → IsStep (FieldPiece [] Decimal) text places below c o
+bare_longest text places below c o h l m p best = longest_step 9223372036854775807 text places below c c o (λ d s. bare_to text places below c d h l m p s) (λ d s. bare_from text places below c d h l m p s) best
 
 pub not_byte : (a b : ℕ) → (a ≡ b → ⊥) → (a == b) ≡ false
 not_byte a b differ = elim (eqb_tells a b) [ inl t ↦ absurd (differ t.1) | inr f ↦ f.0 ]

@@ -50,10 +50,6 @@ pub record IsStepTo (piece : PieceValue) (text : List ℕ) (places : List ℕ) (
   pub rest : slice_index_or below d false ≡ true
   pub takes : Takes piece (part text places c d)
 
--- The same over a number.
-abbrev pub IsNumberStepTo : List ℕ → List ℕ → List Bool → ℕ → ℕ → Type 0
-IsNumberStepTo text places below c d = IsStepTo (FieldPiece [] Decimal) text places below c d
-
 -- A step that is not after another: a plain field takes as little as it can, the other kind as much as it can.
 abbrev pub IsNotAfter : PieceValue → ℕ → ℕ → Type 0
 IsNotAfter (Literal literal) d e = Unit {0}
@@ -74,11 +70,6 @@ IsAnyBefore row c false = (d : ℕ) → d < c → slice_index_or row d false ≡
 abbrev pub IsNearest : List Bool → ℕ → Option ℕ → Type 0
 IsNearest row c None = (d : ℕ) → d < c → slice_index_or row d false ≡ false
 IsNearest row c (Some d) = (d < c) × (slice_index_or row d false ≡ true) × ((e : ℕ) → e < c → d < e → slice_index_or row e false ≡ false)
-
--- The longest step down to a column, of those down to another, or that there is none.
-abbrev pub IsLongestTo : ℕ → PieceValue → List ℕ → List ℕ → List Bool → ℕ → Option ℕ → Type 0
-IsLongestTo low piece text places below c None = (d : ℕ) → low ≤ d → IsStepTo piece text places below c d → ⊥
-IsLongestTo low piece text places below c (Some d) = IsStepTo piece text places below c d × ((e : ℕ) → low ≤ e → IsStepTo piece text places below c e → d ≤ e)
 
 -- The first cells of a row of which each says whether a cell before it is true in the row below.
 pub record IsPlainRow (size : ℕ) (below : List Bool) (row : List Bool) : Type 0 where
@@ -124,3 +115,18 @@ pub record IsRunTo (low : ℕ) (most : ℕ) (text : List ℕ) (places : List ℕ
   pub digits : AllDigits 10 (part text places c low)
   pub value_is : value ≡ digits_value 10 (part text places c low)
   pub none : (d : ℕ) → low ≤ d → IsDigitsTo most text places below c d → ⊥
+
+-- The longest step over such digits, of those down to a column or past it, or that there is none.
+abbrev pub IsLongestTo : ℕ → ℕ → List ℕ → List ℕ → List Bool → ℕ → Option ℕ → Type 0
+IsLongestTo low most text places below c None = (d : ℕ) → low ≤ d → IsDigitsTo most text places below c d → ⊥
+IsLongestTo low most text places below c (Some d) = IsDigitsTo most text places below c d × ((e : ℕ) → low ≤ e → IsDigitsTo most text places below c e → d ≤ e)
+
+-- The longest of all of them.
+abbrev pub IsLongest : ℕ → List ℕ → List ℕ → List Bool → ℕ → Option ℕ → Type 0
+IsLongest most text places below c o = IsLongestTo 0 most text places below c o
+
+-- Digits that were read from a column down to another, and the longest step over some of them.
+pub record IsReachTo (low : ℕ) (most : ℕ) (text : List ℕ) (places : List ℕ) (below : List Bool) (c : ℕ) (value : ℕ) (longest : Option ℕ) : Type 0 where
+  pub digits : AllDigits 10 (part text places c low)
+  pub value_is : value ≡ digits_value 10 (part text places c low)
+  pub best : IsLongestTo low most text places below c longest

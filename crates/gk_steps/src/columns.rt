@@ -1,11 +1,12 @@
 //! Steps over a piece, from a column of the table to another.
-ghost use Rattle.std.specs.Prelude.{◌≡◌, ◌<◌, ◌++◌, ℕ, List, [], length, string_bytes, Option, Some, None, false, slice_index_or, IfSome, IsSomeAnd, MatchOption, MatchBool};
+ghost use Rattle.std.specs.Prelude.{◌≡◌, ◌<◌, ◌++◌, ℕ, List, [], length, string_bytes, Option, Some, None, false, slice_index_or, IfSome, IsSomeAnd, MatchOption};
 ghost use Rattle.std.specs.Str.Parse.{signed_digits_value};
 ghost use Rattle.gk_steps.specs.declared.pattern.FieldKind.TheVariants.{Decimal};
 ghost use Rattle.gk_steps.specs.Pattern.{Literal, FieldPiece, piece_value};
 ghost use Rattle.gk_steps.specs.Matching.{IsSpan};
-ghost use Rattle.gk_steps.specs.Columns.{ArePlaces, IsStep, IsNumberStepTo, IsNearest};
+ghost use Rattle.gk_steps.specs.Columns.{ArePlaces, IsStep, IsNearest};
 
+use crate::digits::{LARGEST, longest_digits};
 use crate::pattern::{FieldKind, Piece};
 
 /// The rest after a prefix.
@@ -67,38 +68,24 @@ pub(crate) fn number_of(span: &str) -> Option<i64>
     span.parse::<i64>().ok()
 }
 
-// Whether there is a step over a number from a column to another.
-fn is_decimal_step(text: &str, places: &[usize], below: &[bool], column: usize, next: usize) -> bool
-    requires places { ArePlaces text.now places.now }
-    requires column { column < length places.now }
-    requires next { next < column }
-    requires width { length below.now ≡ length places.now }
-    ensures { MatchBool result (IsNumberStepTo text.now places.now below.now column next) (IsNumberStepTo text.now places.now below.now column next → ⊥) }
-{
-    below[next] && number_of(&text[places[column]..places[next]]).is_some()
-}
-
-/// The longest step over a number. Looks along a run of digits alone.
+/// The longest step over a number. Looks along a run of digits once.
 fn decimal_step(text: &str, places: &[usize], below: &[bool], column: usize) -> Option<usize>
     requires places { ArePlaces text.now places.now }
     requires column { column < length places.now }
     requires width { length below.now ≡ length places.now }
     ensures { IsStep (FieldPiece [] Decimal) text.now places.now below.now column result }
 {
-    let place = places[column];
-    let bytes = text.as_bytes();
-    let mut longest = None;
-    for back in 0..column {
-        let next = column - 1 - back;
-        let last = places[next] - 1;
-        if place < last && !bytes[last].is_ascii_digit() {
-            return longest;
-        }
-        if is_decimal_step(text, places, below, column, next) {
-            longest = Some(next);
-        }
+    if column == 0 {
+        return None;
     }
-    longest
+    let byte = text.as_bytes()[places[column]];
+    if byte == b'+' {
+        return longest_digits(LARGEST, text, places, below, column - 1);
+    }
+    if byte == b'-' {
+        return longest_digits(LARGEST + 1, text, places, below, column - 1);
+    }
+    longest_digits(LARGEST, text, places, below, column)
 }
 
 /// The preferred step over a piece.

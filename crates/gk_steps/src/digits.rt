@@ -1,6 +1,6 @@
 //! Runs of digits, looked along from a column.
 ghost use Rattle.std.specs.Prelude.{◌≡◌, ◌<◌, ◌≤◌, ◌+◌, ◌-◌, ◌*◌, length, MatchOption};
-ghost use Rattle.gk_steps.specs.Columns.{ArePlaces, HasDigits};
+ghost use Rattle.gk_steps.specs.Columns.{ArePlaces, HasDigits, IsLongest};
 ghost use Rattle.gk_steps.specs.Digits.{KnowsDigits, HasNumber};
 
 // A value with one digit more, up to a limit.
@@ -43,7 +43,41 @@ pub(crate) fn has_digits(
     false
 }
 
-const LARGEST: u64 = 9_223_372_036_854_775_807;
+/// The longest step over digits with a value up to a limit, after which the rest matches.
+pub(crate) fn longest_digits(
+    most: u64,
+    text: &str,
+    places: &[usize],
+    below: &[bool],
+    column: usize,
+) -> Option<usize>
+    requires places { ArePlaces text.now places.now }
+    requires column { column < length places.now }
+    requires width { length below.now ≡ length places.now }
+    ensures { IsLongest most text.now places.now below.now column result }
+{
+    let bytes = text.as_bytes();
+    let mut value: u64 = 0;
+    let mut longest = None;
+    for back in 0..column {
+        let byte = bytes[places[column - back]];
+        if !byte.is_ascii_digit() {
+            return longest;
+        }
+        match grown(value, byte, most) {
+            Some(more) => value = more,
+            None => return longest,
+        }
+        let next = column - back - 1;
+        if below[next] {
+            longest = Some(next);
+        }
+    }
+    longest
+}
+
+/// The largest value of digits with no minus before them.
+pub(crate) const LARGEST: u64 = 9_223_372_036_854_775_807;
 
 /// What is known at a column of the digits that stand there: whether the rest matches after some that
 /// spell a number with a plus, and with a minus.

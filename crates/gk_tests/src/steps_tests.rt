@@ -130,6 +130,24 @@ fn cells_of_a_run_of_zeros(rt: HostRuntime) -> Result<(), Fail> {
 }
 
 #[test]
+fn the_longest_of_many_numbers(rt: HostRuntime) -> Result<(), Fail> {
+    let alloc = rt.alloc();
+    let mut pieces = Vec::new(alloc);
+    pieces.push(field(alloc, "n", FieldKind::Decimal)?)?;
+    pieces.push(field(alloc, "b", FieldKind::Plain)?)?;
+    let pattern = Pattern { pieces };
+    let mut text = String::new(alloc);
+    for _ in 0..100000 {
+        text.push('0')?;
+    }
+    text.push('x')?;
+    let fields = pattern.matches(alloc, &text)?.ok_or("no match")?;
+    assert_eq!(rt; number_at(&fields, 0), Some(0));
+    assert_eq!(rt; text_of(&fields, 1), "x");
+    Ok(())
+}
+
+#[test]
 fn characters_of_several_bytes(rt: HostRuntime) -> Result<(), Fail> {
     let alloc = rt.alloc();
     let mut pieces = Vec::new(alloc);

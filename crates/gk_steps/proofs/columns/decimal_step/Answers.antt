@@ -1,33 +1,39 @@
-use Rattle.std.proofs.Common.{◌≡◌, ◌+◌, ◌-◌, ap, get_or, subst, sym, Option, ℕ, [], arith}
+use Rattle.std.proofs.Common.{◌≡◌, ◌∙◌, ◌+◌, ◌-◌, ◌<◌, ap, sym, subst, get_or, length, [], arith}
 use Rattle.gk_steps.specs.declared.pattern.FieldKind.TheVariants.{Decimal}
 use Rattle.gk_steps.specs.Pattern.{FieldPiece}
-use Rattle.gk_steps.specs.Columns.{IsLongestTo}
-use Rattle.gk_steps.proofs.ColumnLemmas.{longest_more, longest_at, longest_is, no_longer}
+use Rattle.gk_steps.specs.Columns.{IsStep}
+use Rattle.gk_steps.proofs.DigitLemmas.{next_place}
+use Rattle.gk_steps.proofs.NumberLemmas.{plus_longest, minus_longest, bare_longest, not_byte}
 use Rattle.gk_steps.proofs.columns.decimal_step.Goals as goal
-use Rattle.gk_steps.proofs.columns.decimal_step.Goals.{then-is_decimal_step, else-is_decimal_step}
 
-pub returns-then-not-is_ascii_digit : goal.returns-then-not-is_ascii_digit
-returns-then-not-is_ascii_digit c =
+pub returns-then-byte-eq43 : goal.returns-then-byte-eq43
+returns-then-byte-eq43 c =
     let text = c.args.text.now in
     let places = c.args.places.now in
-    let next = c.args.column - 1 - c.loop-back.back in
-    let same : get_or c.as_bytes-bytes.result.now (get_or places next 0 - 1) 0 ≡ get_or text (get_or places next 0 - 1) 0 = ap (λ bs. get_or bs (get_or places next 0 - 1) 0) c.as_bytes-bytes.ensures.value in
-    longest_is (c.args.column - c.loop-back.back) text places c.args.below.now c.args.column c.loop-back.longest
-    (λ d less s. no_longer text places c.args.below.now c.args.column next d c.requires.places c.requires.column (omega arith) (omega arith) c.if-place-last.true (λ low high. absurd (omega (arith, same, c.if-not-is_ascii_digit.ensures.cases))) s) c.loop-back.invariant
+    let below = c.args.below.now in
+    let d = c.args.column - 1 in
+    let up : d + 1 ≡ c.args.column = omega arith in
+    let l : d + 1 < length places = omega arith in
+    let is : get_or text (get_or places (d + 1) 0) 0 ≡ 43 = ap (λ k. get_or text (get_or places k 0) 0) up ∙ ap (λ bs. get_or bs (get_or places c.args.column 0) 0) (sym c.as_bytes.ensures.value) ∙ c.if-byte-eq43.true in
+    let next = next_place text places d c.utf8.text c.requires.places l (omega arith) in
+    subst (λ k. IsStep (FieldPiece [] Decimal) text places below k c.longest_digits.result) up (plus_longest text places below d c.longest_digits.result c.requires.places l next is c.longest_digits.ensures)
 
-pub loop-back-preserved : goal.loop-back-preserved
-loop-back-preserved c =
+pub returns-then-byte-eq45 : goal.returns-then-byte-eq45
+returns-then-byte-eq45 c =
     let text = c.args.text.now in
     let places = c.args.places.now in
-    let next = c.args.column - 1 - c.loop-back.back in
-    let low : c.args.column - c.loop-back.back ≡ next + 1 = omega arith in
-    let at : next ≡ c.args.column - (c.loop-back.back + 1) = omega arith in
-    elim c.if-is_decimal_step.branch [
-      | then-is_decimal_step w ↦
-          subst (λ (k : ℕ). IsLongestTo k (FieldPiece [] Decimal) text places c.args.below.now c.args.column c.if-is_decimal_step.longest) at
-          (subst (λ (o : Option ℕ). IsLongestTo next (FieldPiece [] Decimal) text places c.args.below.now c.args.column o) (sym w.longest-is) (longest_at next text places c.args.below.now c.args.column w.if-is_decimal_step.ensures))
-      | else-is_decimal_step w ↦
-          subst (λ (k : ℕ). IsLongestTo k (FieldPiece [] Decimal) text places c.args.below.now c.args.column c.if-is_decimal_step.longest) at
-          (subst (λ (o : Option ℕ). IsLongestTo next (FieldPiece [] Decimal) text places c.args.below.now c.args.column o) (sym w.longest-is)
-          (longest_more (c.args.column - c.loop-back.back) next text places c.args.below.now c.args.column c.loop-back.longest low w.if-is_decimal_step.ensures c.loop-back.invariant))
-    ]
+    let below = c.args.below.now in
+    let d = c.args.column - 1 in
+    let up : d + 1 ≡ c.args.column = omega arith in
+    let l : d + 1 < length places = omega arith in
+    let is : get_or text (get_or places (d + 1) 0) 0 ≡ 45 = ap (λ k. get_or text (get_or places k 0) 0) up ∙ ap (λ bs. get_or bs (get_or places c.args.column 0) 0) (sym c.as_bytes.ensures.value) ∙ c.if-byte-eq45.true in
+    let next = next_place text places d c.utf8.text c.requires.places l (omega arith) in
+    subst (λ k. IsStep (FieldPiece [] Decimal) text places below k c.longest_digits-then-byte-eq45.result) up (minus_longest text places below d c.longest_digits-then-byte-eq45.result c.requires.places l next is c.longest_digits-then-byte-eq45.ensures)
+
+pub returns : goal.returns
+returns c =
+    let text = c.args.text.now in
+    let places = c.args.places.now in
+    let same : get_or text (get_or places c.args.column 0) 0 ≡ get_or c.as_bytes.result.now (get_or places c.args.column 0) 0 = ap (λ bs. get_or bs (get_or places c.args.column 0) 0) (sym c.as_bytes.ensures.value) in
+    bare_longest text places c.args.below.now c.args.column c.longest_digits-2.result c.requires.places c.requires.column
+    (not_byte (get_or text (get_or places c.args.column 0) 0) 45 (λ e. c.if-byte-eq45.false (sym same ∙ e))) (not_byte (get_or text (get_or places c.args.column 0) 0) 43 (λ e. c.if-byte-eq43.false (sym same ∙ e))) c.longest_digits-2.ensures
