@@ -11,50 +11,51 @@ fn read(alloc: Global, arguments: &[&str]) -> Result<Result<Words, WordsFault>, 
     Ok(read_words(alloc, texts.as_slice()))
 }
 
+// Arguments; the tags, the lines, the library, the variables, the files.
+const READ: [(&[&str], &str); 6] = [
+    (&["gherkin_run", "a"], "[] [] None [] [\"a\"]"),
+    (
+        &["", "a", "b", "a", "", "-"],
+        "[] [] None [] [\"a\", \"b\", \"a\", \"\", \"-\"]",
+    ),
+    (
+        &["gherkin_run", "a", "--", "--help", "--"],
+        "[] [] None [] [\"a\", \"--help\", \"--\"]",
+    ),
+    (
+        &[
+            "gherkin_run",
+            "--line",
+            "3",
+            "a",
+            "--tags=~@slow,@db",
+            "--env",
+            "A=b=c",
+            "--library",
+            "l",
+            "b",
+            "--line=4294967295",
+            "--tags",
+            "@ui",
+            "--env=A=",
+            "--env",
+            "=",
+        ],
+        "[\"~@slow,@db\", \"@ui\"] [3, 4294967295] Some(\"l\") [(\"A\", \"b=c\"), (\"A\", \"\"), (\"\", \"\")] [\"a\", \"b\"]",
+    ),
+    (
+        &["gherkin_run", "--tags=-x", "--tags=", "--line", "1", "a"],
+        "[\"-x\", \"\"] [1] None [] [\"a\"]",
+    ),
+    (
+        &["gherkin_run", "--library=", "a"],
+        "[] [] Some(\"\") [] [\"a\"]",
+    ),
+];
+
 #[test]
 fn reads_options_and_files_in_any_order(rt: HostRuntime) -> Result<(), Fail> {
-    // The arguments; the tags, the lines, the library, the variables, the files.
-    let cases: [(&[&str], &str); 6] = [
-        (&["gherkin_run", "a"], "[] [] None [] [\"a\"]"),
-        (
-            &["", "a", "b", "a", "", "-"],
-            "[] [] None [] [\"a\", \"b\", \"a\", \"\", \"-\"]",
-        ),
-        (
-            &["gherkin_run", "a", "--", "--help", "--"],
-            "[] [] None [] [\"a\", \"--help\", \"--\"]",
-        ),
-        (
-            &[
-                "gherkin_run",
-                "--line",
-                "3",
-                "a",
-                "--tags=~@slow,@db",
-                "--env",
-                "A=b=c",
-                "--library",
-                "l",
-                "b",
-                "--line=4294967295",
-                "--tags",
-                "@ui",
-                "--env=A=",
-                "--env",
-                "=",
-            ],
-            "[\"~@slow,@db\", \"@ui\"] [3, 4294967295] Some(\"l\") [(\"A\", \"b=c\"), (\"A\", \"\"), (\"\", \"\")] [\"a\", \"b\"]",
-        ),
-        (
-            &["gherkin_run", "--tags=-x", "--tags=", "--line", "1", "a"],
-            "[\"-x\", \"\"] [1] None [] [\"a\"]",
-        ),
-        (
-            &["gherkin_run", "--library=", "a"],
-            "[] [] Some(\"\") [] [\"a\"]",
-        ),
-    ];
-    for (arguments, wanted) in cases {
+    for (arguments, wanted) in READ {
         let w = read(rt.alloc(), arguments)??;
         let text = format!(in rt.alloc();
             "{:?} {:?} {:?} {:?} {:?}",
@@ -65,63 +66,64 @@ fn reads_options_and_files_in_any_order(rt: HostRuntime) -> Result<(), Fail> {
     Ok(())
 }
 
+// Arguments; clap's kind and exit code, or none for `Env`.
+const REFUSED: [(&[&str], Option<(ErrorKind, i32)>); 15] = [
+    (&[], Some((ErrorKind::MissingRequiredArgument, 2))),
+    (
+        &["gherkin_run"],
+        Some((ErrorKind::MissingRequiredArgument, 2)),
+    ),
+    (
+        &["gherkin_run", "--line", "1"],
+        Some((ErrorKind::MissingRequiredArgument, 2)),
+    ),
+    (
+        &["gherkin_run", "--stop", "a"],
+        Some((ErrorKind::UnknownArgument, 2)),
+    ),
+    (
+        &["gherkin_run", "-x", "a"],
+        Some((ErrorKind::UnknownArgument, 2)),
+    ),
+    (
+        &["gherkin_run", "a", "--tags"],
+        Some((ErrorKind::InvalidValue, 2)),
+    ),
+    (
+        &["gherkin_run", "--line", "0", "a"],
+        Some((ErrorKind::ValueValidation, 2)),
+    ),
+    (
+        &["gherkin_run", "--line", "4294967296", "a"],
+        Some((ErrorKind::ValueValidation, 2)),
+    ),
+    (
+        &["gherkin_run", "--line", "x", "a"],
+        Some((ErrorKind::ValueValidation, 2)),
+    ),
+    (
+        &["gherkin_run", "--library", "l", "--library", "l", "a"],
+        Some((ErrorKind::ArgumentConflict, 2)),
+    ),
+    (
+        &["gherkin_run", "--help"],
+        Some((ErrorKind::DisplayHelp, 0)),
+    ),
+    (
+        &["gherkin_run", "a", "-h"],
+        Some((ErrorKind::DisplayHelp, 0)),
+    ),
+    (
+        &["gherkin_run", "--env", "A", "--line", "0", "a"],
+        Some((ErrorKind::ValueValidation, 2)),
+    ),
+    (&["gherkin_run", "--env", "A", "a"], None),
+    (&["gherkin_run", "a", "--env", "A=1", "--env="], None),
+];
+
 #[test]
 fn names_what_is_wrong_with_arguments(rt: HostRuntime) -> Result<(), Fail> {
-    // The arguments; clap's kind and exit code, or none for `Env`.
-    let cases: [(&[&str], Option<(ErrorKind, i32)>); 15] = [
-        (&[], Some((ErrorKind::MissingRequiredArgument, 2))),
-        (
-            &["gherkin_run"],
-            Some((ErrorKind::MissingRequiredArgument, 2)),
-        ),
-        (
-            &["gherkin_run", "--line", "1"],
-            Some((ErrorKind::MissingRequiredArgument, 2)),
-        ),
-        (
-            &["gherkin_run", "--stop", "a"],
-            Some((ErrorKind::UnknownArgument, 2)),
-        ),
-        (
-            &["gherkin_run", "-x", "a"],
-            Some((ErrorKind::UnknownArgument, 2)),
-        ),
-        (
-            &["gherkin_run", "a", "--tags"],
-            Some((ErrorKind::InvalidValue, 2)),
-        ),
-        (
-            &["gherkin_run", "--line", "0", "a"],
-            Some((ErrorKind::ValueValidation, 2)),
-        ),
-        (
-            &["gherkin_run", "--line", "4294967296", "a"],
-            Some((ErrorKind::ValueValidation, 2)),
-        ),
-        (
-            &["gherkin_run", "--line", "x", "a"],
-            Some((ErrorKind::ValueValidation, 2)),
-        ),
-        (
-            &["gherkin_run", "--library", "l", "--library", "l", "a"],
-            Some((ErrorKind::ArgumentConflict, 2)),
-        ),
-        (
-            &["gherkin_run", "--help"],
-            Some((ErrorKind::DisplayHelp, 0)),
-        ),
-        (
-            &["gherkin_run", "a", "-h"],
-            Some((ErrorKind::DisplayHelp, 0)),
-        ),
-        (
-            &["gherkin_run", "--env", "A", "--line", "0", "a"],
-            Some((ErrorKind::ValueValidation, 2)),
-        ),
-        (&["gherkin_run", "--env", "A", "a"], None),
-        (&["gherkin_run", "a", "--env", "A=1", "--env="], None),
-    ];
-    for (arguments, wanted) in cases {
+    for (arguments, wanted) in REFUSED {
         let found = match read(rt.alloc(), arguments)? {
             Ok(_words) => Some((ErrorKind::Format, 0)),
             Err(WordsFault::Usage(error)) => Some((error.kind(), error.exit_code())),

@@ -78,37 +78,37 @@ fn reports_whole_runs(rt: HostRuntime) -> Result<(), Fail> {
     Ok(())
 }
 
+// The tags, the library and the second source; the fault.
+const UNREAD: [(&str, &[u8], &str, RunFault); 3] = [
+    (
+        "@",
+        b"x",
+        "Feature: a\nstray\n",
+        RunFault::Select {
+            input: None,
+            fault: SelectFault::BadTagText,
+        },
+    ),
+    (
+        "",
+        b"x",
+        "Feature: a\nstray\n",
+        RunFault::Library(LibraryFault::BadType { line: 1 }),
+    ),
+    (
+        "",
+        b"",
+        "Feature: a\nScenario: b\n  Given c\n  stray\n",
+        RunFault::Read {
+            input: 1,
+            fault: ReadFault::Unexpected { line: 4 },
+        },
+    ),
+];
+
 #[test]
 fn names_the_first_that_does_not_read(rt: HostRuntime) -> Result<(), Fail> {
-    // The tags, the library and the second source; the fault.
-    let stray = ReadFault::Unexpected { line: 2 };
-    let cases: [(&str, &[u8], &str, RunFault); 3] = [
-        (
-            "@",
-            b"x",
-            "Feature: a\nstray\n",
-            RunFault::Select {
-                input: None,
-                fault: SelectFault::BadTagText,
-            },
-        ),
-        (
-            "",
-            b"x",
-            "Feature: a\nstray\n",
-            RunFault::Library(LibraryFault::BadType { line: 1 }),
-        ),
-        (
-            "",
-            b"",
-            "Feature: a\nScenario: b\n  Given c\n  stray\n",
-            RunFault::Read {
-                input: 1,
-                fault: ReadFault::Unexpected { line: 4 },
-            },
-        ),
-    ];
-    for (tags, library, text, fault) in cases {
+    for (tags, library, text, fault) in UNREAD {
         let sources = sources(rt.alloc(), &["Feature: one\n", text, "stray"])?;
         let options = options(rt.alloc(), tags)?;
         let mut sandbox = Sandbox::new(rt.alloc());
@@ -125,15 +125,34 @@ fn names_the_first_that_does_not_read(rt: HostRuntime) -> Result<(), Fail> {
         assert_eq!(rt; out.inner().len(), 0);
         assert_eq!(rt; out.calls(), 0);
     }
-    assert_eq!(rt;
-        RunFault::Read {
-            input: 0,
-            fault: stray
-        }
-        .status(),
-        3
-    );
-    assert_eq!(rt; RunFault::Write.status(), 3);
-    assert_eq!(rt; RunFault::Memory.status(), 4);
+    Ok(())
+}
+
+// A fault, and its status.
+const STATUSES: [(RunFault, u8); 5] = [
+    (RunFault::Write, 3),
+    (RunFault::Memory, 4),
+    (RunFault::Library(LibraryFault::TooLong), 3),
+    (
+        RunFault::Select {
+            input: None,
+            fault: SelectFault::BadTagText,
+        },
+        2,
+    ),
+    (
+        RunFault::Select {
+            input: Some(0),
+            fault: SelectFault::TooMany,
+        },
+        3,
+    ),
+];
+
+#[test]
+fn faults_have_statuses(rt: HostRuntime) -> Result<(), Fail> {
+    for (fault, status) in STATUSES {
+        assert_eq!(rt; fault.status(), status);
+    }
     Ok(())
 }
