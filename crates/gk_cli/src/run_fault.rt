@@ -40,7 +40,10 @@ impl RunFault {
     {
         match self {
             RunFault::Memory => 4,
-            RunFault::Select { fault: SelectFault::BadTagText, .. } => 2,
+            RunFault::Select {
+                fault: SelectFault::BadTagText,
+                ..
+            } => 2,
             _ => 3,
         }
     }
