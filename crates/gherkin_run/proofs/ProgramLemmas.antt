@@ -1,5 +1,5 @@
 -- A run whose output is flushed, the program's faults for those of the run, and variables one after another.
-use Rattle.std.proofs.Common.{◌≡◌, ◌≢◌, ◌⊎◌, ◌∙◌, ◌+◌, ◌-◌, ◌^◌, ◌<◌, ◌≤◌, ◌++◌, ap, sym, subst, refl, inl, inr, arith, suc, ℕ, List, [], ◌∷◌, length, map, take, drop, get_or, Option, Some, None, Result, Ok, Err, add-one}
+use Rattle.std.proofs.Common.{◌≡◌, ◌∙◌, ◌+◌, ◌-◌, ◌^◌, ◌<◌, ◌≤◌, ◌++◌, ap, sym, subst, refl, inl, inr, arith, suc, ℕ, List, [], ◌∷◌, length, map, take, drop, get_or, Option, Some, None, Result, Ok, Err, add-one}
 use Rattle.std.specs.Prelude.{IfErr, IfOk, IsSome, String, is_some, option_map, string_bytes}
 use Rattle.std.specs.declared.alloc.Global.{Global}
 use Rattle.std.specs.List.{All, Any}
@@ -25,7 +25,7 @@ use Rattle.gk_cli.specs.declared.arguments.Words.{Words}
 use Rattle.gk_cli.specs.declared.run_fault.RunFault.{RunFault}
 use Rattle.gk_cli.specs.declared.run_fault.RunFault.TheVariants as run
 use Rattle.gherkin_run.specs.Files.{IsFileFault, name_of}
-use Rattle.gherkin_run.specs.Program.{AreGiven, IsFaultOfGiven, IsFaultOfRun, IsFaultOfVariable, IsGiven, IsNamed, IsRefused, IsRun, IsUnflushed, IsWithin, SaysCalls, SaysProgram, SaysSuite, SaysVariables, contents_given, library_bytes, request_given, with_variables}
+use Rattle.gherkin_run.specs.Program.{AreGiven, IsFaultOfGiven, IsFaultOfRun, IsFaultOfVariable, IsNamed, IsRefused, IsRun, IsWithin, SaysCalls, SaysProgram, SaysSuite, SaysVariables, contents_given, library_bytes, request_given, with_variables}
 use Rattle.gherkin_run.specs.declared.fault.Fault.{Fault}
 use Rattle.gherkin_run.specs.declared.fault.Fault.TheVariants.{NotUtf8, Usage, Env, CannotRead, TooLong, Library, Read, TooMany, BadTags, Write, Memory}
 

@@ -1,10 +1,8 @@
 use Rattle.std.proofs.Common.{◌∙◌, ap, inl, inr, map, refl}
 use Rattle.std.specs.Prelude.{option_map}
 use Rattle.gk_cli.specs.Counted.{one_more}
-use Rattle.gk_cli.specs.Inputs.{request_of}
 use Rattle.gk_cli.specs.Source.{source_value}
 use Rattle.gk_cli.specs.Suite.{device_of}
-use Rattle.gherkin_run.specs.Program.{library_bytes}
 use Rattle.gherkin_run.proofs.ProgramLemmas.{calls_of_run, judged_kept, plain_kept, within}
 use Rattle.gherkin_run.proofs.program.run_sources.Goals as goal
 
