@@ -1,10 +1,9 @@
 ghost use Rattle.std.specs.Prelude.{◌≡◌, ◌<◌};
 ghost use Rattle.gk_world.specs.Sandbox.{depth};
 
-use gk_gherkin::{Block, Step, StepType};
-use gk_run::{Chosen, Outcome, Reason, Status, act, run_case, run_feature};
-use gk_select::Case;
-use gk_steps::{Action, Entry, Field, FieldKind, Found, Library, Pattern, Piece, default_library};
+use gk_gherkin::Block;
+use gk_run::{Outcome, Reason, act};
+use gk_steps::{Action, Entry, Field, FieldKind, Found, Library, Pattern, Piece};
 use gk_world::Sandbox;
 use std::alloc::{AllocError, Global};
 use std::test::Fail;
@@ -229,89 +228,5 @@ fn rows_before_a_refused_one_stay(rt: HostRuntime) -> Result<(), Fail> {
     sandbox.end(layer);
     assert_eq!(rt; outcome, BAD_NAME);
     assert!(rt; kept && !others);
-    Ok(())
-}
-
-fn step(alloc: Global, text: &str) -> Result<Step, AllocError> {
-    Ok(Step {
-        keyword: String::from_str(alloc, "Given")?,
-        step_type: StepType::Given,
-        text: String::from_str(alloc, text)?,
-        block: Block::Empty,
-        line: 3,
-    })
-}
-
-/// A case with these steps.
-fn case(alloc: Global, texts: &[&str]) -> Result<Case, AllocError> {
-    let mut steps = Vec::new(alloc);
-    for text in texts {
-        steps.push(step(alloc, text)?)?;
-    }
-    Ok(Case {
-        name: String::from_str(alloc, "a case")?,
-        keyword: String::from_str(alloc, "Scenario")?,
-        line: 2,
-        tags: Vec::new(alloc),
-        own_tags: Vec::new(alloc),
-        steps,
-    })
-}
-
-#[test]
-fn a_case_has_its_statuses_and_leaves_nothing(rt: HostRuntime) -> Result<(), Fail> {
-    let alloc = rt.alloc();
-    let library = default_library(alloc)?;
-    let mut sandbox = Sandbox::new(alloc);
-    let texts = [
-        "a file named \"f\" containing \"x\"",
-        "it fails",
-        "it passes",
-        "nobody knows",
-    ];
-    let case = case(alloc, &texts)?;
-    let Ok(result) = run_case(alloc, &mut sandbox, &library, case) else {
-        return Err("no room".into());
-    };
-    let [first, second, third, fourth] = result.steps.as_slice() else {
-        return Err("steps".into());
-    };
-    assert_eq!(rt;
-        (first.status, second.status),
-        (Status::Passed, Status::Failed)
-    );
-    assert_eq!(rt;
-        (third.status, fourth.status),
-        (Status::Skipped, Status::Undefined)
-    );
-    assert_eq!(rt; result.status, Status::Failed);
-    assert!(rt; sandbox.file("f").is_none() && sandbox.depth() == 0);
-    Ok(())
-}
-
-#[test]
-fn a_feature_has_the_results_of_its_cases(rt: HostRuntime) -> Result<(), Fail> {
-    let alloc = rt.alloc();
-    let library = default_library(alloc)?;
-    let mut sandbox = Sandbox::new(alloc);
-    let chosen = Chosen {
-        source: String::from_str(alloc, "a.feature")?,
-        name: String::from_str(alloc, "a feature")?,
-        line: 1,
-        tags: Vec::new(alloc),
-        cases: vec![in alloc; case(alloc, &["it fails"])?, case(alloc, &["it passes"])?]?,
-        selected: vec![in alloc; false, true]?,
-    };
-    let Ok(result) = run_feature(alloc, &mut sandbox, &library, chosen) else {
-        return Err("no room".into());
-    };
-    let [first, second] = result.cases.as_slice() else {
-        return Err("cases".into());
-    };
-    assert_eq!(rt;
-        (first.status, second.status),
-        (Status::Skipped, Status::Passed)
-    );
-    assert_eq!(rt; result.status, Status::Passed);
     Ok(())
 }
