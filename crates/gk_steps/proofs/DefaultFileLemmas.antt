@@ -12,7 +12,7 @@ use Rattle.gk_steps.specs.declared.action.Action.TheVariants as actions
 use Rattle.gk_steps.specs.declared.pattern.FieldKind.TheVariants.{Plain, Decimal}
 use Rattle.gk_steps.specs.Pattern.{PieceValue, Literal, FieldPiece, spelled_piece, is_field_name, field_names, field_kind, AreLongestRuns, SpellsPattern}
 use Rattle.gk_steps.specs.Matching.{MatchesNot, best_match}
-use Rattle.gk_steps.specs.Action.{ActionRow, action_row, text_row, plain_row, name_word, to_word, number_word, kind_of_field}
+use Rattle.gk_steps.specs.Action.{ActionRow, action_row, text_row, plain_row, name_word, to_word, number_word, step_word, kind_of_field}
 use Rattle.gk_steps.specs.Finding.{EntryValue, LibraryValue, is_of_type}
 use Rattle.gk_steps.specs.LibraryFile.{Sides, is_ignored, type_of, sides_of, last_arrow, NoneMatches, SpellsEntry, SpellEntries, ReadsLibrary}
 use Rattle.gk_steps.specs.LibraryLine.{is_none_or_kind}
@@ -240,18 +240,30 @@ abbrev l23 : LineValue
 l23 = line_at 24 (codes "step the number \"{name}\" should be {n:d} => number_is")
 
 abbrev e24 : EntryValue
-e24 = any_entry (Literal (codes "it passes") ∷ []) actions.Pass
+e24 = any_entry (Literal (codes "at cleanup ") ∷ FieldPiece (codes "step") Plain ∷ []) actions.AtCleanup
 
 abbrev l24 : LineValue
-l24 = line_at 25 (codes "step it passes => pass")
+l24 = line_at 25 (codes "step at cleanup {step} => at_cleanup")
 
 abbrev e25 : EntryValue
-e25 = any_entry (Literal (codes "it fails") ∷ []) actions.Fail
+e25 = any_entry (Literal (codes "the scenario is skipped") ∷ []) actions.SkipScenario
 
 abbrev l25 : LineValue
-l25 = line_at 26 (codes "step it fails => fail")
+l25 = line_at 26 (codes "step the scenario is skipped => skip_scenario")
 
-all_lines : filter (λ line. not (is_ignored line)) (lines_of default_text) ≡ l0 ∷ l1 ∷ l2 ∷ l3 ∷ l4 ∷ l5 ∷ l6 ∷ l7 ∷ l8 ∷ l9 ∷ l10 ∷ l11 ∷ l12 ∷ l13 ∷ l14 ∷ l15 ∷ l16 ∷ l17 ∷ l18 ∷ l19 ∷ l20 ∷ l21 ∷ l22 ∷ l23 ∷ l24 ∷ l25 ∷ []
+abbrev e26 : EntryValue
+e26 = any_entry (Literal (codes "it passes") ∷ []) actions.Pass
+
+abbrev l26 : LineValue
+l26 = line_at 27 (codes "step it passes => pass")
+
+abbrev e27 : EntryValue
+e27 = any_entry (Literal (codes "it fails") ∷ []) actions.Fail
+
+abbrev l27 : LineValue
+l27 = line_at 28 (codes "step it fails => fail")
+
+all_lines : filter (λ line. not (is_ignored line)) (lines_of default_text) ≡ l0 ∷ l1 ∷ l2 ∷ l3 ∷ l4 ∷ l5 ∷ l6 ∷ l7 ∷ l8 ∷ l9 ∷ l10 ∷ l11 ∷ l12 ∷ l13 ∷ l14 ∷ l15 ∷ l16 ∷ l17 ∷ l18 ∷ l19 ∷ l20 ∷ l21 ∷ l22 ∷ l23 ∷ l24 ∷ l25 ∷ l26 ∷ l27 ∷ []
 unfolding default_text
 all_lines = refl
 
@@ -353,14 +365,22 @@ g23 = good (e0 ∷ e1 ∷ e2 ∷ e3 ∷ e4 ∷ e5 ∷ e6 ∷ e7 ∷ e8 ∷ e9 �
 
 g24 : SpellsEntry (e0 ∷ e1 ∷ e2 ∷ e3 ∷ e4 ∷ e5 ∷ e6 ∷ e7 ∷ e8 ∷ e9 ∷ e10 ∷ e11 ∷ e12 ∷ e13 ∷ e14 ∷ e15 ∷ e16 ∷ e17 ∷ e18 ∷ e19 ∷ e20 ∷ e21 ∷ e22 ∷ e23 ∷ []) l24 e24
 unfolding type_of sides_of last_arrow action_row spells_ok runs_ok passes is_utf8 chars lib.Utf8.encode
-g24 = good (e0 ∷ e1 ∷ e2 ∷ e3 ∷ e4 ∷ e5 ∷ e6 ∷ e7 ∷ e8 ∷ e9 ∷ e10 ∷ e11 ∷ e12 ∷ e13 ∷ e14 ∷ e15 ∷ e16 ∷ e17 ∷ e18 ∷ e19 ∷ e20 ∷ e21 ∷ e22 ∷ e23 ∷ []) l24 e24 (record { pattern = codes "it passes"; action = codes "pass" }) (plain_row (codes "pass") actions.Pass ([])) refl refl refl refl refl refl refl refl
+g24 = good (e0 ∷ e1 ∷ e2 ∷ e3 ∷ e4 ∷ e5 ∷ e6 ∷ e7 ∷ e8 ∷ e9 ∷ e10 ∷ e11 ∷ e12 ∷ e13 ∷ e14 ∷ e15 ∷ e16 ∷ e17 ∷ e18 ∷ e19 ∷ e20 ∷ e21 ∷ e22 ∷ e23 ∷ []) l24 e24 (record { pattern = codes "at cleanup {step}"; action = codes "at_cleanup" }) (plain_row (codes "at_cleanup") actions.AtCleanup (step_word ∷ [])) refl refl refl refl refl refl refl refl
 
 g25 : SpellsEntry (e0 ∷ e1 ∷ e2 ∷ e3 ∷ e4 ∷ e5 ∷ e6 ∷ e7 ∷ e8 ∷ e9 ∷ e10 ∷ e11 ∷ e12 ∷ e13 ∷ e14 ∷ e15 ∷ e16 ∷ e17 ∷ e18 ∷ e19 ∷ e20 ∷ e21 ∷ e22 ∷ e23 ∷ e24 ∷ []) l25 e25
 unfolding type_of sides_of last_arrow action_row spells_ok runs_ok passes is_utf8 chars lib.Utf8.encode
-g25 = good (e0 ∷ e1 ∷ e2 ∷ e3 ∷ e4 ∷ e5 ∷ e6 ∷ e7 ∷ e8 ∷ e9 ∷ e10 ∷ e11 ∷ e12 ∷ e13 ∷ e14 ∷ e15 ∷ e16 ∷ e17 ∷ e18 ∷ e19 ∷ e20 ∷ e21 ∷ e22 ∷ e23 ∷ e24 ∷ []) l25 e25 (record { pattern = codes "it fails"; action = codes "fail" }) (plain_row (codes "fail") actions.Fail ([])) refl refl refl refl refl refl refl refl
+g25 = good (e0 ∷ e1 ∷ e2 ∷ e3 ∷ e4 ∷ e5 ∷ e6 ∷ e7 ∷ e8 ∷ e9 ∷ e10 ∷ e11 ∷ e12 ∷ e13 ∷ e14 ∷ e15 ∷ e16 ∷ e17 ∷ e18 ∷ e19 ∷ e20 ∷ e21 ∷ e22 ∷ e23 ∷ e24 ∷ []) l25 e25 (record { pattern = codes "the scenario is skipped"; action = codes "skip_scenario" }) (plain_row (codes "skip_scenario") actions.SkipScenario ([])) refl refl refl refl refl refl refl refl
+
+g26 : SpellsEntry (e0 ∷ e1 ∷ e2 ∷ e3 ∷ e4 ∷ e5 ∷ e6 ∷ e7 ∷ e8 ∷ e9 ∷ e10 ∷ e11 ∷ e12 ∷ e13 ∷ e14 ∷ e15 ∷ e16 ∷ e17 ∷ e18 ∷ e19 ∷ e20 ∷ e21 ∷ e22 ∷ e23 ∷ e24 ∷ e25 ∷ []) l26 e26
+unfolding type_of sides_of last_arrow action_row spells_ok runs_ok passes is_utf8 chars lib.Utf8.encode
+g26 = good (e0 ∷ e1 ∷ e2 ∷ e3 ∷ e4 ∷ e5 ∷ e6 ∷ e7 ∷ e8 ∷ e9 ∷ e10 ∷ e11 ∷ e12 ∷ e13 ∷ e14 ∷ e15 ∷ e16 ∷ e17 ∷ e18 ∷ e19 ∷ e20 ∷ e21 ∷ e22 ∷ e23 ∷ e24 ∷ e25 ∷ []) l26 e26 (record { pattern = codes "it passes"; action = codes "pass" }) (plain_row (codes "pass") actions.Pass ([])) refl refl refl refl refl refl refl refl
+
+g27 : SpellsEntry (e0 ∷ e1 ∷ e2 ∷ e3 ∷ e4 ∷ e5 ∷ e6 ∷ e7 ∷ e8 ∷ e9 ∷ e10 ∷ e11 ∷ e12 ∷ e13 ∷ e14 ∷ e15 ∷ e16 ∷ e17 ∷ e18 ∷ e19 ∷ e20 ∷ e21 ∷ e22 ∷ e23 ∷ e24 ∷ e25 ∷ e26 ∷ []) l27 e27
+unfolding type_of sides_of last_arrow action_row spells_ok runs_ok passes is_utf8 chars lib.Utf8.encode
+g27 = good (e0 ∷ e1 ∷ e2 ∷ e3 ∷ e4 ∷ e5 ∷ e6 ∷ e7 ∷ e8 ∷ e9 ∷ e10 ∷ e11 ∷ e12 ∷ e13 ∷ e14 ∷ e15 ∷ e16 ∷ e17 ∷ e18 ∷ e19 ∷ e20 ∷ e21 ∷ e22 ∷ e23 ∷ e24 ∷ e25 ∷ e26 ∷ []) l27 e27 (record { pattern = codes "it fails"; action = codes "fail" }) (plain_row (codes "fail") actions.Fail ([])) refl refl refl refl refl refl refl refl
 
 pub default_reads : ReadsLibrary (lines_of default_text) default_entries
-default_reads = subst (λ (q : Lines). SpellEntries [] q default_entries) (sym all_lines) (g0, (g1, (g2, (g3, (g4, (g5, (g6, (g7, (g8, (g9, (g10, (g11, (g12, (g13, (g14, (g15, (g16, (g17, (g18, (g19, (g20, (g21, (g22, (g23, (g24, (g25, tt))))))))))))))))))))))))))
+default_reads = subst (λ (q : Lines). SpellEntries [] q default_entries) (sym all_lines) (g0, (g1, (g2, (g3, (g4, (g5, (g6, (g7, (g8, (g9, (g10, (g11, (g12, (g13, (g14, (g15, (g16, (g17, (g18, (g19, (g20, (g21, (g22, (g23, (g24, (g25, (g26, (g27, tt))))))))))))))))))))))))))))
 
 pub default_short : length default_text ≤ limit
 unfolding default_text

@@ -145,7 +145,7 @@ find_all P p [] x e h = let bad : ⊥ = cc in absurd bad
 find_all P p (y ∷ ys) x e h = find_here (p y) P p ys x y e h.0 (λ f. find_all P p ys x f h.1)
 
 rows_fit : AllByRecursion FitsRow action_table
-rows_fit = (record { needs = refl; uses = refl }, (record { needs = refl; uses = refl }, (record { needs = refl; uses = refl }, (record { needs = refl; uses = refl }, (record { needs = refl; uses = refl }, (record { needs = refl; uses = refl }, (record { needs = refl; uses = refl }, (record { needs = refl; uses = refl }, (record { needs = refl; uses = refl }, (record { needs = refl; uses = refl }, (record { needs = refl; uses = refl }, (record { needs = refl; uses = refl }, (record { needs = refl; uses = refl }, (record { needs = refl; uses = refl }, (record { needs = refl; uses = refl }, (record { needs = refl; uses = refl }, (record { needs = refl; uses = refl }, (record { needs = refl; uses = refl }, (record { needs = refl; uses = refl }, (record { needs = refl; uses = refl }, (record { needs = refl; uses = refl }, (record { needs = refl; uses = refl }, tt))))))))))))))))))))))
+rows_fit = (record { needs = refl; uses = refl }, (record { needs = refl; uses = refl }, (record { needs = refl; uses = refl }, (record { needs = refl; uses = refl }, (record { needs = refl; uses = refl }, (record { needs = refl; uses = refl }, (record { needs = refl; uses = refl }, (record { needs = refl; uses = refl }, (record { needs = refl; uses = refl }, (record { needs = refl; uses = refl }, (record { needs = refl; uses = refl }, (record { needs = refl; uses = refl }, (record { needs = refl; uses = refl }, (record { needs = refl; uses = refl }, (record { needs = refl; uses = refl }, (record { needs = refl; uses = refl }, (record { needs = refl; uses = refl }, (record { needs = refl; uses = refl }, (record { needs = refl; uses = refl }, (record { needs = refl; uses = refl }, (record { needs = refl; uses = refl }, (record { needs = refl; uses = refl }, (record { needs = refl; uses = refl }, (record { needs = refl; uses = refl }, tt))))))))))))))))))))))))
 
 row_fits : (name : List ℕ) (row : ActionRow) → action_row name ≡ Some row → FitsRow row
 unfolding action_row

@@ -29,6 +29,10 @@ text_word = codes "text"
 abbrev pub number_word : List ℕ
 number_word = codes "n"
 
+-- The field for the text of a step. (this project's profile)
+abbrev pub step_word : List ℕ
+step_word = codes "step"
+
 -- The kind that a field of this name has to have: `n` is a number, any other is plain. (this project's profile)
 abbrev pub kind_of_field : List ℕ → FieldKind
 kind_of_field name = if bytes_eq name number_word then Decimal else Plain
@@ -69,6 +73,8 @@ other_rows =
     ∷ plain_row (codes "set_number") actions.SetNumber (name_word ∷ number_word ∷ [])
     ∷ plain_row (codes "add_number") actions.AddNumber (name_word ∷ number_word ∷ [])
     ∷ plain_row (codes "number_is") actions.NumberIs (name_word ∷ number_word ∷ [])
+    ∷ plain_row (codes "at_cleanup") actions.AtCleanup (step_word ∷ [])
+    ∷ plain_row (codes "skip_scenario") actions.SkipScenario []
     ∷ plain_row (codes "pass") actions.Pass []
     ∷ plain_row (codes "fail") actions.Fail []
     ∷ []

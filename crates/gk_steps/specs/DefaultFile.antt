@@ -33,6 +33,8 @@ default_text =
     ++ codes "step the number \"{name}\" is set to {n:d} => set_number\n"
     ++ codes "step the number \"{name}\" grows by {n:d} => add_number\n"
     ++ codes "step the number \"{name}\" should be {n:d} => number_is\n"
+    ++ codes "step at cleanup {step} => at_cleanup\n"
+    ++ codes "step the scenario is skipped => skip_scenario\n"
     ++ codes "step it passes => pass\n"
     ++ codes "step it fails => fail\n"
 
@@ -67,6 +69,8 @@ default_entries =
     ∷ any_entry (Literal (codes "the number \"") ∷ FieldPiece (codes "name") Plain ∷ Literal (codes "\" is set to ") ∷ FieldPiece (codes "n") Decimal ∷ []) actions.SetNumber
     ∷ any_entry (Literal (codes "the number \"") ∷ FieldPiece (codes "name") Plain ∷ Literal (codes "\" grows by ") ∷ FieldPiece (codes "n") Decimal ∷ []) actions.AddNumber
     ∷ any_entry (Literal (codes "the number \"") ∷ FieldPiece (codes "name") Plain ∷ Literal (codes "\" should be ") ∷ FieldPiece (codes "n") Decimal ∷ []) actions.NumberIs
+    ∷ any_entry (Literal (codes "at cleanup ") ∷ FieldPiece (codes "step") Plain ∷ []) actions.AtCleanup
+    ∷ any_entry (Literal (codes "the scenario is skipped") ∷ []) actions.SkipScenario
     ∷ any_entry (Literal (codes "it passes") ∷ []) actions.Pass
     ∷ any_entry (Literal (codes "it fails") ∷ []) actions.Fail
     ∷ []

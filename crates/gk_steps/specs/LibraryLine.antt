@@ -12,7 +12,7 @@ use Rattle.gk_steps.specs.declared.pattern.FieldKind.TheVariants.{Plain, Decimal
 use Rattle.gk_steps.specs.declared.library_fault.LibraryFault.{LibraryFault}
 use Rattle.gk_steps.specs.declared.library_fault.LibraryFault.TheVariants as faults
 use Rattle.gk_steps.specs.Pattern.{PieceValue, SpellsPattern, field_kind}
-use Rattle.gk_steps.specs.Action.{ActionRow, action_row, kind_of_field, name_word, to_word, text_word, number_word}
+use Rattle.gk_steps.specs.Action.{ActionRow, action_row, kind_of_field, name_word, to_word, text_word, number_word, step_word}
 use Rattle.gk_steps.specs.Finding.{EntryValue}
 use Rattle.gk_steps.specs.LibraryFile.{SpellsEntry, is_ignored, type_of, sides_of, HasNeededFields, HasRightKinds, IsBadType, IsBadPattern, IsUnknownAction, IsMissingField, IsOtherKind, IsAmbiguous, StopsLibraryAt}
 
@@ -38,6 +38,8 @@ uses_of actions.ValueAbsent = uses.Name
 uses_of actions.SetNumber = uses.NameAndNumber
 uses_of actions.AddNumber = uses.NameAndNumber
 uses_of actions.NumberIs = uses.NameAndNumber
+uses_of actions.AtCleanup = uses.Step
+uses_of actions.SkipScenario = uses.Nothing
 uses_of actions.Pass = uses.Nothing
 uses_of actions.Fail = uses.Nothing
 
@@ -48,6 +50,7 @@ needed_names uses.Name = name_word ∷ []
 needed_names uses.NameAndText = name_word ∷ []
 needed_names uses.NameAndTo = name_word ∷ to_word ∷ []
 needed_names uses.NameAndNumber = name_word ∷ number_word ∷ []
+needed_names uses.Step = step_word ∷ []
 
 -- The names that are used.
 abbrev pub used_names : Uses → List (List ℕ)
@@ -56,6 +59,7 @@ used_names uses.Name = name_word ∷ []
 used_names uses.NameAndText = name_word ∷ text_word ∷ []
 used_names uses.NameAndTo = name_word ∷ to_word ∷ []
 used_names uses.NameAndNumber = name_word ∷ number_word ∷ []
+used_names uses.Step = step_word ∷ []
 
 -- Two kinds are the same.
 abbrev pub is_same_kind : FieldKind → FieldKind → Bool

@@ -28,6 +28,8 @@ pub enum Action {
     SetNumber,
     AddNumber,
     NumberIs,
+    AtCleanup,
+    SkipScenario,
     Pass,
     Fail,
 }
@@ -40,6 +42,7 @@ pub(crate) enum Uses {
     NameAndText,
     NameAndTo,
     NameAndNumber,
+    Step,
 }
 
 fn is_named(name: &str, other: &str) -> bool
@@ -101,6 +104,10 @@ fn other_action(name: &str) -> Option<Action>
         Some(Action::AddNumber)
     } else if is_named("number_is", name) {
         Some(Action::NumberIs)
+    } else if is_named("at_cleanup", name) {
+        Some(Action::AtCleanup)
+    } else if is_named("skip_scenario", name) {
+        Some(Action::SkipScenario)
     } else if is_named("pass", name) {
         Some(Action::Pass)
     } else if is_named("fail", name) {
@@ -146,6 +153,8 @@ impl Action {
             Action::SetNumber => Uses::NameAndNumber,
             Action::AddNumber => Uses::NameAndNumber,
             Action::NumberIs => Uses::NameAndNumber,
+            Action::AtCleanup => Uses::Step,
+            Action::SkipScenario => Uses::Nothing,
             Action::Pass => Uses::Nothing,
             Action::Fail => Uses::Nothing,
         }

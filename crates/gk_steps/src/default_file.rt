@@ -35,6 +35,8 @@ step the value \"{name}\" should be absent => value_absent\n\
 step the number \"{name}\" is set to {n:d} => set_number\n\
 step the number \"{name}\" grows by {n:d} => add_number\n\
 step the number \"{name}\" should be {n:d} => number_is\n\
+step at cleanup {step} => at_cleanup\n\
+step the scenario is skipped => skip_scenario\n\
 step it passes => pass\n\
 step it fails => fail\n";
 

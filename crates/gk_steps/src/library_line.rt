@@ -177,6 +177,7 @@ fn has_needed(uses: Uses, pieces: &[Piece]) -> bool
         Uses::NameAndNumber => {
             field_kind(pieces, "name").is_some() && field_kind(pieces, "n").is_some()
         }
+        Uses::Step => field_kind(pieces, "step").is_some(),
     }
 }
 
@@ -217,6 +218,7 @@ fn has_right_kinds(uses: Uses, pieces: &[Piece]) -> bool
             is_none_or_kind(pieces, "name", FieldKind::Plain)
                 && is_none_or_kind(pieces, "n", FieldKind::Decimal)
         }
+        Uses::Step => is_none_or_kind(pieces, "step", FieldKind::Plain),
     }
 }
 

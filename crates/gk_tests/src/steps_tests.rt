@@ -240,7 +240,7 @@ fn texts_that_spell_no_pattern(rt: HostRuntime) -> Result<(), Fail> {
 }
 
 // Texts of a library, and why they are refused.
-const REFUSED: [(&str, LibraryFault); 12] = [
+const REFUSED: [(&str, LibraryFault); 14] = [
     (
         "given a {x} => pass\ngiven a b => fail\n",
         LibraryFault::Ambiguous { line: 2 },
@@ -263,6 +263,14 @@ const REFUSED: [(&str, LibraryFault); 12] = [
     ),
     (
         "step {name:d} => env_absent",
+        LibraryFault::FieldKind { line: 1 },
+    ),
+    (
+        "step at the end {text} => at_cleanup",
+        LibraryFault::MissingField { line: 1 },
+    ),
+    (
+        "step at the end {step:d} => at_cleanup",
         LibraryFault::FieldKind { line: 1 },
     ),
     ("step", LibraryFault::BadPattern { line: 1 }),
@@ -297,7 +305,7 @@ fn libraries_are_read_or_refused(rt: HostRuntime) -> Result<(), Fail> {
 fn the_default_library(rt: HostRuntime) -> Result<(), Fail> {
     let alloc = rt.alloc();
     let library = default_library(alloc)?;
-    assert_eq!(rt; library.entries.len(), 26);
+    assert_eq!(rt; library.entries.len(), 28);
     let found = library
         .find(alloc, StepType::Given, "the number \"n\" grows by -5")?
         .ok_or("not found")?;
@@ -305,6 +313,15 @@ fn the_default_library(rt: HostRuntime) -> Result<(), Fail> {
     assert_eq!(rt; library.text(&found, "name"), Some("n"));
     assert_eq!(rt; library.number(&found, "n"), Some(-5));
     assert_eq!(rt; library.text(&found, "n"), None);
+    let found = library
+        .find(alloc, StepType::Then, "at cleanup it passes")?
+        .ok_or("not found")?;
+    assert_eq!(rt; library.action(&found), Action::AtCleanup);
+    assert_eq!(rt; library.text(&found, "step"), Some("it passes"));
+    let found = library
+        .find(alloc, StepType::When, "the scenario is skipped")?
+        .ok_or("not found")?;
+    assert_eq!(rt; library.action(&found), Action::SkipScenario);
     assert!(rt; library.knows(alloc, StepType::Then, "it passes")?);
     assert!(rt; !library.knows(alloc, StepType::Then, "it dances")?);
     assert!(rt; library.find_any(alloc, "it fails")?.is_some());
