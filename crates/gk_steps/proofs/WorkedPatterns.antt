@@ -6,12 +6,13 @@ use Rattle.std.proofs.Common.{arith, inl}
 use Rattle.gk_gherkin.specs.Lines.{LineValue, lines_of, line_at}
 use Rattle.gk_gherkin.specs.declared.feature.StepType.TheVariants.{Given, Then}
 use Rattle.gk_steps.specs.declared.action.Action.TheVariants as actions
+use Rattle.gk_steps.specs.declared.pattern.FieldKind.{FieldKind}
 use Rattle.gk_steps.specs.declared.pattern.FieldKind.TheVariants.{Plain, Decimal}
 use Rattle.gk_steps.specs.Pattern.{PieceValue, Literal, FieldPiece, spelled_piece, is_field_name, SpellsPattern}
 use Rattle.gk_steps.specs.Matching.{IsPreferred, TextField, NumberField, match_of}
-use Rattle.gk_steps.specs.Action.{action_row}
+use Rattle.gk_steps.specs.Action.{ActionRow, action_row, plain_row, step_word}
 use Rattle.gk_steps.specs.Finding.{LibraryValue, found, found_at, action_of, text_field, number_field}
-use Rattle.gk_steps.specs.LibraryFile.{type_of, sides_of, last_arrow}
+use Rattle.gk_steps.specs.LibraryFile.{type_of, sides_of, last_arrow, HasNeededFields, HasRightKinds}
 use Rattle.gk_steps.specs.DefaultFile.{any_entry, default_text}
 
 abbrev line : List ℕ → LineValue
@@ -121,6 +122,24 @@ unknown : (action_row (codes "dance") ≡ None) × (action_row [] ≡ None)
 unfolding action_row
 unknown = (refl, refl)
 
-default_lines : length (lines_of default_text) ≡ 26
+-- Rows of the table of actions.
+abbrev cleanup_row : ActionRow
+cleanup_row = plain_row (codes "at_cleanup") actions.AtCleanup (step_word ∷ [])
+
+cleanup_named : action_row (codes "at_cleanup") ≡ Some cleanup_row
+unfolding action_row
+cleanup_named = refl
+
+skip_named : action_row (codes "skip_scenario") ≡ Some (plain_row (codes "skip_scenario") actions.SkipScenario [])
+unfolding action_row
+skip_named = refl
+
+without_step : HasNeededFields cleanup_row (Literal (codes "later ") ∷ FieldPiece (codes "text") Plain ∷ []) → ⊥
+without_step needs = let missing : false ≡ true = needs.0 in let bad : ⊥ = cc in bad
+
+step_as_number : HasRightKinds cleanup_row (Literal (codes "later ") ∷ FieldPiece (codes "step") Decimal ∷ []) → ⊥
+step_as_number kinds = let same : ◌≡◌ {A = FieldKind} Decimal Plain = kinds.0 Decimal refl in let bad : ⊥ = cc in bad
+
+default_lines : length (lines_of default_text) ≡ 28
 unfolding default_text
 default_lines = refl
