@@ -46,6 +46,10 @@ Feature: The built-in library
     When the number "n" grows by 2
     Then the number "n" should be 42
 
+  Scenario: Cleanups and skipping
+    Given at cleanup it passes
+    When the scenario is skipped
+
   Scenario: Passing and failing
     Given it passes
     Then it fails
