@@ -12,7 +12,7 @@ use Rattle.gk_world.specs.State.{State, nothing, with_text, see}
 use Rattle.gk_world.specs.Refusals.{is_too_long}
 use Rattle.gk_run.specs.declared.results.Reason.TheVariants as reasons
 use Rattle.gk_run.specs.Numbers.{number_of}
-use Rattle.gk_run.specs.Acting.{act, given, Given, passes, fails, table, with_file, without_file, with_env, without_env, with_own, without_own, unless}
+use Rattle.gk_run.specs.Acting.{carried_out, given, Given, passes, fails, table, with_file, without_file, with_env, without_env, with_own, without_own, unless}
 
 -- a file, a variable, a value of an outer layer, and one of the innermost
 abbrev start : State
@@ -25,19 +25,19 @@ start = record {
 
 -- an action with a name and a text
 abbrev named : List ℕ → Option (List ℕ) → Given
-named name text = record { name = name; to = []; number = pos 0; text = text; block = Empty }
+named name text = record { name = name; to = []; step = []; number = pos 0; text = text; block = Empty }
 
 -- an action with two names
 abbrev renaming : List ℕ → List ℕ → Given
-renaming name to = record { name = name; to = to; number = pos 0; text = None; block = Empty }
+renaming name to = record { name = name; to = to; step = []; number = pos 0; text = None; block = Empty }
 
 -- an action with a name and a number
 abbrev counting : List ℕ → ℤ → Given
-counting name n = record { name = name; to = []; number = n; text = None; block = Empty }
+counting name n = record { name = name; to = []; step = []; number = n; text = None; block = Empty }
 
 -- an action with a block
 abbrev under : BlockValue → Given
-under block = record { name = []; to = []; number = pos 0; text = None; block = block }
+under block = record { name = []; to = []; step = []; number = pos 0; text = None; block = block }
 
 -- a row of two cells
 abbrev two : List ℕ → List ℕ → List (List ℕ)
@@ -345,6 +345,6 @@ doc_string_alone = refl
 table_is_no_text : (given without_field found_none (Table ((codes "doc" ∷ []) ∷ []))).text ≡ None
 table_is_no_text = refl
 
-no_text : act without_field found_none Empty start ≡ fails start reasons.NoText
-unfolding act
+no_text : carried_out without_field found_none Empty start ≡ fails start reasons.NoText
+unfolding carried_out
 no_text = refl

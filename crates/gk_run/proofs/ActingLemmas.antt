@@ -27,7 +27,7 @@ use Rattle.gk_steps.specs.declared.action.Action.{Action}
 use Rattle.gk_steps.specs.Finding.{LibraryValue, FoundValue, action_of}
 use Rattle.gk_run.specs.Numbers.{is_number, number_of, is_in_range}
 use Rattle.gk_gherkin.specs.Feature.{BlockValue, texts}
-use Rattle.gk_run.specs.Acting.{Given, given, table, act, changes_nothing, write_row, write_rows, have_two_cells, Done, add_number, is_pass, is_fail, is_refused, and_then, set_own, passes, fails, unless, unless_for, with_T, absent, differs, reason_of, outcome_of, IsExactly, IsDone, IsActed, IsText, HasText, IsNumber, lacks, not_number, differs_from, with_file, without_file, with_env, without_env, with_own, without_own}
+use Rattle.gk_run.specs.Acting.{Given, given, table, carried_out, changes_nothing, write_row, write_rows, have_two_cells, Done, add_number, is_pass, is_fail, is_refused, and_then, set_own, passes, fails, unless, unless_for, with_T, absent, differs, reason_of, outcome_of, IsExactly, IsDone, IsActed, IsText, HasText, IsNumber, lacks, not_number, differs_from, with_file, without_file, with_env, without_env, with_own, without_own}
 
 -- a map with a text put in
 inserted : (m : Texts) (name text : List ℕ) → finite.get (finite.insert m name text) ≡ with_text (finite.get m) name text
@@ -127,6 +127,7 @@ and_false false = refl
 -- an action that changes nothing is carried out as well
 exact_done : (done : Done) (o : Outcome) (s : State) → IsExactly done o s → IsDone done o s
 exact_done done outcomes.Passed s h = h
+exact_done done outcomes.Skip s h = h
 exact_done done (outcomes.Failed why) s h = h
 exact_done done outcomes.Memory s h = ap (λ o. not done.begun && is_fail o) (sym h.0) ∙ and_false (not done.begun)
 
@@ -149,6 +150,7 @@ number_checked held looked n o s e h = let P : Option (List ℕ) → Type 0 = λ
 -- a part that comes after one that passed
 went_on : (d : Done) (o : Outcome) (s : State) → IsDone d o s → IsDone (record d { begun = true }) o s
 went_on d outcomes.Passed s h = h
+went_on d outcomes.Skip s h = h
 went_on d (outcomes.Failed why) s h = h
 went_on d outcomes.Memory s h = refl
 
@@ -172,6 +174,10 @@ part_passes this next old mid new written o is h k =
 -- an action in two parts, which ended with the first
 pub part_ends : (this next : Done) (old new : SandboxValue) (o : Outcome) → (o ≡ outcomes.Passed → ⊥) → IsActed this old o new → IsActed (and_then this next) old o new
 part_ends this next old new outcomes.Passed never h = absurd (never refl)
+part_ends this next old new outcomes.Skip never h =
+    let Q : Done → Type 0 = λ d. IsDone d outcomes.Skip (state_of new.now) in
+    let e : this ≡ and_then this next = ap (λ p. cond (is_pass p) (record next { begun = true }) this) h.carried_out.0 in
+    record { carried_out = subst Q e h.carried_out; layers = h.layers }
 part_ends this next old new outcomes.Memory never h = record { carried_out = may_end (is_pass this.outcome) this next h.carried_out; layers = h.layers }
 part_ends this next old new (outcomes.Failed why) never h =
     let Q : Done → Type 0 = λ d. IsDone d (outcomes.Failed why) (state_of new.now) in
@@ -317,16 +323,16 @@ pub number_fits : (text : List ℕ) (m : ℤ) → number_of text ≡ Some m → 
 number_fits text m e = number_fits_in (is_number text) (signed_digits_value 10 text) m (λ yes. in_range_fits (signed_digits_value 10 text) (second_of _ (is_in_range (signed_digits_value 10 text)) yes)) e
 
 -- the row of a step's action
-act_row : (library : LibraryValue) (f : FoundValue) (block : BlockValue) (s : State) (action : Action) (g : Given) → action ≡ action_of library f → g ≡ given library f block → table action g s ≡ act library f block s
-unfolding act
+act_row : (library : LibraryValue) (f : FoundValue) (block : BlockValue) (s : State) (action : Action) (g : Given) → action ≡ action_of library f → g ≡ given library f block → table action g s ≡ carried_out library f block s
+unfolding carried_out
 act_row library f block s action g e h = ap (λ a. table a g s) e ∙ ap (λ g. table (action_of library f) g s) h
 
 pub act_done : (library : LibraryValue) (f : FoundValue) (block : BlockValue) (old new : SandboxValue) (action : Action) (g : Given) (o : Outcome) → action ≡ action_of library f → g ≡ given library f block
-    → IsActed (table action g (state_of old.now)) old o new → IsDone (act library f block (state_of old.now)) o (state_of new.now)
+    → IsActed (table action g (state_of old.now)) old o new → IsDone (carried_out library f block (state_of old.now)) o (state_of new.now)
 act_done library f block old new action g o e h k =
     let P : Done → Type 0 = λ d. IsDone d o (state_of new.now) in subst P (act_row library f block (state_of old.now) action g e h) k.carried_out
 
 pub act_exact : (library : LibraryValue) (f : FoundValue) (block : BlockValue) (old new : SandboxValue) (action : Action) (g : Given) (o : Outcome) → action ≡ action_of library f → g ≡ given library f block
-    → (changes_nothing action ≡ true → IsExactly (table action g (state_of old.now)) o (state_of new.now)) → changes_nothing (action_of library f) ≡ true → IsExactly (act library f block (state_of old.now)) o (state_of new.now)
+    → (changes_nothing action ≡ true → IsExactly (table action g (state_of old.now)) o (state_of new.now)) → changes_nothing (action_of library f) ≡ true → IsExactly (carried_out library f block (state_of old.now)) o (state_of new.now)
 act_exact library f block old new action g o e h k same =
     let P : Done → Type 0 = λ d. IsExactly d o (state_of new.now) in subst P (act_row library f block (state_of old.now) action g e h) (k (ap (λ a. changes_nothing a) e ∙ same))

@@ -1,5 +1,5 @@
--- What an action does to the plain state, and its outcome.
-use Rattle.std.specs.Prelude.{◌≡◌, Result, Ok, Err, option_copied, ℕ, ℤ, pos, ◌+ℤ◌, Bool, true, false, cond, not, ◌&&◌, ◌==◌, List, [], ◌∷◌, length, Option, Some, None, codes, bytes_eq, is_some, is_none, unwrap_or, drop}
+-- What an action does to the plain state, what it registers, and its outcome.
+use Rattle.std.specs.Prelude.{◌≡◌, Result, Ok, Err, option_copied, ℕ, ℤ, pos, ◌+ℤ◌, Bool, true, false, cond, not, ◌&&◌, ◌==◌, List, [], ◌∷◌, ◌++◌, length, Option, Some, None, codes, bytes_eq, is_some, is_none, unwrap_or, drop}
 use Rattle.std.specs.Ordering.{int_eq}
 use Rattle.std.specs.Fmt.{signed_decimal}
 use Rattle.std.specs.List.{list_all}
@@ -10,13 +10,15 @@ use Rattle.gk_steps.specs.declared.action.Action.TheVariants as actions
 use Rattle.gk_gherkin.specs.declared.feature.Block.{Block}
 use Rattle.gk_steps.specs.declared.finding.Found.{Found}
 use Rattle.gk_steps.specs.declared.library.Library.{Library}
-use Rattle.gk_steps.specs.Finding.{LibraryValue, FoundValue, library_value, found_value, action_of, text_field, number_field}
+use Rattle.gk_steps.specs.Finding.{LibraryValue, FoundValue, library_value, found_value, action_of, text_field, number_field, found_any}
 use Rattle.gk_world.specs.declared.world_fault.WorldFault.{WorldFault}
 use Rattle.gk_world.specs.declared.world_fault.WorldFault.TheVariants as faults
 use Rattle.gk_world.specs.State.{State, with_text, without, see, state_of}
 use Rattle.gk_world.specs.Refusals.{first_true, is_bad_name, is_too_long, joined}
 use Rattle.gk_world.specs.Sandbox.{SandboxValue}
 use Rattle.gk_run.specs.declared.acting.Arguments.{Arguments}
+use Rattle.gk_run.specs.declared.acting.Site.{Site}
+use Rattle.gk_run.specs.declared.acting.Site.TheVariants as sites
 use Rattle.gk_run.specs.Numbers.{number_of, is_in_range, stands_in}
 use Rattle.gk_run.specs.declared.results.Reason.{Reason}
 use Rattle.gk_run.specs.declared.results.Reason.TheVariants as reasons
@@ -33,6 +35,7 @@ pub record Done : Type 0 where
 pub record Given : Type 0 where
   pub name : List ℕ
   pub to : List ℕ
+  pub step : List ℕ
   pub number : ℤ
   pub text : Option (List ℕ)
   pub block : BlockValue
@@ -48,6 +51,7 @@ abbrev pub given : LibraryValue → FoundValue → BlockValue → Given
 given library found block = record {
   name = unwrap_or (text_field library found (codes "name")) [];
   to = unwrap_or (text_field library found (codes "to")) [];
+  step = unwrap_or (text_field library found (codes "step")) [];
   number = unwrap_or (number_field library found (codes "n")) (pos 0);
   text = option_or (text_field library found (codes "text")) (doc_string block);
   block = block;
@@ -229,7 +233,7 @@ write_table s (Table rows) = cond (is_files_table rows) (write_rows s (drop 1 ro
 abbrev pub add_number : State → List ℕ → Option (List ℕ) → ℤ → Done
 add_number s name held n = let sum = sum_held held n in unless s (bad_name name ∷ absent held ∷ not_number held ∷ out_of_range sum ∷ []) (with_own s name (signed_decimal sum))
 
--- The table of the actions, row by row: T where the action works with it, the reasons for which it fails, in their order, and the state that it else leaves. (this project's profile)
+-- The table of the actions, row by row, but for what at_cleanup and skip_scenario do where they are allowed: T where the action works with it, the reasons for which it fails, in their order, and the state that it else leaves. (this project's profile)
 abbrev pub table : Action → Given → State → Done
 table actions.WriteFile g s = with_T s g.text (λ text. write_file s g.name text)
 table actions.AppendFile g s = with_T s g.text (λ text. unless s (bad_name g.name ∷ absent (s.files g.name) ∷ too_long (joined s.files g.name text) ∷ []) (with_file s g.name (joined s.files g.name text)))
@@ -251,14 +255,71 @@ table actions.ValueAbsent g s = unless s (present (see s g.name) ∷ []) s
 table actions.SetNumber g s = unless s (bad_name g.name ∷ []) (with_own s g.name (signed_decimal g.number))
 table actions.AddNumber g s = add_number s g.name (see s g.name) g.number
 table actions.NumberIs g s = unless s (absent (see s g.name) ∷ not_number (see s g.name) ∷ differs_from (see s g.name) g.number ∷ []) s
+table actions.AtCleanup g s = fails s reasons.NotHere
+table actions.SkipScenario g s = fails s reasons.NotHere
 table actions.Pass g s = passes s
 table actions.Fail g s = fails s reasons.Asked
 
--- What an action leaves: its row of the table. A failed action keeps the changes that it made before. (this project's profile)
-unfoldable pub act : LibraryValue → FoundValue → BlockValue → State → Done
-act library found block s = table (action_of library found) (given library found block) s
+-- What the row of a step's action leaves. A failed action keeps the changes that it made before. (this project's profile)
+unfoldable pub carried_out : LibraryValue → FoundValue → BlockValue → State → Done
+carried_out library found block s = table (action_of library found) (given library found block) s
 
--- The actions that change nothing, the checks, `pass` and `fail`: their rows leave the state as it is. They take no memory. (this project's profile)
+-- A registered cleanup: what its text found, and the block of the step that registered it. (behave's documentation: cleanups)
+pub record CleanupValue : Type 0 where
+  pub found : FoundValue
+  pub block : BlockValue
+
+-- What an action leaves, and the cleanups that it registers.
+pub record Acted : Type 0 where
+  pub done : Done
+  pub registered : List CleanupValue
+
+-- What an action leaves, without what it registers.
+abbrev pub done_of : Acted → Done
+done_of acted = acted.done
+
+-- An action that registers nothing.
+abbrev pub without_cleanups : Done → Acted
+without_cleanups done = record { done = done; registered = [] }
+
+-- A step, or a before hook of a scenario, may skip the scenario. (this project's profile)
+abbrev pub may_skip : Site → Bool
+may_skip sites.Step = true
+may_skip sites.CaseHook = true
+may_skip sites.Hook = false
+may_skip sites.Cleanup = false
+
+-- Whatever isn't a cleanup may register one. (this project's profile)
+abbrev pub may_register : Site → Bool
+may_register sites.Step = true
+may_register sites.CaseHook = true
+may_register sites.Hook = true
+may_register sites.Cleanup = false
+
+-- The scenario is skipped. (behave's documentation: skipping scenarios)
+abbrev pub skips : State → Done
+skips s = record { state = s; outcome = outcomes.Skip; begun = true }
+
+-- What was looked up is registered with a block, or there is no such step; the look-up is a part that passed. (behave's documentation: cleanups; this project's profile)
+abbrev pub registers : State → BlockValue → Option FoundValue → Acted
+registers s block None = without_cleanups (record (fails s reasons.NoStep) { begun = true })
+registers s block (Some f) = record { done = passes s; registered = record { found = f; block = block } ∷ [] }
+
+-- A text is looked up and registered where that is allowed.
+abbrev pub registers_at : Site → State → LibraryValue → Given → Acted
+registers_at site s library g = cond (may_register site) (registers s g.block (found_any library g.step)) (without_cleanups (fails s reasons.NotHere))
+
+-- What an action does at a site: at_cleanup looks the field `step` up among the entries of type `step`, skip_scenario skips; where it isn't allowed it fails, as its row of the table says; the others are their rows. (this project's profile)
+abbrev pub at_site : Action → Site → LibraryValue → Given → State → Acted
+at_site actions.AtCleanup site library g s = registers_at site s library g
+at_site actions.SkipScenario site library g s = without_cleanups (cond (may_skip site) (skips s) (fails s reasons.NotHere))
+at_site action site library g s = without_cleanups (table action g s)
+
+-- What the action of a found step leaves and registers. (this project's profile)
+unfoldable pub act : LibraryValue → Site → FoundValue → BlockValue → State → Acted
+act library site found block s = at_site (action_of library found) site library (given library found block) s
+
+-- The actions that change nothing, the checks, `skip_scenario`, `pass` and `fail`: their rows leave the state as it is. They take no memory. (this project's profile)
 abbrev pub changes_nothing : Action → Bool
 changes_nothing actions.FileExists = true
 changes_nothing actions.FileAbsent = true
@@ -269,6 +330,7 @@ changes_nothing actions.EnvAbsent = true
 changes_nothing actions.ValueIs = true
 changes_nothing actions.ValueAbsent = true
 changes_nothing actions.NumberIs = true
+changes_nothing actions.SkipScenario = true
 changes_nothing actions.Pass = true
 changes_nothing actions.Fail = true
 changes_nothing _ = false
@@ -291,9 +353,14 @@ abbrev pub IsDone : Done → Outcome → State → Type 0
 IsDone done outcomes.Memory new = is_refused done ≡ false
 IsDone done outcome new = IsExactly done outcome new
 
--- What the action of a found step leaves, as the program holds the library, what was found and the block. (this project's profile)
-abbrev pub act_of : Library → Found → Block → State → Done
-act_of library found block s = act (library_value library) (found_value found) (block_value block) s
+-- What the action of a found step leaves and registers, as the program holds the library, what was found and the block. (this project's profile)
+abbrev pub act_of : Library → Site → Found → Block → State → Acted
+act_of library site found block s = act (library_value library) site (found_value found) (block_value block) s
+
+-- The cleanups after an action: those before it and what it registers, or where memory was refused those before it alone. (this project's profile)
+abbrev pub HasRegistered : Acted → List CleanupValue → Outcome → List CleanupValue → Type 0
+HasRegistered acted before outcomes.Memory after = after ≡ before
+HasRegistered acted before outcome after = after ≡ before ++ acted.registered
 
 -- An action that changes nothing was carried out: memory is not an outcome of it. (this project's profile)
 abbrev pub IsExact : Library → Found → Done → Outcome → State → Type 0
@@ -308,7 +375,11 @@ pub record KeepsLayers (old new : SandboxValue) : Type 0 where
 
 -- What an `Arguments` says.
 abbrev pub given_value : Arguments → Given
-given_value a = record { name = a.name.now; to = a.to.now; number = a.number; text = option_copied a.text; block = block_value a.block.now }
+given_value a = record { name = a.name.now; to = a.to.now; step = a.step.now; number = a.number; text = option_copied a.text; block = block_value a.block.now }
+
+-- The outcome of skip_scenario at a site.
+abbrev pub skip_outcome : Site → Outcome
+skip_outcome site = cond (may_skip site) outcomes.Skip (outcomes.Failed reasons.NotHere)
 
 -- A refusal of the world as a reason; memory has none, and is never looked up here.
 abbrev pub reason_of : WorldFault → Reason

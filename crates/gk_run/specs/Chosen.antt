@@ -1,5 +1,6 @@
 -- A feature's cases with the choice among them.
 use Rattle.std.specs.Prelude.{◌≡◌, ℕ, Bool, List, map, zip, length, string_bytes}
+use Rattle.std.specs.List.{list_any}
 use Rattle.gk_gherkin.specs.Feature.{texts}
 use Rattle.gk_select.specs.declared.case.Case.{Case}
 use Rattle.gk_select.specs.Case.{CaseValue, case_value}
@@ -33,3 +34,7 @@ chosen_value c = record { source = string_bytes c.source; name = string_bytes c.
 -- Of each case it is known whether it is selected.
 abbrev pub IsPaired : Chosen → Type 0
 IsPaired c = length c.selected.items ≡ length c.cases.items
+
+-- A case is selected. (this project's profile)
+abbrev pub has_selected : List MemberValue → Bool
+has_selected members = list_any (λ (m : MemberValue). m.selected) members

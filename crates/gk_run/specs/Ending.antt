@@ -1,4 +1,4 @@
--- How steps end.
+-- How steps, hooks and cleanups end.
 use Rattle.std.specs.Prelude.{Bool, true, false, cond, List, Option, Some, None}
 use Rattle.std.specs.List.{list_any}
 use Rattle.gk_run.specs.declared.results.Status.{Status}
@@ -15,6 +15,7 @@ use Rattle.gk_run.specs.declared.ending.Ending.TheVariants as endings
 abbrev pub status_of_mark : Mark → Status
 status_of_mark (Acted outcomes.Passed) = statuses.Passed
 status_of_mark (Acted (outcomes.Failed why)) = statuses.Failed
+status_of_mark (Acted outcomes.Skip) = statuses.Skipped
 status_of_mark (Acted outcomes.Memory) = statuses.Memory
 status_of_mark Undefined = statuses.Undefined
 status_of_mark Skipped = statuses.Skipped
@@ -31,24 +32,70 @@ is_bad_mark (Acted (outcomes.Failed why)) = true
 is_bad_mark Undefined = true
 is_bad_mark _ = false
 
+-- The scenario skipped itself there.
+abbrev pub is_skip_mark : Mark → Bool
+is_skip_mark (Acted outcomes.Skip) = true
+is_skip_mark _ = false
+
 -- Memory was refused there.
 abbrev pub is_memory_mark : Mark → Bool
 is_memory_mark (Acted outcomes.Memory) = true
 is_memory_mark _ = false
 
--- How steps end: memory where memory was refused in one, else failed where one failed or is undefined, else passed. (this project's profile)
+-- How steps end: memory where memory was refused in one, else failed where one failed or is undefined, else skipped where one skipped the scenario, else passed. (this project's profile)
 abbrev pub ended_of : List Mark → Ending
-ended_of marks = cond (list_any is_memory_mark marks) endings.Memory (cond (list_any is_bad_mark marks) endings.Failed endings.Passed)
+ended_of marks =
+    cond (list_any is_memory_mark marks) endings.Memory
+    (cond (list_any is_bad_mark marks) endings.Failed
+    (cond (list_any is_skip_mark marks) endings.Skipped endings.Passed))
+
+-- Each passed.
+abbrev pub has_passed : Ending → Bool
+has_passed endings.Passed = true
+has_passed endings.Failed = false
+has_passed endings.Skipped = false
+has_passed endings.Memory = false
+
+-- The verdict of a scenario whose hooks, steps and cleanups end so. (this project's profile)
+abbrev pub verdict_status : Ending → Status
+verdict_status endings.Passed = statuses.Passed
+verdict_status endings.Failed = statuses.Failed
+verdict_status endings.Skipped = statuses.Skipped
+verdict_status endings.Memory = statuses.Memory
+
+-- How hooks and cleanups are told that end so: a scenario may skip itself in its before hooks, and these passed then. (this project's profile)
+abbrev pub around_status : Ending → Status
+around_status endings.Passed = statuses.Passed
+around_status endings.Failed = statuses.Failed
+around_status endings.Skipped = statuses.Passed
+around_status endings.Memory = statuses.Memory
+
+-- Proof machinery, from here on: how what comes one after another ends.
 
 -- How one step ends that was carried out, or that no entry matches.
 abbrev pub ending_of_turn : Option Outcome → Ending
 ending_of_turn None = endings.Failed
 ending_of_turn (Some outcomes.Passed) = endings.Passed
 ending_of_turn (Some (outcomes.Failed why)) = endings.Failed
+ending_of_turn (Some outcomes.Skip) = endings.Skipped
 ending_of_turn (Some outcomes.Memory) = endings.Memory
 
--- The verdict of a scenario whose steps end so. (this project's profile)
-abbrev pub verdict_status : Ending → Status
-verdict_status endings.Passed = statuses.Passed
-verdict_status endings.Failed = statuses.Failed
-verdict_status endings.Memory = statuses.Memory
+-- Memory was refused.
+abbrev pub is_memory_ending : Ending → Bool
+is_memory_ending endings.Memory = true
+is_memory_ending endings.Passed = false
+is_memory_ending endings.Failed = false
+is_memory_ending endings.Skipped = false
+
+-- The worse of two endings.
+abbrev pub worse : Ending → Ending → Ending
+worse endings.Passed e = e
+worse endings.Memory e = endings.Memory
+worse endings.Failed endings.Memory = endings.Memory
+worse endings.Failed endings.Failed = endings.Failed
+worse endings.Failed endings.Skipped = endings.Failed
+worse endings.Failed endings.Passed = endings.Failed
+worse endings.Skipped endings.Memory = endings.Memory
+worse endings.Skipped endings.Failed = endings.Failed
+worse endings.Skipped endings.Skipped = endings.Skipped
+worse endings.Skipped endings.Passed = endings.Skipped

@@ -2,10 +2,14 @@
 pub mod Results
 pub mod Numbers
 pub mod Acting
+pub mod Cleanups
 pub mod Ending
 pub mod Walk
+pub mod SectionHooks
+pub mod Closing
 pub mod Section
 pub mod Alone
 pub mod Chosen
 pub mod Judged
 pub mod Running
+pub mod OpenRun

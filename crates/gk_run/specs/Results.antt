@@ -3,6 +3,7 @@ use Rattle.std.specs.Prelude.{ℕ, Bool, true, false, List, map, Option, string_
 use Rattle.gk_run.specs.declared.results.Status.{Status}
 use Rattle.gk_run.specs.declared.results.Status.TheVariants as statuses
 use Rattle.gk_run.specs.declared.results.Reason.{Reason}
+use Rattle.gk_run.specs.declared.results.Outcome.{Outcome}
 use Rattle.gk_run.specs.declared.results.StepResult.{StepResult}
 use Rattle.gk_run.specs.declared.results.CaseResult.{CaseResult}
 use Rattle.gk_run.specs.declared.results.FeatureResult.{FeatureResult}
@@ -15,25 +16,29 @@ pub record StepRow : Type 0 where
   pub status : Status
   pub reason : Option Reason
 
--- The result of a case: its verdict and its steps. (this project's profile)
+-- The result of a case: its verdict, how its hooks and cleanups ended, the outcome of each cleanup in running order, and its steps. (this project's profile)
 pub record CaseRow : Type 0 where
   pub keyword : List ℕ
   pub name : List ℕ
   pub line : ℕ
   pub status : Status
+  pub around : Status
+  pub cleanups : List Outcome
   pub steps : List StepRow
 
--- The result of a feature: its verdict and its cases, in file order. (this project's profile)
+-- The result of a feature: its verdict, how its own hooks and cleanups ended, and its cases in file order. (this project's profile)
 pub record FeatureRow : Type 0 where
   pub source : List ℕ
   pub name : List ℕ
   pub line : ℕ
   pub status : Status
+  pub around : Status
   pub cases : List CaseRow
 
--- The results of a run: its features in order. (this project's profile)
+-- The results of a run: its features in order, and how its own hooks and cleanups ended. (this project's profile)
 pub record Results : Type 0 where
   pub features : List FeatureRow
+  pub around : Status
 
 -- What a `StepResult` says.
 abbrev pub step_row : StepResult → StepRow
@@ -41,11 +46,11 @@ step_row r = record { keyword = string_bytes r.keyword; text = string_bytes r.te
 
 -- What a `CaseResult` says.
 abbrev pub case_row : CaseResult → CaseRow
-case_row r = record { keyword = string_bytes r.keyword; name = string_bytes r.name; line = r.line; status = r.status; steps = map step_row r.steps.items }
+case_row r = record { keyword = string_bytes r.keyword; name = string_bytes r.name; line = r.line; status = r.status; around = r.around; cleanups = r.cleanups.items; steps = map step_row r.steps.items }
 
 -- What a `FeatureResult` says.
 abbrev pub feature_row : FeatureResult → FeatureRow
-feature_row r = record { source = string_bytes r.source; name = string_bytes r.name; line = r.line; status = r.status; cases = map case_row r.cases.items }
+feature_row r = record { source = string_bytes r.source; name = string_bytes r.name; line = r.line; status = r.status; around = r.around; cases = map case_row r.cases.items }
 
 -- The status passed.
 abbrev pub is_passed : Status → Bool

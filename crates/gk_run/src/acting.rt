@@ -1,18 +1,20 @@
 //! What a step's action does.
-ghost use Rattle.std.specs.Prelude.{◌≡◌, ◌<◌, true, option_copied};
+ghost use Rattle.std.specs.Prelude.{◌≡◌, ◌<◌, true, not, option_copied};
 ghost use Rattle.gk_gherkin.specs.Feature.{block_value};
-ghost use Rattle.gk_steps.specs.Finding.{library_value, found_value};
-ghost use Rattle.gk_world.specs.State.{state_of};
+ghost use Rattle.gk_steps.specs.Finding.{library_value, found_value, found_any};
+ghost use Rattle.gk_world.specs.State.{State, state_of};
 ghost use Rattle.gk_world.specs.Sandbox.{depth};
 ghost use Rattle.gk_world.specs.Refusals as refusals;
+ghost use Rattle.gk_run.specs.Cleanups.{cleanups_value};
 ghost use Rattle.gk_run.specs.Acting as words;
-ghost use Rattle.gk_run.specs.Acting.{given, given_value, table, act_of, changes_nothing, IsDone, IsExactly, IsExact, IsActed, KeepsLayers, IsHeld, IsNotHeld, IsText, HasText};
+ghost use Rattle.gk_run.specs.Acting.{given, given_value, table, carried_out, registers, act_of, changes_nothing, may_skip, may_register, IsDone, IsExactly, IsExact, IsActed, HasRegistered, KeepsLayers, IsHeld, IsNotHeld, IsText, HasText};
 
 mod file_actions;
 mod number_actions;
 mod value_actions;
 mod variable_actions;
 
+use crate::cleanups::Cleanups;
 use crate::numbers::stands_in;
 use crate::results::{Outcome, Reason};
 use file_actions::{
@@ -23,9 +25,22 @@ use gk_gherkin::Block;
 use gk_steps::{Action, Found, Library};
 use gk_world::{LONGEST_NAME, Sandbox, WorldFault};
 use number_actions::{add_number, number_is, set_number};
-use std::alloc::Global;
+use std::alloc::{AllocError, Global};
 use value_actions::{delete_value, set_value, value_absent, value_is};
 use variable_actions::{env_absent, env_is, remove_env, set_env};
+
+/// Where an action is carried out. (this project's profile)
+#[derive(Clone, Copy, Debug, PartialEq, Eq)]
+pub enum Site {
+    /// A step of a scenario.
+    Step,
+    /// A step of a scenario's before hook.
+    CaseHook,
+    /// A step of any other hook.
+    Hook,
+    /// A cleanup.
+    Cleanup,
+}
 
 /// What an action works with.
 #[derive(Clone, Copy)]
@@ -34,6 +49,8 @@ pub struct Arguments<'a> {
     pub name: &'a str,
     /// The field `to`.
     pub to: &'a str,
+    /// The field `step`.
+    pub step: &'a str,
     /// The field `n`.
     pub number: i64,
     /// The field `text`, else the step's doc string.
@@ -134,6 +151,7 @@ fn arguments_of<'a>(library: &Library, found: &'a Found, block: &'a Block) -> Ar
     Arguments {
         name: library.text(found, "name").unwrap_or(""),
         to: library.text(found, "to").unwrap_or(""),
+        step: library.text(found, "step").unwrap_or(""),
         number: library.number(found, "n").unwrap_or(0),
         text: library.text(found, "text").or(doc_string(block)),
         block,
@@ -172,20 +190,15 @@ fn perform(
         Action::SetNumber => set_number(alloc, sandbox, arguments),
         Action::AddNumber => add_number(alloc, sandbox, arguments),
         Action::NumberIs => number_is(sandbox, arguments),
+        Action::AtCleanup => Outcome::Failed(Reason::NotHere),
+        Action::SkipScenario => Outcome::Failed(Reason::NotHere),
         Action::Pass => Outcome::Passed,
         Action::Fail => Outcome::Failed(Reason::Asked),
     }
 }
 
-/// Carries out the action of a step that was found in a library, with the step's block.
-///
-/// The outcome is `Passed`, `Failed` with the first of the action's reasons that holds, or `Memory`,
-/// which comes only where a growth was refused, and never for an action that changes nothing, nor for
-/// one that is refused before a part of it passed. An action that fails midway keeps what it did
-/// before: rows of `write_files` before the refused one stay. At `Memory` nothing is said of what the
-/// sandbox holds now; the end of the layer gives back what was there as it began. (this project's
-/// profile)
-pub fn act(
+// Carries out what the row of a found step's action says.
+pub(crate) fn carry_out(
     alloc: Global,
     sandbox: &mut Sandbox,
     library: &Library,
@@ -193,10 +206,104 @@ pub fn act(
     block: &Block,
 ) -> Outcome
     requires begun { 0 < depth sandbox.old }
-    ensures done { IsDone (act_of library.now found.now block.now (state_of sandbox.old.now)) result (state_of sandbox.new.now) }
-    ensures exact { IsExact library.now found.now (act_of library.now found.now block.now (state_of sandbox.old.now)) result (state_of sandbox.new.now) }
+    ensures done { IsDone (carried_out (library_value library.now) (found_value found.now) (block_value block.now) (state_of sandbox.old.now)) result (state_of sandbox.new.now) }
+    ensures exact { IsExact library.now found.now (carried_out (library_value library.now) (found_value found.now) (block_value block.now) (state_of sandbox.old.now)) result (state_of sandbox.new.now) }
     ensures layers { KeepsLayers sandbox.old sandbox.new }
 {
     let arguments = arguments_of(library, found, block);
     perform(alloc, sandbox, library.action(found), &arguments)
+}
+
+fn may_skip(site: Site) -> bool
+    ensures { result ≡ may_skip site }
+{
+    matches!(site, Site::Step | Site::CaseHook)
+}
+
+fn may_register(site: Site) -> bool
+    ensures { result ≡ may_register site }
+{
+    !matches!(site, Site::Cleanup)
+}
+
+// Skips the scenario, where that is allowed.
+fn skip(site: Site) -> Outcome
+    ensures { result ≡ words.skip_outcome site }
+{
+    if may_skip(site) {
+        Outcome::Skip
+    } else {
+        Outcome::Failed(Reason::NotHere)
+    }
+}
+
+// Registers what a text finds among the entries of type `step`.
+fn register(
+    alloc: Global,
+    cleanups: &mut Cleanups,
+    library: &Library,
+    text: &str,
+    block: &Block,
+) -> Outcome
+    ensures done { (s : State) → IsDone (words.done_of (registers s (block_value block.now) (found_any (library_value library.now) text.now))) result s }
+    ensures registered { (s : State) → HasRegistered (registers s (block_value block.now) (found_any (library_value library.now) text.now)) (cleanups_value cleanups.old) result (cleanups_value cleanups.new) }
+{
+    match library.find_any(alloc, text) {
+        Err(AllocError) => Outcome::Memory,
+        Ok(None) => Outcome::Failed(Reason::NoStep),
+        Ok(Some(found)) => match cleanups.add(alloc, found, block) {
+            Ok(()) => Outcome::Passed,
+            Err(AllocError) => Outcome::Memory,
+        },
+    }
+}
+
+// Registers a cleanup, where that is allowed.
+fn at_cleanup(
+    alloc: Global,
+    cleanups: &mut Cleanups,
+    library: &Library,
+    site: Site,
+    found: &Found,
+    block: &Block,
+) -> Outcome
+    ensures done { (s : State) → IsDone (words.done_of (words.registers_at site s (library_value library.now) (words.given (library_value library.now) (found_value found.now) (block_value block.now)))) result s }
+    ensures registered { (s : State) → HasRegistered (words.registers_at site s (library_value library.now) (words.given (library_value library.now) (found_value found.now) (block_value block.now))) (cleanups_value cleanups.old) result (cleanups_value cleanups.new) }
+{
+    if !may_register(site) {
+        return Outcome::Failed(Reason::NotHere);
+    }
+    let arguments = arguments_of(library, found, block);
+    register(alloc, cleanups, library, arguments.step, arguments.block)
+}
+
+/// Carries out the action of a step that was found in a library, with the step's block.
+///
+/// The outcome is `Passed`, `Failed` with the first of the action's reasons that holds, `Skip`, or
+/// `Memory`, which comes only where a growth was refused, and never for an action that changes
+/// nothing, nor for one that is refused before a part of it passed. `at_cleanup` adds a cleanup to
+/// those that are registered; every other action, and a refusal, leaves these as they are. An action
+/// that fails midway keeps what it did before: rows of `write_files` before the refused one stay. At
+/// `Memory` nothing is said of what the sandbox holds now; the end of the layer gives back what was
+/// there as it began. (behave's documentation: cleanups; this project's profile)
+pub fn act(
+    alloc: Global,
+    sandbox: &mut Sandbox,
+    cleanups: &mut Cleanups,
+    library: &Library,
+    site: Site,
+    found: &Found,
+    block: &Block,
+) -> Outcome
+    requires begun { 0 < depth sandbox.old }
+    ensures done { IsDone (words.done_of (act_of library.now site found.now block.now (state_of sandbox.old.now))) result (state_of sandbox.new.now) }
+    ensures exact { IsExact library.now found.now (words.done_of (act_of library.now site found.now block.now (state_of sandbox.old.now))) result (state_of sandbox.new.now) }
+    ensures registered { HasRegistered (act_of library.now site found.now block.now (state_of sandbox.old.now)) (cleanups_value cleanups.old) result (cleanups_value cleanups.new) }
+    ensures layers { KeepsLayers sandbox.old sandbox.new }
+{
+    match library.action(found) {
+        Action::AtCleanup => at_cleanup(alloc, cleanups, library, site, found, block),
+        Action::SkipScenario => skip(site),
+        _ => carry_out(alloc, sandbox, library, found, block),
+    }
 }

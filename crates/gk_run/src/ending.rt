@@ -1,4 +1,4 @@
-//! How steps end.
+//! How steps, hooks and cleanups end.
 ghost use Rattle.std.specs.Prelude.{◌≡◌};
 ghost use Rattle.gk_run.specs.Ending as spec;
 
@@ -11,8 +11,42 @@ pub enum Ending {
     Passed,
     /// One failed or is undefined, and memory was refused in none.
     Failed,
+    /// One skipped the scenario, and none failed, is undefined or met refused memory.
+    Skipped,
     /// Memory was refused in one.
     Memory,
+}
+
+/// The worse of two endings: `Memory`, then `Failed`, then `Skipped`.
+pub fn worse(a: Ending, b: Ending) -> Ending
+    ensures { result ≡ spec.worse a b }
+{
+    match a {
+        Ending::Passed => b,
+        Ending::Memory => Ending::Memory,
+        Ending::Failed => match b {
+            Ending::Memory => Ending::Memory,
+            _ => Ending::Failed,
+        },
+        Ending::Skipped => match b {
+            Ending::Passed => Ending::Skipped,
+            _ => b,
+        },
+    }
+}
+
+/// Whether memory was refused.
+pub fn is_memory(ending: Ending) -> bool
+    ensures { result ≡ spec.is_memory_ending ending }
+{
+    matches!(ending, Ending::Memory)
+}
+
+/// Whether each passed.
+pub fn has_passed(ending: Ending) -> bool
+    ensures { result ≡ spec.has_passed ending }
+{
+    matches!(ending, Ending::Passed)
 }
 
 /// How a step ends that was carried out, or that no entry matches.
@@ -23,6 +57,7 @@ pub fn ending_of(turn: Option<Outcome>) -> Ending
         None => Ending::Failed,
         Some(Outcome::Passed) => Ending::Passed,
         Some(Outcome::Failed(_)) => Ending::Failed,
+        Some(Outcome::Skip) => Ending::Skipped,
         Some(Outcome::Memory) => Ending::Memory,
     }
 }
@@ -34,6 +69,7 @@ pub fn status_of(mark: Mark) -> Status
     match mark {
         Mark::Acted(Outcome::Passed) => Status::Passed,
         Mark::Acted(Outcome::Failed(_)) => Status::Failed,
+        Mark::Acted(Outcome::Skip) => Status::Skipped,
         Mark::Acted(Outcome::Memory) => Status::Memory,
         Mark::Undefined => Status::Undefined,
         Mark::Skipped => Status::Skipped,
@@ -51,13 +87,26 @@ pub fn reason_of(mark: Mark) -> Option<Reason>
     }
 }
 
-/// The verdict of a scenario whose steps end so.
+/// The verdict of a scenario whose hooks, steps and cleanups end so.
 pub fn verdict_status(ending: Ending) -> Status
     ensures { result ≡ spec.verdict_status ending }
 {
     match ending {
         Ending::Passed => Status::Passed,
         Ending::Failed => Status::Failed,
+        Ending::Skipped => Status::Skipped,
+        Ending::Memory => Status::Memory,
+    }
+}
+
+/// How hooks and cleanups are told that end so.
+pub fn around_status(ending: Ending) -> Status
+    ensures { result ≡ spec.around_status ending }
+{
+    match ending {
+        Ending::Passed => Status::Passed,
+        Ending::Failed => Status::Failed,
+        Ending::Skipped => Status::Passed,
         Ending::Memory => Status::Memory,
     }
 }

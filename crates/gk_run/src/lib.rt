@@ -1,19 +1,28 @@
-//! Running cases. A library, a sandbox and the cases of a feature come in; the result of each step,
-//! case and feature goes out. Each case has the result that plain maps give it alone, unless memory
-//! was refused in one of its steps, and the sandbox is as it was.
+//! Running cases, features and whole runs. A library, hooks, a sandbox and the cases of a feature come
+//! in; the result of each step, case and feature goes out. Each case has the result that plain maps give
+//! it alone from its feature's state, unless memory was refused in it, and the sandbox is as it was.
 #![tactic(auto)]
 
 mod acting;
 mod chosen;
+mod cleanups;
+mod closing;
 mod ending;
+mod features;
 mod judged;
 mod numbers;
+mod open_run;
+mod registering;
 mod results;
 mod running;
+mod section_hooks;
 mod walk;
 
-pub use acting::act;
+pub use acting::{Site, act};
 pub use chosen::Chosen;
+pub use cleanups::{Cleanup, Cleanups};
+pub use features::run_feature;
 pub use judged::without_memory_there_is_one_list;
+pub use open_run::{Suite, finished_runs_are_judged};
 pub use results::{CaseResult, FeatureResult, NoRoom, Outcome, Reason, Status, StepResult};
-pub use running::{run_case, run_feature};
+pub use running::run_case;

@@ -10,12 +10,12 @@ pub enum Status {
     /// A step's action failed; a step of a scenario failed or is undefined; a scenario of a feature
     /// failed.
     Failed,
-    /// A step comes after the one that ended its scenario, or its scenario isn't selected; no scenario
-    /// of a feature passed, and none failed.
+    /// A step comes after the one that ended its scenario, or its scenario skipped itself or isn't
+    /// selected; no scenario of a feature passed, and none failed.
     Skipped,
     /// No entry of the library matches a step.
     Undefined,
-    /// A step comes after one in which memory was refused.
+    /// Memory was refused before a step was reached; a scenario wasn't reached.
     Untested,
     /// Memory was refused.
     Memory,
@@ -46,6 +46,11 @@ pub enum Reason {
     NotNumber,
     /// The sum isn't a signed number of 64 bits.
     OutOfRange,
+    /// A step is to be registered as a cleanup, and no entry of type `step` matches it.
+    NoStep,
+    /// The action isn't allowed there: a cleanup that registers a cleanup, or a hook or a cleanup that
+    /// skips a scenario.
+    NotHere,
     /// The step's action is `fail`.
     Asked,
 }
@@ -57,6 +62,8 @@ pub enum Outcome {
     Passed,
     /// It failed for this reason.
     Failed(Reason),
+    /// It skips the scenario.
+    Skip,
     /// Memory was refused in it.
     Memory,
 }
@@ -70,7 +77,7 @@ pub enum Mark {
     Undefined,
     /// It isn't carried out, as an earlier step ended the scenario or the scenario isn't selected.
     Skipped,
-    /// It comes after a step in which memory was refused.
+    /// It isn't reached.
     Untested,
 }
 
@@ -96,6 +103,10 @@ pub struct CaseResult {
     pub name: String,
     pub line: u32,
     pub status: Status,
+    /// How its hooks and cleanups ended: `Passed`, `Failed` or `Memory`.
+    pub around: Status,
+    /// The outcomes of its cleanups in running order, the last registered first.
+    pub cleanups: Vec<Outcome>,
     pub steps: Vec<StepResult>,
 }
 
@@ -106,5 +117,7 @@ pub struct FeatureResult {
     pub name: String,
     pub line: u32,
     pub status: Status,
+    /// How its own hooks and cleanups ended: `Passed`, `Failed` or `Memory`.
+    pub around: Status,
     pub cases: Vec<CaseResult>,
 }

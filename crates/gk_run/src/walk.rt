@@ -1,42 +1,150 @@
-//! Walking through the steps of a case.
+//! Walking through steps.
 ghost use Rattle.std.specs.Prelude.{◌≡◌, ◌≤◌, ◌<◌, [], map, length, vec_capacity};
-ghost use Rattle.gk_gherkin.specs.Feature.{step_value};
+ghost use Rattle.gk_gherkin.specs.Feature.{step_value, texts};
+ghost use Rattle.gk_gherkin.specs.Hooks.{hooks_value};
 ghost use Rattle.gk_steps.specs.Finding.{library_value};
 ghost use Rattle.gk_world.specs.State.{state_of};
 ghost use Rattle.gk_world.specs.Sandbox.{depth};
 ghost use Rattle.gk_run.specs.Acting.{KeepsLayers};
+ghost use Rattle.gk_run.specs.Cleanups.{cleanups_value};
 ghost use Rattle.gk_run.specs.Results.{step_row};
 ghost use Rattle.gk_run.specs.Walk as spec;
 ghost use Rattle.gk_run.specs.Walk.{one_step};
+ghost use Rattle.gk_run.specs.SectionHooks.{before_site, before_list, walk_each, tag_lists, after_lists};
 ghost use Rattle.gk_run.specs.Alone.{row_of_step};
-ghost use Rattle.gk_run.specs.Running.{IsTurn, IsLookedUp, IsNext, AreWalked};
+ghost use Rattle.gk_run.specs.Running.{IsTurn, IsWalked, IsLookedUp, IsNext, AreStepped};
 
-use crate::acting::act;
-use crate::ending::{Ending, ending_of, reason_of, status_of};
+use crate::acting::{Site, act};
+use crate::cleanups::Cleanups;
+use crate::ending::{Ending, ending_of, has_passed, is_memory, reason_of, status_of, worse};
 use crate::results::{Mark, Outcome, StepResult};
-use gk_gherkin::Step;
+use crate::section_hooks::{Level, after_kind, before_kind, before_site, hook_steps};
+use gk_gherkin::{HookFile, HookKind, Step};
 use gk_steps::Library;
 use gk_world::Sandbox;
 use std::alloc::{AllocError, Global};
 
-/// What becomes of a step, and how the steps so far end with it.
+// Carries a step out; none where no entry matches it.
+fn turn(
+    alloc: Global,
+    sandbox: &mut Sandbox,
+    cleanups: &mut Cleanups,
+    library: &Library,
+    site: Site,
+    step: &Step,
+) -> Option<Outcome>
+    requires begun { 0 < depth sandbox.old }
+    ensures turn { IsTurn (one_step (library_value library.now) site (state_of sandbox.old.now) (step_value step.now)) (cleanups_value cleanups.old) result (state_of sandbox.new.now) (cleanups_value cleanups.new) }
+    ensures layers { KeepsLayers sandbox.old sandbox.new }
+{
+    match library.find(alloc, step.step_type, step.text.as_str()) {
+        Ok(Some(found)) => Some(act(alloc, sandbox, cleanups, library, site, &found, &step.block)),
+        Ok(None) => None,
+        Err(AllocError) => Some(Outcome::Memory),
+    }
+}
+
+// Walks through the steps of a hook.
+fn walk_hook(
+    alloc: Global,
+    sandbox: &mut Sandbox,
+    cleanups: &mut Cleanups,
+    library: &Library,
+    site: Site,
+    steps: &[Step],
+) -> Ending
+    requires begun { 0 < depth sandbox.old }
+    ensures walked { IsWalked (spec.walk (library_value library.now) site (state_of sandbox.old.now) (cleanups_value cleanups.old) (map step_value steps.now)) result (state_of sandbox.new.now) (cleanups_value cleanups.new) }
+    ensures layers { KeepsLayers sandbox.old sandbox.new }
+{
+    for step in steps {
+        let ending = ending_of(turn(alloc, sandbox, cleanups, library, site, step));
+        if !has_passed(ending) {
+            return ending;
+        }
+    }
+    Ending::Passed
+}
+
+/// Walks through a section's before list.
+pub fn walk_before(
+    alloc: Global,
+    sandbox: &mut Sandbox,
+    cleanups: &mut Cleanups,
+    library: &Library,
+    hooks: &HookFile,
+    level: Level,
+    tags: &[String],
+) -> Ending
+    requires begun { 0 < depth sandbox.old }
+    ensures walked { IsWalked (spec.walk (library_value library.now) (before_site level) (state_of sandbox.old.now) (cleanups_value cleanups.old) (before_list (hooks_value hooks.now) level (texts tags.now))) result (state_of sandbox.new.now) (cleanups_value cleanups.new) }
+    ensures layers { KeepsLayers sandbox.old sandbox.new }
+{
+    let site = before_site(level);
+    for tag in tags {
+        let steps = hook_steps(hooks, HookKind::BeforeTag, Some(tag.as_str()));
+        let ending = walk_hook(alloc, sandbox, cleanups, library, site, steps);
+        if !has_passed(ending) {
+            return ending;
+        }
+    }
+    let steps = hook_steps(hooks, before_kind(level), None);
+    walk_hook(alloc, sandbox, cleanups, library, site, steps)
+}
+
+// Walks through each after_tag hook by itself.
+fn walk_tags(
+    alloc: Global,
+    sandbox: &mut Sandbox,
+    cleanups: &mut Cleanups,
+    library: &Library,
+    hooks: &HookFile,
+    tags: &[String],
+) -> Ending
+    requires begun { 0 < depth sandbox.old }
+    ensures walked { IsWalked (walk_each (library_value library.now) (state_of sandbox.old.now) (cleanups_value cleanups.old) (tag_lists (hooks_value hooks.now) (texts tags.now))) result (state_of sandbox.new.now) (cleanups_value cleanups.new) }
+    ensures layers { KeepsLayers sandbox.old sandbox.new }
+{
+    let mut ending = Ending::Passed;
+    for tag in tags {
+        let steps = hook_steps(hooks, HookKind::AfterTag, Some(tag.as_str()));
+        let this = walk_hook(alloc, sandbox, cleanups, library, Site::Hook, steps);
+        if is_memory(this) {
+            return this;
+        }
+        ending = worse(ending, this);
+    }
+    ending
+}
+
+/// Walks through each of a section's after lists by itself.
+pub fn walk_after(
+    alloc: Global,
+    sandbox: &mut Sandbox,
+    cleanups: &mut Cleanups,
+    library: &Library,
+    hooks: &HookFile,
+    level: Level,
+    tags: &[String],
+) -> Ending
+    requires begun { 0 < depth sandbox.old }
+    ensures walked { IsWalked (walk_each (library_value library.now) (state_of sandbox.old.now) (cleanups_value cleanups.old) (after_lists (hooks_value hooks.now) level (texts tags.now))) result (state_of sandbox.new.now) (cleanups_value cleanups.new) }
+    ensures layers { KeepsLayers sandbox.old sandbox.new }
+{
+    let steps = hook_steps(hooks, after_kind(level), None);
+    let first = walk_hook(alloc, sandbox, cleanups, library, Site::Hook, steps);
+    if is_memory(first) {
+        return first;
+    }
+    let others = walk_tags(alloc, sandbox, cleanups, library, hooks, tags);
+    worse(first, others)
+}
+
+/// What becomes of a step, and how the case stands after it.
 #[derive(Drop)]
 struct Next {
     mark: Mark,
     ending: Ending,
-}
-
-// Carries a step out; none where no entry matches it.
-fn turn(alloc: Global, sandbox: &mut Sandbox, library: &Library, step: &Step) -> Option<Outcome>
-    requires begun { 0 < depth sandbox.old }
-    ensures turn { IsTurn (one_step (library_value library.now) (state_of sandbox.old.now) (step_value step.now)) result (state_of sandbox.new.now) }
-    ensures layers { KeepsLayers sandbox.old sandbox.new }
-{
-    match library.find(alloc, step.step_type, step.text.as_str()) {
-        Ok(Some(found)) => Some(act(alloc, sandbox, library, &found, &step.block)),
-        Ok(None) => None,
-        Err(AllocError) => Some(Outcome::Memory),
-    }
 }
 
 fn mark_of(turn: Option<Outcome>) -> Mark
@@ -48,7 +156,7 @@ fn mark_of(turn: Option<Outcome>) -> Mark
     }
 }
 
-// Looks a step up that comes after the one that ended the walk.
+// Looks a step up that comes after one that failed or is undefined.
 fn look_up(alloc: Global, library: &Library, step: &Step) -> Next
     ensures { IsLookedUp (library_value library.now) (step_value step.now) result.mark result.ending }
 {
@@ -68,27 +176,32 @@ fn look_up(alloc: Global, library: &Library, step: &Step) -> Next
     }
 }
 
-// One step of a case whose steps so far end so.
+// One step of a case that stands so.
 fn next_step(
     alloc: Global,
     sandbox: &mut Sandbox,
+    cleanups: &mut Cleanups,
     library: &Library,
     ending: Ending,
     step: &Step,
 ) -> Next
     requires begun { 0 < depth sandbox.old }
-    ensures next { IsNext (library_value library.now) ending (state_of sandbox.old.now) (step_value step.now) result.mark result.ending (state_of sandbox.new.now) }
+    ensures next { IsNext (library_value library.now) ending (state_of sandbox.old.now) (cleanups_value cleanups.old) (step_value step.now) result.mark result.ending (state_of sandbox.new.now) (cleanups_value cleanups.new) }
     ensures layers { KeepsLayers sandbox.old sandbox.new }
 {
     match ending {
         Ending::Passed => {
-            let turn = turn(alloc, sandbox, library, step);
+            let turn = turn(alloc, sandbox, cleanups, library, Site::Step, step);
             Next {
                 mark: mark_of(turn),
                 ending: ending_of(turn),
             }
         }
         Ending::Failed => look_up(alloc, library, step),
+        Ending::Skipped => Next {
+            mark: Mark::Skipped,
+            ending: Ending::Skipped,
+        },
         Ending::Memory => Next {
             mark: Mark::Untested,
             ending: Ending::Memory,
@@ -116,35 +229,37 @@ pub fn row_of(step: Step, mark: Mark) -> StepResult
     }
 }
 
-/// The results of a case's steps, and how these end.
+/// The results of a case's steps, and how the case stands after them.
 #[derive(Drop)]
-pub struct Walked {
+pub struct Stepped {
     pub steps: Vec<StepResult>,
     pub ending: Ending,
 }
 
-/// Walks through the steps of a case; `results` has room for theirs.
-pub fn walk(
+/// Runs the steps of a case whose before list ended so; `results` has room for theirs.
+pub fn run_steps(
     alloc: Global,
     sandbox: &mut Sandbox,
+    cleanups: &mut Cleanups,
     library: &Library,
+    before: Ending,
     steps: Vec<Step>,
     results: Vec<StepResult>,
-) -> Walked
+) -> Stepped
     requires begun { 0 < depth sandbox.old }
     requires empty { results.items ≡ [] }
     requires room { length steps.items ≤ vec_capacity results }
-    ensures walked { AreWalked (library_value library.now) (state_of sandbox.old.now) (map step_value steps.items) (map step_row result.steps.items) result.ending }
+    ensures stepped { AreStepped (library_value library.now) before (state_of sandbox.old.now) (cleanups_value cleanups.old) (map step_value steps.items) (map step_row result.steps.items) result.ending (state_of sandbox.new.now) (cleanups_value cleanups.new) }
     ensures layers { KeepsLayers sandbox.old sandbox.new }
 {
     let mut results = results;
-    let mut ending = Ending::Passed;
+    let mut ending = before;
     for step in steps {
-        let next = next_step(alloc, sandbox, library, ending, &step);
+        let next = next_step(alloc, sandbox, cleanups, library, ending, &step);
         ending = next.ending;
         results.push_reserved(row_of(step, next.mark));
     }
-    Walked {
+    Stepped {
         steps: results,
         ending,
     }

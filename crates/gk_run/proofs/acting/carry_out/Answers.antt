@@ -1,5 +1,5 @@
 use Rattle.gk_run.proofs.ActingLemmas.{act_done, act_exact}
-use Rattle.gk_run.proofs.acting.act.Goals as goal
+use Rattle.gk_run.proofs.acting.carry_out.Goals as goal
 
 pub returns-clause-done : goal.returns-clause-done
 returns-clause-done c = act_done _ _ _ _ _ _ _ _ c.action.ensures c.arguments_of-arguments.ensures c.perform.ensures.acted

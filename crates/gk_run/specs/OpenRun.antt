@@ -1,0 +1,41 @@
+-- A run that was begun and isn't finished.
+use Rattle.std.specs.Prelude.{◌≡◌, ◌∷◌, [], true, Bool, List, length}
+use Rattle.gk_world.specs.State.{State, state_of}
+use Rattle.gk_world.specs.Sandbox.{SandboxValue, depth}
+use Rattle.gk_run.specs.declared.section_hooks.Level.TheVariants as levels
+use Rattle.gk_run.specs.declared.open_run.Suite.{Suite}
+use Rattle.gk_run.specs.declared.results.Status.{Status}
+use Rattle.gk_run.specs.Results.{FeatureRow, Results}
+use Rattle.gk_run.specs.Ending.{has_passed}
+use Rattle.gk_run.specs.Cleanups.{cleanups_value}
+use Rattle.gk_run.specs.SectionHooks.{begun}
+use Rattle.gk_run.specs.Alone.{Run}
+use Rattle.gk_run.specs.Chosen.{ChosenValue}
+use Rattle.gk_run.specs.Judged.{FeatureCuts, features_of, Judged}
+use Rattle.gk_run.specs.Running.{IsWalked, IsSectionEnd}
+
+-- A run was begun in a layer of its own, and its before list walked through. (behave's documentation: context layers, environment file functions)
+pub record IsStarted (run : Run) (old new : SandboxValue) (suite : Suite) : Type 0 where
+  pub walked : IsWalked (begun run.library run.hooks levels.Run [] (state_of old.now)) suite.before (state_of new.now) (cleanups_value suite.cleanups)
+  pub opened : suite.is_open ≡ has_passed suite.before
+  pub stops : suite.stop ≡ run.stop
+  pub layer : suite.layer ≡ depth new
+  pub saved : new.saved ≡ old.now ∷ old.saved
+  pub marks : new.marks ≡ length old.entries ∷ old.marks
+
+-- All of an open run is as it was, but whether further features are begun.
+pub record IsKept (old new : Suite) : Type 0 where
+  pub layer : new.layer ≡ old.layer
+  pub before : new.before ≡ old.before
+  pub cleanups : cleanups_value new.cleanups ≡ cleanups_value old.cleanups
+  pub stops : new.stop ≡ old.stop
+
+-- The rows of features are those of some cuts, from the run's state where they are begun.
+abbrev pub AreFeatures : Run → State → Bool → List ChosenValue → List FeatureRow → Type 0
+AreFeatures run now is_open features rows = (outside : State) → (is_open ≡ true → now ≡ outside) → (cuts : List FeatureCuts) × (rows ≡ features_of run outside is_open cuts features)
+
+-- A run that was begun, whose features were run, and that was finished has judged results. (this project's profile)
+abbrev pub FinishedRunsAreJudged : Type 0
+FinishedRunsAreJudged = (run : Run) (old new : SandboxValue) (suite : Suite) (features : List ChosenValue) (rows : List FeatureRow) (around : Status) →
+    IsStarted run old new suite → AreFeatures run (state_of new.now) suite.is_open features rows → IsSectionEnd run levels.Run [] (state_of old.now) around (has_passed suite.before) →
+    Judged run old.now features (record { features = rows; around = around })

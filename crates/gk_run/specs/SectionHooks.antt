@@ -1,0 +1,88 @@
+-- The hooks of a section: of the run, of a feature, of a scenario.
+use Rattle.std.specs.Prelude.{ℕ, Bool, true, false, cond, ◌&&◌, bytes_eq, List, [], ◌∷◌, ◌++◌, map, Option, Some, None}
+use Rattle.gk_gherkin.specs.declared.hooks.HookKind.{HookKind}
+use Rattle.gk_gherkin.specs.declared.hooks.HookKind.TheVariants as kinds
+use Rattle.gk_gherkin.specs.Feature.{StepValue}
+use Rattle.gk_gherkin.specs.Hooks.{HookValue}
+use Rattle.gk_steps.specs.Finding.{LibraryValue}
+use Rattle.gk_world.specs.State.{State, enter}
+use Rattle.gk_run.specs.declared.acting.Site.{Site}
+use Rattle.gk_run.specs.declared.acting.Site.TheVariants as sites
+use Rattle.gk_run.specs.declared.section_hooks.Level.{Level}
+use Rattle.gk_run.specs.declared.section_hooks.Level.TheVariants as levels
+use Rattle.gk_run.specs.Acting.{CleanupValue}
+use Rattle.gk_run.specs.Walk.{Walked, at_rest, walk}
+
+-- The hook before a section. (behave's documentation: environment file functions)
+abbrev pub before_kind : Level → HookKind
+before_kind levels.Run = kinds.BeforeAll
+before_kind levels.Feature = kinds.BeforeFeature
+before_kind levels.Scenario = kinds.BeforeScenario
+
+-- The hook after a section. (behave's documentation: environment file functions)
+abbrev pub after_kind : Level → HookKind
+after_kind levels.Run = kinds.AfterAll
+after_kind levels.Feature = kinds.AfterFeature
+after_kind levels.Scenario = kinds.AfterScenario
+
+-- Where the steps of a before hook are carried out: only in that of a scenario may they skip. (this project's profile)
+abbrev pub before_site : Level → Site
+before_site levels.Run = sites.Hook
+before_site levels.Feature = sites.Hook
+before_site levels.Scenario = sites.CaseHook
+
+-- Two kinds of hooks are the same.
+abbrev pub is_same_kind : HookKind → HookKind → Bool
+is_same_kind kinds.BeforeAll kinds.BeforeAll = true
+is_same_kind kinds.AfterAll kinds.AfterAll = true
+is_same_kind kinds.BeforeFeature kinds.BeforeFeature = true
+is_same_kind kinds.AfterFeature kinds.AfterFeature = true
+is_same_kind kinds.BeforeScenario kinds.BeforeScenario = true
+is_same_kind kinds.AfterScenario kinds.AfterScenario = true
+is_same_kind kinds.BeforeTag kinds.BeforeTag = true
+is_same_kind kinds.AfterTag kinds.AfterTag = true
+is_same_kind _ _ = false
+
+-- Two tags, or none, are the same.
+abbrev pub is_same_tag : Option (List ℕ) → Option (List ℕ) → Bool
+is_same_tag None None = true
+is_same_tag (Some a) (Some b) = bytes_eq a b
+is_same_tag _ _ = false
+
+-- The tag that a hook is for, if any.
+abbrev pub tag_of : HookValue → Option (List ℕ)
+tag_of hook = hook.tag
+
+-- A hook is the one of a kind and a tag.
+abbrev pub is_hook : HookKind → Option (List ℕ) → HookValue → Bool
+is_hook kind tag hook = is_same_kind hook.kind kind && is_same_tag (tag_of hook) tag
+
+-- The steps of a hook; one that isn't in the hooks file has none. (this project's profile)
+abbrev pub hook_steps : List HookValue → HookKind → Option (List ℕ) → List StepValue
+hook_steps [] kind tag = []
+hook_steps (hook ∷ hooks) kind tag = cond (is_hook kind tag hook) hook.steps (hook_steps hooks kind tag)
+
+-- The before list of a section: the steps of its before_tag hooks, one for each place in its tag list, and then of its before hook. (behave's documentation: environment file functions; this project's profile)
+abbrev pub before_list : List HookValue → Level → List (List ℕ) → List StepValue
+before_list hooks level [] = hook_steps hooks (before_kind level) None
+before_list hooks level (tag ∷ tags) = hook_steps hooks kinds.BeforeTag (Some tag) ++ before_list hooks level tags
+
+-- The lists of after_tag hooks, one for each place in a tag list. (behave's documentation: environment file functions)
+abbrev pub tag_lists : List HookValue → List (List ℕ) → List (List StepValue)
+tag_lists hooks tags = map (λ tag. hook_steps hooks kinds.AfterTag (Some tag)) tags
+
+-- The after lists of a section: that of its after hook, and then those of its after_tag hooks. (behave's documentation: environment file functions; this project's profile)
+abbrev pub after_lists : List HookValue → Level → List (List ℕ) → List (List StepValue)
+after_lists hooks level tags = hook_steps hooks (after_kind level) None ∷ tag_lists hooks tags
+
+-- A section begins: its layer is entered, with no cleanups yet, and its before list is walked as one. (behave's documentation: context layers)
+abbrev pub begun : LibraryValue → List HookValue → Level → List (List ℕ) → State → Walked
+begun library hooks level tags outside = walk library (before_site level) (enter outside) [] (before_list hooks level tags)
+
+-- Each after list is walked by itself, from the state that the one before left, whatever the others did. (this project's profile)
+abbrev pub walk_each : LibraryValue → State → List CleanupValue → List (List StepValue) → Walked
+walk_each library s cleanups [] = at_rest s cleanups
+walk_each library s cleanups (steps ∷ others) =
+    let this = walk library sites.Hook s cleanups steps in
+    let next = walk_each library this.state this.cleanups others in
+    record next { marks = this.marks ++ next.marks }

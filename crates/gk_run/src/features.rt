@@ -1,0 +1,403 @@
+//! Running a feature.
+ghost use Rattle.std.specs.Prelude.{◌≡◌, ◌≤◌, ◌<◌, true, false, ◌&&◌, ◌||◌, suc, [], map, length, vec_capacity, IfOk};
+ghost use Rattle.std.specs.List.{list_any};
+ghost use Rattle.gk_gherkin.specs.Feature.{texts};
+ghost use Rattle.gk_world.specs.State.{State, state_of, enter};
+ghost use Rattle.gk_world.specs.Sandbox.{depth, layers};
+ghost use Rattle.gk_run.specs.Acting.{KeepsLayers};
+ghost use Rattle.gk_run.specs.Results as rows;
+ghost use Rattle.gk_run.specs.Results.{case_row, feature_row};
+ghost use Rattle.gk_run.specs.Section.{Cut};
+ghost use Rattle.gk_run.specs.Alone.{run_of};
+ghost use Rattle.gk_run.specs.Chosen.{member_of, members_of, chosen_value, IsPaired};
+ghost use Rattle.gk_run.specs.Judged as spec;
+ghost use Rattle.gk_run.specs.Judged.{FeatureCuts, case_of, feature_of, case_statuses, feature_verdict};
+ghost use Rattle.gk_run.specs.Running.{IsSame, AreCases, IsFeatureEnd, IsFeatureResult};
+
+use crate::chosen::Chosen;
+use crate::cleanups::Cleanups;
+use crate::closing::close;
+use crate::ending::{around_status, has_passed, is_memory, worse};
+use crate::results::{CaseResult, FeatureResult, Mark, NoRoom, Status};
+use crate::running::{run_case, told_case};
+use crate::section_hooks::Level;
+use crate::walk::walk_before;
+use gk_gherkin::HookFile;
+use gk_select::Case;
+use gk_steps::Library;
+use gk_world::{Sandbox, layers_enter};
+use std::alloc::{AllocError, Global};
+
+// The result of a case in a section that is open, or isn't.
+fn run_member(
+    alloc: Global,
+    sandbox: &mut Sandbox,
+    library: &Library,
+    hooks: &HookFile,
+    stop: bool,
+    is_open: bool,
+    case: Case,
+    selected: bool,
+) -> Result<CaseResult, NoRoom>
+    requires room { depth sandbox.old < layers }
+    ensures row { IfOk result (λ r. (section : State) → (is_open ≡ true → state_of sandbox.old.now ≡ section) →
+        (cut : Cut) × (case_row r ≡ case_of (run_of library.now hooks.now stop) section is_open cut (member_of case selected))) }
+    ensures same { IsSame sandbox.old sandbox.new }
+{
+    if !selected {
+        return told_case(alloc, case, Status::Skipped, Mark::Skipped);
+    }
+    if !is_open {
+        return told_case(alloc, case, Status::Untested, Mark::Untested);
+    }
+    run_case(alloc, sandbox, library, hooks, case)
+}
+
+/// Whether both hold.
+pub fn both(a: bool, b: bool) -> bool
+    ensures { result ≡ (a && b) }
+{
+    a && b
+}
+
+fn either(a: bool, b: bool) -> bool
+    ensures { result ≡ (a || b) }
+{
+    a || b
+}
+
+fn is_bad(status: Status) -> bool
+    ensures { result ≡ spec.is_bad status }
+{
+    matches!(status, Status::Failed | Status::Memory)
+}
+
+/// Whether what comes next is still reached.
+pub fn stays_open(stop: bool, status: Status) -> bool
+    ensures { result ≡ spec.stays_open_by stop status }
+{
+    !(stop && is_bad(status))
+}
+
+// Runs the cases of a section that is open, or isn't; `results` has room for theirs.
+fn run_cases(
+    alloc: Global,
+    sandbox: &mut Sandbox,
+    library: &Library,
+    hooks: &HookFile,
+    stop: bool,
+    is_open: bool,
+    cases: Vec<Case>,
+    selected: &[bool],
+    results: Vec<CaseResult>,
+) -> Result<Vec<CaseResult>, NoRoom>
+    requires layer { depth sandbox.old < layers }
+    requires empty { results.items ≡ [] }
+    requires paired { length selected.now ≡ length cases.items }
+    requires room { length cases.items ≤ vec_capacity results }
+    ensures rows { IfOk result (λ rs. AreCases (run_of library.now hooks.now stop) (state_of sandbox.old.now) is_open (members_of cases.items selected.now) (map case_row rs.items)) }
+    ensures same { IsSame sandbox.old sandbox.new }
+{
+    let mut results = results;
+    let mut is_open = is_open;
+    let mut place = 0;
+    for case in cases {
+        let row = run_member(
+            alloc,
+            sandbox,
+            library,
+            hooks,
+            stop,
+            is_open,
+            case,
+            selected[place],
+        )?;
+        place += 1;
+        is_open = both(is_open, stays_open(stop, row.status));
+        results.push_reserved(row);
+    }
+    Ok(results)
+}
+
+/// What a feature comes to.
+#[derive(Drop)]
+struct FeatureEnd {
+    around: Status,
+    cases: Vec<CaseResult>,
+}
+
+// Runs a feature in the layer that was begun for it; `results` has room for its cases.
+fn in_feature(
+    alloc: Global,
+    sandbox: &mut Sandbox,
+    library: &Library,
+    hooks: &HookFile,
+    stop: bool,
+    tags: &[String],
+    cases: Vec<Case>,
+    selected: &[bool],
+    results: Vec<CaseResult>,
+) -> Result<FeatureEnd, NoRoom>
+    requires begun { 0 < depth sandbox.old }
+    requires layer { depth sandbox.old < layers }
+    requires empty { results.items ≡ [] }
+    requires paired { length selected.now ≡ length cases.items }
+    requires room { length cases.items ≤ vec_capacity results }
+    ensures end { IfOk result (λ r. (outside : State) → state_of sandbox.old.now ≡ enter outside →
+        IsFeatureEnd (run_of library.now hooks.now stop) Level.Feature outside true (texts tags.now) (members_of cases.items selected.now) r.around (map case_row r.cases.items)) }
+    ensures layers { KeepsLayers sandbox.old sandbox.new }
+{
+    let mut cleanups = Cleanups::new(alloc);
+    let before = walk_before(
+        alloc,
+        sandbox,
+        &mut cleanups,
+        library,
+        hooks,
+        Level::Feature,
+        tags,
+    );
+    let cases = run_cases(
+        alloc,
+        sandbox,
+        library,
+        hooks,
+        stop,
+        has_passed(before),
+        cases,
+        selected,
+        results,
+    )?;
+    if is_memory(before) {
+        return Ok(FeatureEnd {
+            around: Status::Memory,
+            cases,
+        });
+    }
+    let closed = close(
+        alloc,
+        sandbox,
+        cleanups,
+        library,
+        hooks,
+        Level::Feature,
+        tags,
+    );
+    Ok(FeatureEnd {
+        around: around_status(worse(before, closed.ending)),
+        cases,
+    })
+}
+
+fn has_selected(selected: &[bool]) -> bool
+    ensures { result ≡ list_any (λ s. s) selected.now }
+{
+    selected.iter().any(|s| *s)
+}
+
+fn any_memory(cases: &[CaseResult]) -> bool
+    ensures { result ≡ list_any (λ c. rows.is_memory c.status) cases.now }
+{
+    cases
+        .iter()
+        .any(|case| matches!(case.status, Status::Memory))
+}
+
+fn any_failed(cases: &[CaseResult]) -> bool
+    ensures { result ≡ list_any (λ c. rows.is_failed c.status) cases.now }
+{
+    cases
+        .iter()
+        .any(|case| matches!(case.status, Status::Failed))
+}
+
+fn any_untested(cases: &[CaseResult]) -> bool
+    ensures { result ≡ list_any (λ c. rows.is_untested c.status) cases.now }
+{
+    cases
+        .iter()
+        .any(|case| matches!(case.status, Status::Untested))
+}
+
+fn any_passed(cases: &[CaseResult]) -> bool
+    ensures { result ≡ list_any (λ c. rows.is_passed c.status) cases.now }
+{
+    cases
+        .iter()
+        .any(|case| matches!(case.status, Status::Passed))
+}
+
+fn is_memory_status(status: Status) -> bool
+    ensures { result ≡ rows.is_memory status }
+{
+    matches!(status, Status::Memory)
+}
+
+fn is_failed_status(status: Status) -> bool
+    ensures { result ≡ rows.is_failed status }
+{
+    matches!(status, Status::Failed)
+}
+
+fn verdict_by(memory: bool, failed: bool, untested: bool, passed: bool) -> Status
+    ensures { result ≡ spec.verdict_by memory failed untested passed }
+{
+    if memory {
+        return Status::Memory;
+    }
+    if failed {
+        return Status::Failed;
+    }
+    if untested {
+        return Status::Untested;
+    }
+    if passed {
+        return Status::Passed;
+    }
+    Status::Skipped
+}
+
+fn feature_status(around: Status, cases: &[CaseResult]) -> Status
+    ensures { result ≡ feature_verdict around (case_statuses (map case_row cases.now)) }
+{
+    let memory = either(is_memory_status(around), any_memory(cases));
+    let failed = either(is_failed_status(around), any_failed(cases));
+    verdict_by(memory, failed, any_untested(cases), any_passed(cases))
+}
+
+// Begins a feature's layer, runs the feature in it, and ends the layer.
+fn begin_feature(
+    alloc: Global,
+    sandbox: &mut Sandbox,
+    library: &Library,
+    hooks: &HookFile,
+    stop: bool,
+    tags: &[String],
+    cases: Vec<Case>,
+    selected: &[bool],
+    results: Vec<CaseResult>,
+) -> Result<FeatureEnd, NoRoom>
+    requires layer { suc (depth sandbox.old) < layers }
+    requires empty { results.items ≡ [] }
+    requires paired { length selected.now ≡ length cases.items }
+    requires room { length cases.items ≤ vec_capacity results }
+    ensures end { IfOk result (λ r. IsFeatureEnd (run_of library.now hooks.now stop) Level.Feature (state_of sandbox.old.now) true (texts tags.now) (members_of cases.items selected.now) r.around (map case_row r.cases.items)) }
+    ensures same { IsSame sandbox.old sandbox.new }
+{
+    // No code runs here: the law says that the layer's state is the run's, entered.
+    layers_enter();
+    let layer = sandbox.begin();
+    let end = in_feature(
+        alloc, sandbox, library, hooks, stop, tags, cases, selected, results,
+    );
+    sandbox.end(layer);
+    end
+}
+
+// Runs a feature that is begun, or tells the cases of one that isn't.
+fn feature_end(
+    alloc: Global,
+    sandbox: &mut Sandbox,
+    library: &Library,
+    hooks: &HookFile,
+    stop: bool,
+    is_begun: bool,
+    tags: &[String],
+    cases: Vec<Case>,
+    selected: &[bool],
+    results: Vec<CaseResult>,
+) -> Result<FeatureEnd, NoRoom>
+    requires layer { suc (depth sandbox.old) < layers }
+    requires empty { results.items ≡ [] }
+    requires paired { length selected.now ≡ length cases.items }
+    requires room { length cases.items ≤ vec_capacity results }
+    ensures end { IfOk result (λ r. (outside : State) → (is_begun ≡ true → state_of sandbox.old.now ≡ outside) →
+        IsFeatureEnd (run_of library.now hooks.now stop) Level.Feature outside is_begun (texts tags.now) (members_of cases.items selected.now) r.around (map case_row r.cases.items)) }
+    ensures same { IsSame sandbox.old sandbox.new }
+{
+    if is_begun {
+        return begin_feature(
+            alloc, sandbox, library, hooks, stop, tags, cases, selected, results,
+        );
+    }
+    let cases = run_cases(
+        alloc, sandbox, library, hooks, stop, false, cases, selected, results,
+    )?;
+    Ok(FeatureEnd {
+        around: Status::Passed,
+        cases,
+    })
+}
+
+// Runs a feature of a run that is open, or isn't.
+pub(crate) fn feature_in(
+    alloc: Global,
+    sandbox: &mut Sandbox,
+    library: &Library,
+    hooks: &HookFile,
+    stop: bool,
+    is_open: bool,
+    chosen: Chosen,
+) -> Result<FeatureResult, NoRoom>
+    requires layer { suc (depth sandbox.old) < layers }
+    requires paired { IsPaired chosen }
+    ensures row { IfOk result (λ r. IsFeatureResult (run_of library.now hooks.now stop) (state_of sandbox.old.now) is_open (chosen_value chosen) (feature_row r)) }
+    ensures same { IsSame sandbox.old sandbox.new }
+{
+    let Chosen {
+        source,
+        name,
+        line,
+        tags,
+        cases,
+        selected,
+    } = chosen;
+    let results = match Vec::with_capacity(alloc, cases.len()) {
+        Ok(results) => results,
+        Err(AllocError) => return Err(NoRoom),
+    };
+    let is_begun = both(is_open, has_selected(selected.as_slice()));
+    let FeatureEnd { around, cases } = feature_end(
+        alloc,
+        sandbox,
+        library,
+        hooks,
+        stop,
+        is_begun,
+        tags.as_slice(),
+        cases,
+        selected.as_slice(),
+        results,
+    )?;
+    Ok(FeatureResult {
+        source,
+        name,
+        line,
+        status: feature_status(around, cases.as_slice()),
+        around,
+        cases,
+    })
+}
+
+/// Runs a feature in a layer of its own: its before hooks, its selected cases in order, each in a layer
+/// of its own, its after hooks and its cleanups. The other cases and their steps are skipped. Where its
+/// before hooks don't pass its selected cases are untested, and so they are after one that failed where
+/// the run is to `stop`. A feature without a selected case isn't begun. The sandbox is as it was,
+/// whatever is answered. `NoRoom` comes where results couldn't be reserved; the layers that were begun
+/// are ended. (behave's documentation: context layers, environment file functions, cleanups; this
+/// project's profile)
+pub fn run_feature(
+    alloc: Global,
+    sandbox: &mut Sandbox,
+    library: &Library,
+    hooks: &HookFile,
+    stop: bool,
+    chosen: Chosen,
+) -> Result<FeatureResult, NoRoom>
+    requires layer { suc (depth sandbox.old) < layers }
+    requires paired { IsPaired chosen }
+    ensures row { IfOk result (λ r. (cuts : FeatureCuts) × (feature_row r ≡ feature_of (run_of library.now hooks.now stop) (state_of sandbox.old.now) true cuts (chosen_value chosen))) }
+    ensures same { IsSame sandbox.old sandbox.new }
+{
+    feature_in(alloc, sandbox, library, hooks, stop, true, chosen)
+}

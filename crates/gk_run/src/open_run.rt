@@ -1,0 +1,165 @@
+//! A run that was begun and isn't finished.
+ghost use Rattle.std.specs.Prelude.{◌≡◌, ◌<◌, ◌&&◌, Bool, suc, [], IfOk, OnErr};
+ghost use Rattle.gk_world.specs.State.{State, state_of};
+ghost use Rattle.gk_world.specs.Sandbox.{depth, layers, Ends};
+ghost use Rattle.gk_gherkin.specs.Hooks.{hooks_value};
+ghost use Rattle.gk_steps.specs.Finding.{library_value};
+ghost use Rattle.gk_run.specs.Acting.{KeepsLayers};
+ghost use Rattle.gk_run.specs.Cleanups.{cleanups_value};
+ghost use Rattle.gk_run.specs.Results.{feature_row};
+ghost use Rattle.gk_run.specs.Ending as endings;
+ghost use Rattle.gk_run.specs.SectionHooks.{begun};
+ghost use Rattle.gk_run.specs.Alone.{run_of};
+ghost use Rattle.gk_run.specs.Chosen.{chosen_value, IsPaired};
+ghost use Rattle.gk_run.specs.Judged.{stays_open_by};
+ghost use Rattle.gk_run.specs.Running.{IsSame, IsWalked, IsSectionEnd, IsFeatureResult};
+ghost use Rattle.gk_run.specs.OpenRun.{IsStarted, IsKept, FinishedRunsAreJudged};
+
+use crate::chosen::Chosen;
+use crate::cleanups::Cleanups;
+use crate::closing::close;
+use crate::ending::{Ending, around_status, has_passed, is_memory, worse};
+use crate::features::{both, feature_in, stays_open};
+use crate::results::{FeatureResult, NoRoom, Status};
+use crate::section_hooks::Level;
+use crate::walk::walk_before;
+use gk_gherkin::HookFile;
+use gk_steps::Library;
+use gk_world::{Layer, Sandbox, layers_enter};
+use std::alloc::Global;
+
+/// A run that was begun: its layer is open, and its before hook was run. It has to be finished.
+/// (behave's documentation: context layers, environment file functions)
+pub struct Suite {
+    layer: Layer,
+    // How the run's before list ended.
+    before: Ending,
+    cleanups: Cleanups,
+    stop: bool,
+    // Further features are begun.
+    is_open: bool,
+}
+
+// Closes a run whose before list ended so.
+fn finish_in(
+    alloc: Global,
+    sandbox: &mut Sandbox,
+    library: &Library,
+    hooks: &HookFile,
+    before: Ending,
+    cleanups: Cleanups,
+) -> Status
+    requires begun { 0 < depth sandbox.old }
+    ensures around { (outside : State) (stop : Bool) → IsWalked (begun (library_value library.now) (hooks_value hooks.now) Level.Run [] outside) before (state_of sandbox.old.now) (cleanups_value cleanups) →
+        IsSectionEnd (run_of library.now hooks.now stop) Level.Run [] outside result (endings.has_passed before) }
+    ensures layers { KeepsLayers sandbox.old sandbox.new }
+{
+    if is_memory(before) {
+        return Status::Memory;
+    }
+    let closed = close(alloc, sandbox, cleanups, library, hooks, Level::Run, &[]);
+    around_status(worse(before, closed.ending))
+}
+
+impl Suite {
+    /// Begins a run: its layer, and the before hook of all. Takes no memory but what the hook's steps
+    /// take. With `stop`, what comes after the first scenario or feature that is failed or memory isn't
+    /// run. (behave's documentation: context layers, environment file functions, `--stop`)
+    pub fn start(
+        alloc: Global,
+        sandbox: &mut Sandbox,
+        library: &Library,
+        hooks: &HookFile,
+        stop: bool,
+    ) -> Suite
+        requires { depth sandbox.old < layers }
+        ensures { IsStarted (run_of library.now hooks.now stop) sandbox.old sandbox.new result }
+    {
+        // No code runs here: the law says that the layer's state is the one outside, entered.
+        layers_enter();
+        let layer = sandbox.begin();
+        let mut cleanups = Cleanups::new(alloc);
+        let before = walk_before(
+            alloc,
+            sandbox,
+            &mut cleanups,
+            library,
+            hooks,
+            Level::Run,
+            &[],
+        );
+        Suite {
+            layer,
+            before,
+            cleanups,
+            stop,
+            is_open: has_passed(before),
+        }
+    }
+
+    /// Runs a feature of the run, as `run_feature` does, where the before hook of all passed whole and
+    /// the run hasn't stopped; else its selected cases are untested. The sandbox is as it was, whatever
+    /// is answered, and after `NoRoom` the run is still open. (behave's documentation: context layers;
+    /// this project's profile)
+    pub fn feature(
+        &mut self,
+        alloc: Global,
+        sandbox: &mut Sandbox,
+        library: &Library,
+        hooks: &HookFile,
+        chosen: Chosen,
+    ) -> Result<FeatureResult, NoRoom>
+        requires layer { suc (depth sandbox.old) < layers }
+        requires paired { IsPaired chosen }
+        ensures row { IfOk result (λ r. IsFeatureResult (run_of library.now hooks.now self.old.stop) (state_of sandbox.old.now) self.old.is_open (chosen_value chosen) (feature_row r)) }
+        ensures next { IfOk result (λ r. self.new.is_open ≡ (self.old.is_open && stays_open_by self.old.stop r.status)) }
+        ensures kept { IsKept self.old self.new }
+        ensures err { OnErr result (self.new.is_open ≡ self.old.is_open) }
+        ensures same { IsSame sandbox.old sandbox.new }
+    {
+        let result = feature_in(
+            alloc,
+            sandbox,
+            library,
+            hooks,
+            self.stop,
+            self.is_open,
+            chosen,
+        )?;
+        self.is_open = both(self.is_open, stays_open(self.stop, result.status));
+        Ok(result)
+    }
+
+    /// Ends the run: its after hook, its cleanups and its layer. Answers how its hooks and cleanups
+    /// ended: `Passed`, `Failed` or `Memory`. Takes no memory but what the steps take. (behave's
+    /// documentation: context layers, environment file functions, cleanups)
+    pub fn finish(
+        self,
+        alloc: Global,
+        sandbox: &mut Sandbox,
+        library: &Library,
+        hooks: &HookFile,
+    ) -> Status
+        requires innermost { self.layer ≡ depth sandbox.old }
+        ensures around { (outside : State) (stop : Bool) → IsWalked (begun (library_value library.now) (hooks_value hooks.now) Level.Run [] outside) self.before (state_of sandbox.old.now) (cleanups_value self.cleanups) →
+            IsSectionEnd (run_of library.now hooks.now stop) Level.Run [] outside result (endings.has_passed self.before) }
+        ensures ends { Ends sandbox.old sandbox.new }
+    {
+        let Suite {
+            layer,
+            before,
+            cleanups,
+            stop: _,
+            is_open: _,
+        } = self;
+        let around = finish_in(alloc, sandbox, library, hooks, before, cleanups);
+        sandbox.end(layer);
+        around
+    }
+}
+
+/// A run that was begun, whose features were run, and that was finished has judged results: the
+/// features' results and what `Suite::finish` answers. (this project's profile)
+pub fn finished_runs_are_judged()
+    ensures { FinishedRunsAreJudged }
+{}
