@@ -97,4 +97,4 @@ one_feature_more s f = fold one_case_more (record s { features = one_status_more
 abbrev pub status_by : Summary → Status → ℕ
 status_by s around =
     cond (is_memory around || nat_lt 0 s.features.memory || nat_lt 0 s.scenarios.memory) 4
-    (cond (is_failed around || nat_lt 0 s.features.failed || nat_lt 0 s.scenarios.failed || nat_lt 0 s.steps.undefined) 1 0)
+    (cond ((is_failed around || nat_lt 0 s.features.failed || nat_lt 0 s.scenarios.failed) || nat_lt 0 s.steps.undefined) 1 0)

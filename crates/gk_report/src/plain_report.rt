@@ -99,8 +99,10 @@ fn push_around(out: &mut String, indent: &str, around: Status) -> Result<(), All
     ensures { OnOk result (string_bytes out.new ≡ string_bytes out.old ++ around_line indent.now around) }
 {
     if around != Status::Passed {
+        out.push_str(indent)?;
+        out.push_str("(hooks and cleanups)")?;
         let status = status_text(around);
-        write!(out, "{indent}(hooks and cleanups) ... {status}\n")?;
+        write!(out, " ... {status}\n")?;
     }
     Ok(())
 }
