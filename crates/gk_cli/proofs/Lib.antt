@@ -5,5 +5,6 @@ pub mod WorkedArguments
 pub mod InputsLemmas
 pub mod FeaturesLemmas
 pub mod WorkedRun
+pub mod WorkedHooks
 pub mod WorkedLongRun
 pub mod WorkedRefusedMemory
