@@ -113,18 +113,19 @@ any_count p xs =
     let above : 0 < greatest = omega arith in
     least_above greatest (count_by p xs) above ∙ any_counted p 0 xs
 
-any_verdict : (p : Status → Bool) (rows : List FeatureRow) →
-    (nat_lt 0 (count_of p (feature_statuses rows)) || nat_lt 0 (count_of p (scenario_statuses rows))) ≡ list_any p (verdicts rows)
-any_verdict p rows =
-    ap (λ a. a || nat_lt 0 (count_of p (scenario_statuses rows))) (any_count p (feature_statuses rows))
-    ∙ ap (λ b. list_any p (feature_statuses rows) || b) (any_count p (scenario_statuses rows))
-    ∙ sym (list_any-append p (feature_statuses rows) (scenario_statuses rows))
+any_verdict : (p : Status → Bool) (rows : List FeatureRow) (around : Status) →
+    (p around || nat_lt 0 (count_of p (feature_statuses rows)) || nat_lt 0 (count_of p (scenario_statuses rows))) ≡ list_any p (verdicts rows around)
+any_verdict p rows around =
+    ap (λ a. p around || a || nat_lt 0 (count_of p (scenario_statuses rows))) (any_count p (feature_statuses rows))
+    ∙ ap (λ b. p around || list_any p (feature_statuses rows) || b) (any_count p (scenario_statuses rows))
+    ∙ or_assoc (p around) (list_any p (feature_statuses rows)) (list_any p (scenario_statuses rows))
+    ∙ ap (λ any. p around || any) (sym (list_any-append p (feature_statuses rows) (scenario_statuses rows)))
 
 -- The status by the counts is that of the rows.
-pub status_counted : (rows : List FeatureRow) → status_by (summary_of rows) ≡ status_of rows
-status_counted rows =
+pub status_counted : (rows : List FeatureRow) (around : Status) → status_by (summary_of rows) around ≡ status_of rows around
+status_counted rows around =
     let counts = summary_of rows in
-    let failed = nat_lt 0 counts.features.failed || nat_lt 0 counts.scenarios.failed in
-    ap (λ a. cond a 4 (cond (failed || nat_lt 0 counts.steps.undefined) 1 0)) (any_verdict is_memory rows)
-    ∙ ap (λ b. cond (list_any is_memory (verdicts rows)) 4 (cond (b || nat_lt 0 counts.steps.undefined) 1 0)) (any_verdict is_failed rows)
-    ∙ ap (λ b. cond (list_any is_memory (verdicts rows)) 4 (cond (list_any is_failed (verdicts rows) || b) 1 0)) (any_count is_undefined (step_statuses rows))
+    let failed = is_failed around || nat_lt 0 counts.features.failed || nat_lt 0 counts.scenarios.failed in
+    ap (λ a. cond a 4 (cond (failed || nat_lt 0 counts.steps.undefined) 1 0)) (any_verdict is_memory rows around)
+    ∙ ap (λ b. cond (list_any is_memory (verdicts rows around)) 4 (cond (b || nat_lt 0 counts.steps.undefined) 1 0)) (any_verdict is_failed rows around)
+    ∙ ap (λ b. cond (list_any is_memory (verdicts rows around)) 4 (cond (list_any is_failed (verdicts rows around) || b) 1 0)) (any_count is_undefined (step_statuses rows))

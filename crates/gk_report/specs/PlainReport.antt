@@ -5,7 +5,7 @@ use Rattle.gk_run.specs.declared.results.Status.{Status}
 use Rattle.gk_run.specs.declared.results.Reason.{Reason}
 use Rattle.gk_report.specs.declared.summary.Counts.{Counts}
 use Rattle.gk_report.specs.declared.summary.Summary.{Summary}
-use Rattle.gk_run.specs.Results.{StepRow, CaseRow, FeatureRow, Results}
+use Rattle.gk_run.specs.Results.{StepRow, CaseRow, FeatureRow, Results, is_passed}
 use Rattle.gk_report.specs.Summary.{summary_of}
 use Rattle.gk_report.specs.ReportTexts.{status_text, reason_text, one_line, line_feed}
 
@@ -26,17 +26,21 @@ step_line s = status_line (codes "    " ++ s.keyword ++ codes " " ++ one_line s.
 unfoldable pub case_line : CaseRow → List ℕ
 case_line c = status_line (codes "  " ++ c.keyword ++ codes ": " ++ one_line c.name) (status_text c.status)
 
--- The lines of a scenario.
+-- The line of hooks and cleanups after an indent; where they passed there is none. (this project's profile)
+unfoldable pub around_line : List ℕ → Status → List ℕ
+around_line indent around = cond (is_passed around) [] (status_line (indent ++ codes "(hooks and cleanups)") (status_text around))
+
+-- The lines of a scenario: its heading's, those of its steps, that of its hooks and cleanups. (this project's profile)
 abbrev pub case_lines : CaseRow → List ℕ
-case_lines c = case_line c ++ flat_map step_line c.steps
+case_lines c = case_line c ++ flat_map step_line c.steps ++ around_line (codes "    ") c.around
 
 -- The line of a feature's heading. (this project's profile)
 unfoldable pub feature_line : FeatureRow → List ℕ
 feature_line f = status_line (codes "Feature: " ++ one_line f.name) (status_text f.status)
 
--- The part of a feature: its line, its scenarios, an empty line. (this project's profile)
+-- The part of a feature: its line, its scenarios, its own hooks and cleanups, an empty line. (this project's profile)
 abbrev pub plain_part : FeatureRow → List ℕ
-plain_part f = feature_line f ++ flat_map case_lines f.cases ++ line_feed
+plain_part f = feature_line f ++ flat_map case_lines f.cases ++ around_line (codes "  ") f.around ++ line_feed
 
 -- The plural's `s`, which one doesn't have.
 abbrev pub plural : ℕ → List ℕ
@@ -64,13 +68,14 @@ count_line noun c undefined =
 abbrev pub undefined_part : Bool → Counts → List ℕ
 undefined_part of_steps c = cond of_steps (counted c.undefined (codes "undefined")) []
 
--- The closing lines. (behave's documentation: summary; this project's profile)
-unfoldable pub closing_lines : Summary → List ℕ
-closing_lines s =
-    count_line (codes "feature") s.features []
+-- The closing lines: the run's own hooks and cleanups, and the counts. (behave's documentation: summary; this project's profile)
+unfoldable pub closing_lines : Summary → Status → List ℕ
+closing_lines s around =
+    around_line [] around
+    ++ count_line (codes "feature") s.features []
     ++ count_line (codes "scenario") s.scenarios []
     ++ count_line (codes "step") s.steps (counted s.steps.undefined (codes "undefined"))
 
--- The report of a list of results: the parts of the features in order, and the closing lines. (this project's profile)
+-- The report of a run's results: the parts of the features in order, and the closing lines. (this project's profile)
 abbrev pub report : Results → List ℕ
-report results = flat_map plain_part results.features ++ closing_lines (summary_of results.features)
+report results = flat_map plain_part results.features ++ closing_lines (summary_of results.features) results.around

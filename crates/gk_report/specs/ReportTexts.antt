@@ -27,6 +27,8 @@ reason_text reasons.NoTable = codes "no table"
 reason_text reasons.BadTable = codes "bad table"
 reason_text reasons.NotNumber = codes "not a number"
 reason_text reasons.OutOfRange = codes "out of range"
+reason_text reasons.NoStep = codes "no such step"
+reason_text reasons.NotHere = codes "not allowed here"
 reason_text reasons.Asked = codes "fail step"
 
 -- A byte of a name or a text as it is printed: a line feed as a backslash and `n`. (this project's profile)

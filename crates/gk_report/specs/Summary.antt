@@ -1,5 +1,5 @@
 -- What a report counts, and the status that a run ends with.
-use Rattle.std.specs.Prelude.{◌≡◌, ℕ, ◌+◌, ◌-◌, ◌^◌, ◌||◌, min, cond, nat_lt, Bool, List, ◌++◌, map, flat_map, fold, count_by}
+use Rattle.std.specs.Prelude.{◌≡◌, ℕ, ◌+◌, ◌-◌, ◌^◌, ◌||◌, min, cond, nat_lt, Bool, List, ◌∷◌, ◌++◌, map, flat_map, fold, count_by}
 use Rattle.std.specs.List.{list_any}
 use Rattle.gk_run.specs.declared.results.Status.{Status}
 use Rattle.gk_run.specs.declared.results.Status.TheVariants as statuses
@@ -46,7 +46,7 @@ statuses_of_case c = map (λ s. s.status) c.steps
 abbrev pub statuses_of_feature : FeatureRow → List Status
 statuses_of_feature f = flat_map statuses_of_case f.cases
 
--- The statuses of all steps of all scenarios. (behave's documentation: summary)
+-- The statuses of all steps of all scenarios; the steps of hooks and cleanups aren't among them. (behave's documentation: summary)
 abbrev pub step_statuses : List FeatureRow → List Status
 step_statuses rows = flat_map statuses_of_feature rows
 
@@ -54,23 +54,23 @@ step_statuses rows = flat_map statuses_of_feature rows
 abbrev pub summary_of : List FeatureRow → Summary
 summary_of rows = record { features = counts_of (feature_statuses rows); scenarios = counts_of (scenario_statuses rows); steps = counts_of (step_statuses rows) }
 
--- Every verdict.
-abbrev pub verdicts : List FeatureRow → List Status
-verdicts rows = feature_statuses rows ++ scenario_statuses rows
+-- How the run's own hooks and cleanups ended, and every verdict.
+abbrev pub verdicts : List FeatureRow → Status → List Status
+verdicts rows around = around ∷ feature_statuses rows ++ scenario_statuses rows
 
--- The status of a run: 4 where one of these is memory; else 1 where one is failed or a step is undefined; else 0. (this project's profile)
-abbrev pub status_of : List FeatureRow → ℕ
-status_of rows =
-    cond (list_any is_memory (verdicts rows)) 4
-    (cond (list_any is_failed (verdicts rows) || list_any is_undefined (step_statuses rows)) 1 0)
+-- The status of a run: 4 where one of these is memory; else 1 where one is failed or a step is undefined; else 0. A scenario's or a feature's own hooks and cleanups count by its verdict. (this project's profile)
+abbrev pub status_of : List FeatureRow → Status → ℕ
+status_of rows around =
+    cond (list_any is_memory (verdicts rows around)) 4
+    (cond (list_any is_failed (verdicts rows around) || list_any is_undefined (step_statuses rows)) 1 0)
 
 -- The status that a run with these results ends with. (this project's profile)
 abbrev pub status : Results → ℕ
-status results = status_of results.features
+status results = status_of results.features results.around
 
--- Of whatever results this is the summary, the number is their status.
-abbrev pub IsStatusOf : Summary → ℕ → Type 0
-IsStatusOf summary number = (rows : List FeatureRow) → summary ≡ summary_of rows → number ≡ status_of rows
+-- Of whatever results this is the summary, the number is their status, where the run's own hooks and cleanups ended so.
+abbrev pub IsStatusOf : Summary → Status → ℕ → Type 0
+IsStatusOf summary around number = (rows : List FeatureRow) → summary ≡ summary_of rows → number ≡ status_of rows around
 
 -- Proof machinery from here on: counting one status after the other. One more, up to the greatest number.
 abbrev pub raised : ℕ → ℕ
@@ -93,8 +93,8 @@ one_case_more s c = record s { scenarios = one_status_more s.scenarios c.status;
 abbrev pub one_feature_more : Summary → FeatureRow → Summary
 one_feature_more s f = fold one_case_more (record s { features = one_status_more s.features f.status }) f.cases
 
--- The status by the counts.
-abbrev pub status_by : Summary → ℕ
-status_by s =
-    cond (nat_lt 0 s.features.memory || nat_lt 0 s.scenarios.memory) 4
-    (cond ((nat_lt 0 s.features.failed || nat_lt 0 s.scenarios.failed) || nat_lt 0 s.steps.undefined) 1 0)
+-- The status by the counts and the run's own hooks and cleanups.
+abbrev pub status_by : Summary → Status → ℕ
+status_by s around =
+    cond (is_memory around || nat_lt 0 s.features.memory || nat_lt 0 s.scenarios.memory) 4
+    (cond ((is_failed around || nat_lt 0 s.features.failed || nat_lt 0 s.scenarios.failed) || nat_lt 0 s.steps.undefined) 1 0)

@@ -3,7 +3,7 @@ ghost use Rattle.std.specs.Prelude.{◌≡◌, [], ◌++◌, map, flat_map, code
 ghost use Rattle.gk_run.specs.Results.{step_row, case_row, feature_row};
 ghost use Rattle.gk_report.specs.ReportTexts as words;
 ghost use Rattle.gk_report.specs.ReportTexts.{one_line};
-ghost use Rattle.gk_report.specs.PlainReport.{step_verdict, step_line, status_line, case_line, case_lines, feature_line, plain_part, counted, counted_if_any, passed_part, undefined_part, count_line, closing_lines};
+ghost use Rattle.gk_report.specs.PlainReport.{step_verdict, step_line, status_line, case_line, around_line, case_lines, feature_line, plain_part, counted, counted_if_any, passed_part, undefined_part, count_line, closing_lines};
 
 use crate::summary::{Counts, Summary};
 use gk_run::{CaseResult, FeatureResult, Reason, Status, StepResult};
@@ -39,6 +39,8 @@ fn reason_text(reason: Reason) -> &'static str
         Reason::BadTable => "bad table",
         Reason::NotNumber => "not a number",
         Reason::OutOfRange => "out of range",
+        Reason::NoStep => "no such step",
+        Reason::NotHere => "not allowed here",
         Reason::Asked => "fail step",
     }
 }
@@ -91,6 +93,20 @@ fn push_case_line(out: &mut String, case: &CaseResult) -> Result<(), AllocError>
     Ok(())
 }
 
+// The line of hooks and cleanups, unless they passed.
+#[tactic(auto, unfolding(crate::specs::PlainReport::status_line, crate::specs::PlainReport::around_line))]
+fn push_around(out: &mut String, indent: &str, around: Status) -> Result<(), AllocError>
+    ensures { OnOk result (string_bytes out.new ≡ string_bytes out.old ++ around_line indent.now around) }
+{
+    if around != Status::Passed {
+        out.push_str(indent)?;
+        out.push_str("(hooks and cleanups)")?;
+        let status = status_text(around);
+        write!(out, " ... {status}\n")?;
+    }
+    Ok(())
+}
+
 fn push_case(out: &mut String, case: &CaseResult) -> Result<(), AllocError>
     ensures { OnOk result (string_bytes out.new ≡ string_bytes out.old ++ case_lines (case_row case.now)) }
 {
@@ -98,6 +114,7 @@ fn push_case(out: &mut String, case: &CaseResult) -> Result<(), AllocError>
     for step in &case.steps {
         push_step(out, step)?;
     }
+    push_around(out, "    ", case.around)?;
     Ok(())
 }
 
@@ -120,6 +137,7 @@ fn push_part(out: &mut String, feature: &FeatureResult) -> Result<(), AllocError
     for case in &feature.cases {
         push_case(out, case)?;
     }
+    push_around(out, "  ", feature.around)?;
     out.push_str("\n")?;
     Ok(())
 }
@@ -180,29 +198,31 @@ fn push_count_line(
 
 // Pushes the closing lines.
 #[tactic(auto, unfolding(crate::specs::PlainReport::closing_lines))]
-fn push_closing(out: &mut String, summary: &Summary) -> Result<(), AllocError>
-    ensures { OnOk result (string_bytes out.new ≡ string_bytes out.old ++ closing_lines summary.now) }
+fn push_closing(out: &mut String, summary: &Summary, around: Status) -> Result<(), AllocError>
+    ensures { OnOk result (string_bytes out.new ≡ string_bytes out.old ++ closing_lines summary.now around) }
 {
+    push_around(out, "", around)?;
     push_count_line(out, "feature", &summary.features, false)?;
     push_count_line(out, "scenario", &summary.scenarios, false)?;
     push_count_line(out, "step", &summary.steps, true)?;
     Ok(())
 }
 
-/// The plain report of a list of results, with the closing lines of a summary: that of the list, as
-/// `summarize` answers it, for the report of a run. An error comes only where a growth was refused.
-/// (behave's documentation: summary; this project's profile)
+/// The plain report of a list of results, `around` being how the run's own hooks and cleanups ended, with
+/// the counts of a summary: that of the list, as `summarize` answers it, for the report of a run. An error
+/// comes only where a growth was refused. (behave's documentation: summary; this project's profile)
 pub fn report_of(
     alloc: Global,
     results: &[FeatureResult],
+    around: Status,
     summary: &Summary,
 ) -> Result<String, AllocError>
-    ensures { IfOk result (λ text. string_bytes text ≡ flat_map plain_part (map feature_row results.now) ++ closing_lines summary.now) }
+    ensures { IfOk result (λ text. string_bytes text ≡ flat_map plain_part (map feature_row results.now) ++ closing_lines summary.now around) }
 {
     let mut out = String::new(alloc);
     for feature in results {
         push_part(&mut out, feature)?;
     }
-    push_closing(&mut out, summary)?;
+    push_closing(&mut out, summary, around)?;
     Ok(out)
 }

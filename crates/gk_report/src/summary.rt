@@ -79,22 +79,27 @@ impl Summary {
         add_cases(self, feature.cases.as_slice());
     }
 
-    /// The status that the run ends with: 4 where a verdict is memory, else 1 where one is failed or a
-    /// step is undefined, else 0. Takes no memory. (this project's profile)
-    pub fn status(&self) -> u8
-        ensures { IsStatusOf self.now result }
+    /// The status that the run ends with, `around` being how its own hooks and cleanups ended: 4 where
+    /// that or a verdict is memory, else 1 where one of them is failed or a step is undefined, else 0.
+    /// Takes no memory. (this project's profile)
+    pub fn status(&self, around: Status) -> u8
+        ensures { IsStatusOf self.now around result }
     {
-        status_by(self)
+        status_by(self, around)
     }
 }
 
-fn status_by(summary: &Summary) -> u8
-    ensures { result ≡ spec.status_by summary.now }
+fn status_by(summary: &Summary, around: Status) -> u8
+    ensures { result ≡ spec.status_by summary.now around }
 {
-    if summary.features.memory > 0 || summary.scenarios.memory > 0 {
+    if around == Status::Memory || summary.features.memory > 0 || summary.scenarios.memory > 0 {
         return 4;
     }
-    if summary.features.failed > 0 || summary.scenarios.failed > 0 || summary.steps.undefined > 0 {
+    if around == Status::Failed
+        || summary.features.failed > 0
+        || summary.scenarios.failed > 0
+        || summary.steps.undefined > 0
+    {
         return 1;
     }
     0

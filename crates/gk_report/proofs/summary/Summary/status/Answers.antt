@@ -4,4 +4,4 @@ use Rattle.gk_report.proofs.SummaryLemmas.{status_counted}
 use Rattle.gk_report.proofs.summary.Summary.status.Goals as goal
 
 pub returns : goal.returns
-returns c = λ rows e. c.status_by.ensures ∙ ap status_by e ∙ status_counted rows
+returns c = λ rows e. c.status_by.ensures ∙ ap (λ s. status_by s c.args.around) e ∙ status_counted rows c.args.around
