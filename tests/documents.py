@@ -43,6 +43,8 @@ def repository_files():
 
 FILES = repository_files()
 CRATES = [line.split(":")[0] for line in read("crates.txt").splitlines() if line.strip()]
+# The crates of tests, whose texts are no faults of the program.
+TESTS = ("crates/gk_tests/", "crates/gk_suite_tests/")
 DOCUMENTS = [it for it in FILES if it.endswith(".md")]
 PAGES = [it for it in DOCUMENTS if it == "README.md" or it.startswith("docs/")]
 
@@ -374,7 +376,7 @@ def fault_texts():
     """The texts of faults and the reasons that the code prints."""
     texts = set()
     for path in FILES:
-        if not re.fullmatch(r"crates/[^/]+/src/.*\.rt", path) or path.startswith("crates/gk_tests/"):
+        if not re.fullmatch(r"crates/[^/]+/src/.*\.rt", path) or path.startswith(TESTS):
             continue
         code = re.sub(r"//.*", "", read(path))
         for pattern in (r'#\[error\("([^"{}]+)"\)\]', r'write_str\("([^"{}]+)"\)', r'=>\s*"([^"{}]+)"',

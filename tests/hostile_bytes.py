@@ -1,10 +1,10 @@
 #!/usr/bin/env python3
 """Runs the program on files that nobody would write: hostile_bytes.py PROGRAM ROOM. Called by tests/hostile_bytes.sh.
 
-- Each example whole; each prefix of its feature file and of its library; each of these files with one byte
-  changed, at every place, to a byte of a list, in turn.
-- The lines of all examples and libraries mixed: two files' lines in turn, and random lines of all of them.
-- Random bytes, and random lines that look like Gherkin or like a library.
+- Each example whole; each prefix of its feature file, of its library and of its hooks file; each of these
+  files with one byte changed, at every place, to a byte of a list, in turn.
+- The lines of all examples, libraries and hooks files mixed: two files' lines in turn, and random lines of all of them.
+- Random bytes, and random lines that look like Gherkin, like a library or like a hooks file.
 - Random options.
 """
 
@@ -16,7 +16,7 @@ import sys
 import threading
 
 import several
-from refused_memory import Report
+from reports import Report
 
 # The bytes that stand in place of others: no text, line ends, blanks, the marks of Gherkin and of patterns,
 # and the beginnings and middles of longer characters.
@@ -34,7 +34,11 @@ text|<a> text|Given these files:|/|| name | text |/|| f | x |/| |\t|\r|\ufefffea
 LIBRARY_LINES = """step it passes => pass|given a {x} => pass|when a {name} is {text} => set_env|then {n:d} {name} => number_is|
 step {{x}} => fail|step {} => pass|step => pass|and a => pass|step a =>|step a } => pass|# c||step {a}{b}{c}{d}x => pass|
 given {name} => dance|step {name:d} => file_is|step a => b => pass"""
-OPTIONS = ["--tags", "--line", "--env", "--library", "--", "-", "@a", "~@a,b", "@", ",", "a b", "0", "1", "4294967295", "4294967296",
+HOOK_LINES = """before_all:|after_all:|before_feature:|after_feature:|before_scenario:|after_scenario:|before_tag @a:|after_tag @a:|
+before_tag @a:b:|before_tag @:|before_all :|before_rule:|after_|Given it passes|And it fails|When the scenario is skipped|* nothing knows this|
+Given at cleanup it passes|And at cleanup at cleanup it passes|Given a file named "f" with:|""\"|text|Given these files:|/| name /| text /||
+/| f /| x /||# c||@a|Feature: f|stray"""
+OPTIONS = ["--hooks", "--hooks=h.hooks", "h.hooks", "--tags", "--line", "--env", "--library", "--", "-", "@a", "~@a,b", "@", ",", "a b", "0", "1", "4294967295", "4294967296",
            "A=b", "=", "A", "a.feature", "l.steps", "no", "", "--tags=@a", "--tags=", "--env=A=b=c", "--line=3", "--help", "--x", "\u00e9",
            "--library=l.steps", "\udcff"]
 
@@ -81,7 +85,7 @@ def example_cases():
 
 def mixed_cases(chance):
     """Lines of one file mixed into another's."""
-    names = sorted(it for it in os.listdir(several.EXAMPLES) if it.endswith((".feature", ".steps")))
+    names = sorted(it for it in os.listdir(several.EXAMPLES) if it.endswith((".feature", ".steps", ".hooks")))
     texts = {it: several.read(os.path.join(several.EXAMPLES, it)).splitlines(keepends=True) for it in names}
     features = [it for it in names if it.endswith(".feature")]
     for number in range(MIXED_FILES):
@@ -101,13 +105,16 @@ def mixed_cases(chance):
 
 
 def random_cases(chance):
-    features, libraries = lines_of(FEATURE_LINES), lines_of(LIBRARY_LINES)
+    features, libraries, hooks = lines_of(FEATURE_LINES), lines_of(LIBRARY_LINES), lines_of(HOOK_LINES)
     for number in range(RANDOM_FILES):
         yield Case(f"random bytes, {number}", ["a.feature"], {"a.feature": chance.randbytes(chance.randrange(1, 400))})
         lines = ["Feature: f", *chance.choices(features, k=chance.randrange(12))]
         entries = chance.choices(libraries, k=chance.randrange(6))
         yield Case(f"random lines, {number}", ["--library", "l.steps", "a.feature"] if number % 2 else ["a.feature"],
                    {"a.feature": joined(chance, lines), "l.steps": joined(chance, entries)})
+        own = chance.choices(hooks, k=chance.randrange(10))
+        yield Case(f"random hooks, {number}", ["--hooks", "h.hooks", "a.feature"],
+                   {"a.feature": b"@a\nFeature: f\n@a\nScenario: s\nGiven it passes\n", "h.hooks": joined(chance, own)})
 
 
 def joined(chance, lines):
@@ -115,7 +122,7 @@ def joined(chance, lines):
 
 
 def option_cases(chance):
-    files = {"a.feature": b"@a\nFeature: f\nScenario: s\nGiven it passes\n", "l.steps": b"step it passes => pass\n"}
+    files = {"a.feature": b"@a\nFeature: f\nScenario: s\nGiven it passes\n", "l.steps": b"step it passes => pass\n", "h.hooks": b"before_all:\nGiven it passes\n"}
     for number in range(RANDOM_OPTIONS):
         case = Case(f"random options, {number}", chance.choices(OPTIONS, k=chance.randrange(6)) + ["a.feature"], files)
         case.may_be_refused = True
@@ -159,7 +166,7 @@ def is_report(text):
     """Whether a text is a report whose closing lines are the counts of its rows. A line feed in a file's
     name or text is printed as two characters, so each row is one line."""
     try:
-        return Report(text).is_read_well()
+        return Report.of(text).is_read_well()
     except (ValueError, StopIteration, IndexError):
         return False
 

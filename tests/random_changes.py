@@ -6,7 +6,7 @@ import random
 import sys
 
 import several
-from refused_memory import Report, closing
+from reports import Report
 
 FEATURES = 120
 SCENARIOS = 20
@@ -152,8 +152,7 @@ def feature(seed):
     rows = [row for _, own in scenarios for row in own]
     failed = any(row.endswith(" ... failed") for row in rows if row.startswith("  Scenario"))
     rows = [f"Feature: f ... {'failed' if failed else 'passed'}", *rows, ""]
-    report = "\n".join(rows + closing(rows)) + "\n"
-    return "\n".join(["Feature: f", *lines]) + "\n", report.encode(), 1 if failed else 0
+    return "\n".join(["Feature: f", *lines]) + "\n", Report(rows, []).text(), 1 if failed else 0
 
 
 def ended_well(ample, ended):
@@ -163,12 +162,11 @@ def ended_well(ample, ended):
     status, printed, err = ended
     if status != 4 or err:
         return False
-    rows = printed.decode().split("\n")
-    at = next((it for it, row in enumerate(rows) if row.startswith("    ") and row.endswith(" ... memory")), None)
-    if at is None:
+    try:
+        report = Report.of(printed)
+    except (ValueError, IndexError):
         return False
-    report = Report(ample[1])
-    return printed == report.cut(at, report.above(at, "  [^ ]"), 0)
+    return report.is_read_well() and report.is_marked(Report.of(ample[1]))
 
 
 def main():

@@ -2,10 +2,10 @@
 """Refuses each growth of memory in turn: refused_memory.py PROGRAM ROOM. Called by tests/refused_memory.sh."""
 
 import os
-import re
 import sys
 
 import several
+from reports import Report
 
 # Runs beside the examples, so that each kind of input and of step meets refusals: arguments, and files.
 RUNS = {
@@ -48,65 +48,69 @@ And the file "f" should be "x"
 ''',
         },
     ),
+    "hooks of all kinds": (
+        ["--hooks", "h.hooks", "a.feature", "b.feature"],
+        {
+            "h.hooks": """before_all:
+Given the value "run" is set to "r"
+And at cleanup the value "run" should be "r"
+after_all:
+Then the value "run" should be "r"
+before_feature:
+Given a file named "a" containing "1"
+And at cleanup the file "a" should be "1"
+before_tag @f:
+Given a file named "tag" containing "f"
+after_tag @f:
+Then the file "tag" should be "f"
+after_feature:
+Then the file "a" should be "1"
+before_scenario:
+Given the file "a" is extended with "2"
+after_scenario:
+Given the file "a" is extended with "4"
+after_tag @a:
+Then the file "a" should be "1234"
+""",
+            "a.feature": """@f
+Feature: f
+@a
+Scenario: one
+Given at cleanup the file "a" is extended with "5"
+And at cleanup it fails
+And at cleanup the file "a" should be "1234"
+When the file "a" is extended with "3"
+Then the file "a" should be "123"
+Scenario: two
+Given these files:
+| name | text |
+| b | 1 |
+| | 2 |
+And nothing knows this
+Scenario: three
+Given it passes
+And the scenario is skipped
+And nothing knows this
+""",
+            "b.feature": "Feature: g\nScenario: four\nThen the file \"a\" should be \"12\"\n",
+        },
+    ),
+    "hooks that fail": (
+        ["--hooks", "h.hooks", "a.feature"],
+        {
+            "h.hooks": "before_feature:\nGiven the value \"v\" is set to \"1\"\nAnd it fails\nafter_feature:\nThen the value \"v\" should be \"1\"\n",
+            "a.feature": "Feature: f\nScenario: s\nGiven it passes\n",
+        },
+    ),
+    "a run that doesn't begin": (
+        ["--hooks", "h.hooks", "a.feature"],
+        {"h.hooks": "before_all:\nGiven nothing knows this\n", "a.feature": "Feature: f\nScenario: s\nGiven it passes\n"},
+    ),
+    "a faulty hooks file": (["--hooks", "h.hooks", "a.feature"], {"h.hooks": "before_tag @:\n", "a.feature": ""}),
     "faults": (["--library", "l.steps", "a.feature"], {"l.steps": "step a {x} => pass\nstep a b => fail\n", "a.feature": "stray\n"}),
     "bad tags": (["--tags", "@a,,", "a.feature"], {"a.feature": ""}),
     "a faulty file": (["a.feature"], {"a.feature": "@a\nFeature: f\nScenario: s\nGiven x\n| a | b |\n| c |\n"}),
 }
-
-
-class Report:
-    """A report with ample memory, as its lines."""
-
-    def __init__(self, text):
-        lines = text.decode().split("\n")
-        self.closing = lines[-4:-1]
-        self.lines = lines[:-4]
-        self.steps = [at for at, line in enumerate(self.lines) if line.startswith("    ")]
-
-    def above(self, at, pattern):
-        """The last line at or above a place that a pattern fits."""
-        return next(it for it in range(at, -1, -1) if re.match(pattern, self.lines[it]))
-
-    def cuts(self):
-        """The reports in which memory ran out at one step of a scenario that was chosen: that step is memory,
-        those after it in its scenario are untested, its scenario and its feature are memory, and the
-        closing lines count anew."""
-        for at in self.steps:
-            scenario = self.above(at, "  [^ ]")
-            if not self.lines[scenario].endswith(" ... skipped"):
-                yield self.cut(at, scenario, self.above(at, "Feature: "))
-
-    def cut(self, at, scenario, feature):
-        lines = list(self.lines)
-        for place in (feature, scenario, at):
-            lines[place] = with_status(lines[place], "memory")
-        after = at + 1
-        while after < len(lines) and lines[after].startswith("    "):
-            lines[after] = with_status(lines[after], "untested")
-            after += 1
-        return ("\n".join(lines + closing(lines)) + "\n").encode()
-
-    def is_read_well(self):
-        """Whether the closing lines are those that the counts of its lines give."""
-        return self.closing == closing(self.lines)
-
-
-def with_status(line, status):
-    return line[: line.rindex(" ... ") + 5] + status
-
-
-def closing(lines):
-    """The three closing lines."""
-    found = []
-    for noun, pattern, shown in (("feature", "Feature: ", 3), ("scenario", "  [^ ]", 3), ("step", "    ", 4)):
-        statuses = [line[line.rindex(" ... ") + 5:].split(":")[0] for line in lines if re.match(pattern, line)]
-        names = ["passed", "failed", "skipped", "undefined"][:shown]
-        counts = {name: statuses.count(name) for name in [*names, "untested", "memory"]}
-        plural = "" if counts["passed"] == 1 else "s"
-        parts = [f"{counts['passed']} {noun}{plural} passed"]
-        parts += [f"{count} {name}" for name, count in counts.items() if name != "passed" and (name in names or count)]
-        found.append(", ".join(parts))
-    return found
 
 
 class Refusals:
@@ -116,9 +120,8 @@ class Refusals:
         self.program, self.room, self.name = program, room, name
         self.arguments, self.folder = arguments, folder
         self.ample = several.start(program, arguments, folder)
-        report = Report(self.ample[1]) if self.ample[1] else None
-        self.is_read_well = report is None or report.is_read_well()
-        self.cuts = set(report.cuts()) if report else set()
+        self.report = Report.of(self.ample[1]) if self.ample[1] else None
+        self.is_read_well = self.report is None or self.report.is_read_well()
 
     def ending(self, number):
         """How the run ends whose growth of a number is refused: `met` and one of `stopped`, `marked`, `unharmed`,
@@ -134,9 +137,17 @@ class Refusals:
             return "unharmed" if met == b"met" else "unmet"
         if met == b"met" and ended == (4, b"", b"gherkin_run: out of memory\n"):
             return "stopped"
-        if met == b"met" and ended[0] == 4 and ended[1] in self.cuts and not ended[2]:
+        if met == b"met" and ended[0] == 4 and not ended[2] and self.is_marked(ended[1]):
             return "marked"
         return f"{self.name}, growth {number} refused: {met.decode()}, {ended}"
+
+    def is_marked(self, text):
+        """Whether a report is the one with ample memory but for one mark of memory."""
+        try:
+            report = Report.of(text)
+        except (ValueError, IndexError):
+            return False
+        return report.is_read_well() and self.report is not None and report.is_marked(self.report)
 
     def endings(self):
         """How each run ends, up to the first that meets no refusal."""
@@ -179,8 +190,8 @@ def main():
                 failed += 1
                 print(ending)
     print(f"where a growth was refused: {counts['stopped']} runs ended with nothing printed, "
-          f"{counts['marked']} with a step that is memory, {counts['unharmed']} as with ample memory")
-    # Growths were really refused, outside of steps and in steps.
+          f"{counts['marked']} with one mark of memory, {counts['unharmed']} as with ample memory")
+    # Growths were really refused, outside of what is marked and in it.
     for seen in (counts["stopped"], counts["marked"]):
         passed, failed = (passed + 1, failed) if seen else (passed, failed + 1)
     print(f"{passed} passed, {failed} failed")

@@ -1,5 +1,5 @@
-//! The report of a run. The results of its features come in; the report's text and the status that
-//! the run ends with go out.
+//! The report of a run. The results of its features come in, and how its own hooks and cleanups ended;
+//! the report's text and the status that the run ends with go out.
 #![tactic(auto)]
 
 mod plain_report;

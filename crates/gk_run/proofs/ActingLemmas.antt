@@ -7,7 +7,7 @@ use Rattle.std.specs.Fmt.{signed_decimal}
 use Rattle.std.proofs.Common.{◌≢◌, ◌≤◌, Vec, Global, vec_len, get_or, drop-cons, add-one, w64, ◌≡◌, ℕ, suc, ◌+◌, ◌<◌, Bool, true, false, List, [], ◌∷◌, length, drop, refl, sym, ap, subst, ◌∙◌, arith}
 use Rattle.std.proofs.lemmas.Bool.{eqb-true}
 use Rattle.std.proofs.lemmas.Bool.Decides.{Decides-ltb}
-use Rattle.std.proofs.lemmas.List.{length-map, drop_all}
+use Rattle.std.proofs.lemmas.List.{append-nil, length-map, drop_all}
 use Rattle.std.proofs.lemmas.Fmt.{length_signed_le}
 use Rattle.std.proofs.lemmas.Cmp.{nat_list_cmp_total}
 use Rattle.std.proofs.lemmas.Map.Text.{is_eq-slice_cmp}
@@ -20,14 +20,17 @@ use Rattle.gk_world.specs.Sandbox as changes
 use Rattle.gk_world.specs.Sandbox.{SandboxValue, Becomes}
 use Rattle.gk_run.specs.declared.results.Outcome.{Outcome}
 use Rattle.gk_run.specs.declared.results.Outcome.TheVariants as outcomes
+use Rattle.gk_run.specs.declared.acting.Site.{Site}
+use Rattle.gk_run.specs.declared.acting.Site.TheVariants as sites
 use Rattle.gk_run.specs.declared.results.Reason.{Reason}
 use Rattle.gk_run.specs.declared.results.Reason.TheVariants as reasons
 use Rattle.gk_run.proofs.NumbersLemmas.{not_so, second_of, in_range_fits, fits_in_range}
 use Rattle.gk_steps.specs.declared.action.Action.{Action}
-use Rattle.gk_steps.specs.Finding.{LibraryValue, FoundValue, action_of}
+use Rattle.gk_steps.specs.declared.action.Action.TheVariants as actions
+use Rattle.gk_steps.specs.Finding.{found_any, LibraryValue, FoundValue, action_of}
 use Rattle.gk_run.specs.Numbers.{is_number, number_of, is_in_range}
 use Rattle.gk_gherkin.specs.Feature.{BlockValue, texts}
-use Rattle.gk_run.specs.Acting.{Given, given, table, carried_out, changes_nothing, write_row, write_rows, have_two_cells, Done, add_number, is_pass, is_fail, is_refused, and_then, set_own, passes, fails, unless, unless_for, with_T, absent, differs, reason_of, outcome_of, IsExactly, IsDone, IsActed, IsText, HasText, IsNumber, lacks, not_number, differs_from, with_file, without_file, with_env, without_env, with_own, without_own}
+use Rattle.gk_run.specs.Acting.{Given, given, table, carried_out, act, at_site, done_of, without_cleanups, registers, registers_at, may_register, skips, CleanupValue, HasRegistered, changes_nothing, write_row, write_rows, have_two_cells, Done, add_number, is_pass, is_fail, is_refused, and_then, set_own, passes, fails, unless, unless_for, with_T, absent, differs, reason_of, outcome_of, IsExactly, IsDone, IsActed, IsText, HasText, IsNumber, lacks, not_number, differs_from, with_file, without_file, with_env, without_env, with_own, without_own}
 
 -- a map with a text put in
 inserted : (m : Texts) (name text : List ℕ) → finite.get (finite.insert m name text) ≡ with_text (finite.get m) name text
@@ -125,7 +128,7 @@ and_false true = refl
 and_false false = refl
 
 -- an action that changes nothing is carried out as well
-exact_done : (done : Done) (o : Outcome) (s : State) → IsExactly done o s → IsDone done o s
+pub exact_done : (done : Done) (o : Outcome) (s : State) → IsExactly done o s → IsDone done o s
 exact_done done outcomes.Passed s h = h
 exact_done done outcomes.Skip s h = h
 exact_done done (outcomes.Failed why) s h = h
@@ -336,3 +339,121 @@ pub act_exact : (library : LibraryValue) (f : FoundValue) (block : BlockValue) (
     → (changes_nothing action ≡ true → IsExactly (table action g (state_of old.now)) o (state_of new.now)) → changes_nothing (action_of library f) ≡ true → IsExactly (carried_out library f block (state_of old.now)) o (state_of new.now)
 act_exact library f block old new action g o e h k same =
     let P : Done → Type 0 = λ d. IsExactly d o (state_of new.now) in subst P (act_row library f block (state_of old.now) action g e h) (k (ap (λ a. changes_nothing a) e ∙ same))
+
+-- ---- where an action is carried out
+
+-- at a cleanup, each action does what its row says
+cleanup_row : (action : Action) (library : LibraryValue) (g : Given) (s : State) → table action g s ≡ done_of (at_site action sites.Cleanup library g s)
+cleanup_row actions.WriteFile library g s = refl
+cleanup_row actions.AppendFile library g s = refl
+cleanup_row actions.RemoveFile library g s = refl
+cleanup_row actions.RenameFile library g s = refl
+cleanup_row actions.WriteFiles library g s = refl
+cleanup_row actions.FileExists library g s = refl
+cleanup_row actions.FileAbsent library g s = refl
+cleanup_row actions.FileIs library g s = refl
+cleanup_row actions.FileContains library g s = refl
+cleanup_row actions.SetEnv library g s = refl
+cleanup_row actions.RemoveEnv library g s = refl
+cleanup_row actions.EnvIs library g s = refl
+cleanup_row actions.EnvAbsent library g s = refl
+cleanup_row actions.SetValue library g s = refl
+cleanup_row actions.DeleteValue library g s = refl
+cleanup_row actions.ValueIs library g s = refl
+cleanup_row actions.ValueAbsent library g s = refl
+cleanup_row actions.SetNumber library g s = refl
+cleanup_row actions.AddNumber library g s = refl
+cleanup_row actions.NumberIs library g s = refl
+cleanup_row actions.AtCleanup library g s = refl
+cleanup_row actions.SkipScenario library g s = refl
+cleanup_row actions.Pass library g s = refl
+cleanup_row actions.Fail library g s = refl
+
+pub cleaned_done : (library : LibraryValue) (f : FoundValue) (block : BlockValue) (s : State) → carried_out library f block s ≡ done_of (act library sites.Cleanup f block s)
+unfolding carried_out act
+cleaned_done library f block s = cleanup_row (action_of library f) library (given library f block) s
+
+-- what the action of a found step does at a site, by that action
+pub act_is : (library : LibraryValue) (site : Site) (f : FoundValue) (block : BlockValue) (s : State) (action : Action) → action ≡ action_of library f → act library site f block s ≡ at_site action site library (given library f block) s
+unfolding act
+act_is library site f block s action e = ap (λ a. at_site a site library (given library f block) s) (sym e)
+
+-- an action other than at_cleanup and skip_scenario
+abbrev pub is_row : Action → Bool
+is_row actions.AtCleanup = false
+is_row actions.SkipScenario = false
+is_row _ = true
+
+row_at : (action : Action) (site : Site) (library : LibraryValue) (g : Given) (s : State) → is_row action ≡ true → at_site action site library g s ≡ without_cleanups (table action g s)
+row_at actions.WriteFile site library g s h = refl
+row_at actions.AppendFile site library g s h = refl
+row_at actions.RemoveFile site library g s h = refl
+row_at actions.RenameFile site library g s h = refl
+row_at actions.WriteFiles site library g s h = refl
+row_at actions.FileExists site library g s h = refl
+row_at actions.FileAbsent site library g s h = refl
+row_at actions.FileIs site library g s h = refl
+row_at actions.FileContains site library g s h = refl
+row_at actions.SetEnv site library g s h = refl
+row_at actions.RemoveEnv site library g s h = refl
+row_at actions.EnvIs site library g s h = refl
+row_at actions.EnvAbsent site library g s h = refl
+row_at actions.SetValue site library g s h = refl
+row_at actions.DeleteValue site library g s h = refl
+row_at actions.ValueIs site library g s h = refl
+row_at actions.ValueAbsent site library g s h = refl
+row_at actions.SetNumber site library g s h = refl
+row_at actions.AddNumber site library g s h = refl
+row_at actions.NumberIs site library g s h = refl
+row_at actions.AtCleanup site library g s h = let no : ⊥ = cc in absurd no
+row_at actions.SkipScenario site library g s h = let no : ⊥ = cc in absurd no
+row_at actions.Pass site library g s h = refl
+row_at actions.Fail site library g s h = refl
+
+pub act_row_is : (library : LibraryValue) (site : Site) (f : FoundValue) (block : BlockValue) (s : State) → is_row (action_of library f) ≡ true → act library site f block s ≡ without_cleanups (carried_out library f block s)
+unfolding carried_out act
+act_row_is library site f block s h = row_at (action_of library f) site library (given library f block) s h
+
+-- a cleanup that is registered where that is allowed
+pub registered_at : (site : Site) (library : LibraryValue) (g h : Given) (s : State) → may_register site ≡ true → g ≡ h → registers s g.block (found_any library g.step) ≡ registers_at site s library h
+registered_at site library g h s may e =
+    ap (λ x. registers s x.block (found_any library x.step)) e ∙ ap (λ b. cond b (registers s h.block (found_any library h.step)) (without_cleanups (fails s reasons.NotHere))) (sym may)
+
+-- any other action is one
+pub row_by : (action : Action) → (action ≡ actions.AtCleanup → ⊥) → (action ≡ actions.SkipScenario → ⊥) → is_row action ≡ true
+row_by actions.WriteFile p q = refl
+row_by actions.AppendFile p q = refl
+row_by actions.RemoveFile p q = refl
+row_by actions.RenameFile p q = refl
+row_by actions.WriteFiles p q = refl
+row_by actions.FileExists p q = refl
+row_by actions.FileAbsent p q = refl
+row_by actions.FileIs p q = refl
+row_by actions.FileContains p q = refl
+row_by actions.SetEnv p q = refl
+row_by actions.RemoveEnv p q = refl
+row_by actions.EnvIs p q = refl
+row_by actions.EnvAbsent p q = refl
+row_by actions.SetValue p q = refl
+row_by actions.DeleteValue p q = refl
+row_by actions.ValueIs p q = refl
+row_by actions.ValueAbsent p q = refl
+row_by actions.SetNumber p q = refl
+row_by actions.AddNumber p q = refl
+row_by actions.NumberIs p q = refl
+row_by actions.AtCleanup p q = absurd (p refl)
+row_by actions.SkipScenario p q = absurd (q refl)
+row_by actions.Pass p q = refl
+row_by actions.Fail p q = refl
+
+-- an action that registers nothing
+pub none_registered : (done : Done) (cleanups : List CleanupValue) (o : Outcome) → HasRegistered (without_cleanups done) cleanups o cleanups
+none_registered done cleanups outcomes.Memory = refl
+none_registered done cleanups outcomes.Passed = sym (append-nil cleanups)
+none_registered done cleanups outcomes.Skip = sym (append-nil cleanups)
+none_registered done cleanups (outcomes.Failed why) = sym (append-nil cleanups)
+
+-- skip_scenario changes nothing
+pub skip_exact : (b : Bool) (s : State) (o : Outcome) → o ≡ cond b outcomes.Skip (outcomes.Failed reasons.NotHere) → IsExactly (cond b (skips s) (fails s reasons.NotHere)) o s
+skip_exact true s o h = (h, refl)
+skip_exact false s o h = (h, refl)

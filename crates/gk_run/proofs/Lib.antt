@@ -2,3 +2,11 @@ pub mod NumbersLemmas
 pub mod ActingLemmas
 pub mod ActingExamples
 pub mod Nothing
+pub mod EndingLemmas
+pub mod WalkLemmas
+pub mod CleanLemmas
+pub mod StepsLemmas
+pub mod SectionLemmas
+pub mod CasesLemmas
+pub mod FeaturesLemmas
+pub mod OneList

@@ -29,9 +29,9 @@ pub struct Closed {
 }
 
 // Carries a cleanup out. One that registers a cleanup or skips fails, as its row of the table says.
-fn clean_one(alloc: Global, sandbox: &mut Sandbox, library: &Library, cleanup: &Cleanup) -> Outcome
+fn clean_one(alloc: Global, sandbox: &mut Sandbox, library: &Library, cleanup: Cleanup) -> Outcome
     requires begun { 0 < depth sandbox.old }
-    ensures cleaned { IsDone (cleanup_done (library_value library.now) (cleanup_value cleanup.now) (state_of sandbox.old.now)) result (state_of sandbox.new.now) }
+    ensures cleaned { IsDone (cleanup_done (library_value library.now) (cleanup_value cleanup) (state_of sandbox.old.now)) result (state_of sandbox.new.now) }
     ensures layers { KeepsLayers sandbox.old sandbox.new }
 {
     carry_out(alloc, sandbox, library, &cleanup.found, &cleanup.block)
@@ -55,7 +55,7 @@ fn clean_all(
     let mut outcomes = outcomes;
     let mut ending = Ending::Passed;
     while let Some(cleanup) = list.pop() {
-        let outcome = clean_one(alloc, sandbox, library, &cleanup);
+        let outcome = clean_one(alloc, sandbox, library, cleanup);
         outcomes.push_reserved(outcome);
         let this = ending_of(Some(outcome));
         if is_memory(this) {

@@ -20,7 +20,7 @@ mod walk;
 
 pub use acting::{Site, act};
 pub use chosen::Chosen;
-pub use cleanups::{Cleanup, Cleanups};
+pub use cleanups::Cleanups;
 pub use features::run_feature;
 pub use judged::without_memory_there_is_one_list;
 pub use open_run::{Suite, finished_runs_are_judged};

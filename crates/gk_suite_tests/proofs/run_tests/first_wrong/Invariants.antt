@@ -1,5 +1,5 @@
 use Rattle.std.proofs.Common.{◌≡◌}
-use Rattle.gk_tests.proofs.run_tests.first_wrong.Given as goal
+use Rattle.gk_suite_tests.proofs.run_tests.first_wrong.Given as goal
 
 -- What the ends of the open layers give stays.
 abbrev pub invariant-loop-place : goal.invariant-loop-place

@@ -2,8 +2,8 @@ ghost use Rattle.std.specs.Prelude.{◌≡◌, ◌<◌};
 ghost use Rattle.gk_world.specs.Sandbox.{depth};
 
 use gk_gherkin::Block;
-use gk_run::{Outcome, Reason, act};
-use gk_steps::{Action, Entry, Field, FieldKind, Found, Library, Pattern, Piece};
+use gk_run::{Cleanups, Outcome, Reason, Site, act};
+use gk_steps::{Action, Entry, Field, FieldKind, Found, Library, Pattern, Piece, default_library};
 use gk_world::Sandbox;
 use std::alloc::{AllocError, Global};
 use std::test::Fail;
@@ -42,6 +42,10 @@ const NOT_NUMBER: Outcome = Outcome::Failed(Reason::NotNumber);
 const OUT_OF_RANGE: Outcome = Outcome::Failed(Reason::OutOfRange);
 
 const ASKED: Outcome = Outcome::Failed(Reason::Asked);
+
+const NOT_HERE: Outcome = Outcome::Failed(Reason::NotHere);
+
+const NO_STEP: Outcome = Outcome::Failed(Reason::NoStep);
 
 const FILES: [Row; 12] = [
     (Action::WriteFile, "a", "", 0, "one", PASSED),
@@ -172,9 +176,19 @@ fn first_wrong(
     requires { 0 < depth sandbox.old }
     ensures { sandbox.new.saved ≡ sandbox.old.saved }
 {
+    let mut cleanups = Cleanups::new(alloc);
     for (place, row) in rows.iter().enumerate() {
         let (library, found) = found_of(alloc, row)?;
-        if act(alloc, sandbox, &library, &found, &Block::Empty) != row.5 {
+        let outcome = act(
+            alloc,
+            sandbox,
+            &mut cleanups,
+            &library,
+            Site::Step,
+            &found,
+            &Block::Empty,
+        );
+        if outcome != row.5 {
             return Ok(Some(place));
         }
     }
@@ -221,12 +235,97 @@ fn rows_before_a_refused_one_stay(rt: HostRuntime) -> Result<(), Fail> {
         fields: Vec::new(alloc),
     };
     let mut sandbox = Sandbox::new(alloc);
+    let mut cleanups = Cleanups::new(alloc);
     let layer = sandbox.begin();
-    let outcome = act(alloc, &mut sandbox, &library, &found, &block);
+    let outcome = act(
+        alloc,
+        &mut sandbox,
+        &mut cleanups,
+        &library,
+        Site::Step,
+        &found,
+        &block,
+    );
     let kept = sandbox.file("one") == Some("1");
     let others = sandbox.file("name").is_some() || sandbox.file("three").is_some();
     sandbox.end(layer);
     assert_eq!(rt; outcome, BAD_NAME);
     assert!(rt; kept && !others);
+    Ok(())
+}
+
+/// An action of a step that is found by its text, where it is carried out, and its outcome.
+type SiteRow = (&'static str, Site, Outcome);
+
+const SITES: [SiteRow; 12] = [
+    ("the scenario is skipped", Site::Step, Outcome::Skip),
+    ("the scenario is skipped", Site::CaseHook, Outcome::Skip),
+    ("the scenario is skipped", Site::Hook, NOT_HERE),
+    ("the scenario is skipped", Site::Cleanup, NOT_HERE),
+    ("at cleanup it passes", Site::Step, PASSED),
+    ("at cleanup it passes", Site::CaseHook, PASSED),
+    ("at cleanup it passes", Site::Hook, PASSED),
+    ("at cleanup it passes", Site::Cleanup, NOT_HERE),
+    ("at cleanup nothing knows this", Site::Step, NO_STEP),
+    ("at cleanup nothing knows this", Site::Cleanup, NOT_HERE),
+    ("it passes", Site::Cleanup, PASSED),
+    ("it fails", Site::Hook, ASKED),
+];
+
+/// The outcome of a text at a site, or none where nothing is found.
+fn outcome_at(
+    alloc: Global,
+    sandbox: &mut Sandbox,
+    cleanups: &mut Cleanups,
+    library: &Library,
+    text: &str,
+    site: Site,
+) -> Result<Option<Outcome>, AllocError>
+    requires { 0 < depth sandbox.old }
+    ensures { sandbox.new.saved ≡ sandbox.old.saved }
+{
+    let Some(found) = library.find_any(alloc, text)? else {
+        return Ok(None);
+    };
+    let outcome = act(
+        alloc,
+        sandbox,
+        cleanups,
+        library,
+        site,
+        &found,
+        &Block::Empty,
+    );
+    Ok(Some(outcome))
+}
+
+/// The first row with another outcome at its site.
+fn first_wrong_site(
+    alloc: Global,
+    sandbox: &mut Sandbox,
+    library: &Library,
+) -> Result<Option<usize>, AllocError>
+    requires { 0 < depth sandbox.old }
+    ensures { sandbox.new.saved ≡ sandbox.old.saved }
+{
+    let mut cleanups = Cleanups::new(alloc);
+    for (place, row) in SITES.iter().enumerate() {
+        let (text, site, outcome) = *row;
+        if outcome_at(alloc, sandbox, &mut cleanups, library, text, site)? != Some(outcome) {
+            return Ok(Some(place));
+        }
+    }
+    Ok(None)
+}
+
+#[test]
+fn each_site_allows_what_it_may(rt: HostRuntime) -> Result<(), Fail> {
+    let alloc = rt.alloc();
+    let library = default_library(alloc)?;
+    let mut sandbox = Sandbox::new(alloc);
+    let layer = sandbox.begin();
+    let wrong = first_wrong_site(alloc, &mut sandbox, &library);
+    sandbox.end(layer);
+    assert_eq!(rt; wrong?, None);
     Ok(())
 }

@@ -1,0 +1,149 @@
+-- Without a memory mark there is one list only.
+use Rattle.std.specs.List.{list_any}
+use Rattle.std.proofs.Common.{Bool, List, [], ap, cond, false, map, refl, subst, sym, true, ℕ, ◌&&◌, ◌++◌, ◌||◌, ◌∙◌, ◌∷◌, ◌≡◌}
+use Rattle.std.proofs.lemmas.Bool.{true≢false}
+use Rattle.gk_select.specs.Case.{CaseValue}
+use Rattle.gk_world.specs.State.{State, state_of}
+use Rattle.gk_run.specs.declared.ending.Ending.{Ending}
+use Rattle.gk_run.specs.declared.ending.Ending.TheVariants as endings
+use Rattle.gk_run.specs.declared.results.Mark.TheVariants.{Acted}
+use Rattle.gk_run.specs.declared.section_hooks.Level.{Level}
+use Rattle.gk_run.specs.declared.section_hooks.Level.TheVariants as levels
+use Rattle.gk_run.specs.Alone.{Run, all_marks, alone, reached_row, row_of_case, unreached_row, unselected_row, verdict_of}
+use Rattle.gk_run.specs.Chosen.{ChosenValue, MemberValue, has_selected}
+use Rattle.gk_run.specs.Ending.{around_status, ended_of, verdict_status}
+use Rattle.gk_run.specs.Judged.{Cuts, FeatureCuts, OneList, case_of, cases_of, feature_of, feature_row_of, features_of, first_or, happened_in, has_memory, is_memory_case, is_memory_feature, later, results_from, section_events, section_state, stays_open, uncut, uncut_feature}
+use Rattle.gk_run.specs.Results.{CaseRow, FeatureRow, Results, is_memory}
+use Rattle.gk_run.specs.Section.{Cut, Events, around_of, before_passed, cut_marks, cut_outcomes, happened, in_after, in_before, in_cleanups, in_steps, is_place, marks_around, nowhere}
+use Rattle.gk_run.proofs.EndingLemmas.{cut_ends}
+use Rattle.gk_run.proofs.SectionLemmas.{in_back, in_front, outcomes_cut}
+
+or_left : (a b : Bool) → (a || b) ≡ false → a ≡ false
+or_left false b h = refl
+or_left true b h = h
+
+or_right : (a b : Bool) → (a || b) ≡ false → b ≡ false
+or_right false b h = h
+or_right true b h = absurd (true≢false h)
+
+-- a cut is none unless what happened has an ending in memory
+uncut_by : (b : Bool) (now e : Events) (f : Events → Ending) → (b ≡ true → f now ≡ endings.Memory) → (f (cond b now e) ≡ endings.Memory → ⊥) → cond b now e ≡ e
+uncut_by false now e f h free = refl
+uncut_by true now e f h free = absurd (free (h refl))
+
+-- how all that happened in a case ends
+case_ending : Events → Ending
+case_ending e = ended_of (all_marks e)
+
+-- the same of a section beside its cases
+section_ending : Events → Ending
+section_ending e = ended_of (marks_around e)
+
+case_uncut : (cut : Cut) (e : Events) → (ended_of (all_marks (happened cut e)) ≡ endings.Memory → ⊥) → happened cut e ≡ e
+case_uncut nowhere e free = refl
+case_uncut (in_before n) e free =
+    uncut_by (is_place n e.before) (record { before = cut_marks n e.before; steps = []; after = []; cleanups = [] }) e (λ x. ended_of (all_marks x)) (λ h. in_front (cut_marks n e.before) [] (cut_ends e.before n h)) free
+case_uncut (in_steps n) e free =
+    uncut_by (is_place n e.steps) (record e { steps = cut_marks n e.steps; after = []; cleanups = [] }) e (λ x. ended_of (all_marks x))
+    (λ h. in_back e.before (cut_marks n e.steps ++ []) (in_front (cut_marks n e.steps) [] (cut_ends e.steps n h))) free
+case_uncut (in_after n) e free =
+    uncut_by (is_place n e.after) (record e { after = cut_marks n e.after; cleanups = [] }) e (λ x. ended_of (all_marks x))
+    (λ h. in_back e.before (e.steps ++ (cut_marks n e.after ++ [])) (in_back e.steps (cut_marks n e.after ++ []) (in_front (cut_marks n e.after) [] (cut_ends e.after n h)))) free
+case_uncut (in_cleanups n) e free =
+    uncut_by (is_place n e.cleanups) (record e { cleanups = cut_outcomes n e.cleanups }) e (λ x. ended_of (all_marks x))
+    (λ h. let tail = map Acted (cut_outcomes n e.cleanups) in in_back e.before (e.steps ++ (e.after ++ tail)) (in_back e.steps (e.after ++ tail) (in_back e.after tail (outcomes_cut e.cleanups n h)))) free
+
+section_uncut : (run : Run) (level : Level) (tags : List (List ℕ)) (outside : State) (cut : Cut) →
+    (let es = section_events run level tags outside in ended_of (marks_around (happened cut es)) ≡ endings.Memory → ⊥) → (let es = section_events run level tags outside in happened cut es ≡ es)
+section_uncut run level tags outside nowhere free = refl
+section_uncut run level tags outside (in_before n) free =
+    let e = section_events run level tags outside in
+    uncut_by (is_place n e.before) (record { before = cut_marks n e.before; steps = []; after = []; cleanups = [] }) e (λ x. ended_of (marks_around x)) (λ h. in_front (cut_marks n e.before) [] (cut_ends e.before n h)) free
+section_uncut run level tags outside (in_steps n) free = refl
+section_uncut run level tags outside (in_after n) free =
+    let e = section_events run level tags outside in
+    uncut_by (is_place n e.after) (record e { after = cut_marks n e.after; cleanups = [] }) e (λ x. ended_of (marks_around x))
+    (λ h. in_back e.before (cut_marks n e.after ++ []) (in_front (cut_marks n e.after) [] (cut_ends e.after n h))) free
+section_uncut run level tags outside (in_cleanups n) free =
+    let e = section_events run level tags outside in
+    uncut_by (is_place n e.cleanups) (record e { cleanups = cut_outcomes n e.cleanups }) e (λ x. ended_of (marks_around x))
+    (λ h. let tail = map Acted (cut_outcomes n e.cleanups) in in_back e.before (e.after ++ tail) (in_back e.after tail (outcomes_cut e.cleanups n h))) free
+
+not_verdict : (e : Ending) → is_memory (verdict_status e) ≡ false → e ≡ endings.Memory → ⊥
+not_verdict e h m = true≢false (sym (ap (λ x. is_memory (verdict_status x)) m) ∙ h)
+
+not_around : (e : Ending) → is_memory (around_status e) ≡ false → e ≡ endings.Memory → ⊥
+not_around e h m = true≢false (sym (ap (λ x. is_memory (around_status x)) m) ∙ h)
+
+-- ---- cases
+
+reached_kept : (run : Run) (section : State) (cut : Cut) (c : CaseValue) → (let row = reached_row run section cut c in is_memory row.status ≡ false) → reached_row run section cut c ≡ reached_row run section nowhere c
+reached_kept run section cut c h =
+    let es = alone run section c in
+    ap (λ (e : Events). row_of_case c (verdict_of e) e) (case_uncut cut es (not_verdict (ended_of (all_marks (happened cut es))) h))
+
+choice_kept : (b : Bool) (x x' y y' : CaseRow) → (is_memory x.status ≡ false → x ≡ x') → (is_memory y.status ≡ false → y ≡ y') → (let row : CaseRow = cond b x y in is_memory row.status ≡ false) → cond b x y ≡ cond b x' y'
+choice_kept true x x' y y' f g h = f h
+choice_kept false x x' y y' f g h = g h
+
+case_kept : (run : Run) (section : State) (is_open : Bool) (cut : Cut) (m : MemberValue) → (let row = case_of run section is_open cut m in is_memory row.status ≡ false) → case_of run section is_open cut m ≡ case_of run section is_open nowhere m
+case_kept run section is_open cut m h =
+    let c = m.scenario in
+    choice_kept m.selected (cond is_open (reached_row run section cut c) (unreached_row c)) (cond is_open (reached_row run section nowhere c) (unreached_row c)) (unselected_row c) (unselected_row c)
+    (choice_kept is_open (reached_row run section cut c) (reached_row run section nowhere c) (unreached_row c) (unreached_row c) (reached_kept run section cut c) (λ _. refl)) (λ _. refl) h
+
+cases_kept : (run : Run) (section : State) (is_open : Bool) (cuts : List Cut) (ms : List MemberValue) →
+    list_any is_memory_case (cases_of run section is_open cuts ms) ≡ false → cases_of run section is_open cuts ms ≡ cases_of run section is_open [] ms
+cases_kept run section is_open cuts [] h = refl
+cases_kept run section is_open cuts (m ∷ ms) h =
+    let row = case_of run section is_open (first_or nowhere cuts) m in
+    let rest = cases_of run section (is_open && stays_open run row.status) (later cuts) ms in
+    ap (λ rows. row ∷ rows) (cases_kept run section (is_open && stays_open run row.status) (later cuts) ms (or_right (is_memory_case row) (list_any is_memory_case rest) h))
+    ∙ ap (λ (r : CaseRow). r ∷ cases_of run section (is_open && stays_open run r.status) [] ms)
+    (case_kept run section is_open (first_or nowhere cuts) m (or_left (is_memory_case row) (list_any is_memory_case rest) h))
+
+-- ---- features, the run
+
+happened_kept : (run : Run) (level : Level) (tags : List (List ℕ)) (outside : State) (is_begun : Bool) (cut : Cut) →
+    is_memory (around_of (happened_in run level tags outside is_begun cut)) ≡ false → happened_in run level tags outside is_begun cut ≡ happened_in run level tags outside is_begun nowhere
+happened_kept run level tags outside false cut h = refl
+happened_kept run level tags outside true cut h =
+    let es = section_events run level tags outside in
+    section_uncut run level tags outside cut (not_around (ended_of (marks_around (happened cut es))) h)
+
+feature_kept : (run : Run) (outside : State) (is_open : Bool) (cuts : FeatureCuts) (f : ChosenValue) →
+    is_memory_feature (feature_of run outside is_open cuts f) ≡ false → feature_of run outside is_open cuts f ≡ feature_of run outside is_open uncut_feature f
+feature_kept run outside is_open cuts f h =
+    let is_begun = is_open && has_selected f.members in
+    let section = section_state run levels.Feature f.tags outside in
+    let events = happened_in run levels.Feature f.tags outside is_begun cuts.own in
+    let is_ready = is_begun && before_passed events in
+    let cases = cases_of run section is_ready cuts.cases f.members in
+    let whole : Events → FeatureRow = λ es. feature_row_of f (around_of es) (cases_of run section (is_begun && before_passed es) [] f.members) in
+    ap (feature_row_of f (around_of events)) (cases_kept run section is_ready cuts.cases f.members (or_right (is_memory (around_of events)) (list_any is_memory_case cases) h))
+    ∙ ap whole (happened_kept run levels.Feature f.tags outside is_begun cuts.own (or_left (is_memory (around_of events)) (list_any is_memory_case cases) h))
+
+features_kept : (run : Run) (outside : State) (is_open : Bool) (cuts : List FeatureCuts) (fs : List ChosenValue) →
+    list_any is_memory_feature (features_of run outside is_open cuts fs) ≡ false → features_of run outside is_open cuts fs ≡ features_of run outside is_open [] fs
+features_kept run outside is_open cuts [] h = refl
+features_kept run outside is_open cuts (f ∷ fs) h =
+    let row = feature_of run outside is_open (first_or uncut_feature cuts) f in
+    let next : FeatureRow → Bool = λ r. is_open && stays_open run r.status in
+    let rest = features_of run outside (next row) (later cuts) fs in
+    ap (λ rows. row ∷ rows) (features_kept run outside (next row) (later cuts) fs (or_right (is_memory_feature row) (list_any is_memory_feature rest) h))
+    ∙ ap (λ r. r ∷ features_of run outside (next r) [] fs)
+    (feature_kept run outside is_open (first_or uncut_feature cuts) f (or_left (is_memory_feature row) (list_any is_memory_feature rest) h))
+
+run_kept : (run : Run) (start : State) (cuts : Cuts) (fs : List ChosenValue) → has_memory (results_from run start cuts fs) ≡ false → results_from run start cuts fs ≡ results_from run start uncut fs
+run_kept run start cuts fs h =
+    let section = section_state run levels.Run [] start in
+    let es = section_events run levels.Run [] start in
+    let events = happened cuts.own es in
+    let features = features_of run section (before_passed events) cuts.features fs in
+    let with_features : List FeatureRow → Results = λ rows. record { features = rows; around = around_of events } in
+    let whole : Events → Results = λ x. record { features = features_of run section (before_passed x) [] fs; around = around_of x } in
+    ap with_features (features_kept run section (before_passed events) cuts.features fs (or_right (is_memory (around_of events)) (list_any is_memory_feature features) h))
+    ∙ ap whole (section_uncut run levels.Run [] start cuts.own (not_around (ended_of (marks_around events)) (or_left (is_memory (around_of events)) (list_any is_memory_feature features) h)))
+
+pub one_list : OneList
+one_list run contents fs results judged h = judged.1 ∙ run_kept run (state_of contents) judged.0 fs (subst (λ r. has_memory r ≡ false) judged.1 h)

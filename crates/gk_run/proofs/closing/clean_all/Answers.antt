@@ -1,0 +1,50 @@
+use Rattle.std.proofs.Common.{◌≡◌, ◌∙◌, ◌++◌, ◌∷◌, [], List, map, sym, subst, arith, ap, refl}
+use Rattle.std.proofs.lemmas.List.{map_push}
+use Rattle.gk_steps.specs.Finding.{library_value}
+use Rattle.gk_world.specs.State.{state_of}
+use Rattle.gk_run.specs.declared.ending.Ending.{Ending}
+use Rattle.gk_run.specs.declared.cleanups.Cleanup.{Cleanup}
+use Rattle.gk_run.specs.Acting.{CleanupValue}
+use Rattle.gk_run.specs.Cleanups.{cleanup_value}
+use Rattle.gk_run.specs.Closing.{cleaned}
+use Rattle.gk_run.specs.Ending.{worse}
+use Rattle.gk_run.specs.Running.{IsCleaned}
+use Rattle.gk_run.proofs.Nothing.{nothing_in}
+use Rattle.gk_run.proofs.CleanLemmas.{GoesClean, clean_on, clean_off, clean_done}
+use Rattle.gk_run.proofs.closing.clean_all.Goals as goal
+
+popped : (list left : List Cleanup) (last : Cleanup) → list ≡ left ++ last ∷ [] → map cleanup_value list ≡ map cleanup_value left ++ cleanup_value last ∷ []
+popped list left last is = ap (map cleanup_value) is ∙ map_push cleanup_value left last
+
+pub returns-then-is_memory-clause-cleaned : goal.returns-then-is_memory-clause-cleaned
+returns-then-is_memory-clause-cleaned c =
+    let library = library_value c.args.library.now in
+    let first = state_of c.args.sandbox.now.now in
+    let all = map cleanup_value c.args.list.items in
+    subst (λ (e : Ending). IsCleaned (cleaned library first all) e c.push_reserved.new.self.items) (sym c.ending_of-this.ensures)
+    (clean_off library first all (state_of c.loop-cleanup.sandbox.now) (map cleanup_value c.loop-cleanup.list.items) (map cleanup_value c.pop.new.self.items) (cleanup_value c.in-Some.cleanup) c.clean_one-outcome.result
+    c.loop-cleanup.ending c.loop-cleanup.outcomes.items c.push_reserved.new.self.items (popped c.loop-cleanup.list.items c.pop.new.self.items c.in-Some.cleanup c.in-Some.ensures.items)
+    (let a = c.ending_of-this.ensures in let b = c.is_memory.ensures in let d = c.if-is_memory.true in cc) c.push_reserved.ensures.items c.loop-cleanup.invariant.goes)
+
+pub loop-cleanup-preserved : goal.loop-cleanup-preserved
+loop-cleanup-preserved c =
+    let library = library_value c.args.library.now in
+    let first = state_of c.args.sandbox.now.now in
+    let all = map cleanup_value c.args.list.items in
+    let new = state_of c.clean_one-outcome.new.sandbox.now in
+    let left = map cleanup_value c.pop.new.self.items in
+    let ended : c.worse-ending.result ≡ worse c.loop-cleanup.ending _ = c.worse-ending.ensures ∙ ap (worse c.loop-cleanup.ending) c.ending_of-this.ensures in
+    record {
+      goes = subst (λ (e : Ending). GoesClean library new left e c.push_reserved.new.self.items first all) (sym ended)
+          (clean_on library first all (state_of c.loop-cleanup.sandbox.now) new (map cleanup_value c.loop-cleanup.list.items) left (cleanup_value c.in-Some.cleanup) c.clean_one-outcome.result
+          c.loop-cleanup.ending c.loop-cleanup.outcomes.items c.push_reserved.new.self.items (popped c.loop-cleanup.list.items c.pop.new.self.items c.in-Some.cleanup c.in-Some.ensures.items) c.clean_one-outcome.ensures.cleaned
+          (let a = c.ending_of-this.ensures in let b = c.is_memory.ensures in let d = c.if-is_memory.false in cc) c.push_reserved.ensures.items c.loop-cleanup.invariant.goes);
+      layers = record { saved = c.clean_one-outcome.ensures.layers.saved ∙ c.loop-cleanup.invariant.layers.saved; marks = c.clean_one-outcome.ensures.layers.marks ∙ c.loop-cleanup.invariant.layers.marks };
+      room = let a = c.push_reserved.ensures.capacity in let o = c.push_reserved.new.self.ok.0 in let p = c.pop.new.self.ok.0 in let q = c.loop-cleanup.list.ok.0 in let r = c.loop-cleanup.outcomes.ok.0 in omega (arith, c.push_reserved.ensures.len, c.in-Some.ensures.len, c.loop-cleanup.invariant.room);
+    }
+
+pub returns-clause-cleaned : goal.returns-clause-cleaned
+returns-clause-cleaned c =
+    let none : c.loop-cleanup.list.items ≡ [] = nothing_in c.loop-cleanup.list.items (let q = c.loop-cleanup.list.ok.0 in omega (arith, c.in_default.ensures.cases)) in
+    clean_done (library_value c.args.library.now) (state_of c.args.sandbox.now.now) (map cleanup_value c.args.list.items) (state_of c.loop-cleanup.sandbox.now) (map cleanup_value c.loop-cleanup.list.items) c.loop-cleanup.ending c.loop-cleanup.outcomes.items
+    (ap (map cleanup_value) none) c.loop-cleanup.invariant.goes

@@ -1,0 +1,14 @@
+use Rattle.std.proofs.Common.{map}
+use Rattle.gk_gherkin.specs.Feature.{texts}
+use Rattle.gk_world.specs.State.{state_of}
+use Rattle.gk_run.specs.declared.section_hooks.Level.TheVariants as levels
+use Rattle.gk_run.specs.Results.{case_row}
+use Rattle.gk_run.specs.Alone.{run_of}
+use Rattle.gk_run.specs.Chosen.{members_of}
+use Rattle.gk_run.proofs.CasesLemmas.{not_begun}
+use Rattle.gk_run.proofs.features.feature_end.Goals as goal
+
+pub returns-clause-end : goal.returns-clause-end
+returns-clause-end c = λ outside opens.
+    not_begun (run_of c.args.library.now c.args.hooks.now c.args.stop) levels.Feature outside (state_of c.args.sandbox.now.now) (texts c.args.tags.now) (members_of c.args.cases.items c.args.selected.now) c.args.is_begun (map case_row c.in_ok-cases.cases.items)
+    c.if-is_begun.false c.in_ok-cases.ensures.rows

@@ -1,0 +1,18 @@
+use Rattle.std.proofs.Common.{◌≡◌, true, refl}
+use Rattle.gk_world.specs.State.{state_of}
+use Rattle.gk_run.specs.declared.results.FeatureResult.{FeatureResult}
+use Rattle.gk_run.specs.Results.{feature_row}
+use Rattle.gk_run.specs.Alone.{run_of}
+use Rattle.gk_run.specs.Chosen.{chosen_value}
+use Rattle.gk_run.specs.Judged.{FeatureCuts, feature_of}
+use Rattle.gk_run.specs.Running.{IsFeatureResult}
+use Rattle.gk_run.proofs.CasesLemmas.{if_ok}
+use Rattle.gk_run.proofs.features.run_feature.Goals as goal
+
+pub returns-clause-row : goal.returns-clause-row
+returns-clause-row c =
+    let run = run_of c.args.library.now c.args.hooks.now c.args.stop in
+    let now = state_of c.args.sandbox.now.now in
+    let f = chosen_value c.args.chosen in
+    if_ok (λ (r : FeatureResult). IsFeatureResult run now true f (feature_row r)) (λ (r : FeatureResult). (cuts : FeatureCuts) × (feature_row r ≡ feature_of run now true cuts f))
+    c.feature_in.result (λ r h. h now (λ _. refl)) c.feature_in.ensures.row

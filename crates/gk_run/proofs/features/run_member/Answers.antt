@@ -1,0 +1,29 @@
+use Rattle.std.proofs.Common.{◌≡◌, true}
+use Rattle.gk_world.specs.State.{State, state_of}
+use Rattle.gk_run.specs.declared.results.CaseResult.{CaseResult}
+use Rattle.gk_run.specs.declared.results.Mark.TheVariants as marks
+use Rattle.gk_run.specs.declared.results.Status.TheVariants as statuses
+use Rattle.gk_run.specs.Results.{case_row}
+use Rattle.gk_run.specs.Section.{Cut, nowhere}
+use Rattle.gk_run.specs.Alone.{run_of, told_row}
+use Rattle.gk_run.specs.Chosen.{member_of}
+use Rattle.gk_run.specs.Judged.{case_of}
+use Rattle.gk_run.specs.Running.{marks_of}
+use Rattle.gk_run.proofs.CasesLemmas.{if_ok, unselected_is, unreached_is}
+use Rattle.gk_run.proofs.features.run_member.Goals as goal
+
+pub returns-then-not-selected-clause-row : goal.returns-then-not-selected-clause-row
+returns-then-not-selected-clause-row c =
+    let run = run_of c.args.library.now c.args.hooks.now c.args.stop in
+    let m = member_of c.args.case c.args.selected in
+    if_ok (λ (r : CaseResult). case_row r ≡ told_row m.scenario statuses.Skipped (marks_of marks.Skipped m.scenario))
+    (λ (r : CaseResult). (section : State) → (c.args.is_open ≡ true → state_of c.args.sandbox.now.now ≡ section) → (x : Cut) × (case_row r ≡ case_of run section c.args.is_open x m))
+    c.told_case.result (λ r e section opens. (nowhere, unselected_is run section c.args.is_open m (case_row r) c.if-not-selected.true e)) c.told_case.ensures
+
+pub returns-then-not-is_open-clause-row : goal.returns-then-not-is_open-clause-row
+returns-then-not-is_open-clause-row c =
+    let run = run_of c.args.library.now c.args.hooks.now c.args.stop in
+    let m = member_of c.args.case c.args.selected in
+    if_ok (λ (r : CaseResult). case_row r ≡ told_row m.scenario statuses.Untested (marks_of marks.Untested m.scenario))
+    (λ (r : CaseResult). (section : State) → (c.args.is_open ≡ true → state_of c.args.sandbox.now.now ≡ section) → (x : Cut) × (case_row r ≡ case_of run section c.args.is_open x m))
+    c.told_case-then-not-is_open.result (λ r e section opens. (nowhere, unreached_is run section c.args.is_open m (case_row r) c.if-not-selected.false c.if-not-is_open.true e)) c.told_case-then-not-is_open.ensures

@@ -1,0 +1,17 @@
+use Rattle.std.proofs.Common.{◌≡◌, drop}
+use Rattle.gk_gherkin.specs.Feature.{texts}
+use Rattle.gk_gherkin.specs.Hooks.{hooks_value}
+use Rattle.gk_steps.specs.Finding.{library_value}
+use Rattle.gk_world.specs.State.{state_of}
+use Rattle.gk_run.specs.Acting.{KeepsLayers}
+use Rattle.gk_run.specs.Cleanups.{cleanups_value}
+use Rattle.gk_run.specs.SectionHooks.{before_site}
+use Rattle.gk_run.proofs.WalkLemmas.{GoesBefore}
+use Rattle.gk_run.proofs.walk.walk_before.Given as goal
+
+-- whatever the before list of the tags that are left comes to, that of all comes to
+abbrev pub invariant-loop-tag : goal.invariant-loop-tag
+invariant-loop-tag l = record {
+  goes : GoesBefore (library_value l.fn.library) (before_site l.level) (hooks_value l.fn.hooks) l.level (state_of l.sandbox.now) (cleanups_value l.cleanups) (texts (drop l.tag-index l.tags)) (state_of l.fn.sandbox.now) (cleanups_value l.fn.cleanups) (texts l.tags);
+  layers : KeepsLayers l.fn.sandbox l.sandbox;
+}
