@@ -9,7 +9,7 @@ use Rattle.gk_steps.specs.LibraryFault.{library_fault_text, line_of_library_faul
 use Rattle.gk_steps.specs.declared.library_fault.LibraryFault.{LibraryFault}
 use Rattle.gk_steps.specs.declared.library_fault.LibraryFault.TheVariants as library
 use Rattle.gherkin_run.specs.Fault.{row_of}
-use Rattle.gherkin_run.specs.declared.fault.Fault.TheVariants.{Library, Read}
+use Rattle.gherkin_run.specs.declared.fault.Fault.TheVariants.{Library, Hooks, Read}
 
 pub read_row : (name : String Global) (fault : ReadFault) → row_of (Read name fault) ≡ record { file = Some (string_bytes name); line = line_of_fault fault; text = Some (text_of_fault fault); status = 3 }
 read_row name read.TooLong = refl
@@ -23,6 +23,19 @@ read_row name (read.UnclosedText n) = refl
 read_row name (read.TagsAtEnd n) = refl
 read_row name (read.Language n) = refl
 read_row name (read.BadHook n) = refl
+
+pub hooks_row : (name : String Global) (fault : ReadFault) → row_of (Hooks name fault) ≡ record { file = Some (string_bytes name); line = line_of_fault fault; text = Some (text_of_fault fault); status = 3 }
+hooks_row name read.TooLong = refl
+hooks_row name read.Memory = refl
+hooks_row name (read.NotUtf8 n) = refl
+hooks_row name (read.Unexpected n) = refl
+hooks_row name (read.BadTag n) = refl
+hooks_row name (read.BadRow n) = refl
+hooks_row name (read.CellCount n) = refl
+hooks_row name (read.UnclosedText n) = refl
+hooks_row name (read.TagsAtEnd n) = refl
+hooks_row name (read.Language n) = refl
+hooks_row name (read.BadHook n) = refl
 
 pub library_row : (name : String Global) (fault : LibraryFault) → row_of (Library name fault) ≡ record { file = Some (string_bytes name); line = line_of_library_fault fault; text = Some (library_fault_text fault); status = 3 }
 library_row name library.TooLong = refl

@@ -25,9 +25,9 @@ use Rattle.gk_cli.specs.declared.arguments.Words.{Words}
 use Rattle.gk_cli.specs.declared.run_fault.RunFault.{RunFault}
 use Rattle.gk_cli.specs.declared.run_fault.RunFault.TheVariants as run
 use Rattle.gherkin_run.specs.Files.{IsFileFault, name_of}
-use Rattle.gherkin_run.specs.Program.{AreGiven, IsFaultOfGiven, IsFaultOfRun, IsFaultOfVariable, IsNamed, IsRefused, IsRun, IsWithin, SaysCalls, SaysProgram, SaysSuite, SaysVariables, contents_given, library_bytes, request_given, with_variables}
+use Rattle.gherkin_run.specs.Program.{AreGiven, IsFaultOfGiven, IsFaultOfRun, IsFaultOfVariable, IsNamed, IsRefused, IsRun, IsWithin, SaysCalls, SaysProgram, SaysSuite, SaysVariables, contents_given, bytes_given, request_given, with_variables}
 use Rattle.gherkin_run.specs.declared.fault.Fault.{Fault}
-use Rattle.gherkin_run.specs.declared.fault.Fault.TheVariants.{NotUtf8, Usage, Env, CannotRead, TooLong, Library, Read, TooMany, BadTags, Write, Memory}
+use Rattle.gherkin_run.specs.declared.fault.Fault.TheVariants.{NotUtf8, Usage, Env, CannotRead, TooLong, Library, Hooks, Read, TooMany, BadTags, Write, Memory}
 
 -- ---- a flush after a run
 
@@ -72,40 +72,43 @@ taken_out f xs i x within is =
     let lt : i < length xs = omega (arith, within, many) in
     (f x, slice_get-map f xs i ∙ ap (option_map f) (slice_get_read xs (length xs) i x refl lt is), refl)
 
-some_library : (library : Option SourceValue) (bytes : List ℕ) → library_bytes library ≡ Some bytes → IsSome library
-some_library None bytes e = absurd cc
-some_library (Some s) bytes e = refl
+some_file : (file : Option SourceValue) (bytes : List ℕ) → bytes_given file ≡ Some bytes → IsSome file
+some_file None bytes e = absurd cc
+some_file (Some s) bytes e = refl
 
-pub within : (options : Options) (library : Option SourceValue) (sources : List SourceValue) (c : Contents) (old new : Device) (by : RunFault)
-    → SaysFault (request_of options (library_bytes library) sources) c old new by → IsWithin library sources by
-within options library sources c old new (run.Read input fault) says = slice_get_within sources input says.0.0.first.source says.0.0.first.place
-within options library sources c old new (run.Library fault) says = some_library library says.0.bytes says.0.given
-within options library sources c old new (run.Select None select.BadTagText) says = tt
-within options library sources c old new (run.Select None select.TooMany) says = absurd says.0
-within options library sources c old new (run.Select None select.Memory) says = absurd says.0
-within options library sources c old new (run.Select (Some input) select.TooMany) says = slice_get_within sources input says.0.first.source says.0.first.place
-within options library sources c old new (run.Select (Some input) select.BadTagText) says = absurd says.0
-within options library sources c old new (run.Select (Some input) select.Memory) says = absurd says.0
-within options library sources c old new run.Write says = tt
-within options library sources c old new run.Memory says = tt
+pub within : (options : Options) (library hooks : Option SourceValue) (sources : List SourceValue) (c : Contents) (old new : Device) (by : RunFault)
+    → SaysFault (request_of options (bytes_given library) (bytes_given hooks) sources) c old new by → IsWithin library hooks sources by
+within options library hooks sources c old new (run.Read input fault) says = slice_get_within sources input says.0.0.first.source says.0.0.first.place
+within options library hooks sources c old new (run.Library fault) says = some_file library says.0.bytes says.0.given
+within options library hooks sources c old new (run.Hooks fault) says = some_file hooks says.0.bytes says.0.given
+within options library hooks sources c old new (run.Select None select.BadTagText) says = tt
+within options library hooks sources c old new (run.Select None select.TooMany) says = absurd says.0
+within options library hooks sources c old new (run.Select None select.Memory) says = absurd says.0
+within options library hooks sources c old new (run.Select (Some input) select.TooMany) says = slice_get_within sources input says.0.first.source says.0.first.place
+within options library hooks sources c old new (run.Select (Some input) select.BadTagText) says = absurd says.0
+within options library hooks sources c old new (run.Select (Some input) select.Memory) says = absurd says.0
+within options library hooks sources c old new run.Write says = tt
+within options library hooks sources c old new run.Memory says = tt
 
 pub fewer : (a b : ℕ) → a < 2 ^ 64 - 1 → b ≡ one_more a → a < b
 fewer a b room e = omega (arith, e)
 
-pub calls_of_run : (r : Request) (c : Contents) (old new : Device) (library : Option SourceValue) (sources : List SourceValue) (by : RunFault) (fault : Fault)
-    → old.failures < 2 ^ 64 - 1 → IsFaultOfRun library sources by fault → SaysFault r c old new by → SaysCalls old new fault
-calls_of_run r c old new library sources run.Write Write room is says = fewer old.failures new.failures room says.1.failed
-calls_of_run r c old new library sources run.Write _ room is says = absurd is
-calls_of_run r c old new library sources run.Memory Memory room is says = says.1
-calls_of_run r c old new library sources run.Memory _ room is says = absurd is
-calls_of_run r c old new library sources (run.Read input f) (Read name g) room is says = says.1
-calls_of_run r c old new library sources (run.Read input f) _ room is says = absurd is
-calls_of_run r c old new library sources (run.Library f) (Library name g) room is says = says.1
-calls_of_run r c old new library sources (run.Library f) _ room is says = absurd is
-calls_of_run r c old new library sources (run.Select (Some input) f) (TooMany name) room is says = says.1
-calls_of_run r c old new library sources (run.Select (Some input) f) _ room is says = absurd is
-calls_of_run r c old new library sources (run.Select None f) BadTags room is says = says.1
-calls_of_run r c old new library sources (run.Select None f) _ room is says = absurd is
+pub calls_of_run : (r : Request) (c : Contents) (old new : Device) (library hooks : Option SourceValue) (sources : List SourceValue) (by : RunFault) (fault : Fault)
+    → old.failures < 2 ^ 64 - 1 → IsFaultOfRun library hooks sources by fault → SaysFault r c old new by → SaysCalls old new fault
+calls_of_run r c old new library hooks sources run.Write Write room is says = fewer old.failures new.failures room says.1.failed
+calls_of_run r c old new library hooks sources run.Write _ room is says = absurd is
+calls_of_run r c old new library hooks sources run.Memory Memory room is says = says.1
+calls_of_run r c old new library hooks sources run.Memory _ room is says = absurd is
+calls_of_run r c old new library hooks sources (run.Read input f) (Read name g) room is says = says.1
+calls_of_run r c old new library hooks sources (run.Read input f) _ room is says = absurd is
+calls_of_run r c old new library hooks sources (run.Library f) (Library name g) room is says = says.1
+calls_of_run r c old new library hooks sources (run.Library f) _ room is says = absurd is
+calls_of_run r c old new library hooks sources (run.Hooks f) (Hooks name g) room is says = says.1
+calls_of_run r c old new library hooks sources (run.Hooks f) _ room is says = absurd is
+calls_of_run r c old new library hooks sources (run.Select (Some input) f) (TooMany name) room is says = says.1
+calls_of_run r c old new library hooks sources (run.Select (Some input) f) _ room is says = absurd is
+calls_of_run r c old new library hooks sources (run.Select None f) BadTags room is says = says.1
+calls_of_run r c old new library hooks sources (run.Select None f) _ room is says = absurd is
 
 -- ---- variables
 
@@ -143,8 +146,8 @@ bad_here P f xs i x lt is here =
 -- ---- a fault of a file
 
 pub from_files : (w : Words) (old new : Device) (fault : Fault) → Any (λ name. IsFileFault (string_bytes name) fault) w.files.items → SaysProgram w old new fault
-from_files w old new (CannotRead other) h = inr h
-from_files w old new (TooLong other) h = inr h
+from_files w old new (CannotRead other) h = inr (inr h)
+from_files w old new (TooLong other) h = inr (inr h)
 from_files w old new Memory h = tt
 from_files w old new _ h = absurd h.4
 
@@ -158,26 +161,29 @@ IsSuiteFault (CannotRead name) = ⊥
 IsSuiteFault (TooLong name) = ⊥
 IsSuiteFault _ = Unit {0}
 
-suite_fault : (library : Option SourceValue) (sources : List SourceValue) (by : RunFault) (fault : Fault) → IsFaultOfRun library sources by fault → IsSuiteFault fault
-suite_fault library sources run.Write Write is = tt
-suite_fault library sources run.Write _ is = absurd is
-suite_fault library sources run.Memory Memory is = tt
-suite_fault library sources run.Memory _ is = absurd is
-suite_fault library sources (run.Read input f) (Read name g) is = tt
-suite_fault library sources (run.Read input f) _ is = absurd is
-suite_fault library sources (run.Library f) (Library name g) is = tt
-suite_fault library sources (run.Library f) _ is = absurd is
-suite_fault library sources (run.Select (Some input) f) (TooMany name) is = tt
-suite_fault library sources (run.Select (Some input) f) _ is = absurd is
-suite_fault library sources (run.Select None f) BadTags is = tt
-suite_fault library sources (run.Select None f) _ is = absurd is
+suite_fault : (library hooks : Option SourceValue) (sources : List SourceValue) (by : RunFault) (fault : Fault) → IsFaultOfRun library hooks sources by fault → IsSuiteFault fault
+suite_fault library hooks sources run.Write Write is = tt
+suite_fault library hooks sources run.Write _ is = absurd is
+suite_fault library hooks sources run.Memory Memory is = tt
+suite_fault library hooks sources run.Memory _ is = absurd is
+suite_fault library hooks sources (run.Read input f) (Read name g) is = tt
+suite_fault library hooks sources (run.Read input f) _ is = absurd is
+suite_fault library hooks sources (run.Library f) (Library name g) is = tt
+suite_fault library hooks sources (run.Library f) _ is = absurd is
+suite_fault library hooks sources (run.Hooks f) (Hooks name g) is = tt
+suite_fault library hooks sources (run.Hooks f) _ is = absurd is
+suite_fault library hooks sources (run.Select (Some input) f) (TooMany name) is = tt
+suite_fault library hooks sources (run.Select (Some input) f) _ is = absurd is
+suite_fault library hooks sources (run.Select None f) BadTags is = tt
+suite_fault library hooks sources (run.Select None f) _ is = absurd is
 
-suite_named : (library : Option SourceValue) (sources : List SourceValue) (r : Request) (c : Contents) (old new : Device) (fault : Fault) → SaysSuite library sources r c old new fault → IsSuiteFault fault
-suite_named library sources r c old new fault (inl says) = suite_fault library sources says.0 fault says.1
-suite_named library sources r c old new fault (inr unflushed) = subst IsSuiteFault (sym unflushed.named) tt
+suite_named : (library hooks : Option SourceValue) (sources : List SourceValue) (r : Request) (c : Contents) (old new : Device) (fault : Fault) → SaysSuite library hooks sources r c old new fault → IsSuiteFault fault
+suite_named library hooks sources r c old new fault (inl says) = suite_fault library hooks sources says.0 fault says.1
+suite_named library hooks sources r c old new fault (inr unflushed) = subst IsSuiteFault (sym unflushed.named) tt
 
 of_given : (w : Words) (old new : Device) (fault : Fault) → IsSuiteFault fault → IsFaultOfGiven w old new fault → SaysProgram w old new fault
 of_given w old new (Library name f) is h = h
+of_given w old new (Hooks name f) is h = h
 of_given w old new (Read name f) is h = h
 of_given w old new (TooMany name) is h = h
 of_given w old new BadTags is h = h
@@ -185,10 +191,10 @@ of_given w old new Write is h = h
 of_given w old new Memory is h = tt
 of_given w old new _ is h = absurd is
 
-pub of_suite : (w : Words) (library : Option SourceValue) (sources : List SourceValue) (old new : Device) (fault : Fault) → AreGiven w library sources
-    → SaysSuite library sources (request_given w library sources) (contents_given w) old new fault → SaysProgram w old new fault
-of_suite w library sources old new fault given says =
-    of_given w old new fault (suite_named library sources _ _ old new fault says) record { library = library; sources = sources; given = given; says = says }
+pub of_suite : (w : Words) (library hooks : Option SourceValue) (sources : List SourceValue) (old new : Device) (fault : Fault) → AreGiven w library hooks sources
+    → SaysSuite library hooks sources (request_given w library hooks sources) (contents_given w) old new fault → SaysProgram w old new fault
+of_suite w library hooks sources old new fault given says =
+    of_given w old new fault (suite_named library hooks sources _ _ old new fault says) record { library = library; hooks = hooks; sources = sources; given = given; says = says }
 
 -- ---- the run of the files
 
@@ -196,13 +202,13 @@ names_of : (xs : List Source) → map (λ s. s.name) (map source_value xs) ≡ m
 names_of [] = refl
 names_of (x ∷ xs) = ap (λ l. name_of x ∷ l) (names_of xs)
 
-name_given : (library : Option Source) → option_map (λ s. s.name) (option_map source_value library) ≡ option_map name_of library
+name_given : (file : Option Source) → option_map (λ s. s.name) (option_map source_value file) ≡ option_map name_of file
 name_given None = refl
 name_given (Some x) = refl
 
-pub are_given : (w : Words) (library : Option Source) (sources : List Source) → option_map name_of library ≡ option_map string_bytes w.library → map name_of sources ≡ map string_bytes w.files.items
-    → AreGiven w (option_map source_value library) (map source_value sources)
-are_given w library sources l s = record { files = names_of sources ∙ s; library_file = name_given library ∙ l }
+pub are_given : (w : Words) (library hooks : Option Source) (sources : List Source) → option_map name_of library ≡ option_map string_bytes w.library → option_map name_of hooks ≡ option_map string_bytes w.hooks
+    → map name_of sources ≡ map string_bytes w.files.items → AreGiven w (option_map source_value library) (option_map source_value hooks) (map source_value sources)
+are_given w library hooks sources l h s = record { files = names_of sources ∙ s; library_file = name_given library ∙ l; hooks_file = name_given hooks ∙ h }
 
 -- the contents after the variables are put into a new sandbox
 pub put_in : (w : Words) (start : SandboxValue) (c : Contents) (variables : List (String Global × String Global)) → c ≡ with_variables start.now (map pair_value variables) → start ≡ new_sandbox → variables ≡ w.env.items
@@ -210,18 +216,19 @@ pub put_in : (w : Words) (start : SandboxValue) (c : Contents) (variables : List
 put_in w start c variables put new same =
     put ∙ ap (λ s. with_variables s.now (map pair_value variables)) new ∙ ap (λ xs. with_variables nothing_yet (map pair_value xs)) same
 
-pub runs : (w : Words) (library : Option SourceValue) (sources : List SourceValue) (old new : Device) (c : Contents) (r : Result ℕ Fault) → AreGiven w library sources → c ≡ contents_given w
-    → IfOk r (λ status. JudgedReport (request_given w library sources) c old new status) → IfOk r (λ status. Plain (request_given w library sources) c old new status) → IfOk r (IsRun w old new)
-runs w library sources old new c (Err e) given is judged plain = tt
-runs w library sources old new c (Ok status) given is judged plain = record {
+pub runs : (w : Words) (library hooks : Option SourceValue) (sources : List SourceValue) (old new : Device) (c : Contents) (r : Result ℕ Fault) → AreGiven w library hooks sources → c ≡ contents_given w
+    → IfOk r (λ status. JudgedReport (request_given w library hooks sources) c old new status) → IfOk r (λ status. Plain (request_given w library hooks sources) c old new status) → IfOk r (IsRun w old new)
+runs w library hooks sources old new c (Err e) given is judged plain = tt
+runs w library hooks sources old new c (Ok status) given is judged plain = record {
   library = library;
+  hooks = hooks;
   sources = sources;
   given = given;
-  judged = subst (λ x. JudgedReport (request_given w library sources) x old new status) is judged;
-  plain = subst (λ x. Plain (request_given w library sources) x old new status) is plain;
+  judged = subst (λ x. JudgedReport (request_given w library hooks sources) x old new status) is judged;
+  plain = subst (λ x. Plain (request_given w library hooks sources) x old new status) is plain;
 }
 
-pub fails : (w : Words) (library : Option SourceValue) (sources : List SourceValue) (old new : Device) (c : Contents) (r : Result ℕ Fault) → AreGiven w library sources → c ≡ contents_given w
-    → IfErr r (SaysSuite library sources (request_given w library sources) c old new) → IfErr r (SaysProgram w old new)
-fails w library sources old new c (Err e) given is says = of_suite w library sources old new e given (subst (λ x. SaysSuite library sources (request_given w library sources) x old new e) is says)
-fails w library sources old new c (Ok status) given is says = tt
+pub fails : (w : Words) (library hooks : Option SourceValue) (sources : List SourceValue) (old new : Device) (c : Contents) (r : Result ℕ Fault) → AreGiven w library hooks sources → c ≡ contents_given w
+    → IfErr r (SaysSuite library hooks sources (request_given w library hooks sources) c old new) → IfErr r (SaysProgram w old new)
+fails w library hooks sources old new c (Err e) given is says = of_suite w library hooks sources old new e given (subst (λ x. SaysSuite library hooks sources (request_given w library hooks sources) x old new e) is says)
+fails w library hooks sources old new c (Ok status) given is says = tt

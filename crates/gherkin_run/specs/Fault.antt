@@ -4,7 +4,7 @@ use Rattle.std.specs.Fmt.{decimal}
 use Rattle.gk_gherkin.specs.declared.read_fault.ReadFault.TheVariants as read
 use Rattle.gk_steps.specs.declared.library_fault.LibraryFault.TheVariants as library
 use Rattle.gherkin_run.specs.declared.fault.Fault.{Fault}
-use Rattle.gherkin_run.specs.declared.fault.Fault.TheVariants.{NotUtf8, Usage, Env, CannotRead, TooLong, Library, Read, TooMany, BadTags, Write, Memory}
+use Rattle.gherkin_run.specs.declared.fault.Fault.TheVariants.{NotUtf8, Usage, Env, CannotRead, TooLong, Library, Hooks, Read, TooMany, BadTags, Write, Memory}
 
 -- What a fault says: the file and the line that it names, its text, or none where the text is clap's own, and the status. (this project's profile)
 pub record FaultRow : Type 0 where
@@ -25,7 +25,7 @@ names file text status = record { file = Some file; line = None; text = Some tex
 abbrev pub points_at : List ℕ → ℕ → List ℕ → ℕ → FaultRow
 points_at file line text status = record { file = Some file; line = Some line; text = Some text; status = status }
 
--- The table of faults. A library or a source for which memory is refused is no fault of its file: it comes as the last row, and the two rows of `out of memory` with a file are never met; nor is that of a bad hook, which no feature file has. (this project's profile)
+-- The table of faults. A library, hooks or a source for which memory is refused is no fault of its file: it comes as the last row, and the three rows of `out of memory` with a file are never met; nor is that of a bad hook in a feature file, nor are those of tags and of another language in a hooks file. (this project's profile)
 abbrev pub row_of : Fault → FaultRow
 row_of NotUtf8 = says (codes "not UTF-8") 2
 row_of (Usage error) = record { file = None; line = None; text = None; status = 2 }
@@ -41,6 +41,17 @@ row_of (Library f (library.MissingField n)) = points_at (string_bytes f) n (code
 row_of (Library f (library.FieldKind n)) = points_at (string_bytes f) n (codes "wrong kind of field") 3
 row_of (Library f (library.Ambiguous n)) = points_at (string_bytes f) n (codes "ambiguous with an earlier line") 3
 row_of (Library f library.Memory) = names (string_bytes f) (codes "out of memory") 3
+row_of (Hooks f read.TooLong) = names (string_bytes f) (codes "longer than 16777216 bytes") 3
+row_of (Hooks f (read.NotUtf8 n)) = points_at (string_bytes f) n (codes "not UTF-8") 3
+row_of (Hooks f (read.Unexpected n)) = points_at (string_bytes f) n (codes "unexpected line") 3
+row_of (Hooks f (read.BadTag n)) = points_at (string_bytes f) n (codes "bad tag") 3
+row_of (Hooks f (read.BadRow n)) = points_at (string_bytes f) n (codes "row without closing bar") 3
+row_of (Hooks f (read.CellCount n)) = points_at (string_bytes f) n (codes "row with another number of cells") 3
+row_of (Hooks f (read.UnclosedText n)) = points_at (string_bytes f) n (codes "doc string without end") 3
+row_of (Hooks f (read.TagsAtEnd n)) = points_at (string_bytes f) n (codes "tags before nothing") 3
+row_of (Hooks f (read.Language n)) = points_at (string_bytes f) n (codes "language not known") 3
+row_of (Hooks f (read.BadHook n)) = points_at (string_bytes f) n (codes "bad hook heading") 3
+row_of (Hooks f read.Memory) = names (string_bytes f) (codes "out of memory") 3
 row_of (Read f read.TooLong) = names (string_bytes f) (codes "longer than 16777216 bytes") 3
 row_of (Read f (read.NotUtf8 n)) = points_at (string_bytes f) n (codes "not UTF-8") 3
 row_of (Read f (read.Unexpected n)) = points_at (string_bytes f) n (codes "unexpected line") 3

@@ -22,7 +22,7 @@ use Rattle.gk_cli.specs.declared.arguments.WordsFault.TheVariants as words
 use Rattle.gk_cli.specs.declared.run_fault.RunFault.{RunFault}
 use Rattle.gk_cli.specs.declared.run_fault.RunFault.TheVariants as run
 use Rattle.gherkin_run.specs.declared.fault.Fault.{Fault}
-use Rattle.gherkin_run.specs.declared.fault.Fault.TheVariants.{NotUtf8, Usage, Env, CannotRead, TooLong, Library, Read, TooMany, BadTags, Write, Memory}
+use Rattle.gherkin_run.specs.declared.fault.Fault.TheVariants.{NotUtf8, Usage, Env, CannotRead, TooLong, Library, Hooks, Read, TooMany, BadTags, Write, Memory}
 use Rattle.gherkin_run.specs.declared.program.Asked.{Asked}
 use Rattle.gherkin_run.specs.declared.program.Asked.TheVariants.{Help, Run}
 
@@ -84,33 +84,35 @@ SaysVariables variables old new (Err Env) = Any IsRefused variables
 SaysVariables variables old new (Err Memory) = Unit {0}
 SaysVariables variables old new (Err _) = ⊥
 
--- The bytes of the library file, where one is named. (this project's profile)
-abbrev pub library_bytes : Option SourceValue → Option (List ℕ)
-library_bytes library = option_map (λ s. s.bytes) library
+-- The bytes of the library file or of the hooks file, where one is named. (this project's profile)
+abbrev pub bytes_given : Option SourceValue → Option (List ℕ)
+bytes_given file = option_map (λ s. s.bytes) file
 
 -- The source at a place has this name. (this project's profile)
 abbrev pub IsNamed : List SourceValue → ℕ → List ℕ → Type 0
 IsNamed sources input name = (source : SourceValue) × (slice_get sources input ≡ Some source) × (name ≡ source.name)
 
 -- What a fault of the run speaks of is there. (this project's profile)
-abbrev pub IsWithin : Option SourceValue → List SourceValue → RunFault → Type 0
-IsWithin library sources (run.Read input fault) = input < length sources
-IsWithin library sources (run.Library fault) = IsSome library
-IsWithin library sources (run.Select (Some input) select.TooMany) = input < length sources
-IsWithin library sources (run.Select None select.BadTagText) = Unit {0}
-IsWithin library sources (run.Select input fault) = ⊥
-IsWithin library sources run.Write = Unit {0}
-IsWithin library sources run.Memory = Unit {0}
+abbrev pub IsWithin : Option SourceValue → Option SourceValue → List SourceValue → RunFault → Type 0
+IsWithin library hooks sources (run.Read input fault) = input < length sources
+IsWithin library hooks sources (run.Library fault) = IsSome library
+IsWithin library hooks sources (run.Hooks fault) = IsSome hooks
+IsWithin library hooks sources (run.Select (Some input) select.TooMany) = input < length sources
+IsWithin library hooks sources (run.Select None select.BadTagText) = Unit {0}
+IsWithin library hooks sources (run.Select input fault) = ⊥
+IsWithin library hooks sources run.Write = Unit {0}
+IsWithin library hooks sources run.Memory = Unit {0}
 
 -- The program's fault for a fault of the run: the same one, where a file has its name in place of its number. (this project's profile)
-abbrev pub IsFaultOfRun : Option SourceValue → List SourceValue → RunFault → Fault → Type 0
-IsFaultOfRun library sources (run.Read input fault) (Read name same) = (same ≡ fault) × IsNamed sources input (string_bytes name)
-IsFaultOfRun library sources (run.Library fault) (Library name same) = (same ≡ fault) × (option_map (λ s. s.name) library ≡ Some (string_bytes name))
-IsFaultOfRun library sources (run.Select (Some input) fault) (TooMany name) = IsNamed sources input (string_bytes name)
-IsFaultOfRun library sources (run.Select None fault) BadTags = Unit {0}
-IsFaultOfRun library sources run.Write Write = Unit {0}
-IsFaultOfRun library sources run.Memory Memory = Unit {0}
-IsFaultOfRun library sources fault other = ⊥
+abbrev pub IsFaultOfRun : Option SourceValue → Option SourceValue → List SourceValue → RunFault → Fault → Type 0
+IsFaultOfRun library hooks sources (run.Read input fault) (Read name same) = (same ≡ fault) × IsNamed sources input (string_bytes name)
+IsFaultOfRun library hooks sources (run.Library fault) (Library name same) = (same ≡ fault) × (option_map (λ s. s.name) library ≡ Some (string_bytes name))
+IsFaultOfRun library hooks sources (run.Hooks fault) (Hooks name same) = (same ≡ fault) × (option_map (λ s. s.name) hooks ≡ Some (string_bytes name))
+IsFaultOfRun library hooks sources (run.Select (Some input) fault) (TooMany name) = IsNamed sources input (string_bytes name)
+IsFaultOfRun library hooks sources (run.Select None fault) BadTags = Unit {0}
+IsFaultOfRun library hooks sources run.Write Write = Unit {0}
+IsFaultOfRun library hooks sources run.Memory Memory = Unit {0}
+IsFaultOfRun library hooks sources fault other = ⊥
 
 -- The report was written whole, and then the flush failed. (this project's profile)
 pub record IsUnflushed (request : Request) (contents : Contents) (old new : Device) (fault : Fault) : Type 0 where
@@ -120,50 +122,54 @@ pub record IsUnflushed (request : Request) (contents : Contents) (old new : Devi
   pub failed : new.failures ≡ one_more old.failures
 
 -- A fault after the files are read: that of the run, or of the flush. (this project's profile)
-abbrev pub SaysSuite : Option SourceValue → List SourceValue → Request → Contents → Device → Device → Fault → Type 0
-SaysSuite library sources request contents old new fault =
-    ((by : RunFault) × IsFaultOfRun library sources by fault × SaysFault request contents old new by)
+abbrev pub SaysSuite : Option SourceValue → Option SourceValue → List SourceValue → Request → Contents → Device → Device → Fault → Type 0
+SaysSuite library hooks sources request contents old new fault =
+    ((by : RunFault) × IsFaultOfRun library hooks sources by fault × SaysFault request contents old new by)
     ⊎ IsUnflushed request contents old new fault
 
--- The sources are those of the files that were given, in order, and of the library file. (this project's profile)
-pub record AreGiven (w : Words) (library : Option SourceValue) (sources : List SourceValue) : Type 0 where
+-- The sources are those of the files that were given, in order, and of the library file and the hooks file. (this project's profile)
+pub record AreGiven (w : Words) (library hooks : Option SourceValue) (sources : List SourceValue) : Type 0 where
   pub files : map (λ s. s.name) sources ≡ map string_bytes w.files.items
   pub library_file : option_map (λ s. s.name) library ≡ option_map string_bytes w.library
+  pub hooks_file : option_map (λ s. s.name) hooks ≡ option_map string_bytes w.hooks
 
 -- The contents that a run begins with: the variables alone. (this project's profile)
 abbrev pub contents_given : Words → Contents
 contents_given w = with_variables nothing_yet (map pair_value w.env.items)
 
 -- What a run of these files is asked for. (this project's profile)
-abbrev pub request : Options → Option Source → List Source → Request
-request options library sources = request_of options (library_bytes (option_map source_value library)) (map source_value sources)
+abbrev pub request : Options → Option Source → Option Source → List Source → Request
+request options library hooks sources = request_of options (bytes_given (option_map source_value library)) (bytes_given (option_map source_value hooks)) (map source_value sources)
 
 -- A fault of the run of these files, or of the flush. (this project's profile)
-abbrev pub SaysRun : Options → Option Source → List Source → Contents → Device → Device → Fault → Type 0
-SaysRun options library sources contents old new fault = SaysSuite (option_map source_value library) (map source_value sources) (request options library sources) contents old new fault
+abbrev pub SaysRun : Options → Option Source → Option Source → List Source → Contents → Device → Device → Fault → Type 0
+SaysRun options library hooks sources contents old new fault =
+    SaysSuite (option_map source_value library) (option_map source_value hooks) (map source_value sources) (request options library hooks sources) contents old new fault
 
 -- What the run is asked for. (this project's profile)
-abbrev pub request_given : Words → Option SourceValue → List SourceValue → Request
-request_given w library sources = request_of w.options (library_bytes library) sources
+abbrev pub request_given : Words → Option SourceValue → Option SourceValue → List SourceValue → Request
+request_given w library hooks sources = request_of w.options (bytes_given library) (bytes_given hooks) sources
 
 -- What was written and the status are those of one run of the files that were given, with their bytes as they were read. (this project's profile)
 pub record IsRun (w : Words) (old new : Device) (status : ℕ) : Type 0 where
   pub library : Option SourceValue
+  pub hooks : Option SourceValue
   pub sources : List SourceValue
-  pub given : AreGiven w library sources
-  pub judged : JudgedReport (request_given w library sources) (contents_given w) old new status
-  pub plain : Plain (request_given w library sources) (contents_given w) old new status
+  pub given : AreGiven w library hooks sources
+  pub judged : JudgedReport (request_given w library hooks sources) (contents_given w) old new status
+  pub plain : Plain (request_given w library hooks sources) (contents_given w) old new status
 
 -- A file of this name was given. (this project's profile)
 abbrev pub IsGiven : Words → List ℕ → Type 0
-IsGiven w name = IsSomeAnd w.library (λ file. name ≡ string_bytes file) ⊎ Any (λ file. name ≡ string_bytes file) w.files.items
+IsGiven w name = IsSomeAnd w.library (λ file. name ≡ string_bytes file) ⊎ (IsSomeAnd w.hooks (λ file. name ≡ string_bytes file) ⊎ Any (λ file. name ≡ string_bytes file) w.files.items)
 
 -- A fault of the run of the files that were given. (this project's profile)
 pub record IsFaultOfGiven (w : Words) (old new : Device) (fault : Fault) : Type 0 where
   pub library : Option SourceValue
+  pub hooks : Option SourceValue
   pub sources : List SourceValue
-  pub given : AreGiven w library sources
-  pub says : SaysSuite library sources (request_given w library sources) (contents_given w) old new fault
+  pub given : AreGiven w library hooks sources
+  pub says : SaysSuite library hooks sources (request_given w library hooks sources) (contents_given w) old new fault
 
 -- What each fault says of what was asked for. (this project's profile)
 abbrev pub SaysProgram : Words → Device → Device → Fault → Type 0

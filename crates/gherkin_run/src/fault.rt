@@ -23,6 +23,8 @@ pub enum Fault {
     TooLong { name: String },
     /// The library file is no step library.
     Library { name: String, fault: LibraryFault },
+    /// The file of hooks is no hooks file.
+    Hooks { name: String, fault: ReadFault },
     /// The file is no feature file.
     Read { name: String, fault: ReadFault },
     /// The scenarios of the file have more than 1,000,000 steps.
@@ -43,7 +45,7 @@ impl Fault {
         match self {
             Fault::NotUtf8 | Fault::Usage(_) | Fault::Env | Fault::BadTags => 2,
             Fault::CannotRead { .. } | Fault::TooLong { .. } => 3,
-            Fault::Library { .. } | Fault::Read { .. } => 3,
+            Fault::Library { .. } | Fault::Hooks { .. } | Fault::Read { .. } => 3,
             Fault::TooMany { .. } | Fault::Write => 3,
             Fault::Memory => 4,
         }
@@ -88,6 +90,10 @@ impl fmt::Display for Fault {
                     None => write!(f, "gherkin_run: {name}: {text}"),
                 }
             }
+            Fault::Hooks { name, fault } => match fault.line() {
+                Some(line) => write!(f, "gherkin_run: {name}:{line}: {fault}"),
+                None => write!(f, "gherkin_run: {name}: {fault}"),
+            },
             Fault::Read { name, fault } => match fault.line() {
                 Some(line) => write!(f, "gherkin_run: {name}:{line}: {fault}"),
                 None => write!(f, "gherkin_run: {name}: {fault}"),

@@ -60,8 +60,8 @@ pub fn read_files<R: Files + AllocGlobal>(rt: &R, names: Vec<String>) -> Result<
     Ok(sources)
 }
 
-/// Reads the library file whole, where one is named.
-pub fn read_library_file<R: Files + AllocGlobal>(
+/// Reads a file whole, where one is named: the library file, or the hooks file.
+pub fn read_named_file<R: Files + AllocGlobal>(
     rt: &R,
     name: Option<String>,
 ) -> Result<Option<Source>, Fault>

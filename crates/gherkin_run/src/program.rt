@@ -5,10 +5,10 @@ ghost use Rattle.gk_cli.specs.Arguments.{pair_value};
 ghost use Rattle.gk_cli.specs.Counted.{flushes_of, failures_of, one_more};
 ghost use Rattle.gk_cli.specs.Suite.{device_of, JudgedReport, Plain};
 ghost use Rattle.gk_cli.specs.Source.{source_value};
-ghost use Rattle.gherkin_run.specs.Program.{SaysAsked, SaysError, IsHelpFault, IsArgumentsFault, IsFaultOfVariable, SaysVariables, IsWithin, IsFaultOfRun, library_bytes, request, SaysRun, SaysCalls, SaysProgram, IsRun, IsDoneForSome};
+ghost use Rattle.gherkin_run.specs.Program.{SaysAsked, SaysError, IsHelpFault, IsArgumentsFault, IsFaultOfVariable, SaysVariables, IsWithin, IsFaultOfRun, bytes_given, request, SaysRun, SaysCalls, SaysProgram, IsRun, IsDoneForSome};
 
 use crate::fault::Fault;
-use crate::files::{read_files, read_library_file};
+use crate::files::{read_files, read_named_file};
 use gk_cli::{
     Counted, Options, RunFault, Source, Words, WordsFault, read_words, run_suite, write_whole,
 };
@@ -109,9 +109,14 @@ pub fn put_variables(sandbox: &mut Sandbox, variables: &[(String, String)]) -> R
 }
 
 // The program's fault for one of the run: files have their names in place of numbers.
-fn fault_of_run(fault: RunFault, library: Option<Source>, mut sources: Vec<Source>) -> Fault
-    requires { IsWithin (option_map source_value library) (map source_value sources.items) fault }
-    ensures { IsFaultOfRun (option_map source_value library) (map source_value sources.items) fault result }
+fn fault_of_run(
+    fault: RunFault,
+    library: Option<Source>,
+    hooks: Option<Source>,
+    mut sources: Vec<Source>,
+) -> Fault
+    requires { IsWithin (option_map source_value library) (option_map source_value hooks) (map source_value sources.items) fault }
+    ensures { IsFaultOfRun (option_map source_value library) (option_map source_value hooks) (map source_value sources.items) fault result }
 {
     match fault {
         RunFault::Read { input, fault } => {
@@ -123,6 +128,13 @@ fn fault_of_run(fault: RunFault, library: Option<Source>, mut sources: Vec<Sourc
         }
         RunFault::Library(fault) => match library {
             Some(source) => Fault::Library {
+                name: source.name,
+                fault,
+            },
+            None => unreachable!(),
+        },
+        RunFault::Hooks(fault) => match hooks {
+            Some(source) => Fault::Hooks {
                 name: source.name,
                 fault,
             },
@@ -140,10 +152,10 @@ fn fault_of_run(fault: RunFault, library: Option<Source>, mut sources: Vec<Sourc
     }
 }
 
-fn bytes_of(library: &Option<Source>) -> Option<&[u8]>
-    ensures { option_map (λ bytes. bytes.now) result ≡ library_bytes (option_map source_value library.now) }
+fn bytes_of(file: &Option<Source>) -> Option<&[u8]>
+    ensures { option_map (λ bytes. bytes.now) result ≡ bytes_given (option_map source_value file.now) }
 {
-    match library {
+    match file {
         Some(source) => Some(source.bytes.as_slice()),
         None => None,
     }
@@ -156,34 +168,44 @@ pub fn run_sources<W: Write>(
     sandbox: &mut Sandbox,
     options: &Options,
     library: Option<Source>,
+    hooks: Option<Source>,
     sources: Vec<Source>,
     out: &mut Counted<W>,
 ) -> Result<u8, Fault>
     requires room { failures_of out.old < 2 ^ 64 - 1 }
     requires outside { depth sandbox.old ≡ 0 }
     // What was written and the status are those of one run of these inputs.
-    ensures judged { IfOk result (JudgedReport (request options.now library sources.items) sandbox.old.now (device_of W.contents out.old) (device_of W.contents out.new)) }
-    ensures plain { IfOk result (Plain (request options.now library sources.items) sandbox.old.now (device_of W.contents out.old) (device_of W.contents out.new)) }
+    ensures judged { IfOk result (JudgedReport (request options.now library hooks sources.items) sandbox.old.now (device_of W.contents out.old) (device_of W.contents out.new)) }
+    ensures plain { IfOk result (Plain (request options.now library hooks sources.items) sandbox.old.now (device_of W.contents out.old) (device_of W.contents out.new)) }
     // A status comes only where the writer did not fail, and was flushed once.
     ensures quiet { OnOk result (failures_of out.new ≡ failures_of out.old) }
     ensures flushed { OnOk result (flushes_of out.new ≡ one_more (flushes_of out.old)) }
     // A fault is that of the run, or the flush failed.
-    ensures fault { IfErr result (SaysRun options.now library sources.items sandbox.old.now (device_of W.contents out.old) (device_of W.contents out.new)) }
+    ensures fault { IfErr result (SaysRun options.now library hooks sources.items sandbox.old.now (device_of W.contents out.old) (device_of W.contents out.new)) }
     // Where standard output isn't at fault, it was not called.
     ensures calls { IfErr result (SaysCalls (device_of W.contents out.old) (device_of W.contents out.new)) }
 {
-    let bytes = bytes_of(&library);
-    match run_suite(alloc, sandbox, options, bytes, sources.as_slice(), out) {
+    let steps = bytes_of(&library);
+    let around = bytes_of(&hooks);
+    match run_suite(
+        alloc,
+        sandbox,
+        options,
+        steps,
+        around,
+        sources.as_slice(),
+        out,
+    ) {
         Ok(status) => match out.flush() {
             Ok(()) => Ok(status),
             Err(_) => Err(Fault::Write),
         },
-        Err(fault) => Err(fault_of_run(fault, library, sources)),
+        Err(fault) => Err(fault_of_run(fault, library, hooks, sources)),
     }
 }
 
-/// Runs what is asked for: puts the variables into an empty sandbox, reads the library file and the files, and
-/// runs the suite. The first fault in this order ends it.
+/// Runs what is asked for: puts the variables into an empty sandbox, reads the library file, the hooks file and
+/// the files, and runs the suite. The first fault in this order ends it.
 pub fn run_words<R: Files + AllocGlobal, W: Write>(
     rt: &R,
     words: Words,
@@ -199,13 +221,15 @@ pub fn run_words<R: Files + AllocGlobal, W: Write>(
 {
     let mut sandbox = Sandbox::new(rt.alloc());
     put_variables(&mut sandbox, words.env.as_slice())?;
-    let library = read_library_file(rt, words.library)?;
+    let library = read_named_file(rt, words.library)?;
+    let hooks = read_named_file(rt, words.hooks)?;
     let sources = read_files(rt, words.files)?;
     run_sources(
         rt.alloc(),
         &mut sandbox,
         &words.options,
         library,
+        hooks,
         sources,
         out,
     )

@@ -7,6 +7,9 @@ use Rattle.gk_gherkin.specs.declared.read_fault.ReadFault.TheVariants as read_fa
 use Rattle.gk_gherkin.specs.Lines.{lines_of, IsText}
 use Rattle.gk_gherkin.specs.Feature.{FeatureValue}
 use Rattle.gk_gherkin.specs.Grammar.{Reads, HasOneReading}
+use Rattle.gk_gherkin.specs.Hooks.{HookValue}
+use Rattle.gk_gherkin.specs.HooksGrammar.{HaveOneHooksReading}
+use Rattle.gk_gherkin.specs.ReadFault.{FaultSays, HooksFault}
 use Rattle.gk_select.specs.declared.case.Case.{Case}
 use Rattle.gk_select.specs.declared.select_fault.SelectFault.{SelectFault}
 use Rattle.gk_select.specs.declared.select_fault.SelectFault.TheVariants as select_faults
@@ -21,10 +24,10 @@ use Rattle.gk_steps.specs.LibraryFile.{LibraryReadingIsUnique}
 use Rattle.gk_steps.specs.LibraryFault.{LibraryFaultSays}
 use Rattle.gk_run.specs.Chosen.{MemberValue, ChosenValue, members_of}
 use Rattle.gk_cli.specs.Source.{SourceValue}
-use Rattle.gk_cli.specs.Inputs.{Request, Inputs, AreRules, IsLibrary, member_by, with_reading, HasRoom, AreRead, HasFault}
+use Rattle.gk_cli.specs.Inputs.{Request, Inputs, AreRules, IsLibrary, AreHooks, member_by, with_reading, HasRoom, AreRead, HasFault}
 use Rattle.gk_cli.specs.declared.run_fault.RunFault.{RunFault}
-use Rattle.gk_cli.specs.declared.run_fault.RunFault.TheVariants.{Read, Library, Select, Write, Memory}
-use Rattle.gk_cli.specs.RunFault.{IsUnread, SaysTags, SaysLibrary, SaysSourceAt, SaysSources, read_fault_at, select_fault_at, tags_fault, library_fault, SaysExpansion}
+use Rattle.gk_cli.specs.declared.run_fault.RunFault.TheVariants.{Read, Library, Hooks, Select, Write, Memory}
+use Rattle.gk_cli.specs.RunFault.{IsUnread, SaysTags, SaysLibrary, SaysHooks, SaysSourceAt, SaysSources, read_fault_at, select_fault_at, tags_fault, library_fault, hooks_fault, SaysExpansion}
 use Rattle.gk_cli.specs.Suite.{InputsAreUnique}
 
 -- The element at a place, as a loop has it.
@@ -121,6 +124,7 @@ first_unread chooses sources features input source (Select (Some i) select_fault
 first_unread chooses sources features input source (Select (Some i) select_faults.Memory) read place h = h
 first_unread chooses sources features input source (Select None fault) read place h = h
 first_unread chooses sources features input source (Library fault) read place h = h
+first_unread chooses sources features input source (Hooks fault) read place h = h
 first_unread chooses sources features input source Write read place h = h
 first_unread chooses sources features input source Memory read place h = tt
 
@@ -161,19 +165,49 @@ library_unread r rules (library_faults.MissingField n) tags h = record { rules =
 library_unread r rules (library_faults.FieldKind n) tags h = record { rules = rules; tags = tags; bytes = h.0; given = h.1; says = h.2; named = λ e. cc }
 library_unread r rules (library_faults.Ambiguous n) tags h = record { rules = rules; tags = tags; bytes = h.0; given = h.1; says = h.2; named = λ e. cc }
 
--- The fault of a source, after the texts of tags and the library.
-pub sources_unread : (r : Request) (rules : List (List AlternativeValue)) (entries : LibraryValue) (fault : RunFault) →
-    AreRules r.tags rules → IsLibrary r.library entries → SaysSources (is_chosen rules r.lines) r.sources fault → IsUnread r fault
-sources_unread r rules entries (Read i fault) tags library h = (record { rules = rules; tags = tags; entries = entries; library = library; first = h.0 }, h.1)
-sources_unread r rules entries (Select (Some i) select_faults.TooMany) tags library h = record { rules = rules; tags = tags; entries = entries; library = library; first = h }
-sources_unread r rules entries (Select (Some i) select_faults.BadTagText) tags library h = h
-sources_unread r rules entries (Select (Some i) select_faults.Memory) tags library h = h
-sources_unread r rules entries (Select None select_faults.TooMany) tags library h = h
-sources_unread r rules entries (Select None select_faults.BadTagText) tags library h = absurd h
-sources_unread r rules entries (Select None select_faults.Memory) tags library h = h
-sources_unread r rules entries (Library fault) tags library h = absurd h
-sources_unread r rules entries Write tags library h = h
-sources_unread r rules entries Memory tags library h = tt
+-- The fault of a hooks file that was given.
+pub says_hooks : (bytes : List ℕ) (fault : ReadFault) → FaultSays HooksFault fault bytes → SaysHooks (Some bytes) fault
+says_hooks bytes read_faults.Memory h = tt
+says_hooks bytes read_faults.TooLong h = (bytes, refl, h)
+says_hooks bytes (read_faults.NotUtf8 n) h = (bytes, refl, h)
+says_hooks bytes (read_faults.Unexpected n) h = (bytes, refl, h)
+says_hooks bytes (read_faults.BadTag n) h = (bytes, refl, h)
+says_hooks bytes (read_faults.CellCount n) h = (bytes, refl, h)
+says_hooks bytes (read_faults.UnclosedText n) h = (bytes, refl, h)
+says_hooks bytes (read_faults.TagsAtEnd n) h = (bytes, refl, h)
+says_hooks bytes (read_faults.Language n) h = (bytes, refl, h)
+says_hooks bytes (read_faults.BadRow n) h = (bytes, refl, h)
+says_hooks bytes (read_faults.BadHook n) h = (bytes, refl, h)
+
+-- The same, after the texts of tags and the library.
+pub hooks_unread : (r : Request) (rules : List (List AlternativeValue)) (entries : LibraryValue) (fault : ReadFault) →
+    AreRules r.tags rules → IsLibrary r.library entries → SaysHooks r.hooks fault → IsUnread r (hooks_fault fault)
+hooks_unread r rules entries read_faults.Memory tags library h = tt
+hooks_unread r rules entries read_faults.TooLong tags library h = record { rules = rules; tags = tags; entries = entries; library = library; bytes = h.0; given = h.1; says = h.2; named = λ e. cc }
+hooks_unread r rules entries (read_faults.NotUtf8 n) tags library h = record { rules = rules; tags = tags; entries = entries; library = library; bytes = h.0; given = h.1; says = h.2; named = λ e. cc }
+hooks_unread r rules entries (read_faults.Unexpected n) tags library h = record { rules = rules; tags = tags; entries = entries; library = library; bytes = h.0; given = h.1; says = h.2; named = λ e. cc }
+hooks_unread r rules entries (read_faults.BadTag n) tags library h = record { rules = rules; tags = tags; entries = entries; library = library; bytes = h.0; given = h.1; says = h.2; named = λ e. cc }
+hooks_unread r rules entries (read_faults.CellCount n) tags library h = record { rules = rules; tags = tags; entries = entries; library = library; bytes = h.0; given = h.1; says = h.2; named = λ e. cc }
+hooks_unread r rules entries (read_faults.UnclosedText n) tags library h = record { rules = rules; tags = tags; entries = entries; library = library; bytes = h.0; given = h.1; says = h.2; named = λ e. cc }
+hooks_unread r rules entries (read_faults.TagsAtEnd n) tags library h = record { rules = rules; tags = tags; entries = entries; library = library; bytes = h.0; given = h.1; says = h.2; named = λ e. cc }
+hooks_unread r rules entries (read_faults.Language n) tags library h = record { rules = rules; tags = tags; entries = entries; library = library; bytes = h.0; given = h.1; says = h.2; named = λ e. cc }
+hooks_unread r rules entries (read_faults.BadRow n) tags library h = record { rules = rules; tags = tags; entries = entries; library = library; bytes = h.0; given = h.1; says = h.2; named = λ e. cc }
+hooks_unread r rules entries (read_faults.BadHook n) tags library h = record { rules = rules; tags = tags; entries = entries; library = library; bytes = h.0; given = h.1; says = h.2; named = λ e. cc }
+
+-- The fault of a source, after the texts of tags, the library and the hooks.
+pub sources_unread : (r : Request) (rules : List (List AlternativeValue)) (entries : LibraryValue) (hooks : List HookValue) (fault : RunFault) →
+    AreRules r.tags rules → IsLibrary r.library entries → AreHooks r.hooks hooks → SaysSources (is_chosen rules r.lines) r.sources fault → IsUnread r fault
+sources_unread r rules entries hooks (Read i fault) tags library around h = (record { rules = rules; tags = tags; entries = entries; library = library; hooks = hooks; around = around; first = h.0 }, h.1)
+sources_unread r rules entries hooks (Select (Some i) select_faults.TooMany) tags library around h = record { rules = rules; tags = tags; entries = entries; library = library; hooks = hooks; around = around; first = h }
+sources_unread r rules entries hooks (Select (Some i) select_faults.BadTagText) tags library around h = h
+sources_unread r rules entries hooks (Select (Some i) select_faults.Memory) tags library around h = h
+sources_unread r rules entries hooks (Select None select_faults.TooMany) tags library around h = h
+sources_unread r rules entries hooks (Select None select_faults.BadTagText) tags library around h = absurd h
+sources_unread r rules entries hooks (Select None select_faults.Memory) tags library around h = h
+sources_unread r rules entries hooks (Library fault) tags library around h = absurd h
+sources_unread r rules entries hooks (Hooks fault) tags library around h = absurd h
+sources_unread r rules entries hooks Write tags library around h = h
+sources_unread r rules entries hooks Memory tags library around h = tt
 
 abbrev pub OneRule : Type 0
 OneRule = (text : List ℕ) (a b : List AlternativeValue) → ReadsTags text a → ReadsTags text b → a ≡ b
@@ -193,12 +227,17 @@ same_library : LibraryReadingIsUnique → (file : Option (List ℕ)) (a b : Libr
 same_library one None a b h g = one (lines_of default_text) a b h g
 same_library one (Some bytes) a b h g = one (lines_of bytes) a b h.1 g.1
 
-both : {l l' : LibraryValue} {fs fs' : List ChosenValue} → l ≡ l' → fs ≡ fs' → let one : Inputs = record { library = l; features = fs } in let other : Inputs = record { library = l'; features = fs' } in one ≡ other
-both a b = cc
+same_hooks : HaveOneHooksReading → (file : Option (List ℕ)) (a b : List HookValue) → AreHooks file a → AreHooks file b → a ≡ b
+same_hooks one None a b h g = h ∙ sym g
+same_hooks one (Some bytes) a b h g = one (lines_of bytes) a b h.1 g.1
+
+alike : {l l' : LibraryValue} {hs hs' : List HookValue} {fs fs' : List ChosenValue} → l ≡ l' → hs ≡ hs' → fs ≡ fs' →
+    let one : Inputs = record { library = l; hooks = hs; features = fs } in let other : Inputs = record { library = l'; hooks = hs'; features = fs' } in one ≡ other
+alike a b c = cc
 
 -- What is asked for reads in one way only.
-pub unique : HasOneReading → OneRule → LibraryReadingIsUnique → InputsAreUnique
-unique reading rule library r one other a b =
+pub unique : HasOneReading → OneRule → LibraryReadingIsUnique → HaveOneHooksReading → InputsAreUnique
+unique reading rule library hooks r one other a b =
     let same = same_rules rule r.tags a.rules b.rules a.tags b.tags in
-    both (same_library library r.library one.library other.library a.library b.library)
+    alike (same_library library r.library one.library other.library a.library b.library) (same_hooks hooks r.hooks one.hooks other.hooks a.hooks b.hooks)
     (same_features reading (is_chosen a.rules r.lines) r.sources one.features other.features a.features (subst (λ rules. AreRead (is_chosen rules r.lines) r.sources other.features) (sym same) b.features))

@@ -5,5 +5,6 @@ pub mod WorkedArguments
 pub mod InputsLemmas
 pub mod FeaturesLemmas
 pub mod WorkedRun
+pub mod WorkedHooksRun
 pub mod WorkedLongRun
 pub mod WorkedRefusedMemory

@@ -10,7 +10,7 @@ program = codes "gherkin_run"
 
 -- options and files in any order, `--opt=value`, and `--`
 abbrev mixed : List Text
-mixed = program ∷ codes "--line" ∷ codes "3" ∷ codes "a" ∷ codes "--tags=-x" ∷ codes "--library" ∷ codes "l" ∷ codes "--line=4" ∷ codes "--" ∷ codes "--tags" ∷ []
+mixed = program ∷ codes "--line" ∷ codes "3" ∷ codes "a" ∷ codes "--tags=-x" ∷ codes "--library" ∷ codes "l" ∷ codes "--hooks=h" ∷ codes "--line=4" ∷ codes "--" ∷ codes "--tags" ∷ []
 
 mixed_is_taken : faults_in mixed ≡ []
 unfolding clap_on_literals
@@ -32,6 +32,10 @@ mixed_library : first_of (codes "library") (found_in mixed) ≡ Some (codes "l")
 unfolding clap_on_literals
 mixed_library = refl
 
+mixed_hooks : first_of (codes "hooks") (found_in mixed) ≡ Some (codes "h")
+unfolding clap_on_literals
+mixed_hooks = refl
+
 plus_three : line_number (codes "+3") ≡ 3
 plus_three = refl
 
@@ -49,6 +53,10 @@ line_zero = refl
 two_libraries : faults_in (program ∷ codes "--library=l" ∷ codes "--library=l" ∷ codes "a" ∷ []) ≡ kind.ArgumentConflict ∷ []
 unfolding clap_on_literals
 two_libraries = refl
+
+two_hooks_files : faults_in (program ∷ codes "--hooks=h" ∷ codes "--hooks=h" ∷ codes "a" ∷ []) ≡ kind.ArgumentConflict ∷ []
+unfolding clap_on_literals
+two_hooks_files = refl
 
 no_option : faults_in (program ∷ codes "--stop" ∷ codes "a" ∷ []) ≡ kind.UnknownArgument ∷ []
 unfolding clap_on_literals

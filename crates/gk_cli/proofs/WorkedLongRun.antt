@@ -37,7 +37,7 @@ use Rattle.gk_run.specs.Results.{StepRow, CaseRow, Results}
 use Rattle.gk_run.specs.Judged.{uncut, plain_results}
 use Rattle.gk_report.specs.ReportTexts.{status_text, reason_text, one_line}
 use Rattle.gk_report.specs.Summary.{status}
-use Rattle.gk_report.specs.PlainReport.{status_line, step_line, case_line, feature_line, counted, count_line, closing_lines, report}
+use Rattle.gk_report.specs.PlainReport.{status_line, step_line, case_line, around_line, feature_line, counted, count_line, closing_lines, report}
 use Rattle.gk_cli.specs.Source.{SourceValue}
 use Rattle.gk_cli.specs.Inputs.{Request, Inputs, AreInputs, HasRoom, chosen_of}
 use Rattle.gk_cli.specs.Suite.{Device, Plain, InputsAreUnique, run_with}
@@ -79,7 +79,7 @@ source = record { name = codes "mixed.feature"; bytes = bytes }
 
 -- What is asked for: the scenarios with the tag `@shop`, or without `@slow`.
 abbrev request : Request
-request = record { tags = codes "shop,~slow" ∷ []; lines = []; library = Some library_bytes; sources = source ∷ [] }
+request = record { tags = codes "shop,~slow" ∷ []; lines = []; library = Some library_bytes; hooks = None; sources = source ∷ [] }
 
 -- The lines of the feature file, and the lines from each of them on.
 abbrev line_1 : LineValue
@@ -476,7 +476,7 @@ tag_rule = record { negated = false; tag = codes "@shop" } ∷ record { negated 
 
 -- The library, and the feature with the choice by that rule.
 abbrev inputs : Inputs
-inputs = record { library = write_entry ∷ ask_entry ∷ []; features = chosen_of (is_chosen (tag_rule ∷ []) []) (codes "mixed.feature") feature ∷ [] }
+inputs = record { library = write_entry ∷ ask_entry ∷ []; hooks = []; features = chosen_of (is_chosen (tag_rule ∷ []) []) (codes "mixed.feature") feature ∷ [] }
 
 -- The feature's cases have no more steps than the limit.
 has_room : HasRoom (Some feature)
@@ -489,6 +489,7 @@ inputs_read = record {
   rules = tag_rule ∷ [];
   tags = (tag_rule, [], record { old_form = refl; says = refl }, refl, refl);
   library = (library_is_text, library_reads);
+  hooks = refl;
   features = (Some feature, [], is_text, reads, has_room, refl, refl);
 }
 
@@ -498,7 +499,7 @@ written = record { keyword = codes "Given"; text = codes "a file named \"f\" wit
 
 -- A scenario's row: the background's step, and one of its own.
 abbrev scenario_row : List ℕ → List ℕ → ℕ → Status → StepRow → CaseRow
-scenario_row keyword name line status own = record { keyword = keyword; name = name; line = line; status = status; steps = written ∷ own ∷ [] }
+scenario_row keyword name line status own = record { keyword = keyword; name = name; line = line; status = status; around = statuses.Passed; cleanups = []; steps = written ∷ own ∷ [] }
 
 -- The three rows, and the feature's verdict.
 abbrev results : Results
@@ -508,11 +509,13 @@ results = record {
     name = codes "mixed";
     line = 3;
     status = statuses.Failed;
+    around = statuses.Passed;
     cases = scenario_row (codes "Scenario Outline") (codes "outline -- @1.1") 17 statuses.Passed (record { keyword = codes "Then"; text = codes "the file \"f\" should be \"one\""; line = 13; status = statuses.Passed; reason = None })
         ∷ scenario_row (codes "Scenario Outline") (codes "outline -- @1.2") 18 statuses.Failed (record { keyword = codes "Then"; text = codes "the file \"f\" should be \"two\""; line = 13; status = statuses.Failed; reason = Some reasons.Differs })
         ∷ scenario_row (codes "Example") (codes "last") 21 statuses.Failed (record { keyword = codes "*"; text = codes "it dances"; line = 22; status = statuses.Undefined; reason = None })
         ∷ [];
   } ∷ [];
+  around = statuses.Passed;
 }
 
 -- They are those of the inputs.
@@ -539,7 +542,7 @@ text = codes "Feature: mixed ... failed\n"
 
 -- The results have that report.
 reports : report results ≡ text
-unfolding digits status_text reason_text one_line status_line step_line case_line feature_line counted count_line closing_lines
+unfolding digits status_text reason_text one_line status_line step_line case_line around_line feature_line counted count_line closing_lines
 reports = refl
 
 -- The results have that status.

@@ -1,28 +1,33 @@
 -- Whole runs by computation, in which memory may have been refused: each report that such a run may write.
-use Rattle.std.specs.Prelude.{◌≡◌, ◌⊎◌, ℕ, zero, suc, List, [], ◌∷◌, Some, None, codes}
+use Rattle.std.specs.Prelude.{◌≡◌, ◌⊎◌, ℕ, zero, suc, false, List, [], ◌∷◌, map, Some, None, codes}
 use Rattle.std.specs.Io.KnownBytes.{Appends}
 use Rattle.std.specs.Fmt.{digits}
 use Rattle.std.specs.Str.{chars, is_utf8}
 use lib.Utf8
-use Rattle.std.proofs.Common.{refl, ap, subst, ◌∙◌, inl, inr}
+use Rattle.std.proofs.Common.{refl, ap, ap₂, sym, subst, ◌∙◌, inl, inr}
+use Rattle.gk_select.specs.Case.{CaseValue}
 use Rattle.gk_select.specs.Expansion.{cases}
 use Rattle.gk_select.specs.Choice.{is_chosen}
 use Rattle.gk_steps.specs.Matching.{match_of}
-use Rattle.gk_steps.specs.Finding.{found}
+use Rattle.gk_steps.specs.Finding.{LibraryValue, found}
 use Rattle.gk_world.specs.Contents.{nothing_yet}
+use Rattle.gk_world.specs.State.{State}
 use Rattle.gk_run.specs.declared.results.Status.{Status}
 use Rattle.gk_run.specs.declared.results.Status.TheVariants as statuses
 use Rattle.gk_run.specs.declared.results.Reason.TheVariants as reasons
+use Rattle.gk_run.specs.declared.section_hooks.Level.TheVariants as levels
 use Rattle.gk_run.specs.Acting.{act}
 use Rattle.gk_run.specs.Results.{StepRow, CaseRow, Results}
-use Rattle.gk_run.specs.Section.{Cut, nowhere, in_steps}
-use Rattle.gk_run.specs.Judged.{Cuts, FeatureCuts, uncut_feature, first_or, later, Judged}
+use Rattle.gk_run.specs.Section.{Cut, nowhere, in_before, in_steps, in_after, in_cleanups}
+use Rattle.gk_run.specs.Alone.{Run, reached_row}
+use Rattle.gk_run.specs.Chosen.{MemberValue, ChosenValue}
+use Rattle.gk_run.specs.Judged.{Cuts, FeatureCuts, uncut_feature, first_or, later, section_state, feature_verdict, Judged}
 use Rattle.gk_report.specs.ReportTexts.{status_text, reason_text, one_line}
 use Rattle.gk_report.specs.Summary.{status}
-use Rattle.gk_report.specs.PlainReport.{status_line, step_line, case_line, feature_line, counted, count_line, closing_lines, report}
-use Rattle.gk_cli.specs.Inputs.{Request, Inputs, AreInputs}
+use Rattle.gk_report.specs.PlainReport.{status_line, step_line, case_line, around_line, feature_line, counted, count_line, closing_lines, report}
+use Rattle.gk_cli.specs.Inputs.{Request, Inputs, AreInputs, member_by}
 use Rattle.gk_cli.specs.Suite.{Device, IsReported, JudgedReport, InputsAreUnique, run_with}
-use Rattle.gk_cli.proofs.WorkedRun.{results_from_bare, same_from_bare, one_request, one_inputs, one_inputs_read, one_results, one_report, one_reports, one_status, two_request, two_inputs, two_inputs_read, two_results, two_report, two_reports, two_status}
+use Rattle.gk_cli.proofs.WorkedRun.{bare_state, one_feature, two_feature, set_step, ask_step, results_from_bare, same_from_bare, one_request, one_inputs, one_inputs_read, one_results, one_report, one_reports, one_status, two_request, two_inputs, two_inputs_read, two_results, two_report, two_reports, two_status}
 
 -- This report was written, and this status is answered.
 abbrev IsAnswered : Device → Device → ℕ → List ℕ → ℕ → Type 0
@@ -40,13 +45,43 @@ judged_ends r inputs read unique old new answer (results, reported, are) =
     let judged : Judged (run_with inputs) nothing_yet inputs.features results = subst (λ (i : Inputs). Judged (run_with i) nothing_yet i.features results) same are.judged in
     (judged.0, subst (λ (x : Results). IsReported old new answer x) (judged.1 ∙ same_from_bare (run_with inputs) judged.0 inputs.features) reported)
 
--- The cuts of a feature's scenarios.
-abbrev feature_cuts : List Cut → FeatureCuts
-feature_cuts cuts = record { cases = cuts }
-
--- The cuts of a run of one feature.
+-- The cuts of a run of one feature, in its scenarios alone.
 abbrev cuts_of : List Cut → Cuts
-cuts_of cuts = record { features = feature_cuts cuts ∷ [] }
+cuts_of cuts = record { own = nowhere; features = record { own = nowhere; cases = cuts } ∷ [] }
+
+-- A run without hooks.
+abbrev bare_run : LibraryValue → Run
+bare_run library = record { library = library; hooks = []; stop = false }
+
+-- A feature without tags.
+abbrev bare_feature : List ℕ → List ℕ → ℕ → List MemberValue → ChosenValue
+bare_feature source name line members = record { source = source; name = name; line = line; tags = []; members = members }
+
+-- Such a run has nothing of its own to cut.
+run_uncut : (library : LibraryValue) (own : Cut) (cuts : List FeatureCuts) (features : List ChosenValue) →
+    results_from_bare (bare_run library) (record { own = own; features = cuts }) features ≡ results_from_bare (bare_run library) (record { own = nowhere; features = cuts }) features
+run_uncut library nowhere cuts features = refl
+run_uncut library (in_before n) cuts features = refl
+run_uncut library (in_steps n) cuts features = refl
+run_uncut library (in_after n) cuts features = refl
+run_uncut library (in_cleanups n) cuts features = refl
+
+-- Nor has such a feature in it.
+feature_uncut : (library : LibraryValue) (own : Cut) (cuts : List Cut) (source name : List ℕ) (line : ℕ) (members : List MemberValue) →
+    results_from_bare (bare_run library) (record { own = nowhere; features = record { own = own; cases = cuts } ∷ [] }) (bare_feature source name line members ∷ [])
+    ≡ results_from_bare (bare_run library) (cuts_of cuts) (bare_feature source name line members ∷ [])
+feature_uncut library nowhere cuts source name line members = refl
+feature_uncut library (in_before n) cuts source name line members = refl
+feature_uncut library (in_steps n) cuts source name line members = refl
+feature_uncut library (in_after n) cuts source name line members = refl
+feature_uncut library (in_cleanups n) cuts source name line members = refl
+
+-- So its scenarios alone are cut.
+scenarios_cut : (library : LibraryValue) (cuts : Cuts) (source name : List ℕ) (line : ℕ) (members : List MemberValue) →
+    results_from_bare (bare_run library) cuts (bare_feature source name line members ∷ []) ≡ results_from_bare (bare_run library) (cuts_of (first_or uncut_feature cuts.features).cases) (bare_feature source name line members ∷ [])
+scenarios_cut library cuts source name line members =
+    let first = first_or uncut_feature cuts.features in
+    run_uncut library cuts.own (first ∷ []) (bare_feature source name line members ∷ []) ∙ feature_uncut library first.own first.cases source name line members
 
 -- One scenario with one step, at which memory was refused.
 abbrev one_memory : Results
@@ -56,14 +91,18 @@ one_memory = record {
     name = codes "one";
     line = 1;
     status = statuses.Memory;
+    around = statuses.Passed;
     cases = record {
       keyword = codes "Scenario";
       name = codes "first";
       line = 2;
       status = statuses.Memory;
+      around = statuses.Passed;
+      cleanups = [];
       steps = record { keyword = codes "Given"; text = codes "it passes"; line = 3; status = statuses.Memory; reason = None } ∷ [];
     } ∷ [];
   } ∷ [];
+  around = statuses.Passed;
 }
 
 -- Their report.
@@ -72,20 +111,28 @@ one_memory_report = codes "Feature: one ... memory\n  Scenario: first ... memory
 
 -- The results have that report.
 one_memory_reports : report one_memory ≡ one_memory_report
-unfolding digits status_text reason_text one_line status_line step_line case_line feature_line counted count_line closing_lines
+unfolding digits status_text reason_text one_line status_line step_line case_line around_line feature_line counted count_line closing_lines
 one_memory_reports = refl
 
--- The results of that scenario, by its cut: a cut at a step that it doesn't have is none.
+-- The results of that scenario, by its cut: a cut at an event that it doesn't have is none.
 one_by_cut : (cut : Cut) → let results : Results = results_from_bare (run_with one_inputs) (cuts_of (cut ∷ [])) one_inputs.features in (results ≡ one_results) ⊎ (results ≡ one_memory)
 unfolding cases is_chosen found match_of act
 one_by_cut nowhere = inl refl
+one_by_cut (in_before n) = inl refl
 one_by_cut (in_steps zero) = inr refl
 one_by_cut (in_steps (suc n)) = inl refl
+one_by_cut (in_after n) = inl refl
+one_by_cut (in_cleanups n) = inl refl
 
 -- The same by all cuts of a run.
 one_by_cuts : (cuts : Cuts) → let results : Results = results_from_bare (run_with one_inputs) cuts one_inputs.features in (results ≡ one_results) ⊎ (results ≡ one_memory)
 unfolding cases
-one_by_cuts cuts = one_by_cut (first_or nowhere (first_or uncut_feature cuts.features).cases)
+one_by_cuts cuts =
+    let same = scenarios_cut one_inputs.library cuts (codes "one.feature") (codes "one") 1 (map (member_by (is_chosen [] [])) (cases one_feature)) in
+    elim (one_by_cut (first_or nowhere (first_or uncut_feature cuts.features).cases)) [
+      | inl is ↦ inl (same ∙ is)
+      | inr is ↦ inr (same ∙ is)
+    ]
 
 -- A run of that request writes the plain report and ends with 0, or writes that memory was refused and ends with 4.
 pub one_judged : InputsAreUnique → (old new : Device) (answer : ℕ) → JudgedReport one_request nothing_yet old new answer →
@@ -105,6 +152,8 @@ row_A status = record {
   name = codes "A";
   line = 2;
   status = status;
+  around = statuses.Passed;
+  cleanups = [];
   steps = record { keyword = codes "When"; text = codes "the variable \"X\" is set to \"1\""; line = 3; status = status; reason = None } ∷ [];
 }
 
@@ -118,11 +167,11 @@ memory_B = record { keyword = codes "Then"; text = codes "the variable \"X\" sho
 
 -- The row of the second scenario.
 abbrev row_B : StepRow → CaseRow
-row_B step = record { keyword = codes "Scenario"; name = codes "B"; line = 4; status = step.status; steps = step ∷ [] }
+row_B step = record { keyword = codes "Scenario"; name = codes "B"; line = 4; status = step.status; around = statuses.Passed; cleanups = []; steps = step ∷ [] }
 
 -- The results of both, where memory was refused in one.
 abbrev two_memory : CaseRow → CaseRow → Results
-two_memory a b = record { features = record { source = codes "two.feature"; name = codes "two"; line = 1; status = statuses.Memory; cases = a ∷ b ∷ [] } ∷ [] }
+two_memory a b = record { features = record { source = codes "two.feature"; name = codes "two"; line = 1; status = statuses.Memory; around = statuses.Passed; cases = a ∷ b ∷ [] } ∷ []; around = statuses.Passed }
 
 -- Memory was refused in the first scenario.
 abbrev memory_in_A : Results
@@ -142,7 +191,7 @@ memory_in_A_report = codes "Feature: two ... memory\n  Scenario: A ... memory\n 
 
 -- The results have that report.
 memory_in_A_reports : report memory_in_A ≡ memory_in_A_report
-unfolding digits status_text reason_text one_line status_line step_line case_line feature_line counted count_line closing_lines
+unfolding digits status_text reason_text one_line status_line step_line case_line around_line feature_line counted count_line closing_lines
 memory_in_A_reports = refl
 
 -- The report of the second case.
@@ -151,7 +200,7 @@ memory_in_B_report = codes "Feature: two ... memory\n  Scenario: A ... passed\n 
 
 -- The results have that report.
 memory_in_B_reports : report memory_in_B ≡ memory_in_B_report
-unfolding digits status_text reason_text one_line status_line step_line case_line feature_line counted count_line closing_lines
+unfolding digits status_text reason_text one_line status_line step_line case_line around_line feature_line counted count_line closing_lines
 memory_in_B_reports = refl
 
 -- The report of the third case.
@@ -160,30 +209,77 @@ memory_in_both_report = codes "Feature: two ... memory\n  Scenario: A ... memory
 
 -- The results have that report.
 memory_in_both_reports : report memory_in_both ≡ memory_in_both_report
-unfolding digits status_text reason_text one_line status_line step_line case_line feature_line counted count_line closing_lines
+unfolding digits status_text reason_text one_line status_line step_line case_line around_line feature_line counted count_line closing_lines
 memory_in_both_reports = refl
 
 -- Results are one of four.
 abbrev IsOneOfFour : Results → Type 0
 IsOneOfFour results = (results ≡ two_results) ⊎ ((results ≡ memory_in_A) ⊎ ((results ≡ memory_in_B) ⊎ (results ≡ memory_in_both)))
 
+-- The scenarios' cases, and the state of their section.
+abbrev case_A : CaseValue
+case_A = record { keyword = codes "Scenario"; name = codes "A"; line = 2; steps = set_step ∷ []; tags = []; own_tags = [] }
+
+-- The second.
+abbrev case_B : CaseValue
+case_B = record { keyword = codes "Scenario"; name = codes "B"; line = 4; steps = ask_step ∷ []; tags = []; own_tags = [] }
+
+-- The state that both begin from.
+abbrev two_section : State
+two_section = section_state (run_with two_inputs) levels.Feature [] (section_state (run_with two_inputs) levels.Run [] bare_state)
+
+-- The row of the first scenario, by its cut.
+A_by_cut : (cut : Cut) → let row = reached_row (run_with two_inputs) two_section cut case_A in (row ≡ row_A statuses.Passed) ⊎ (row ≡ row_A statuses.Memory)
+unfolding found match_of is_utf8 chars lib.Utf8.encode act
+A_by_cut nowhere = inl refl
+A_by_cut (in_before n) = inl refl
+A_by_cut (in_steps zero) = inr refl
+A_by_cut (in_steps (suc n)) = inl refl
+A_by_cut (in_after n) = inl refl
+A_by_cut (in_cleanups n) = inl refl
+
+-- The row of the second scenario, by its cut.
+B_by_cut : (cut : Cut) → let row = reached_row (run_with two_inputs) two_section cut case_B in (row ≡ row_B failed_B) ⊎ (row ≡ row_B memory_B)
+unfolding found match_of is_utf8 chars lib.Utf8.encode act
+B_by_cut nowhere = inl refl
+B_by_cut (in_before n) = inl refl
+B_by_cut (in_steps zero) = inr refl
+B_by_cut (in_steps (suc n)) = inl refl
+B_by_cut (in_after n) = inl refl
+B_by_cut (in_cleanups n) = inl refl
+
+-- The results with these two rows.
+abbrev two_of : CaseRow → CaseRow → Results
+two_of a b = record {
+  features = record { source = codes "two.feature"; name = codes "two"; line = 1; status = feature_verdict statuses.Passed (a.status ∷ b.status ∷ []); around = statuses.Passed; cases = a ∷ b ∷ [] } ∷ [];
+  around = statuses.Passed;
+}
+
+-- The results are those with the two scenarios' rows.
+two_by_rows : (a b : Cut) → results_from_bare (run_with two_inputs) (cuts_of (a ∷ b ∷ [])) two_inputs.features ≡ two_of (reached_row (run_with two_inputs) two_section a case_A) (reached_row (run_with two_inputs) two_section b case_B)
+unfolding cases is_chosen
+two_by_rows a b = refl
+
+-- The results with these rows are one of four.
+one_of_four : (a b : CaseRow) (results : Results) → results ≡ two_of a b → (a ≡ row_A statuses.Passed) ⊎ (a ≡ row_A statuses.Memory) → (b ≡ row_B failed_B) ⊎ (b ≡ row_B memory_B) → IsOneOfFour results
+one_of_four a b results is (inl p) (inl q) = inl (is ∙ ap₂ two_of p q)
+one_of_four a b results is (inr p) (inl q) = inr (inl (is ∙ ap₂ two_of p q))
+one_of_four a b results is (inl p) (inr q) = inr (inr (inl (is ∙ ap₂ two_of p q)))
+one_of_four a b results is (inr p) (inr q) = inr (inr (inr (is ∙ ap₂ two_of p q)))
+
 -- The results, by the two scenarios' cuts.
 two_by_cut : (a b : Cut) → IsOneOfFour (results_from_bare (run_with two_inputs) (cuts_of (a ∷ b ∷ [])) two_inputs.features)
-unfolding cases is_chosen found match_of is_utf8 chars lib.Utf8.encode act
-two_by_cut nowhere nowhere = inl refl
-two_by_cut nowhere (in_steps zero) = inr (inr (inl refl))
-two_by_cut nowhere (in_steps (suc n)) = inl refl
-two_by_cut (in_steps zero) nowhere = inr (inl refl)
-two_by_cut (in_steps zero) (in_steps zero) = inr (inr (inr refl))
-two_by_cut (in_steps zero) (in_steps (suc n)) = inr (inl refl)
-two_by_cut (in_steps (suc m)) nowhere = inl refl
-two_by_cut (in_steps (suc m)) (in_steps zero) = inr (inr (inl refl))
-two_by_cut (in_steps (suc m)) (in_steps (suc n)) = inl refl
+two_by_cut a b =
+    one_of_four (reached_row (run_with two_inputs) two_section a case_A) (reached_row (run_with two_inputs) two_section b case_B) (results_from_bare (run_with two_inputs) (cuts_of (a ∷ b ∷ [])) two_inputs.features)
+    (two_by_rows a b) (A_by_cut a) (B_by_cut b)
 
 -- The same by all cuts of a run.
 two_by_cuts : (cuts : Cuts) → IsOneOfFour (results_from_bare (run_with two_inputs) cuts two_inputs.features)
 unfolding cases
-two_by_cuts cuts = let own = (first_or uncut_feature cuts.features).cases in two_by_cut (first_or nowhere own) (first_or nowhere (later own))
+two_by_cuts cuts =
+    let own = (first_or uncut_feature cuts.features).cases in
+    let same = scenarios_cut two_inputs.library cuts (codes "two.feature") (codes "two") 1 (map (member_by (is_chosen [] [])) (cases two_feature)) in
+    subst (λ (results : Results). IsOneOfFour results) (sym same) (two_by_cut (first_or nowhere own) (first_or nowhere (later own)))
 
 -- A run of that request writes the plain report and ends with 1, or writes where memory was refused and ends with 4. Whatever is refused, the second scenario never passes.
 pub two_judged : InputsAreUnique → (old new : Device) (answer : ℕ) → JudgedReport two_request nothing_yet old new answer →

@@ -34,10 +34,10 @@ use Rattle.gk_run.specs.Acting.{act}
 use Rattle.gk_run.specs.Results.{FeatureRow, Results}
 use Rattle.gk_run.specs.Alone.{Run}
 use Rattle.gk_run.specs.Chosen.{ChosenValue}
-use Rattle.gk_run.specs.Judged.{Cuts, uncut, features_of, results_of, plain_results}
+use Rattle.gk_run.specs.Judged.{Cuts, uncut, results_from, results_of, plain_results}
 use Rattle.gk_report.specs.ReportTexts.{status_text, reason_text, one_line}
 use Rattle.gk_report.specs.Summary.{status}
-use Rattle.gk_report.specs.PlainReport.{status_line, step_line, case_line, feature_line, counted, count_line, closing_lines, report}
+use Rattle.gk_report.specs.PlainReport.{status_line, step_line, case_line, around_line, feature_line, counted, count_line, closing_lines, report}
 use Rattle.gk_cli.specs.Source.{SourceValue}
 use Rattle.gk_cli.specs.Inputs.{Request, Inputs, AreRead, AreInputs, IsLibrary, HasRoom, chosen_of}
 use Rattle.gk_cli.specs.Suite.{Device, Plain, InputsAreUnique, run_with}
@@ -57,12 +57,12 @@ bare_state = record { files = nothing; env = nothing; outer = nothing; own = not
 
 -- The results of a run from that state, where memory was refused at these cuts.
 abbrev pub results_from_bare : Run → Cuts → List ChosenValue → Results
-results_from_bare run cuts features = record { features = features_of run bare_state cuts.features features }
+results_from_bare run cuts features = results_from run bare_state cuts features
 
 -- The results of a run of a new sandbox are those from that state.
 pub same_from_bare : (run : Run) (cuts : Cuts) (features : List ChosenValue) → results_of run nothing_yet cuts features ≡ results_from_bare run cuts features
 same_from_bare run cuts features =
-    ap (λ (m : Map). let section : State = record { files = m; env = m; outer = nothing; own = nothing } in let results : Results = record { features = features_of run section cuts.features features } in results) (fun_ext (get-empty _))
+    ap (λ (m : Map). let section : State = record { files = m; env = m; outer = nothing; own = nothing } in results_from run section cuts features) (fun_ext (get-empty _))
 
 -- A feature with one scenario and one step.
 abbrev pub one_bytes : List ℕ
@@ -78,7 +78,7 @@ one_source = record { name = codes "one.feature"; bytes = one_bytes }
 
 -- What is asked for: all scenarios of that feature.
 abbrev pub one_request : Request
-one_request = record { tags = []; lines = []; library = Some pass_bytes; sources = one_source ∷ [] }
+one_request = record { tags = []; lines = []; library = Some pass_bytes; hooks = None; sources = one_source ∷ [] }
 
 -- What the feature file says.
 abbrev pub one_step : StepValue
@@ -194,7 +194,7 @@ pass_is_text = (omega arith, IsUtf8-from_is_utf8 pass_bytes refl)
 
 -- What is asked for, as it reads.
 abbrev pub one_inputs : Inputs
-one_inputs = record { library = pass_entry ∷ []; features = chosen_of (is_chosen [] []) (codes "one.feature") one_feature ∷ [] }
+one_inputs = record { library = pass_entry ∷ []; hooks = []; features = chosen_of (is_chosen [] []) (codes "one.feature") one_feature ∷ [] }
 
 -- It has no more steps than the limit.
 one_has_room : HasRoom (Some one_feature)
@@ -207,6 +207,7 @@ one_inputs_read = record {
   rules = [];
   tags = refl;
   library = (pass_is_text, pass_reads);
+  hooks = refl;
   features = (Some one_feature, [], one_is_text, one_reads, one_has_room, refl, refl);
 }
 
@@ -218,14 +219,18 @@ one_results = record {
     name = codes "one";
     line = 1;
     status = statuses.Passed;
+    around = statuses.Passed;
     cases = record {
       keyword = codes "Scenario";
       name = codes "first";
       line = 2;
       status = statuses.Passed;
+      around = statuses.Passed;
+      cleanups = [];
       steps = record { keyword = codes "Given"; text = codes "it passes"; line = 3; status = statuses.Passed; reason = None } ∷ [];
     } ∷ [];
   } ∷ [];
+  around = statuses.Passed;
 }
 
 -- They are those of the inputs.
@@ -239,7 +244,7 @@ one_report = codes "Feature: one ... passed\n  Scenario: first ... passed\n    G
 
 -- The results have that report.
 pub one_reports : report one_results ≡ one_report
-unfolding digits status_text reason_text one_line status_line step_line case_line feature_line counted count_line closing_lines
+unfolding digits status_text reason_text one_line status_line step_line case_line around_line feature_line counted count_line closing_lines
 one_reports = refl
 
 -- The results have that status.
@@ -264,7 +269,7 @@ two_source = record { name = codes "two.feature"; bytes = two_bytes }
 
 -- What is asked for: all scenarios of that feature.
 abbrev pub two_request : Request
-two_request = record { tags = []; lines = []; library = Some variable_bytes; sources = two_source ∷ [] }
+two_request = record { tags = []; lines = []; library = Some variable_bytes; hooks = None; sources = two_source ∷ [] }
 
 -- What the feature file says.
 abbrev pub set_step : StepValue
@@ -457,7 +462,7 @@ variable_is_text = (omega arith, IsUtf8-from_is_utf8 variable_bytes refl)
 
 -- What is asked for, as it reads.
 abbrev pub two_inputs : Inputs
-two_inputs = record { library = set_entry ∷ ask_entry ∷ []; features = chosen_of (is_chosen [] []) (codes "two.feature") two_feature ∷ [] }
+two_inputs = record { library = set_entry ∷ ask_entry ∷ []; hooks = []; features = chosen_of (is_chosen [] []) (codes "two.feature") two_feature ∷ [] }
 
 -- The feature has no more steps than the limit.
 two_has_room : HasRoom (Some two_feature)
@@ -470,7 +475,7 @@ two_is_read chooses = (Some two_feature, [], two_is_text, two_reads, two_has_roo
 
 -- What is asked for reads as these inputs.
 pub two_inputs_read : AreInputs two_request two_inputs
-two_inputs_read = record { rules = []; tags = refl; library = (variable_is_text, variable_reads); features = two_is_read (is_chosen [] []) }
+two_inputs_read = record { rules = []; tags = refl; library = (variable_is_text, variable_reads); hooks = refl; features = two_is_read (is_chosen [] []) }
 
 -- The results that plain maps give: nothing is left of the first scenario in the second.
 abbrev pub two_results : Results
@@ -480,20 +485,26 @@ two_results = record {
     name = codes "two";
     line = 1;
     status = statuses.Failed;
+    around = statuses.Passed;
     cases = record {
       keyword = codes "Scenario";
       name = codes "A";
       line = 2;
       status = statuses.Passed;
+      around = statuses.Passed;
+      cleanups = [];
       steps = record { keyword = codes "When"; text = codes "the variable \"X\" is set to \"1\""; line = 3; status = statuses.Passed; reason = None } ∷ [];
     } ∷ record {
       keyword = codes "Scenario";
       name = codes "B";
       line = 4;
       status = statuses.Failed;
+      around = statuses.Passed;
+      cleanups = [];
       steps = record { keyword = codes "Then"; text = codes "the variable \"X\" should be \"1\""; line = 5; status = statuses.Failed; reason = Some reasons.Absent } ∷ [];
     } ∷ [];
   } ∷ [];
+  around = statuses.Passed;
 }
 
 -- They are those of the inputs.
@@ -507,7 +518,7 @@ two_report = codes "Feature: two ... failed\n  Scenario: A ... passed\n    When 
 
 -- The results have that report.
 pub two_reports : report two_results ≡ two_report
-unfolding digits status_text reason_text one_line status_line step_line case_line feature_line counted count_line closing_lines
+unfolding digits status_text reason_text one_line status_line step_line case_line around_line feature_line counted count_line closing_lines
 two_reports = refl
 
 -- The results have that status.
@@ -528,7 +539,7 @@ default_inputs = record two_inputs { library = default_entries }
 
 -- What is asked for reads so, where the default library's text spells its entries.
 default_inputs_read : IsLibrary None default_entries → AreInputs default_request default_inputs
-default_inputs_read spelled = record { rules = []; tags = refl; library = spelled; features = two_is_read (is_chosen [] []) }
+default_inputs_read spelled = record { rules = []; tags = refl; library = spelled; hooks = refl; features = two_is_read (is_chosen [] []) }
 
 -- The results are those of the run with the library file.
 default_is_plain : plain_results (run_with default_inputs) nothing_yet default_inputs.features ≡ two_results
@@ -549,7 +560,7 @@ line_inputs = record two_inputs { features = chosen_of (is_chosen [] (2 ∷ []))
 
 -- It reads so.
 line_inputs_read : AreInputs line_request line_inputs
-line_inputs_read = record { rules = []; tags = refl; library = (variable_is_text, variable_reads); features = two_is_read (is_chosen [] (2 ∷ [])) }
+line_inputs_read = record { rules = []; tags = refl; library = (variable_is_text, variable_reads); hooks = refl; features = two_is_read (is_chosen [] (2 ∷ [])) }
 
 -- The results that plain maps give: the second scenario is skipped.
 abbrev line_results : Results
@@ -559,20 +570,26 @@ line_results = record {
     name = codes "two";
     line = 1;
     status = statuses.Passed;
+    around = statuses.Passed;
     cases = record {
       keyword = codes "Scenario";
       name = codes "A";
       line = 2;
       status = statuses.Passed;
+      around = statuses.Passed;
+      cleanups = [];
       steps = record { keyword = codes "When"; text = codes "the variable \"X\" is set to \"1\""; line = 3; status = statuses.Passed; reason = None } ∷ [];
     } ∷ record {
       keyword = codes "Scenario";
       name = codes "B";
       line = 4;
       status = statuses.Skipped;
+      around = statuses.Passed;
+      cleanups = [];
       steps = record { keyword = codes "Then"; text = codes "the variable \"X\" should be \"1\""; line = 5; status = statuses.Skipped; reason = None } ∷ [];
     } ∷ [];
   } ∷ [];
+  around = statuses.Passed;
 }
 
 -- They are those of the inputs.
@@ -586,7 +603,7 @@ line_report = codes "Feature: two ... passed\n  Scenario: A ... passed\n    When
 
 -- The results have that report.
 line_reports : report line_results ≡ line_report
-unfolding digits status_text reason_text one_line status_line step_line case_line feature_line counted count_line closing_lines
+unfolding digits status_text reason_text one_line status_line step_line case_line around_line feature_line counted count_line closing_lines
 line_reports = refl
 
 -- The results have that status.
@@ -639,6 +656,7 @@ several_inputs_read =
       rules = [];
       tags = refl;
       library = (pass_is_text, pass_reads);
+      hooks = refl;
       features = (Some one_feature, again, one_is_text, one_reads, one_has_room, (None, again, comment_is_text, comment_reads, tt, (Some one_feature, [], one_is_text, one_reads, one_has_room, refl, refl), refl), refl);
     }
 
@@ -649,18 +667,21 @@ one_row source = record {
   name = codes "one";
   line = 1;
   status = statuses.Passed;
+  around = statuses.Passed;
   cases = record {
     keyword = codes "Scenario";
     name = codes "first";
     line = 2;
     status = statuses.Passed;
+    around = statuses.Passed;
+    cleanups = [];
     steps = record { keyword = codes "Given"; text = codes "it passes"; line = 3; status = statuses.Passed; reason = None } ∷ [];
   } ∷ [];
 }
 
 -- The results that plain maps give: the features in the order of their sources.
 abbrev several_results : Results
-several_results = record { features = one_row (codes "one.feature") ∷ one_row (codes "again.feature") ∷ [] }
+several_results = record { features = one_row (codes "one.feature") ∷ one_row (codes "again.feature") ∷ []; around = statuses.Passed }
 
 -- They are those of the inputs.
 several_is_plain : plain_results (run_with several_inputs) nothing_yet several_inputs.features ≡ several_results
@@ -673,7 +694,7 @@ several_report = codes "Feature: one ... passed\n  Scenario: first ... passed\n 
 
 -- The results have that report.
 several_reports : report several_results ≡ several_report
-unfolding digits status_text reason_text one_line status_line step_line case_line feature_line counted count_line closing_lines
+unfolding digits status_text reason_text one_line status_line step_line case_line around_line feature_line counted count_line closing_lines
 several_reports = refl
 
 -- The results have that status.

@@ -43,13 +43,17 @@ line_rule = record (new_rule (codes "line")) {
 abbrev pub library_rule : Rule
 library_rule = record (new_rule (codes "library")) { long = Some (codes "library"); action = Some Set; value_names = 1 }
 
+-- The option `--hooks FILE`, once at most. (this project's profile)
+abbrev pub hooks_rule : Rule
+hooks_rule = record (new_rule (codes "hooks")) { long = Some (codes "hooks"); action = Some Set; value_names = 1 }
+
 -- The option `--env NAME=VALUE`, as often as one likes. (this project's profile)
 abbrev pub env_rule : Rule
 env_rule = record (new_rule (codes "env")) { long = Some (codes "env"); action = Some Append; value_names = 1 }
 
 -- The command: its name, the files and the options. Help is clap's own. (this project's profile)
 abbrev pub command : App
-command = with_rule (with_rule (with_rule (with_rule (with_rule (new_app (codes "gherkin_run")) files_rule) tags_rule) line_rule) library_rule) env_rule
+command = with_rule (with_rule (with_rule (with_rule (with_rule (with_rule (new_app (codes "gherkin_run")) files_rule) tags_rule) line_rule) library_rule) hooks_rule) env_rule
 
 -- The faults that clap finds in the arguments, a request for help among them: those of the first step that fails. (this project's profile)
 abbrev pub faults_in : List Text → Kinds
@@ -108,6 +112,7 @@ pub record IsAskedBy (rows : List Row) (w : Words) : Type 0 where
   pub tags : map string_bytes w.options.tags.items ≡ values_of (codes "tags") rows
   pub lines : w.options.lines.items ≡ map line_number (values_of (codes "line") rows)
   pub library : option_map string_bytes w.library ≡ first_of (codes "library") rows
+  pub hooks : option_map string_bytes w.hooks ≡ first_of (codes "hooks") rows
   pub variables : map pair_value w.env.items ≡ map cut_at_equals (values_of (codes "env") rows)
   pub cut : All (λ text. has_equals text ≡ true) (values_of (codes "env") rows)
 

@@ -6,6 +6,8 @@ use Rattle.gk_gherkin.specs.declared.read_fault.ReadFault.{ReadFault}
 use Rattle.gk_gherkin.specs.Lines.{lines_of, IsText}
 use Rattle.gk_gherkin.specs.Feature.{FeatureValue, texts}
 use Rattle.gk_gherkin.specs.Grammar.{Reads}
+use Rattle.gk_gherkin.specs.Hooks.{HookValue, hooks_value}
+use Rattle.gk_gherkin.specs.HooksGrammar.{ReadsHooks}
 use Rattle.gk_gherkin.specs.ReadFault.{FaultSays, FeatureFault}
 use Rattle.gk_select.specs.Case.{CaseValue}
 use Rattle.gk_select.specs.Expansion.{cases, step_count, step_limit, HasTooManySteps}
@@ -21,24 +23,27 @@ use Rattle.gk_cli.specs.declared.inputs.ReadInputs.{ReadInputs}
 use Rattle.gk_cli.specs.declared.source.Source.{Source}
 use Rattle.gk_cli.specs.Source.{SourceValue, source_value}
 
--- What a run is asked for: the texts of tags, the lines, the bytes of a library file or none, and the sources.
+-- What a run is asked for: the texts of tags, the lines, the bytes of a library file or none, those of a hooks file or none, and the sources.
 pub record Request : Type 0 where
   pub tags : List (List ℕ)
   pub lines : List ℕ
   pub library : Option (List ℕ)
+  pub hooks : Option (List ℕ)
   pub sources : List SourceValue
 
--- What options, a library file and sources ask for.
-abbrev pub request_of : Options → Option (List ℕ) → List SourceValue → Request
-request_of options library sources = record { tags = texts options.tags.items; lines = options.lines.items; library = library; sources = sources }
+-- What options, a library file, a hooks file and sources ask for.
+abbrev pub request_of : Options → Option (List ℕ) → Option (List ℕ) → List SourceValue → Request
+request_of options library hooks sources = record { tags = texts options.tags.items; lines = options.lines.items; library = library; hooks = hooks; sources = sources }
 
 -- What a run's arguments ask for.
-abbrev pub asked : Options → Option (Bor (List ℕ)) → List Source → Request
-asked options library sources = request_of options (option_map (λ (bytes : Bor (List ℕ)). bytes.now) library) (map source_value sources)
+abbrev pub asked : Options → Option (Bor (List ℕ)) → Option (Bor (List ℕ)) → List Source → Request
+asked options library hooks sources =
+    request_of options (option_map (λ (bytes : Bor (List ℕ)). bytes.now) library) (option_map (λ (bytes : Bor (List ℕ)). bytes.now) hooks) (map source_value sources)
 
--- The inputs as they read: the library, and the sources' features with their cases and the choice among them.
+-- The inputs as they read: the library, the hooks, and the sources' features with their cases and the choice among them.
 pub record Inputs : Type 0 where
   pub library : LibraryValue
+  pub hooks : List HookValue
   pub features : List ChosenValue
 
 -- The texts of tags spell these rules, one each, in order. (behave's documentation: tag expressions)
@@ -50,6 +55,11 @@ AreRules (text ∷ more) rules = (rule : List AlternativeValue) × (others : Lis
 abbrev pub IsLibrary : Option (List ℕ) → LibraryValue → Type 0
 IsLibrary None entries = ReadsLibrary (lines_of default_text) entries
 IsLibrary (Some bytes) entries = IsText bytes × ReadsLibrary (lines_of bytes) entries
+
+-- The hooks file spells these hooks; where none is given, there are none. (this project's profile)
+abbrev pub AreHooks : Option (List ℕ) → List HookValue → Type 0
+AreHooks None hooks = hooks ≡ []
+AreHooks (Some bytes) hooks = IsText bytes × ReadsHooks (lines_of bytes) hooks
 
 -- A case, with whether it is chosen.
 abbrev pub member_by : (CaseValue → Bool) → CaseValue → MemberValue
@@ -81,6 +91,7 @@ pub record AreInputs (r : Request) (inputs : Inputs) : Type 0 where
   pub rules : List (List AlternativeValue)
   pub tags : AreRules r.tags rules
   pub library : IsLibrary r.library inputs.library
+  pub hooks : AreHooks r.hooks inputs.hooks
   pub features : AreRead (is_chosen rules r.lines) r.sources inputs.features
 
 -- A text of tags is the first that spells no rule. (this project's profile)
@@ -101,12 +112,14 @@ pub record IsFirstUnread (chooses : CaseValue → Bool) (sources : List SourceVa
   pub place : slice_get sources input ≡ Some source
   pub unread : Unread source.bytes
 
--- The same, where the texts of tags and the library read. (this project's profile)
+-- The same, where the texts of tags, the library and the hooks read. (this project's profile)
 pub record StopsAtSource (r : Request) (input : ℕ) (Unread : List ℕ → Type 0) : Type 0 where
   pub rules : List (List AlternativeValue)
   pub tags : AreRules r.tags rules
   pub entries : LibraryValue
   pub library : IsLibrary r.library entries
+  pub hooks : List HookValue
+  pub around : AreHooks r.hooks hooks
   pub first : IsFirstUnread (is_chosen rules r.lines) r.sources input Unread
 
 -- The fault of a feature file is said of these bytes.
@@ -119,7 +132,7 @@ HasTooMany bytes = (f : FeatureValue) × IsText bytes × Reads (lines_of bytes) 
 
 -- What a `ReadInputs` says.
 abbrev pub inputs_value : ReadInputs → Inputs
-inputs_value inputs = record { library = library_value inputs.library; features = map chosen_value inputs.features.items }
+inputs_value inputs = record { library = library_value inputs.library; hooks = hooks_value inputs.hooks; features = map chosen_value inputs.features.items }
 
 -- Proof machinery: a source reads, and its feature stands after the others.
 pub record IsReadOnto (chooses : CaseValue → Bool) (source : SourceValue) (old new : List Chosen) : Type 0 where

@@ -4,17 +4,19 @@ use Rattle.gk_gherkin.specs.declared.read_fault.ReadFault.{ReadFault}
 use Rattle.gk_gherkin.specs.declared.read_fault.ReadFault.TheVariants as read_faults
 use Rattle.gk_select.specs.declared.select_fault.SelectFault.{SelectFault}
 use Rattle.gk_select.specs.declared.select_fault.SelectFault.TheVariants as select_faults
+use Rattle.gk_gherkin.specs.ReadFault.{FaultSays, HooksFault}
 use Rattle.gk_gherkin.specs.Feature.{FeatureValue}
 use Rattle.gk_select.specs.Case.{CaseValue}
 use Rattle.gk_select.specs.Expansion.{HasTooManySteps}
 use Rattle.gk_select.specs.TagRules.{AlternativeValue}
 use Rattle.gk_steps.specs.declared.library_fault.LibraryFault.{LibraryFault}
 use Rattle.gk_steps.specs.declared.library_fault.LibraryFault.TheVariants as library_faults
+use Rattle.gk_steps.specs.Finding.{LibraryValue}
 use Rattle.gk_steps.specs.LibraryFault.{LibraryFaultSays}
 use Rattle.gk_cli.specs.declared.run_fault.RunFault.{RunFault}
-use Rattle.gk_cli.specs.declared.run_fault.RunFault.TheVariants.{Read, Library, Select, Write, Memory}
+use Rattle.gk_cli.specs.declared.run_fault.RunFault.TheVariants.{Read, Library, Hooks, Select, Write, Memory}
 use Rattle.gk_cli.specs.Source.{SourceValue}
-use Rattle.gk_cli.specs.Inputs.{Request, AreRules, HasBadTags, IsFirstUnread, StopsAtSource, HasFault, HasTooMany}
+use Rattle.gk_cli.specs.Inputs.{Request, AreRules, IsLibrary, HasBadTags, IsFirstUnread, StopsAtSource, HasFault, HasTooMany}
 
 -- A library file doesn't read, where the texts of tags do. (this project's profile)
 pub record StopsAtLibrary (r : Request) (fault : LibraryFault) : Type 0 where
@@ -25,10 +27,22 @@ pub record StopsAtLibrary (r : Request) (fault : LibraryFault) : Type 0 where
   pub says : LibraryFaultSays fault bytes
   pub named : fault ≢ library_faults.Memory
 
+-- A hooks file doesn't read, where the texts of tags and the library do. (this project's profile)
+pub record StopsAtHooks (r : Request) (fault : ReadFault) : Type 0 where
+  pub rules : List (List AlternativeValue)
+  pub tags : AreRules r.tags rules
+  pub entries : LibraryValue
+  pub library : IsLibrary r.library entries
+  pub bytes : List ℕ
+  pub given : r.hooks ≡ Some bytes
+  pub says : FaultSays HooksFault fault bytes
+  pub named : fault ≢ read_faults.Memory
+
 -- What is asked for doesn't read, and this is why; refused memory says nothing of it. (this project's profile)
 abbrev pub IsUnread : Request → RunFault → Type 0
 IsUnread r (Read input fault) = StopsAtSource r input (HasFault fault) × (fault ≢ read_faults.Memory)
 IsUnread r (Library fault) = StopsAtLibrary r fault
+IsUnread r (Hooks fault) = StopsAtHooks r fault
 IsUnread r (Select None select_faults.BadTagText) = HasBadTags r.tags
 IsUnread r (Select (Some input) select_faults.TooMany) = StopsAtSource r input HasTooMany
 IsUnread r (Select input fault) = ⊥
@@ -51,6 +65,11 @@ SaysTags tags select_faults.Memory = Unit {0}
 abbrev pub SaysLibrary : Option (List ℕ) → LibraryFault → Type 0
 SaysLibrary library library_faults.Memory = Unit {0}
 SaysLibrary library fault = (bytes : List ℕ) × (library ≡ Some bytes) × LibraryFaultSays fault bytes
+
+-- Proof machinery: the same of the hooks alone.
+abbrev pub SaysHooks : Option (List ℕ) → ReadFault → Type 0
+SaysHooks hooks read_faults.Memory = Unit {0}
+SaysHooks hooks fault = (bytes : List ℕ) × (hooks ≡ Some bytes) × FaultSays HooksFault fault bytes
 
 -- Proof machinery: the same of the sources alone.
 abbrev pub SaysSources : (CaseValue → Bool) → List SourceValue → RunFault → Type 0
@@ -91,3 +110,8 @@ tags_fault fault = Select None fault
 abbrev pub library_fault : LibraryFault → RunFault
 library_fault library_faults.Memory = Memory
 library_fault fault = Library fault
+
+-- Proof machinery: the fault of the hooks.
+abbrev pub hooks_fault : ReadFault → RunFault
+hooks_fault read_faults.Memory = Memory
+hooks_fault fault = Hooks fault

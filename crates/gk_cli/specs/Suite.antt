@@ -3,6 +3,7 @@ use Rattle.std.specs.Prelude.{◌≡◌, ◌≢◌, ℕ, false, List, [], map, O
 use Rattle.std.specs.Io.KnownBytes.{Appends}
 use Rattle.gk_world.specs.Contents.{Contents}
 use Rattle.gk_run.specs.declared.results.FeatureResult.{FeatureResult}
+use Rattle.gk_run.specs.declared.results.Status.{Status}
 use Rattle.gk_run.specs.Results.{Results, feature_row}
 use Rattle.gk_run.specs.Alone.{Run}
 use Rattle.gk_run.specs.Judged.{Judged, plain_results, has_memory}
@@ -17,11 +18,11 @@ use Rattle.gk_cli.specs.RunFault.{IsUnread}
 
 -- What stays the same during a run of these inputs.
 abbrev pub run_with : Inputs → Run
-run_with inputs = record { library = inputs.library }
+run_with inputs = record { library = inputs.library; hooks = inputs.hooks; stop = false }
 
--- What the results of features say.
-abbrev pub results_of : List FeatureResult → Results
-results_of results = record { features = map feature_row results }
+-- What the results of features say, with how the run's own hooks and cleanups ended.
+abbrev pub results_of : List FeatureResult → Status → Results
+results_of results around = record { features = map feature_row results; around = around }
 
 -- A writer: the bytes that it has taken, where they are known, and the counts of its calls, flushes and failures.
 pub record Device : Type 0 where

@@ -2,7 +2,7 @@
 ghost use Rattle.std.specs.Prelude.{◌≡◌, map, IfOk, codes, option_map, string_bytes};
 ghost use Rattle.std.specs.List.{All};
 ghost use Rattle.clap.specs.Words.{found_of, rows_of};
-ghost use Rattle.gk_cli.specs.Arguments.{files_rule, tags_rule, line_rule, library_rule, env_rule, command, HasRule, IsCommand, values_of, IsLineNumber, line_number, SaysVariable, SaysVariables, SaysMatches, SaysArguments};
+ghost use Rattle.gk_cli.specs.Arguments.{files_rule, tags_rule, line_rule, library_rule, hooks_rule, env_rule, command, HasRule, IsCommand, values_of, IsLineNumber, line_number, SaysVariable, SaysVariables, SaysMatches, SaysArguments};
 
 use clap::builder::ValueParser;
 use clap::error::ErrorKind;
@@ -26,6 +26,8 @@ pub struct Words {
     pub options: Options,
     /// The library file, in place of the default library.
     pub library: Option<String>,
+    /// The hooks file, if there is one.
+    pub hooks: Option<String>,
     /// The names and values of `--env`, in order.
     pub env: Vec<(String, String)>,
     /// The feature files, in the order of the arguments; at least one.
@@ -124,6 +126,16 @@ fn library_arg<'a>(alloc: Global) -> Arg<'a>
         .action(ArgAction::Set)
 }
 
+fn hooks_arg<'a>(alloc: Global) -> Arg<'a>
+    ensures { HasRule hooks_rule result }
+{
+    Arg::new(alloc, "hooks")
+        .long("hooks")
+        .value_name("FILE")
+        .help("Run the hooks in FILE around the run, its features and its scenarios")
+        .action(ArgAction::Set)
+}
+
 fn env_arg<'a>(alloc: Global) -> Arg<'a>
     ensures { HasRule env_rule result }
 {
@@ -144,6 +156,7 @@ fn command_of<'a>(alloc: Global) -> Result<Command<'a>, AllocError>
         .arg(tags_arg(alloc))?
         .arg(line_arg(alloc))?
         .arg(library_arg(alloc))?
+        .arg(hooks_arg(alloc))?
         .arg(env_arg(alloc))
 }
 
@@ -211,19 +224,21 @@ fn words_of(alloc: Global, matches: &ArgMatches) -> Result<Words, WordsFault>
     let tags = copied(alloc, matches.get_strs("tags").unwrap_or(&[]))?;
     let lines = numbers(alloc, matches.get_strs("line").unwrap_or(&[]))?;
     let library = copied_text(alloc, matches.get_str("library"))?;
+    let hooks = copied_text(alloc, matches.get_str("hooks"))?;
     let env = variables(alloc, matches.get_strs("env").unwrap_or(&[]))?;
     let options = Options { tags, lines };
     Ok(Words {
         options,
         library,
+        hooks,
         env,
         files,
     })
 }
 
 /// Reads the arguments of the command line, of which the first is the program's name. `--tags T`,
-/// `--line N` (1 to 4,294,967,295) and `--env NAME=VALUE` may stand several times, `--library FILE` once.
-/// Every other argument that begins with no `-` or is `-` alone, and every argument after the first `--`, is
+/// `--line N` (1 to 4,294,967,295) and `--env NAME=VALUE` may stand several times, `--library FILE` and
+/// `--hooks FILE` once each. Every other argument that begins with no `-` or is `-` alone, and every argument after the first `--`, is
 /// a feature file; there has to be one. Options and files stand in any order, and `--opt=value` is the same
 /// as `--opt value`. `--help` and `-h` ask for help, and answer `Usage` with the exit code 0. A mistake is
 /// `Usage`, and comes before `Env`; `Memory` may come in place of any answer. (this project's profile)

@@ -1,8 +1,9 @@
-//! Reading what a run is asked for: the rules of tags, the step library, and the features with their cases
-//! and the choice among them.
+//! Reading what a run is asked for: the rules of tags, the step library, the hooks, and the features with
+//! their cases and the choice among them.
 ghost use Rattle.std.specs.Prelude.{◌≡◌, map, option_map, IfOk, IfErr, OnOk, Some};
 ghost use Rattle.std.specs.List.{AllByRecursion};
 ghost use Rattle.gk_gherkin.specs.Feature.{feature_value, texts};
+ghost use Rattle.gk_gherkin.specs.Hooks.{hooks_value};
 ghost use Rattle.gk_select.specs.Case.{case_value};
 ghost use Rattle.gk_select.specs.Choice.{chosen_by};
 ghost use Rattle.gk_select.specs.Expansion.{IsExpandable};
@@ -11,14 +12,14 @@ ghost use Rattle.gk_steps.specs.Finding.{library_value};
 ghost use Rattle.gk_run.specs.Chosen.{chosen_value, IsPaired};
 ghost use Rattle.gk_cli.specs.Source.{source_value};
 ghost use Rattle.gk_cli.specs.Inputs as spec;
-ghost use Rattle.gk_cli.specs.Inputs.{asked, AreRules, IsLibrary, AreRead, AreInputs, IsReadOnto, inputs_value};
+ghost use Rattle.gk_cli.specs.Inputs.{asked, AreRules, IsLibrary, AreHooks, AreRead, AreInputs, IsReadOnto, inputs_value};
 ghost use Rattle.gk_cli.specs.RunFault as faults;
-ghost use Rattle.gk_cli.specs.RunFault.{IsUnread, SaysTags, SaysLibrary, SaysExpansion, SaysSourceAt, SaysSources};
+ghost use Rattle.gk_cli.specs.RunFault.{IsUnread, SaysTags, SaysLibrary, SaysHooks, SaysExpansion, SaysSourceAt, SaysSources};
 
 use crate::arguments::Options;
 use crate::run_fault::RunFault;
 use crate::source::Source;
-use gk_gherkin::{Feature, ReadFault, read_feature};
+use gk_gherkin::{Feature, HookFile, ReadFault, read_feature, read_hooks};
 use gk_run::Chosen;
 use gk_select::{
     Case, Choice, SelectFault, TagRule, expand, read_features_are_expandable, read_tags,
@@ -30,6 +31,7 @@ use std::alloc::{AllocError, Global};
 #[derive(Debug, Drop)]
 pub struct ReadInputs {
     pub library: Library,
+    pub hooks: HookFile,
     pub features: Vec<Chosen>,
 }
 
@@ -73,6 +75,28 @@ fn library_fault(fault: LibraryFault) -> RunFault
     match fault {
         LibraryFault::Memory => RunFault::Memory,
         _ => RunFault::Library(fault),
+    }
+}
+
+// Without a hooks file there are no hooks.
+fn read_hook_file(alloc: Global, hooks: Option<&[u8]>) -> Result<HookFile, ReadFault>
+    ensures read { IfOk result (λ file. AreHooks (option_map (λ bytes. bytes.now) hooks.entry) (hooks_value file)) }
+    ensures fault { IfErr result (λ e. SaysHooks (option_map (λ bytes. bytes.now) hooks.entry) e) }
+{
+    match hooks {
+        Some(bytes) => read_hooks(alloc, bytes),
+        None => Ok(HookFile {
+            hooks: Vec::new(alloc),
+        }),
+    }
+}
+
+fn hooks_fault(fault: ReadFault) -> RunFault
+    ensures { result ≡ faults.hooks_fault fault }
+{
+    match fault {
+        ReadFault::Memory => RunFault::Memory,
+        _ => RunFault::Hooks(fault),
     }
 }
 
@@ -194,17 +218,18 @@ fn read_sources(alloc: Global, choice: &Choice, sources: &[Source]) -> Result<Ve
     Ok(features)
 }
 
-/// Reads what a run is asked for: first the texts of tags, then the library, then each source in turn. An
-/// error names the first that doesn't read.
+/// Reads what a run is asked for: first the texts of tags, then the library, then the hooks, then each
+/// source in turn. An error names the first that doesn't read.
 pub fn read_inputs(
     alloc: Global,
     options: &Options,
     library: Option<&[u8]>,
+    hooks: Option<&[u8]>,
     sources: &[Source],
 ) -> Result<ReadInputs, RunFault>
-    ensures read { IfOk result (λ inputs. AreInputs (asked options.now library.entry sources.now) (inputs_value inputs)) }
+    ensures read { IfOk result (λ inputs. AreInputs (asked options.now library.entry hooks.entry sources.now) (inputs_value inputs)) }
     ensures paired { IfOk result (λ inputs. AllByRecursion IsPaired inputs.features.items) }
-    ensures fault { IfErr result (λ e. IsUnread (asked options.now library.entry sources.now) e) }
+    ensures fault { IfErr result (λ e. IsUnread (asked options.now library.entry hooks.entry sources.now) e) }
 {
     let rules = match read_rules(alloc, options.tags.as_slice()) {
         Ok(rules) => rules,
@@ -216,8 +241,16 @@ pub fn read_inputs(
         Ok(library) => library,
         Err(fault) => return Err(library_fault(fault)),
     };
+    let hooks = match read_hook_file(alloc, hooks) {
+        Ok(hooks) => hooks,
+        Err(fault) => return Err(hooks_fault(fault)),
+    };
     match read_sources(alloc, &choice, sources) {
-        Ok(features) => Ok(ReadInputs { library, features }),
+        Ok(features) => Ok(ReadInputs {
+            library,
+            hooks,
+            features,
+        }),
         Err(fault) => Err(fault),
     }
 }

@@ -1,5 +1,5 @@
-//! A whole run. Options, a step library and sources come in; the report is written, and the status goes
-//! out. The arguments of the command line, and readers and writers whose calls are counted, stand here too.
+//! A whole run. Options, a step library, hooks and sources come in; the report is written, and the status
+//! goes out. The arguments of the command line, and readers and writers whose calls are counted, stand here too.
 #![tactic(auto)]
 
 mod arguments;

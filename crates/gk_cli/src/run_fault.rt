@@ -7,7 +7,7 @@ use gk_steps::LibraryFault;
 use std::alloc::{AllocError, AllocFailed};
 
 /// Why a run ended without its whole report. Where more than one fault could be named, the first is: the
-/// texts of tags come first, then the library, then each source in turn. (this project's profile)
+/// texts of tags come first, then the library, then the hooks, then each source in turn. (this project's profile)
 #[derive(Clone, Copy, Debug, PartialEq, Eq)]
 pub enum RunFault {
     /// The source at place `input`, from 0, is the first that doesn't read, for this reason. Nothing was
@@ -18,6 +18,8 @@ pub enum RunFault {
     },
     /// The library file doesn't read, for this reason. Nothing was written.
     Library(LibraryFault),
+    /// The hooks file doesn't read, for this reason. Nothing was written.
+    Hooks(ReadFault),
     /// `BadTagText`, without an input: a text of tags spells no rule. `TooMany`: the cases of the source at
     /// place `input`, from 0, have too many steps. Nothing was written.
     Select {
@@ -26,7 +28,8 @@ pub enum RunFault {
     },
     /// The writer failed in this call, or took no byte of a piece. A prefix of the report was written.
     Write,
-    /// A growth of memory was refused outside the steps of a scenario. Nothing was written.
+    /// A growth of memory was refused outside the steps of scenarios, hooks and cleanups. Nothing was
+    /// written.
     Memory,
 }
 

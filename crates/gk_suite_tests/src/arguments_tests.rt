@@ -11,16 +11,16 @@ fn read(alloc: Global, arguments: &[&str]) -> Result<Result<Words, WordsFault>, 
     Ok(read_words(alloc, texts.as_slice()))
 }
 
-// Arguments; the tags, the lines, the library, the variables, the files.
+// Arguments; the tags, the lines, the library, the hooks, the variables, the files.
 const READ: [(&[&str], &str); 6] = [
-    (&["gherkin_run", "a"], "[] [] None [] [\"a\"]"),
+    (&["gherkin_run", "a"], "[] [] None None [] [\"a\"]"),
     (
         &["", "a", "b", "a", "", "-"],
-        "[] [] None [] [\"a\", \"b\", \"a\", \"\", \"-\"]",
+        "[] [] None None [] [\"a\", \"b\", \"a\", \"\", \"-\"]",
     ),
     (
         &["gherkin_run", "a", "--", "--help", "--"],
-        "[] [] None [] [\"a\", \"--help\", \"--\"]",
+        "[] [] None None [] [\"a\", \"--help\", \"--\"]",
     ),
     (
         &[
@@ -34,6 +34,8 @@ const READ: [(&[&str], &str); 6] = [
             "--library",
             "l",
             "b",
+            "--hooks",
+            "h",
             "--line=4294967295",
             "--tags",
             "@ui",
@@ -41,15 +43,15 @@ const READ: [(&[&str], &str); 6] = [
             "--env",
             "=",
         ],
-        "[\"~@slow,@db\", \"@ui\"] [3, 4294967295] Some(\"l\") [(\"A\", \"b=c\"), (\"A\", \"\"), (\"\", \"\")] [\"a\", \"b\"]",
+        "[\"~@slow,@db\", \"@ui\"] [3, 4294967295] Some(\"l\") Some(\"h\") [(\"A\", \"b=c\"), (\"A\", \"\"), (\"\", \"\")] [\"a\", \"b\"]",
     ),
     (
         &["gherkin_run", "--tags=-x", "--tags=", "--line", "1", "a"],
-        "[\"-x\", \"\"] [1] None [] [\"a\"]",
+        "[\"-x\", \"\"] [1] None None [] [\"a\"]",
     ),
     (
-        &["gherkin_run", "--library=", "a"],
-        "[] [] Some(\"\") [] [\"a\"]",
+        &["gherkin_run", "--library=", "--hooks=", "a"],
+        "[] [] Some(\"\") Some(\"\") [] [\"a\"]",
     ),
 ];
 
@@ -58,8 +60,8 @@ fn reads_options_and_files_in_any_order(rt: HostRuntime) -> Result<(), Fail> {
     for (arguments, wanted) in READ {
         let w = read(rt.alloc(), arguments)??;
         let text = format!(in rt.alloc();
-            "{:?} {:?} {:?} {:?} {:?}",
-            w.options.tags, w.options.lines, w.library, w.env, w.files
+            "{:?} {:?} {:?} {:?} {:?} {:?}",
+            w.options.tags, w.options.lines, w.library, w.hooks, w.env, w.files
         )?;
         assert_eq!(rt; text.as_str(), wanted);
     }
@@ -67,7 +69,7 @@ fn reads_options_and_files_in_any_order(rt: HostRuntime) -> Result<(), Fail> {
 }
 
 // Arguments; clap's kind and exit code, or none for `Env`.
-const REFUSED: [(&[&str], Option<(ErrorKind, i32)>); 15] = [
+const REFUSED: [(&[&str], Option<(ErrorKind, i32)>); 16] = [
     (&[], Some((ErrorKind::MissingRequiredArgument, 2))),
     (
         &["gherkin_run"],
@@ -103,6 +105,10 @@ const REFUSED: [(&[&str], Option<(ErrorKind, i32)>); 15] = [
     ),
     (
         &["gherkin_run", "--library", "l", "--library", "l", "a"],
+        Some((ErrorKind::ArgumentConflict, 2)),
+    ),
+    (
+        &["gherkin_run", "--hooks", "h", "--hooks", "h", "a"],
         Some((ErrorKind::ArgumentConflict, 2)),
     ),
     (

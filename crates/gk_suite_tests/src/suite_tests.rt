@@ -36,28 +36,40 @@ fn options(alloc: Global, tags: &str) -> Result<Options, AllocError> {
 
 #[test]
 fn reports_whole_runs(rt: HostRuntime) -> Result<(), Fail> {
-    // What the source holds, the tags, the status, and the report.
-    let cases: [(&str, &str, u8, &str); 3] = [
+    // What the source and the hooks file hold, the tags, the status, and the report.
+    let cases: [(&str, Option<&[u8]>, &str, u8, &str); 4] = [
         (
             "# nothing\n",
+            None,
             "",
             0,
             "0 features passed, 0 failed, 0 skipped\n0 scenarios passed, 0 failed, 0 skipped\n0 steps passed, 0 failed, 0 skipped, 0 undefined\n",
         ),
         (
             "Feature: two\n  Scenario: A\n    When the variable \"X\" is set to \"1\"\n  Scenario: B\n    Then the variable \"X\" should be \"1\"\n",
+            None,
             "",
             1,
             "Feature: two ... failed\n  Scenario: A ... passed\n    When the variable \"X\" is set to \"1\" ... passed\n  Scenario: B ... failed\n    Then the variable \"X\" should be \"1\" ... failed: absent\n\n0 features passed, 1 failed, 0 skipped\n1 scenario passed, 1 failed, 0 skipped\n1 step passed, 1 failed, 0 skipped, 0 undefined\n",
         ),
         (
             "Feature: tags\n  @slow\n  Scenario: A\n    Given it fails\n  Scenario: B\n    Given it passes\n",
+            None,
             "~@slow",
             0,
             "Feature: tags ... passed\n  Scenario: A ... skipped\n    Given it fails ... skipped\n  Scenario: B ... passed\n    Given it passes ... passed\n\n1 feature passed, 0 failed, 0 skipped\n1 scenario passed, 0 failed, 1 skipped\n1 step passed, 0 failed, 1 skipped, 0 undefined\n",
         ),
+        (
+            "Feature: hooks\n  Scenario: A\n    Given at cleanup it fails\n",
+            Some(
+                b"before_feature:\n  Given the variable \"X\" is set to \"1\"\nafter_all:\n  Then the variable \"X\" should be \"1\"\n",
+            ),
+            "",
+            1,
+            "Feature: hooks ... failed\n  Scenario: A ... failed\n    Given at cleanup it fails ... passed\n    (hooks and cleanups) ... failed\n\n(hooks and cleanups) ... failed\n0 features passed, 1 failed, 0 skipped\n0 scenarios passed, 1 failed, 0 skipped\n1 step passed, 0 failed, 0 skipped, 0 undefined\n",
+        ),
     ];
-    for (text, tags, status, report) in cases {
+    for (text, hooks, tags, status, report) in cases {
         let sources = sources(rt.alloc(), &[text])?;
         let options = options(rt.alloc(), tags)?;
         let mut sandbox = Sandbox::new(rt.alloc());
@@ -67,6 +79,7 @@ fn reports_whole_runs(rt: HostRuntime) -> Result<(), Fail> {
             &mut sandbox,
             &options,
             None,
+            hooks,
             sources.as_slice(),
             &mut out,
         );
@@ -78,10 +91,11 @@ fn reports_whole_runs(rt: HostRuntime) -> Result<(), Fail> {
     Ok(())
 }
 
-// The tags, the library and the second source; the fault.
-const UNREAD: [(&str, &[u8], &str, RunFault); 3] = [
+// The tags, the library, the hooks and the second source; the fault.
+const UNREAD: [(&str, &[u8], &[u8], &str, RunFault); 4] = [
     (
         "@",
+        b"x",
         b"x",
         "Feature: a\nstray\n",
         RunFault::Select {
@@ -92,11 +106,20 @@ const UNREAD: [(&str, &[u8], &str, RunFault); 3] = [
     (
         "",
         b"x",
+        b"x",
         "Feature: a\nstray\n",
         RunFault::Library(LibraryFault::BadType { line: 1 }),
     ),
     (
         "",
+        b"",
+        b"before_all:\nafter_each:\n",
+        "Feature: a\nstray\n",
+        RunFault::Hooks(ReadFault::BadHook { line: 2 }),
+    ),
+    (
+        "",
+        b"",
         b"",
         "Feature: a\nScenario: b\n  Given c\n  stray\n",
         RunFault::Read {
@@ -108,7 +131,7 @@ const UNREAD: [(&str, &[u8], &str, RunFault); 3] = [
 
 #[test]
 fn names_the_first_that_does_not_read(rt: HostRuntime) -> Result<(), Fail> {
-    for (tags, library, text, fault) in UNREAD {
+    for (tags, library, hooks, text, fault) in UNREAD {
         let sources = sources(rt.alloc(), &["Feature: one\n", text, "stray"])?;
         let options = options(rt.alloc(), tags)?;
         let mut sandbox = Sandbox::new(rt.alloc());
@@ -118,6 +141,7 @@ fn names_the_first_that_does_not_read(rt: HostRuntime) -> Result<(), Fail> {
             &mut sandbox,
             &options,
             Some(library),
+            Some(hooks),
             sources.as_slice(),
             &mut out,
         );
@@ -129,10 +153,11 @@ fn names_the_first_that_does_not_read(rt: HostRuntime) -> Result<(), Fail> {
 }
 
 // A fault, and its status.
-const STATUSES: [(RunFault, u8); 5] = [
+const STATUSES: [(RunFault, u8); 6] = [
     (RunFault::Write, 3),
     (RunFault::Memory, 4),
     (RunFault::Library(LibraryFault::TooLong), 3),
+    (RunFault::Hooks(ReadFault::BadHook { line: 1 }), 3),
     (
         RunFault::Select {
             input: None,

@@ -8,17 +8,17 @@ use Rattle.gherkin_run.proofs.program.run_sources.Goals as goal
 
 pub returns-in-Ok-flush-clause-judged : goal.returns-in-Ok-flush-clause-judged
 returns-in-Ok-flush-clause-judged g c =
-    let judged = rw (c.bytes_of-bytes.ensures, c.as_slice.ensures.value) at c.in-Ok.ensures.judged in
+    let judged = rw (c.bytes_of-steps.ensures, c.bytes_of-around.ensures, c.as_slice.ensures.value) at c.in-Ok.ensures.judged in
     judged_kept _ _ _ (device_of (λ w. g.W.Write.contents w) c.run_suite.new.out) _ c.in-Ok.status judged c.flush.ensures.bytes
 
 pub returns-in-Ok-flush-clause-plain : goal.returns-in-Ok-flush-clause-plain
 returns-in-Ok-flush-clause-plain g c =
-    let plain = rw (c.bytes_of-bytes.ensures, c.as_slice.ensures.value) at c.in-Ok.ensures.plain in
+    let plain = rw (c.bytes_of-steps.ensures, c.bytes_of-around.ensures, c.as_slice.ensures.value) at c.in-Ok.ensures.plain in
     plain_kept _ _ _ (device_of (λ w. g.W.Write.contents w) c.run_suite.new.out) _ c.in-Ok.status plain c.flush.ensures.bytes
 
 pub returns-in-Ok-clause-fault : goal.returns-in-Ok-clause-fault
 returns-in-Ok-clause-fault g c =
-    let judged = rw (c.bytes_of-bytes.ensures, c.as_slice.ensures.value) at c.in-Ok.ensures.judged in
+    let judged = rw (c.bytes_of-steps.ensures, c.bytes_of-around.ensures, c.as_slice.ensures.value) at c.in-Ok.ensures.judged in
     inr record {
       named = refl;
       status = c.in-Ok.status;
@@ -28,14 +28,14 @@ returns-in-Ok-clause-fault g c =
 
 pub fault_of_run-requires : goal.fault_of_run-requires
 fault_of_run-requires g c =
-    let says = rw (c.bytes_of-bytes.ensures, c.as_slice.ensures.value) at c.in-Err.ensures.fault in
-    within c.args.options.now (option_map source_value c.args.library) (map source_value c.args.sources.items) _ _ _ c.in-Err.fault says
+    let says = rw (c.bytes_of-steps.ensures, c.bytes_of-around.ensures, c.as_slice.ensures.value) at c.in-Err.ensures.fault in
+    within c.args.options.now (option_map source_value c.args.library) (option_map source_value c.args.hooks) (map source_value c.args.sources.items) _ _ _ c.in-Err.fault says
 
 pub returns-clause-fault : goal.returns-clause-fault
 returns-clause-fault g c =
-    let says = rw (c.bytes_of-bytes.ensures, c.as_slice.ensures.value) at c.in-Err.ensures.fault in
+    let says = rw (c.bytes_of-steps.ensures, c.bytes_of-around.ensures, c.as_slice.ensures.value) at c.in-Err.ensures.fault in
     inl (c.in-Err.fault, c.fault_of_run.ensures, says)
 
 pub returns-clause-calls : goal.returns-clause-calls
 returns-clause-calls g c =
-    calls_of_run _ _ _ _ (option_map source_value c.args.library) (map source_value c.args.sources.items) c.in-Err.fault c.fault_of_run.result c.requires.room c.fault_of_run.ensures c.in-Err.ensures.fault
+    calls_of_run _ _ _ _ (option_map source_value c.args.library) (option_map source_value c.args.hooks) (map source_value c.args.sources.items) c.in-Err.fault c.fault_of_run.result c.requires.room c.fault_of_run.ensures c.in-Err.ensures.fault

@@ -29,6 +29,7 @@ returns c =
       tags = c.in_ok-tags.ensures ∙ tags;
       lines = c.in_ok-lines.ensures ∙ ap (map line_number) lines;
       library = c.in_ok-library.ensures ∙ (c.get_str.ensures ∙ first_value-rows f (codes "library"));
+      hooks = c.in_ok-hooks.ensures ∙ (c.get_str-2.ensures ∙ first_value-rows f (codes "hooks"));
       variables = c.in_ok-env.ensures.1 ∙ ap (map cut_at_equals) env;
       cut = subst (All (λ text. has_equals text ≡ true)) env c.in_ok-env.ensures.0;
     }

@@ -11,34 +11,34 @@ use Rattle.gk_cli.proofs.suite.run_suite.Goals as goal
 
 pub returns-in-Ok-write_whole-clause-reported : goal.returns-in-Ok-write_whole-clause-reported
 returns-in-Ok-write_whole-clause-reported g c =
-    let results = results_of c.in-Ok-run_features.results.items in
-    let items : c.as_slice.result.now ≡ c.in-Ok-run_features.results.items = c.as_slice.ensures.value in
+    let results = results_of c.in-Ok-run_all.results.features.items c.in-Ok-run_all.results.around in
+    let items : c.as_slice.result.now ≡ c.in-Ok-run_all.results.features.items = c.as_slice.ensures.value in
     let written : c.as_bytes.result.now ≡ string_bytes c.in-Ok-finish.finished.report = search rules in
-    let whole : c.as_bytes.result.now ≡ report results = written ∙ c.in-Ok-finish.ensures.report ∙ ap (λ rs. report (results_of rs)) items in
-    let answered : c.in-Ok-finish.finished.status ≡ status results = c.in-Ok-finish.ensures.status ∙ ap (λ rs. status (results_of rs)) items in
+    let whole : c.as_bytes.result.now ≡ report results = written ∙ c.in-Ok-finish.ensures.report ∙ ap (λ rs. report (results_of rs c.in-Ok-run_all.results.around)) items in
+    let answered : c.in-Ok-finish.finished.status ≡ status results = c.in-Ok-finish.ensures.status ∙ ap (λ rs. status (results_of rs c.in-Ok-run_all.results.around)) items in
     (results, reported_by results whole c.in-Ok-write_whole.ensures.ok answered)
 
 pub returns-in-Ok-write_whole-clause-judged : goal.returns-in-Ok-write_whole-clause-judged
 returns-in-Ok-write_whole-clause-judged g c =
-    let results = results_of c.in-Ok-run_features.results.items in
-    let items : c.as_slice.result.now ≡ c.in-Ok-run_features.results.items = c.as_slice.ensures.value in
+    let results = results_of c.in-Ok-run_all.results.features.items c.in-Ok-run_all.results.around in
+    let items : c.as_slice.result.now ≡ c.in-Ok-run_all.results.features.items = c.as_slice.ensures.value in
     let written : c.as_bytes.result.now ≡ string_bytes c.in-Ok-finish.finished.report = search rules in
-    let whole : c.as_bytes.result.now ≡ report results = written ∙ c.in-Ok-finish.ensures.report ∙ ap (λ rs. report (results_of rs)) items in
-    let answered : c.in-Ok-finish.finished.status ≡ status results = c.in-Ok-finish.ensures.status ∙ ap (λ rs. status (results_of rs)) items in
-    (results, reported_by results whole c.in-Ok-write_whole.ensures.ok answered, record { inputs = inputs_value c.in-Ok.inputs; read = c.in-Ok.ensures.read; judged = c.in-Ok-run_features.ensures.rows })
+    let whole : c.as_bytes.result.now ≡ report results = written ∙ c.in-Ok-finish.ensures.report ∙ ap (λ rs. report (results_of rs c.in-Ok-run_all.results.around)) items in
+    let answered : c.in-Ok-finish.finished.status ≡ status results = c.in-Ok-finish.ensures.status ∙ ap (λ rs. status (results_of rs c.in-Ok-run_all.results.around)) items in
+    (results, reported_by results whole c.in-Ok-write_whole.ensures.ok answered, record { inputs = inputs_value c.in-Ok.inputs; read = c.in-Ok.ensures.read; judged = c.in-Ok-run_all.ensures.judged })
 
 pub returns-in-Ok-write_whole-clause-plain : goal.returns-in-Ok-write_whole-clause-plain
 returns-in-Ok-write_whole-clause-plain g c = λ other.
-    let request = request_of c.args.options.now (option_map (λ bytes. bytes.now) c.args.library) (map source_value c.args.sources.now) in
+    let request = request_of c.args.options.now (option_map (λ bytes. bytes.now) c.args.library) (option_map (λ bytes. bytes.now) c.args.hooks) (map source_value c.args.sources.now) in
     let contents = c.args.sandbox.now.now in
     let inputs = inputs_value c.in-Ok.inputs in
-    let results = results_of c.in-Ok-run_features.results.items in
-    let items : c.as_slice.result.now ≡ c.in-Ok-run_features.results.items = c.as_slice.ensures.value in
+    let results = results_of c.in-Ok-run_all.results.features.items c.in-Ok-run_all.results.around in
+    let items : c.as_slice.result.now ≡ c.in-Ok-run_all.results.features.items = c.as_slice.ensures.value in
     let written : c.as_bytes.result.now ≡ string_bytes c.in-Ok-finish.finished.report = search rules in
-    let whole : c.as_bytes.result.now ≡ report results = written ∙ c.in-Ok-finish.ensures.report ∙ ap (λ rs. report (results_of rs)) items in
-    let answered : c.in-Ok-finish.finished.status ≡ status results = c.in-Ok-finish.ensures.status ∙ ap (λ rs. status (results_of rs)) items in
-    let unmarked = no_memory results (λ four. other (answered ∙ four)) in
-    let same = c.without_memory_there_is_one_list.ensures (run_with inputs) contents inputs.features results c.in-Ok-run_features.ensures.rows unmarked in
+    let whole : c.as_bytes.result.now ≡ report results = written ∙ c.in-Ok-finish.ensures.report ∙ ap (λ rs. report (results_of rs c.in-Ok-run_all.results.around)) items in
+    let answered : c.in-Ok-finish.finished.status ≡ status results = c.in-Ok-finish.ensures.status ∙ ap (λ rs. status (results_of rs c.in-Ok-run_all.results.around)) items in
+    let unmarked = no_memory (run_with inputs) contents inputs.features results c.in-Ok-run_all.ensures.judged (λ four. other (answered ∙ four)) in
+    let same = c.without_memory_there_is_one_list.ensures (run_with inputs) contents inputs.features results c.in-Ok-run_all.ensures.judged unmarked in
     record {
       inputs = inputs;
       read = c.in-Ok.ensures.read;
@@ -49,13 +49,13 @@ returns-in-Ok-write_whole-clause-plain g c = λ other.
 
 pub returns-clause-fault : goal.returns-clause-fault
 returns-clause-fault g c =
-    let results = results_of c.in-Ok-run_features.results.items in
-    let items : c.as_slice.result.now ≡ c.in-Ok-run_features.results.items = c.as_slice.ensures.value in
+    let results = results_of c.in-Ok-run_all.results.features.items c.in-Ok-run_all.results.around in
+    let items : c.as_slice.result.now ≡ c.in-Ok-run_all.results.features.items = c.as_slice.ensures.value in
     let written : c.as_bytes.result.now ≡ string_bytes c.in-Ok-finish.finished.report = search rules in
-    let whole : c.as_bytes.result.now ≡ report results = written ∙ c.in-Ok-finish.ensures.report ∙ ap (λ rs. report (results_of rs)) items in (
+    let whole : c.as_bytes.result.now ≡ report results = written ∙ c.in-Ok-finish.ensures.report ∙ ap (λ rs. report (results_of rs c.in-Ok-run_all.results.around)) items in (
       results,
       record {
-        judged = record { inputs = inputs_value c.in-Ok.inputs; read = c.in-Ok.ensures.read; judged = c.in-Ok-run_features.ensures.rows };
+        judged = record { inputs = inputs_value c.in-Ok.inputs; read = c.in-Ok.ensures.read; judged = c.in-Ok-run_all.ensures.judged };
         written = subst (IsPrefixWritten _ _) whole c.in-Err-write_whole.ensures.cut;
         failed = c.in-Err-write_whole.ensures.failed;
         unflushed = c.write_whole.ensures.unflushed;

@@ -1,0 +1,157 @@
+-- A whole run with a hooks file by computation: from the bytes of the files to the report's bytes and the status.
+use Rattle.std.specs.Prelude.{◌≡◌, ◌≢◌, ℕ, List, [], ◌∷◌, Some, None, codes}
+use Rattle.std.specs.Io.KnownBytes.{Appends}
+use Rattle.std.specs.Fmt.{digits}
+use Rattle.std.specs.Str.{chars, is_utf8}
+use lib.Utf8
+use Rattle.std.proofs.Common.{refl, ap, sym, subst, arith}
+use Rattle.std.proofs.lemmas.Str.{IsUtf8-from_is_utf8}
+use Rattle.gk_gherkin.specs.declared.feature.StepType.TheVariants.{Given, Then}
+use Rattle.gk_gherkin.specs.declared.hooks.HookKind.{HookKind}
+use Rattle.gk_gherkin.specs.declared.hooks.HookKind.TheVariants.{BeforeScenario, AfterAll}
+use Rattle.gk_gherkin.specs.Lines.{LineValue, Lines, line_at, lines_of, IsText}
+use Rattle.gk_gherkin.specs.Class.{class, class_of, class_of_words, step_keyword, step_text}
+use Rattle.gk_gherkin.specs.StepTypes.{type_after}
+use Rattle.gk_gherkin.specs.Feature.{Empty, StepValue}
+use Rattle.gk_gherkin.specs.Hooks.{HookValue}
+use Rattle.gk_gherkin.specs.HookHeadings.{HookHeading, hooks_class, hook_heading}
+use Rattle.gk_gherkin.specs.Grammar.{skip_none, none, more, IsStep}
+use Rattle.gk_gherkin.specs.HooksGrammar.{heading_of, IsHook, ReadsHooks}
+use Rattle.gk_select.specs.Expansion.{cases}
+use Rattle.gk_select.specs.Choice.{is_chosen}
+use Rattle.gk_steps.specs.Matching.{match_of}
+use Rattle.gk_steps.specs.Finding.{found}
+use Rattle.gk_world.specs.Contents.{nothing_yet}
+use Rattle.gk_run.specs.declared.results.Status.TheVariants as statuses
+use Rattle.gk_run.specs.Acting.{act}
+use Rattle.gk_run.specs.Results.{Results}
+use Rattle.gk_run.specs.Judged.{plain_results}
+use Rattle.gk_report.specs.ReportTexts.{status_text, reason_text, one_line}
+use Rattle.gk_report.specs.Summary.{status}
+use Rattle.gk_report.specs.PlainReport.{status_line, step_line, case_line, around_line, feature_line, counted, count_line, closing_lines, report}
+use Rattle.gk_cli.specs.Inputs.{Request, Inputs, AreInputs}
+use Rattle.gk_cli.specs.Suite.{Device, Plain, InputsAreUnique, run_with}
+use Rattle.gk_cli.proofs.WorkedRun.{ends_so, one_request, one_inputs, one_inputs_read, one_results}
+
+-- A hooks file: a step that passes before each scenario, and one that no entry matches after the run.
+abbrev hooks_bytes : List ℕ
+hooks_bytes = codes "before_scenario:\n  Given it passes\nafter_all:\n  Then it dances\n"
+
+-- What is asked for: the feature with one scenario, with these hooks.
+abbrev hooks_request : Request
+hooks_request = record one_request { hooks = Some hooks_bytes }
+
+-- What the hooks file says.
+abbrev before_step : StepValue
+before_step = record { keyword = codes "Given"; step_type = Given; text = codes "it passes"; block = Empty; line = 2 }
+
+-- The step after the run.
+abbrev after_step : StepValue
+after_step = record { keyword = codes "Then"; step_type = Then; text = codes "it dances"; block = Empty; line = 4 }
+
+-- The hook before each scenario.
+abbrev before_hook : HookValue
+before_hook = record { kind = BeforeScenario; tag = None; line = 1; steps = before_step ∷ [] }
+
+-- The hook after the run.
+abbrev after_hook : HookValue
+after_hook = record { kind = AfterAll; tag = None; line = 3; steps = after_step ∷ [] }
+
+-- Its lines.
+abbrev line_1 : LineValue
+line_1 = line_at 1 (codes "before_scenario:")
+
+abbrev line_2 : LineValue
+line_2 = line_at 2 (codes "  Given it passes")
+
+abbrev line_3 : LineValue
+line_3 = line_at 3 (codes "after_all:")
+
+abbrev line_4 : LineValue
+line_4 = line_at 4 (codes "  Then it dances")
+
+-- The lines from each of them on.
+abbrev from_4 : Lines
+from_4 = line_4 ∷ []
+
+abbrev from_3 : Lines
+from_3 = line_3 ∷ from_4
+
+abbrev from_2 : Lines
+from_2 = line_2 ∷ from_3
+
+-- These are the lines of its bytes.
+hooks_lines : lines_of hooks_bytes ≡ line_1 ∷ from_2
+hooks_lines = refl
+
+-- The second line spells the first step.
+before_step_reads : IsStep from_2 before_step from_3
+unfolding class class_of class_of_words step_keyword step_text
+before_step_reads = record { after_line = from_3; line = record { line = line_2; next = skip_none; is = refl; keyword = refl; text = refl; number = refl }; block = refl }
+
+-- The fourth line spells the second.
+after_step_reads : IsStep from_4 after_step []
+unfolding class class_of class_of_words step_keyword step_text
+after_step_reads = record { after_line = []; line = record { line = line_4; next = skip_none; is = refl; keyword = refl; text = refl; number = refl }; block = refl }
+
+-- The first two lines spell the first hook.
+before_hook_reads : IsHook (line_1 ∷ from_2) before_hook from_3
+unfolding hooks_class hook_heading type_after
+before_hook_reads = record { line = line_1; after_heading = from_2; next = skip_none; is = refl; heading = refl; number = refl; steps = record { parts = more before_step_reads none; types = (refl, tt) } }
+
+-- The last two lines spell the second hook.
+after_hook_reads : IsHook from_3 after_hook []
+unfolding hooks_class hook_heading type_after
+after_hook_reads = record { line = line_3; after_heading = from_4; next = skip_none; is = refl; heading = refl; number = refl; steps = record { parts = more after_step_reads none; types = (refl, tt) } }
+
+-- Their headings differ.
+other_kind : heading_of after_hook ≢ heading_of before_hook
+other_kind e = let kinds : ◌≡◌ {A = HookKind} AfterAll BeforeScenario = ap (λ (h : HookHeading). h.kind) e in let no : ⊥ = cc in absurd no
+
+-- All lines spell the two hooks.
+hooks_read : ReadsHooks (lines_of hooks_bytes) (before_hook ∷ after_hook ∷ [])
+hooks_read = subst (λ (ls : Lines). ReadsHooks ls (before_hook ∷ after_hook ∷ [])) (sym hooks_lines) (record {
+  tail = [];
+  parts = more before_hook_reads (more after_hook_reads none);
+  end = skip_none;
+  distinct = ((other_kind, tt), (tt, tt));
+})
+
+-- The bytes are a text.
+hooks_is_text : IsText hooks_bytes
+unfolding is_utf8 chars lib.Utf8.encode
+hooks_is_text = (omega arith, IsUtf8-from_is_utf8 hooks_bytes refl)
+
+-- What is asked for, as it reads.
+abbrev hooks_inputs : Inputs
+hooks_inputs = record one_inputs { hooks = before_hook ∷ after_hook ∷ [] }
+
+-- It reads so.
+hooks_inputs_read : AreInputs hooks_request hooks_inputs
+hooks_inputs_read = record { rules = one_inputs_read.rules; tags = one_inputs_read.tags; library = one_inputs_read.library; hooks = (hooks_is_text, hooks_read); features = one_inputs_read.features }
+
+-- The results that plain maps give: those of the feature are as without hooks, and the run's own hook fails.
+abbrev hooks_results : Results
+hooks_results = record one_results { around = statuses.Failed }
+
+-- They are those of the inputs.
+hooks_is_plain : plain_results (run_with hooks_inputs) nothing_yet hooks_inputs.features ≡ hooks_results
+unfolding cases is_chosen found match_of act
+hooks_is_plain = refl
+
+-- Their report and their status.
+abbrev hooks_report : List ℕ
+hooks_report = codes "Feature: one ... passed\n  Scenario: first ... passed\n    Given it passes ... passed\n\n(hooks and cleanups) ... failed\n1 feature passed, 0 failed, 0 skipped\n1 scenario passed, 0 failed, 0 skipped\n1 step passed, 0 failed, 0 skipped, 0 undefined\n"
+
+-- The results have that report.
+hooks_reports : report hooks_results ≡ hooks_report
+unfolding digits status_text reason_text one_line status_line step_line case_line around_line feature_line counted count_line closing_lines
+hooks_reports = refl
+
+-- The results have that status.
+hooks_status : status hooks_results ≡ 1
+hooks_status = refl
+
+-- A run of that request that doesn't end with 4 writes that report and ends with 1.
+pub hooks_run : InputsAreUnique → (old new : Device) (answer : ℕ) → Plain hooks_request nothing_yet old new answer → answer ≢ 4 → Appends old.bytes new.bytes hooks_report × (answer ≡ 1)
+hooks_run = ends_so hooks_request hooks_inputs hooks_results hooks_report 1 hooks_inputs_read hooks_is_plain hooks_reports hooks_status

@@ -1,0 +1,5 @@
+Feature: two
+  @slow
+  Scenario: A
+    Given it fails
+  Scenario: B
