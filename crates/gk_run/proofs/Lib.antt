@@ -1,6 +1,7 @@
 pub mod NumbersLemmas
 pub mod ActingLemmas
 pub mod ActingExamples
+pub mod RunningExamples
 pub mod Nothing
 pub mod EndingLemmas
 pub mod WalkLemmas

@@ -1,9 +1,8 @@
 use gk_gherkin::{
-    Block, Examples, Feature, HookKind, LIMIT, ReadFault, Step, read_feature, read_hooks,
+    Block, Feature, HookFile, HookKind, LIMIT, ReadFault, Scenario, Step, read_feature, read_hooks,
     read_lines, trim_back,
 };
-use std::alloc::Global;
-use std::fmt::Write as _;
+use std::alloc::{AllocError, Global};
 use std::process::Abort;
 use std::test::Fail;
 
@@ -11,16 +10,44 @@ use std::test::Fail;
 const WHOLE: &str =
     "# language: en\n@f @g # h\nFeature: one: two\n  about\n  Given no step\n\n  Background:\n    | no row\n    Given a\n      | a\\|b |  |\n      # between\n      | c\\nd | \\\\ |\n  @s\n\n  Scenario: s\n    text\n    When b\n      \"\"\" json\n      x\n        \\\"\\\"\\\"\n\n      ```\n      \"\"\"\n    And c\n    But d\n    Then e\n      ```\n      ```\n    * f\n  Scenario Outline: o\n    Given <x>\n    @e\n    Examples: first\n      Given no step\n      | x |\n      | 1 |\n      | 2 |\n    Scenarios:\n@r\nRule: r\n  Background:\n  Example: y\n";
 
-fn text(alloc: Global, text: &str, count: usize) -> Result<String, Fail> {
-    let mut whole = String::new(alloc);
+// A text, so many times another, and a text at the end.
+fn text(
+    alloc: Global,
+    head: &str,
+    part: &str,
+    count: usize,
+    tail: &str,
+) -> Result<String, AllocError> {
+    let mut whole = String::from_str(alloc, head)?;
     for _ in 0..count {
-        whole.push_str(text)?;
+        whole.push_str(part)?;
     }
+    whole.push_str(tail)?;
     Ok(whole)
 }
 
+// Whether bytes have so many lines, of which the last has this text and begins at this column.
+fn are_lines(
+    alloc: Global,
+    bytes: &[u8],
+    count: usize,
+    text: &str,
+    column: u32,
+) -> Result<bool, ReadFault> {
+    let document = read_lines(alloc, bytes)?;
+    let is_last = match document.lines.as_slice().last() {
+        Some(line) => {
+            line.text.as_str() == text
+                && line.place.line as usize == count
+                && line.place.column == column
+        }
+        None => true,
+    };
+    Ok(is_last && document.lines.len() == count)
+}
+
 #[test]
-fn lines_end_at_lf_or_crlf(rt: HostRuntime) -> Result<(), Fail> {
+fn lines_end_at_lf_or_crlf(rt: HostRuntime) -> Result<(), ReadFault> {
     // Bytes, how many lines they are, and the last line's text and column.
     let cases: [(&[u8], usize, &str, u32); 5] = [
         (b"", 0, "", 0),
@@ -30,13 +57,10 @@ fn lines_end_at_lf_or_crlf(rt: HostRuntime) -> Result<(), Fail> {
         (b"a\n \tb", 2, " \tb", 3),
     ];
     for (bytes, count, text, column) in cases {
-        let document = read_lines(rt.alloc(), bytes)?;
-        assert_eq!(rt; document.lines.len(), count);
-        if let Some(line) = document.lines.last() {
-            assert_eq!(rt; line.text.as_str(), text);
-            assert_eq!(rt; line.place.line as usize, count);
-            assert_eq!(rt; line.place.column, column);
-        }
+        assert!(rt;
+            are_lines(rt.alloc(), bytes, count, text, column)?,
+            "at {text}"
+        );
     }
     Ok(())
 }
@@ -132,15 +156,20 @@ fn refuses(rt: HostRuntime) -> Result<(), Fail> {
 }
 
 #[test]
-fn faults_have_lines_and_texts(rt: HostRuntime) -> Result<(), Fail> {
-    for (fault, line, text) in FAULTS {
-        assert_eq!(rt; fault.line(), line);
-        let mut shown = String::new(rt.alloc());
-        write!(shown, "{}", fault)?;
+fn faults_have_texts(rt: HostRuntime) -> Result<(), AllocError> {
+    for (fault, _, text) in FAULTS {
+        let shown = format!(in rt.alloc(); "{fault}")?;
         assert_eq!(rt; shown.as_str(), text);
     }
-    assert_eq!(rt; ReadFault::TooLong.line(), None);
     Ok(())
+}
+
+#[test]
+fn faults_have_lines(rt: HostRuntime) {
+    for (fault, line, _) in FAULTS {
+        assert_eq!(rt; fault.line(), line);
+    }
+    assert_eq!(rt; ReadFault::TooLong.line(), None);
 }
 
 #[test]
@@ -154,159 +183,171 @@ fn each_prefix_is_read_or_refused(rt: HostRuntime) -> Result<(), Fail> {
     Ok(())
 }
 
+// As many bytes as a file may have, and the bytes at the end, of which the whole is one comment.
+fn comment(alloc: Global, tail: &str) -> Result<String, AllocError> {
+    text(alloc, "", "################", LIMIT / 16, tail)
+}
+
 #[test]
 fn reads_up_to_the_limit(rt: HostRuntime) -> Result<(), Fail> {
-    let mut comment = text(rt.alloc(), "################", LIMIT / 16)?;
+    let comment = comment(rt.alloc(), "")?;
     assert_eq!(rt; comment.len(), LIMIT);
-    assert_eq!(rt;
-        read_feature(rt.alloc(), comment.as_bytes())?.is_none(),
-        true
-    );
-    assert_eq!(rt; read_lines(rt.alloc(), comment.as_bytes())?.lines.len(), 1);
-    comment.push_str("#")?;
-    assert_eq!(rt;
-        read_feature(rt.alloc(), comment.as_bytes()).err(),
-        Some(ReadFault::TooLong)
-    );
-    assert_eq!(rt;
-        read_lines(rt.alloc(), comment.as_bytes()).err(),
-        Some(ReadFault::TooLong)
-    );
+    assert!(rt; read_feature(rt.alloc(), comment.as_bytes())?.is_none());
+    assert!(rt; are_lines(rt.alloc(), comment.as_bytes(), 1, &comment, 1)?);
     Ok(())
 }
 
-fn read(alloc: Global, head: &str, part: &str, count: usize) -> Result<Feature, Fail> {
-    let mut whole = text(alloc, head, 1)?;
-    whole.push_str(text(alloc, part, count)?.as_str())?;
-    Ok(read_feature(alloc, whole.as_bytes())?.ok_or("none")?)
-}
-
-fn steps_of(feature: &Feature) -> Result<&[Step], Fail> {
-    match feature.scenarios.as_slice().first() {
-        Some(scenario) => Ok(scenario.steps.as_slice()),
-        None => Err(Fail::from("no scenario")),
-    }
-}
-
-fn first_step(feature: &Feature) -> Result<&Step, Fail> {
-    match steps_of(feature)?.first() {
-        Some(step) => Ok(step),
-        None => Err(Fail::from("no step")),
-    }
-}
-
-fn last_line(feature: &Feature) -> Result<u32, Fail> {
-    match steps_of(feature)?.last() {
-        Some(step) => Ok(step.line),
-        None => Err(Fail::from("no step")),
-    }
-}
-
-fn rows_in_examples(feature: &Feature) -> Result<usize, Fail> {
-    match feature.scenarios.as_slice().first() {
-        Some(scenario) => match scenario.examples.as_slice().first() {
-            Some(examples) => Ok(examples.rows.len()),
-            None => Err(Fail::from("no examples")),
-        },
-        None => Err(Fail::from("no scenario")),
-    }
-}
-
-fn cells_in_table(feature: &Feature) -> Result<usize, Fail> {
-    match &first_step(feature)?.block {
-        Block::Table(rows) => match rows.as_slice().first() {
-            Some(row) => Ok(row.len()),
-            None => Err(Fail::from("no row")),
-        },
-        _ => Err(Fail::from("no table")),
-    }
-}
-
 #[test]
-fn reads_many_lines_and_long_ones(rt: HostRuntime) -> Result<(), Fail> {
-    let steps = read(rt.alloc(), "Feature: a\nExample:\n", "* x\n", 70_000)?;
-    assert_eq!(rt; steps_of(&steps)?.len(), 70_000);
-    assert_eq!(rt; last_line(&steps)?, 70_002);
-    let rows = read(
-        rt.alloc(),
+fn refuses_beyond_the_limit(rt: HostRuntime) -> Result<(), AllocError> {
+    let comment = comment(rt.alloc(), "#")?;
+    let feature = read_feature(rt.alloc(), comment.as_bytes()).err();
+    assert_eq!(rt; feature, Some(ReadFault::TooLong));
+    let lines = read_lines(rt.alloc(), comment.as_bytes()).err();
+    assert_eq!(rt; lines, Some(ReadFault::TooLong));
+    Ok(())
+}
+
+// What is counted of a feature. Of the steps, the first scenario's are meant; of the rest, the first
+// step's, or the first examples'.
+#[derive(Clone, Copy)]
+enum Part {
+    Tags,
+    Scenarios,
+    Rules,
+    Steps,
+    LastLine,
+    StepText,
+    DocString,
+    TableRows,
+    TableCells,
+    Examples,
+    ExampleRows,
+}
+
+fn size_in_block(step: &Step, part: Part) -> Option<usize> {
+    match (&step.block, part) {
+        (Block::Text(text), Part::DocString) => Some(text.len()),
+        (Block::Table(rows), Part::TableRows) => Some(rows.len()),
+        (Block::Table(rows), Part::TableCells) => Some(rows.as_slice().first()?.len()),
+        _ => None,
+    }
+}
+
+fn size_in_scenario(scenario: &Scenario, part: Part) -> Option<usize> {
+    match part {
+        Part::Steps => Some(scenario.steps.len()),
+        Part::LastLine => Some(scenario.steps.as_slice().last()?.line as usize),
+        Part::StepText => Some(scenario.steps.as_slice().first()?.text.len()),
+        Part::Examples => Some(scenario.examples.len()),
+        Part::ExampleRows => Some(scenario.examples.as_slice().first()?.rows.len()),
+        _ => size_in_block(scenario.steps.as_slice().first()?, part),
+    }
+}
+
+fn size(feature: &Feature, part: Part) -> Option<usize> {
+    match part {
+        Part::Tags => Some(feature.tags.len()),
+        Part::Scenarios => Some(feature.scenarios.len()),
+        Part::Rules => Some(feature.rules.len()),
+        _ => size_in_scenario(feature.scenarios.as_slice().first()?, part),
+    }
+}
+
+// The size of a part of the feature that bytes spell.
+fn size_read(alloc: Global, bytes: &[u8], part: Part) -> Result<Option<usize>, ReadFault> {
+    match read_feature(alloc, bytes)? {
+        Some(feature) => Ok(size(&feature, part)),
+        None => Ok(None),
+    }
+}
+
+/// How a file begins, what comes then and how often, how it ends; what is counted of its feature, and
+/// how many there are.
+type Large = (&'static str, &'static str, usize, &'static str, Part, usize);
+
+/// The first row of whose feature another number is counted.
+fn first_wrong(alloc: Global, rows: &[Large]) -> Result<Option<usize>, ReadFault> {
+    for (place, row) in rows.iter().enumerate() {
+        let (head, part, count, tail, counted, wanted) = *row;
+        let file = text(alloc, head, part, count, tail)?;
+        if size_read(alloc, file.as_bytes(), counted)? != Some(wanted) {
+            return Ok(Some(place));
+        }
+    }
+    Ok(None)
+}
+
+const SCENARIO: &str = "Feature: a\nExample:\n";
+
+const STEP: &str = "Feature: a\nExample:\n* x\n";
+
+const LONG: [Large; 6] = [
+    (SCENARIO, "* x\n", 70_000, "", Part::Steps, 70_000),
+    (SCENARIO, "* x\n", 70_000, "", Part::LastLine, 70_002),
+    (
         "Feature: a\nExample:\nExamples:\n",
         "|a|\n",
         70_000,
-    )?;
-    assert_eq!(rt; rows_in_examples(&rows)?, 69_999);
-    let long = read(rt.alloc(), "Feature: a\nExample:\n* ", "long", 262_144)?;
-    assert_eq!(rt; first_step(&long)?.text.len(), 1_048_576);
-    let cells = read(
-        rt.alloc(),
+        "",
+        Part::ExampleRows,
+        69_999,
+    ),
+    (
+        "Feature: a\nExample:\n* ",
+        "long",
+        262_144,
+        "",
+        Part::StepText,
+        1_048_576,
+    ),
+    (
         "Feature: a\nExample:\n* x\n|",
         "\\|\\n|",
         200_000,
-    )?;
-    assert_eq!(rt; cells_in_table(&cells)?, 200_000);
-    let mut tags = text(rt.alloc(), "@a ", 300_000)?;
-    tags.push_str("\nFeature: a")?;
-    let tagged = read_feature(rt.alloc(), tags.as_bytes())?.ok_or("none")?;
-    assert_eq!(rt; tagged.tags.len(), 300_000);
+        "",
+        Part::TableCells,
+        200_000,
+    ),
+    ("", "@a ", 300_000, "\nFeature: a", Part::Tags, 300_000),
+];
+
+#[test]
+fn reads_many_lines_and_long_ones(rt: HostRuntime) -> Result<(), ReadFault> {
+    assert_eq!(rt; first_wrong(rt.alloc(), &LONG)?, None);
     Ok(())
 }
 
-fn examples_of(feature: &Feature) -> Result<&[Examples], Fail> {
-    match feature.scenarios.as_slice().first() {
-        Some(scenario) => Ok(scenario.examples.as_slice()),
-        None => Err(Fail::from("no scenario")),
-    }
-}
-
-fn rows_in_table(feature: &Feature) -> Result<usize, Fail> {
-    match &first_step(feature)?.block {
-        Block::Table(rows) => Ok(rows.len()),
-        _ => Err(Fail::from("no table")),
-    }
-}
-
-fn length_of_text(feature: &Feature) -> Result<usize, Fail> {
-    match &first_step(feature)?.block {
-        Block::Text(text) => Ok(text.len()),
-        _ => Err(Fail::from("no text")),
-    }
-}
+const MANY: [Large; 5] = [
+    (
+        "Feature: a\n",
+        "Example:\n",
+        70_000,
+        "",
+        Part::Scenarios,
+        70_000,
+    ),
+    ("Feature: a\n", "Rule:\n", 70_000, "", Part::Rules, 70_000),
+    (SCENARIO, "Examples:\n", 70_000, "", Part::Examples, 70_000),
+    (STEP, "|a|\n", 70_000, "", Part::TableRows, 70_000),
+    ("", "@a\n", 70_000, "Feature: a", Part::Tags, 70_000),
+];
 
 #[test]
-fn reads_many_scenarios_and_rules(rt: HostRuntime) -> Result<(), Fail> {
-    let scenarios = read(rt.alloc(), "Feature: a\n", "Example:\n", 70_000)?;
-    assert_eq!(rt; scenarios.scenarios.len(), 70_000);
-    let rules = read(rt.alloc(), "Feature: a\n", "Rule:\n", 70_000)?;
-    assert_eq!(rt; rules.rules.len(), 70_000);
-    Ok(())
-}
-
-#[test]
-fn reads_many_examples_and_rows(rt: HostRuntime) -> Result<(), Fail> {
-    let outline = read(rt.alloc(), "Feature: a\nExample:\n", "Examples:\n", 70_000)?;
-    assert_eq!(rt; examples_of(&outline)?.len(), 70_000);
-    let table = read(rt.alloc(), "Feature: a\nExample:\n* x\n", "|a|\n", 70_000)?;
-    assert_eq!(rt; rows_in_table(&table)?, 70_000);
-    Ok(())
-}
-
-#[test]
-fn reads_many_tag_lines(rt: HostRuntime) -> Result<(), Fail> {
-    let mut tags = text(rt.alloc(), "@a\n", 70_000)?;
-    tags.push_str("Feature: a")?;
-    let tagged = read_feature(rt.alloc(), tags.as_bytes())?.ok_or("none")?;
-    assert_eq!(rt; tagged.tags.len(), 70_000);
+fn reads_many_scenarios_rules_and_rows(rt: HostRuntime) -> Result<(), ReadFault> {
+    assert_eq!(rt; first_wrong(rt.alloc(), &MANY)?, None);
     Ok(())
 }
 
 // A doc string of a million lines, whose last is long and has fences: no line may cost the whole text.
 #[test]
 fn reads_a_long_doc_string(rt: HostRuntime) -> Result<(), Fail> {
-    let mut quoted = text(rt.alloc(), "Feature: a\nExample:\n* x\n```\n", 1)?;
-    quoted.push_str(text(rt.alloc(), "x\n", 1_000_000)?.as_str())?;
-    quoted.push_str(text(rt.alloc(), "\\`\\`\\`", 100_000)?.as_str())?;
-    quoted.push_str("\n```\n")?;
-    let feature = read_feature(rt.alloc(), quoted.as_bytes())?.ok_or("none")?;
-    assert_eq!(rt; length_of_text(&feature)?, 2_300_000);
+    let fences = text(rt.alloc(), "", "\\`\\`\\`", 100_000, "\n```\n")?;
+    let head = "Feature: a\nExample:\n* x\n```\n";
+    let file = text(rt.alloc(), head, "x\n", 1_000_000, &fences)?;
+    assert_eq!(rt;
+        size_read(rt.alloc(), file.as_bytes(), Part::DocString)?,
+        Some(2_300_000)
+    );
     Ok(())
 }
 
@@ -392,28 +433,45 @@ fn each_prefix_of_hooks_is_read_or_refused(rt: HostRuntime) -> Result<(), Fail> 
 }
 
 #[test]
-fn reads_long_hooks_files(rt: HostRuntime) -> Result<(), Fail> {
-    let mut comment = text(rt.alloc(), "################", LIMIT / 16)?;
-    assert_eq!(rt; read_hooks(rt.alloc(), comment.as_bytes())?.hooks.len(), 0);
-    comment.push_str("#")?;
-    assert_eq!(rt;
-        read_hooks(rt.alloc(), comment.as_bytes()).err(),
-        Some(ReadFault::TooLong)
-    );
-    let mut steps = text(rt.alloc(), "before_tag @a:\n", 1)?;
-    steps.push_str(text(rt.alloc(), "* x\n", 70_000)?.as_str())?;
+fn reads_hooks_files_up_to_the_limit(rt: HostRuntime) -> Result<(), Fail> {
+    let longest = comment(rt.alloc(), "")?;
+    assert!(rt; read_hooks(rt.alloc(), longest.as_bytes())?.hooks.is_empty());
+    let longer = comment(rt.alloc(), "#")?;
+    let fault = read_hooks(rt.alloc(), longer.as_bytes()).err();
+    assert_eq!(rt; fault, Some(ReadFault::TooLong));
+    Ok(())
+}
+
+// How many steps the first hook has, if it is one before a tag.
+fn steps_before_tag(file: &HookFile) -> Option<usize> {
+    let hook = file.hooks.as_slice().first()?;
+    match hook.kind {
+        HookKind::BeforeTag => Some(hook.steps.len()),
+        _ => None,
+    }
+}
+
+#[test]
+fn reads_many_steps_of_a_hook(rt: HostRuntime) -> Result<(), Fail> {
+    let steps = text(rt.alloc(), "before_tag @a:\n", "* x\n", 70_000, "")?;
     let file = read_hooks(rt.alloc(), steps.as_bytes())?;
-    match file.hooks.as_slice().first() {
-        Some(hook) => {
-            assert_eq!(rt; hook.kind, HookKind::BeforeTag);
-            assert_eq!(rt; hook.steps.len(), 70_000);
-        }
-        None => return Err(Fail::from("no hook")),
-    }
-    let mut many = String::new(rt.alloc());
+    assert_eq!(rt; steps_before_tag(&file), Some(70_000));
+    Ok(())
+}
+
+// Hooks with steps, each for a tag of its own.
+fn many_hooks(alloc: Global) -> Result<String, AllocError> {
+    let mut many = String::new(alloc);
     for number in 0..1_000 {
-        write!(many, "after_tag @{number}:\n* x\n")?;
+        let hook = format!(in alloc; "after_tag @{number}:\n* x\n")?;
+        many.push_str(hook.as_str())?;
     }
+    Ok(many)
+}
+
+#[test]
+fn reads_many_hooks(rt: HostRuntime) -> Result<(), Fail> {
+    let many = many_hooks(rt.alloc())?;
     assert_eq!(rt; read_hooks(rt.alloc(), many.as_bytes())?.hooks.len(), 1_000);
     Ok(())
 }

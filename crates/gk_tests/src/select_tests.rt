@@ -1,7 +1,6 @@
 use gk_gherkin::read_feature;
 use gk_select::{Case, Choice, SelectFault, expand, read_features_are_expandable, read_tags};
 use std::alloc::{AllocError, Global};
-use std::fmt::Write as _;
 use std::test::Fail;
 
 fn text(alloc: Global, text: &str) -> Result<String, AllocError> {
@@ -60,14 +59,20 @@ fn fills_from_left_to_right(rt: HostRuntime) -> Result<(), Fail> {
     Ok(())
 }
 
-// A megabyte of `<`, also with a `>` at its end: a look-up at each `<` must not read on to the end.
-#[test]
-fn fills_a_text_of_openings(rt: HostRuntime) -> Result<(), Fail> {
-    let mut long = text(rt.alloc(), "<")?;
-    for _ in 0..20 {
+// A letter, doubled so many times.
+fn doubled(alloc: Global, letter: &str, times: usize) -> Result<String, AllocError> {
+    let mut long = text(alloc, letter)?;
+    for _ in 0..times {
         let copy = long.clone()?;
         long.push_str(copy.as_str())?;
     }
+    Ok(long)
+}
+
+// A megabyte of `<`, also with a `>` at its end: a look-up at each `<` must not read on to the end.
+#[test]
+fn fills_a_text_of_openings(rt: HostRuntime) -> Result<(), Fail> {
+    let mut long = doubled(rt.alloc(), "<", 20)?;
     assert_eq!(rt; filled(rt.alloc(), long.as_str())?.len(), 1_048_576);
     long.push('>')?;
     assert_eq!(rt; filled(rt.alloc(), long.as_str())?.len(), 1_048_577);
@@ -77,13 +82,22 @@ fn fills_a_text_of_openings(rt: HostRuntime) -> Result<(), Fail> {
 // Two megabytes of `>`: what was filled before one may not be copied.
 #[test]
 fn fills_a_text_of_closings(rt: HostRuntime) -> Result<(), Fail> {
-    let mut long = text(rt.alloc(), ">")?;
-    for _ in 0..21 {
-        let copy = long.clone()?;
-        long.push_str(copy.as_str())?;
-    }
+    let long = doubled(rt.alloc(), ">", 21)?;
     assert_eq!(rt; filled(rt.alloc(), long.as_str())?.len(), 2_097_152);
     Ok(())
+}
+
+// Whether these are the outline's only case.
+fn are_of_outline(cases: &[Case]) -> bool {
+    let [case] = cases else {
+        return false;
+    };
+    let [step] = case.steps.as_slice() else {
+        return false;
+    };
+    case.name.as_str() == "s <b> -- @1.1 more"
+        && (case.line, case.tags.len(), case.own_tags.len()) == (9, 3, 2)
+        && step.text.as_str() == "the variable \"V\" is set to \"<b>\""
 }
 
 #[test]
@@ -91,18 +105,19 @@ fn expands_an_outline(rt: HostRuntime) -> Result<(), Fail> {
     let file =
         "@f\nFeature: o\n@s\nScenario Outline: s <a>\nGiven the variable \"V\" is set to \"<a>\"\n@e\nExamples: more\n| a |\n| <b> |\n";
     let cases = cases_of(rt.alloc(), file)?;
-    let [case] = cases.as_slice() else {
-        return Err("cases".into());
-    };
-    assert_eq!(rt; case.name.as_str(), "s <b> -- @1.1 more");
-    assert_eq!(rt; case.line, 9);
-    assert_eq!(rt; case.tags.len(), 3);
-    assert_eq!(rt; case.own_tags.len(), 2);
-    let [step] = case.steps.as_slice() else {
-        return Err("steps".into());
-    };
-    assert_eq!(rt; step.text.as_str(), "the variable \"V\" is set to \"<b>\"");
+    assert!(rt; are_of_outline(cases.as_slice()));
     Ok(())
+}
+
+// Whether these are the rule's only case, with its backgrounds.
+fn are_of_rule(cases: &[Case]) -> bool {
+    let [case] = cases else {
+        return false;
+    };
+    let [first, second, third] = case.steps.as_slice() else {
+        return false;
+    };
+    (case.line, case.tags.len()) == (9, 2) && (first.line, second.line, third.line) == (4, 8, 10)
 }
 
 #[test]
@@ -110,51 +125,50 @@ fn backgrounds_come_first(rt: HostRuntime) -> Result<(), Fail> {
     let file =
         "@f\nFeature: r\nBackground:\nGiven of the feature\n@r\nRule: x\nBackground:\nGiven of the rule\nExample: e\nGiven own\n";
     let cases = cases_of(rt.alloc(), file)?;
-    let [case] = cases.as_slice() else {
-        return Err("cases".into());
-    };
-    assert_eq!(rt; case.line, 9);
-    assert_eq!(rt; case.tags.len(), 2);
-    let [first, second, third] = case.steps.as_slice() else {
-        return Err("steps".into());
-    };
-    assert_eq!(rt; (first.line, second.line, third.line), (4, 8, 10));
+    assert!(rt; are_of_rule(cases.as_slice()));
     Ok(())
 }
 
-#[test]
-fn tags_and_lines_choose(rt: HostRuntime) -> Result<(), Fail> {
-    let alloc = rt.alloc();
+// The choice by two texts of tags and three lines.
+fn choice(alloc: Global) -> Result<Choice, SelectFault> {
     let mut rules = Vec::new(alloc);
     rules.push(read_tags(alloc, "~@slow,db")?)?;
     rules.push(read_tags(alloc, "@ui")?)?;
-    let mut lines = Vec::new(alloc);
-    for line in [7, 10, 3] {
-        lines.push(line)?;
-    }
-    let choice = Choice::new(rules, lines);
-    // The tags and the line of a case, and whether it is chosen.
-    let cases: [(&[&str], u32, bool); 10] = [
-        (&[], 10, false),
-        (&["@slow"], 10, false),
-        (&["@db"], 10, false),
-        (&["@ui"], 10, true),
-        (&["@slow", "@db"], 10, false),
-        (&["@slow", "@ui"], 10, false),
-        (&["@db", "@ui"], 10, true),
-        (&["@slow", "@db", "@ui"], 10, true),
-        (&["@ui"], 3, true),
-        (&["@ui"], 4, false),
-    ];
-    for (tags, line, chosen) in cases {
-        let case = Case {
-            name: text(alloc, "s")?,
-            keyword: text(alloc, "Scenario")?,
-            line,
-            tags: texts(alloc, tags)?,
-            own_tags: Vec::new(alloc),
-            steps: Vec::new(alloc),
-        };
+    let lines = vec![in alloc; 7, 10, 3]?;
+    Ok(Choice::new(rules, lines))
+}
+
+// A case with these tags, at this line.
+fn case_at(alloc: Global, tags: &[&str], line: u32) -> Result<Case, AllocError> {
+    Ok(Case {
+        name: text(alloc, "s")?,
+        keyword: text(alloc, "Scenario")?,
+        line,
+        tags: texts(alloc, tags)?,
+        own_tags: Vec::new(alloc),
+        steps: Vec::new(alloc),
+    })
+}
+
+// The tags and the line of a case, and whether it is chosen.
+const CHOSEN: [(&[&str], u32, bool); 10] = [
+    (&[], 10, false),
+    (&["@slow"], 10, false),
+    (&["@db"], 10, false),
+    (&["@ui"], 10, true),
+    (&["@slow", "@db"], 10, false),
+    (&["@slow", "@ui"], 10, false),
+    (&["@db", "@ui"], 10, true),
+    (&["@slow", "@db", "@ui"], 10, true),
+    (&["@ui"], 3, true),
+    (&["@ui"], 4, false),
+];
+
+#[test]
+fn tags_and_lines_choose(rt: HostRuntime) -> Result<(), SelectFault> {
+    let choice = choice(rt.alloc())?;
+    for (tags, line, chosen) in CHOSEN {
+        let case = case_at(rt.alloc(), tags, line)?;
         assert_eq!(rt; choice.chooses(&case), chosen);
     }
     Ok(())
@@ -173,20 +187,25 @@ fn bad_tags_are_refused(rt: HostRuntime) -> Result<(), Fail> {
     Ok(())
 }
 
-#[test]
-fn reads_many_alternatives(rt: HostRuntime) -> Result<(), Fail> {
-    let mut many = text(rt.alloc(), "~a")?;
+// A name so often that there are 65536 alternatives, and one more.
+fn many_alternatives(alloc: Global) -> Result<String, AllocError> {
+    let mut many = text(alloc, "~a")?;
     for _ in 0..16 {
         let copy = many.clone()?;
         many.push(',')?;
         many.push_str(copy.as_str())?;
     }
     many.push_str(",@b")?;
+    Ok(many)
+}
+
+#[test]
+fn reads_many_alternatives(rt: HostRuntime) -> Result<(), SelectFault> {
+    let many = many_alternatives(rt.alloc())?;
     let rule = read_tags(rt.alloc(), many.as_str())?;
     let a = texts(rt.alloc(), &["@a"])?;
-    assert_eq!(rt; rule.selects(a.as_slice()), false);
     let both = texts(rt.alloc(), &["@a", "@b"])?;
-    assert_eq!(rt; rule.selects(both.as_slice()), true);
+    assert!(rt; !rule.selects(a.as_slice()) && rule.selects(both.as_slice()));
     Ok(())
 }
 
@@ -198,10 +217,9 @@ const FAULTS: [(SelectFault, &str); 3] = [
 ];
 
 #[test]
-fn faults_of_choosing_have_texts(rt: HostRuntime) -> Result<(), Fail> {
+fn faults_of_choosing_have_texts(rt: HostRuntime) -> Result<(), AllocError> {
     for (fault, text) in FAULTS {
-        let mut shown = String::new(rt.alloc());
-        write!(shown, "{}", fault)?;
+        let shown = format!(in rt.alloc(); "{fault}")?;
         assert_eq!(rt; shown.as_str(), text);
     }
     Ok(())

@@ -3,226 +3,251 @@ use gk_steps::*;
 use std::alloc::{AllocError, Global};
 use std::test::Fail;
 
-fn field(alloc: Global, name: &str, kind: FieldKind) -> Result<Piece, AllocError> {
+// A piece: a literal's text, or a field's name.
+#[derive(Clone, Copy)]
+enum Part {
+    Literal(&'static str),
+    Plain(&'static str),
+    Decimal(&'static str),
+}
+
+fn piece(alloc: Global, part: Part) -> Result<Piece, AllocError> {
+    let (name, kind) = match part {
+        Part::Literal(text) => return Ok(Piece::Literal(String::from_str(alloc, text)?)),
+        Part::Plain(name) => (name, FieldKind::Plain),
+        Part::Decimal(name) => (name, FieldKind::Decimal),
+    };
     Ok(Piece::Field {
         name: String::from_str(alloc, name)?,
         kind,
     })
 }
 
-fn literal(alloc: Global, text: &str) -> Result<Piece, AllocError> {
-    Ok(Piece::Literal(String::from_str(alloc, text)?))
+// The pattern of these pieces.
+fn pattern_of(alloc: Global, parts: &[Part]) -> Result<Pattern, AllocError> {
+    let mut pieces = Vec::new(alloc);
+    for part in parts {
+        pieces.push(piece(alloc, *part)?)?;
+    }
+    Ok(Pattern { pieces })
 }
 
-// A text field's text; a number's is empty.
-fn text_of(fields: &[Field], place: usize) -> &str {
-    match fields.get(place) {
-        Some(Field::Text(text)) => text,
-        _ => "",
-    }
+// Shows a pattern's match in a text, and how many cells were filled.
+fn counted(alloc: Global, parts: &[Part], text: &str) -> Result<String, AllocError> {
+    let answer = pattern_of(alloc, parts)?.matches_counted(alloc, text)?;
+    format!(in alloc; "{answer:?}")
 }
 
-fn number_at(fields: &[Field], place: usize) -> Option<i64> {
-    match fields.get(place) {
-        Some(Field::Number(number)) => Some(*number),
-        _ => None,
-    }
-}
+// The pieces of a pattern, a text, and the pattern's match in it, with the cells: the shortest text first, and
+// characters of several bytes.
+const COUNTED: [(&[Part], &str, &str); 2] = [
+    (
+        &[Part::Plain("a"), Part::Literal(" and "), Part::Plain("b")],
+        "x and y and z",
+        "(Some([Text(\"x\"), Text(\"y and z\")]), 56)",
+    ),
+    (
+        &[Part::Plain("a"), Part::Literal("é"), Part::Plain("b")],
+        "üé€é",
+        "(Some([Text(\"ü\"), Text(\"€é\")]), 20)",
+    ),
+];
 
 #[test]
-fn shortest_first(rt: HostRuntime) -> Result<(), Fail> {
-    let alloc = rt.alloc();
-    let mut pieces = Vec::new(alloc);
-    pieces.push(field(alloc, "a", FieldKind::Plain)?)?;
-    pieces.push(literal(alloc, " and ")?)?;
-    pieces.push(field(alloc, "b", FieldKind::Plain)?)?;
-    let pattern = Pattern { pieces };
-    let (found, filled) = pattern.matches_counted(alloc, "x and y and z")?;
-    let fields = found.ok_or("no match")?;
-    assert_eq!(rt; text_of(&fields, 0), "x");
-    assert_eq!(rt; text_of(&fields, 1), "y and z");
-    assert_eq!(rt; filled, 56);
+fn shortest_first(rt: HostRuntime) -> Result<(), AllocError> {
+    for (parts, text, wanted) in COUNTED {
+        assert_eq!(rt; counted(rt.alloc(), parts, text)?.as_str(), wanted);
+    }
     Ok(())
 }
 
-#[test]
-fn longest_number_first(rt: HostRuntime) -> Result<(), Fail> {
-    let alloc = rt.alloc();
-    let mut pieces = Vec::new(alloc);
-    pieces.push(field(alloc, "n", FieldKind::Decimal)?)?;
-    pieces.push(field(alloc, "m", FieldKind::Decimal)?)?;
-    let pattern = Pattern { pieces };
-    let fields = pattern.matches(alloc, "123")?.ok_or("no match")?;
-    assert_eq!(rt; number_at(&fields, 0), Some(12));
-    assert_eq!(rt; number_at(&fields, 1), Some(3));
-    Ok(())
+// Shows a pattern's match in a text.
+fn matched(alloc: Global, parts: &[Part], text: &str) -> Result<String, AllocError> {
+    let found = pattern_of(alloc, parts)?.matches(alloc, text)?;
+    format!(in alloc; "{found:?}")
 }
 
-#[test]
-fn numbers_at_the_limits(rt: HostRuntime) -> Result<(), Fail> {
-    let alloc = rt.alloc();
-    let mut pieces = Vec::new(alloc);
-    pieces.push(field(alloc, "n", FieldKind::Decimal)?)?;
-    let pattern = Pattern { pieces };
-    let fields = pattern
-        .matches(alloc, "9223372036854775807")?
-        .ok_or("no match")?;
-    assert_eq!(rt; number_at(&fields, 0), Some(9223372036854775807));
-    let fields = pattern
-        .matches(alloc, "-9223372036854775808")?
-        .ok_or("no match")?;
-    assert_eq!(rt; number_at(&fields, 0), Some(-9223372036854775808));
-    assert!(rt; pattern.matches(alloc, "9223372036854775808")?.is_none());
-    assert!(rt; pattern.matches(alloc, "")?.is_none());
-    assert!(rt; pattern.matches(alloc, "-")?.is_none());
-    let fields = pattern
-        .matches(alloc, "+00000000000000000000000000007")?
-        .ok_or("no match")?;
-    assert_eq!(rt; number_at(&fields, 0), Some(7));
-    Ok(())
-}
+const NUMBER: &[Part] = &[Part::Decimal("n")];
 
-// Plain fields in a row, and a letter after them, on letters `a` and one `y`.
-fn refused_cells(alloc: Global, fields: usize, letters: usize) -> Result<Option<u64>, AllocError> {
-    let mut pieces = Vec::new(alloc);
-    for _ in 0..fields {
-        pieces.push(field(alloc, "a", FieldKind::Plain)?)?;
+// The pieces of a pattern, a text, and the pattern's match in it: the longest number first, and numbers at
+// the limits.
+const NUMBERS: [(&[Part], &str, &str); 7] = [
+    (
+        &[Part::Decimal("n"), Part::Decimal("m")],
+        "123",
+        "Some([Number(12), Number(3)])",
+    ),
+    (
+        NUMBER,
+        "9223372036854775807",
+        "Some([Number(9223372036854775807)])",
+    ),
+    (
+        NUMBER,
+        "-9223372036854775808",
+        "Some([Number(-9223372036854775808)])",
+    ),
+    (NUMBER, "9223372036854775808", "None"),
+    (NUMBER, "", "None"),
+    (NUMBER, "-", "None"),
+    (
+        NUMBER,
+        "+00000000000000000000000000007",
+        "Some([Number(7)])",
+    ),
+];
+
+#[test]
+fn longest_number_first(rt: HostRuntime) -> Result<(), AllocError> {
+    for (parts, text, wanted) in NUMBERS {
+        assert_eq!(rt; matched(rt.alloc(), parts, text)?.as_str(), wanted);
     }
-    pieces.push(literal(alloc, "x")?)?;
-    let pattern = Pattern { pieces };
+    Ok(())
+}
+
+// A letter so many times, and another after them.
+fn repeated(alloc: Global, letter: char, count: usize, last: char) -> Result<String, AllocError> {
     let mut text = String::new(alloc);
-    for _ in 0..letters {
-        text.push('a')?;
+    for _ in 0..count {
+        text.push(letter)?;
     }
-    text.push('y')?;
-    let (found, filled) = pattern.matches_counted(alloc, &text)?;
+    text.push(last)?;
+    Ok(text)
+}
+
+// How many cells a pattern fills for a text that it doesn't match.
+fn refused_cells(alloc: Global, parts: &[Part], text: &str) -> Result<Option<u64>, AllocError> {
+    let (found, filled) = pattern_of(alloc, parts)?.matches_counted(alloc, text)?;
     Ok(if found.is_none() { Some(filled) } else { None })
 }
 
-#[test]
-fn cells_of_four_fields(rt: HostRuntime) -> Result<(), Fail> {
-    assert_eq!(rt; refused_cells(rt.alloc(), 4, 40)?, Some(252));
-    Ok(())
-}
+const A: Part = Part::Plain("a");
+
+const X: Part = Part::Literal("x");
+
+// The pieces of a pattern, a letter, how often it comes, the letter after them, and how many cells are filled
+// until the pattern is known not to match.
+const REFUSED_CELLS: [(&[Part], char, usize, char, u64); 3] = [
+    (&[A, A, A, A, X], 'a', 40, 'y', 252),
+    (&[A, A, A, A, A, A, A, A, X], 'a', 400, 'y', 4020),
+    (
+        &[Part::Decimal("n"), Part::Decimal("m"), X],
+        '0',
+        999_999,
+        '0',
+        4_000_004,
+    ),
+];
 
 #[test]
-fn cells_of_eight_fields(rt: HostRuntime) -> Result<(), Fail> {
-    assert_eq!(rt; refused_cells(rt.alloc(), 8, 400)?, Some(4020));
-    Ok(())
-}
-
-#[test]
-fn cells_of_a_run_of_zeros(rt: HostRuntime) -> Result<(), Fail> {
-    let alloc = rt.alloc();
-    let mut pieces = Vec::new(alloc);
-    pieces.push(field(alloc, "n", FieldKind::Decimal)?)?;
-    pieces.push(field(alloc, "m", FieldKind::Decimal)?)?;
-    pieces.push(literal(alloc, "x")?)?;
-    let pattern = Pattern { pieces };
-    let mut text = String::new(alloc);
-    for _ in 0..1000000 {
-        text.push('0')?;
+fn cells_of_refused_texts(rt: HostRuntime) -> Result<(), AllocError> {
+    for (parts, letter, count, last, cells) in REFUSED_CELLS {
+        let text = repeated(rt.alloc(), letter, count, last)?;
+        assert_eq!(rt; refused_cells(rt.alloc(), parts, &text)?, Some(cells));
     }
-    let (found, filled) = pattern.matches_counted(alloc, &text)?;
-    assert!(rt; found.is_none());
-    assert_eq!(rt; filled, 4000004);
     Ok(())
 }
 
 #[test]
-fn the_longest_of_many_numbers(rt: HostRuntime) -> Result<(), Fail> {
-    let alloc = rt.alloc();
-    let mut pieces = Vec::new(alloc);
-    pieces.push(field(alloc, "n", FieldKind::Decimal)?)?;
-    pieces.push(field(alloc, "b", FieldKind::Plain)?)?;
-    let pattern = Pattern { pieces };
-    let mut text = String::new(alloc);
-    for _ in 0..100000 {
-        text.push('0')?;
-    }
-    text.push('x')?;
-    let fields = pattern.matches(alloc, &text)?.ok_or("no match")?;
-    assert_eq!(rt; number_at(&fields, 0), Some(0));
-    assert_eq!(rt; text_of(&fields, 1), "x");
+fn the_longest_of_many_numbers(rt: HostRuntime) -> Result<(), AllocError> {
+    let text = repeated(rt.alloc(), '0', 100_000, 'x')?;
+    let found = matched(rt.alloc(), &[Part::Decimal("n"), Part::Plain("b")], &text)?;
+    assert_eq!(rt; found.as_str(), "Some([Number(0), Text(\"x\")])");
     Ok(())
 }
 
-#[test]
-fn characters_of_several_bytes(rt: HostRuntime) -> Result<(), Fail> {
-    let alloc = rt.alloc();
-    let mut pieces = Vec::new(alloc);
-    pieces.push(field(alloc, "a", FieldKind::Plain)?)?;
-    pieces.push(literal(alloc, "é")?)?;
-    pieces.push(field(alloc, "b", FieldKind::Plain)?)?;
-    let pattern = Pattern { pieces };
-    let (found, filled) = pattern.matches_counted(alloc, "üé€é")?;
-    let fields = found.ok_or("no match")?;
-    assert_eq!(rt; text_of(&fields, 0), "ü");
-    assert_eq!(rt; text_of(&fields, 1), "€é");
-    assert_eq!(rt; filled, 20);
-    Ok(())
+fn entry(
+    alloc: Global,
+    step_type: Option<StepType>,
+    parts: &[Part],
+    action: Action,
+) -> Result<Entry, AllocError> {
+    Ok(Entry {
+        step_type,
+        pattern: pattern_of(alloc, parts)?,
+        action,
+    })
 }
 
-#[test]
-fn entries_of_the_type_first(rt: HostRuntime) -> Result<(), Fail> {
-    let alloc = rt.alloc();
+// A library of an entry for every step, and of one for steps of one type.
+fn two_entries(alloc: Global) -> Result<Library, AllocError> {
     let mut entries = Vec::new(alloc);
-    let mut any = Vec::new(alloc);
-    any.push(field(alloc, "a", FieldKind::Plain)?)?;
-    entries.push(Entry {
-        step_type: None,
-        pattern: Pattern { pieces: any },
-        action: Action::Pass,
-    })?;
-    let mut when = Vec::new(alloc);
-    when.push(literal(alloc, "it ")?)?;
-    when.push(field(alloc, "a", FieldKind::Plain)?)?;
-    entries.push(Entry {
-        step_type: Some(StepType::When),
-        pattern: Pattern { pieces: when },
-        action: Action::Fail,
-    })?;
-    let library = Library::new(entries);
-    let found = library
-        .find(alloc, StepType::When, "it passes")?
-        .ok_or("not found")?;
-    assert_eq!(rt; found.entry, 1);
-    assert_eq!(rt; text_of(&found.fields, 0), "passes");
-    let found = library
-        .find(alloc, StepType::Given, "it passes")?
-        .ok_or("not found")?;
-    assert_eq!(rt; found.entry, 0);
-    assert!(rt; library.find(alloc, StepType::Then, "")?.is_none());
+    entries.push(entry(alloc, None, &[A], Action::Pass)?)?;
+    let when = &[Part::Literal("it "), A];
+    entries.push(entry(alloc, Some(StepType::When), when, Action::Fail)?)?;
+    Ok(Library::new(entries))
+}
+
+// Shows what a step finds.
+fn found(
+    alloc: Global,
+    library: &Library,
+    step_type: StepType,
+    text: &str,
+) -> Result<String, AllocError> {
+    let found = library.find(alloc, step_type, text)?;
+    format!(in alloc; "{found:?}")
+}
+
+// A step's type and text, and what it finds in the library of two entries.
+const FOUND: [(StepType, &str, &str); 3] = [
+    (
+        StepType::When,
+        "it passes",
+        "Some(Found { entry: 1, fields: [Text(\"passes\")] })",
+    ),
+    (
+        StepType::Given,
+        "it passes",
+        "Some(Found { entry: 0, fields: [Text(\"it passes\")] })",
+    ),
+    (StepType::Then, "", "None"),
+];
+
+#[test]
+fn entries_of_the_type_first(rt: HostRuntime) -> Result<(), AllocError> {
+    let library = two_entries(rt.alloc())?;
+    for (step_type, text, wanted) in FOUND {
+        assert_eq!(rt;
+            found(rt.alloc(), &library, step_type, text)?.as_str(),
+            wanted
+        );
+    }
     Ok(())
 }
 
-// The pattern that a text spells.
-fn pattern(alloc: Global, text: &str) -> Result<Pattern, Fail> {
-    match read_pattern(alloc, text) {
-        Ok(pattern) => Ok(pattern),
-        Err(_) => Err("no pattern")?,
+// Shows the match of the pattern that a text spells.
+fn read_and_matched(alloc: Global, spelled: &str, text: &str) -> Result<String, PatternFault> {
+    let found = read_pattern(alloc, spelled)?.matches(alloc, text)?;
+    Ok(format!(in alloc; "{found:?}")?)
+}
+
+// Texts that spell patterns, each with a text and the pattern's match in it.
+const SPELLED: [(&str, &str, &str); 3] = [
+    ("{{{a}}}", "{x}", "Some([Text(\"x\")])"),
+    (
+        "{a} and {b}",
+        "x and y and z",
+        "Some([Text(\"x\"), Text(\"y and z\")])",
+    ),
+    ("{n:d}{m:d}", "123", "Some([Number(12), Number(3)])"),
+];
+
+#[test]
+fn patterns_are_read(rt: HostRuntime) -> Result<(), PatternFault> {
+    for (spelled, text, wanted) in SPELLED {
+        assert_eq!(rt;
+            read_and_matched(rt.alloc(), spelled, text)?.as_str(),
+            wanted
+        );
     }
+    Ok(())
 }
 
 #[test]
-fn patterns_are_read(rt: HostRuntime) -> Result<(), Fail> {
-    let alloc = rt.alloc();
-    let fields = pattern(alloc, "{{{a}}}")?
-        .matches(alloc, "{x}")?
-        .ok_or("no match")?;
-    assert_eq!(rt; text_of(&fields, 0), "x");
-    let fields = pattern(alloc, "{a} and {b}")?
-        .matches(alloc, "x and y and z")?
-        .ok_or("no match")?;
-    assert_eq!(rt; text_of(&fields, 0), "x");
-    assert_eq!(rt; text_of(&fields, 1), "y and z");
-    let fields = pattern(alloc, "{n:d}{m:d}")?
-        .matches(alloc, "123")?
-        .ok_or("no match")?;
-    assert_eq!(rt; number_at(&fields, 0), Some(12));
-    assert_eq!(rt; number_at(&fields, 1), Some(3));
-    assert!(rt; pattern(alloc, "a {n:d} b")?.can_match("a 1 b"));
-    assert!(rt; !pattern(alloc, "a {n:d} b")?.can_match("a 1 c"));
+fn ends_of_texts_are_compared(rt: HostRuntime) -> Result<(), PatternFault> {
+    let pattern = read_pattern(rt.alloc(), "a {n:d} b")?;
+    assert!(rt; pattern.can_match("a 1 b") && !pattern.can_match("a 1 c"));
     Ok(())
 }
 
@@ -285,45 +310,103 @@ const READ: [&str; 2] = [
 ];
 
 #[test]
-fn libraries_are_read_or_refused(rt: HostRuntime) -> Result<(), Fail> {
+fn libraries_are_refused(rt: HostRuntime) {
     for (text, fault) in REFUSED {
-        assert_eq!(rt;
-            read_library(rt.alloc(), text.as_bytes()).err(),
-            Some(fault)
-        );
+        let refused = read_library(rt.alloc(), text.as_bytes()).err();
+        assert_eq!(rt; refused, Some(fault));
     }
+}
+
+#[test]
+fn libraries_are_read(rt: HostRuntime) {
     for text in READ {
         assert!(rt; read_library(rt.alloc(), text.as_bytes()).is_ok());
     }
+}
+
+#[test]
+fn faults_of_libraries_have_lines_and_texts(rt: HostRuntime) {
     let ambiguous = LibraryFault::Ambiguous { line: 2 };
     assert_eq!(rt; ambiguous.line(), Some(2));
     assert_eq!(rt; ambiguous.text(), "ambiguous with an earlier line");
+}
+
+// A step's type and text; the action that it finds in the default library, and what a field of a name
+// took: its text, and its number.
+type Row = (
+    StepType,
+    &'static str,
+    Action,
+    &'static str,
+    Option<&'static str>,
+    Option<i64>,
+);
+
+const GROWS: &str = "the number \"n\" grows by -5";
+
+const IN_DEFAULT: [Row; 4] = [
+    (
+        StepType::Given,
+        GROWS,
+        Action::AddNumber,
+        "name",
+        Some("n"),
+        None,
+    ),
+    (
+        StepType::Given,
+        GROWS,
+        Action::AddNumber,
+        "n",
+        None,
+        Some(-5),
+    ),
+    (
+        StepType::Then,
+        "at cleanup it passes",
+        Action::AtCleanup,
+        "step",
+        Some("it passes"),
+        None,
+    ),
+    (
+        StepType::When,
+        "the scenario is skipped",
+        Action::SkipScenario,
+        "n",
+        None,
+        None,
+    ),
+];
+
+// Whether a row is as the library has it.
+fn holds(alloc: Global, library: &Library, row: &Row) -> Result<bool, AllocError> {
+    let (step_type, says, action, name, text, number) = *row;
+    match library.find(alloc, step_type, says)? {
+        Some(found) => Ok(
+            library.action(&found) == action
+                && library.text(&found, name) == text
+                && library.number(&found, name) == number,
+        ),
+        None => Ok(false),
+    }
+}
+
+#[test]
+fn the_default_library(rt: HostRuntime) -> Result<(), AllocError> {
+    let library = default_library(rt.alloc())?;
+    assert_eq!(rt; library.entries.len(), 28);
+    for (place, row) in IN_DEFAULT.iter().enumerate() {
+        assert!(rt; holds(rt.alloc(), &library, row)?, "in row {place}");
+    }
     Ok(())
 }
 
 #[test]
-fn the_default_library(rt: HostRuntime) -> Result<(), Fail> {
-    let alloc = rt.alloc();
-    let library = default_library(alloc)?;
-    assert_eq!(rt; library.entries.len(), 28);
-    let found = library
-        .find(alloc, StepType::Given, "the number \"n\" grows by -5")?
-        .ok_or("not found")?;
-    assert_eq!(rt; library.action(&found), Action::AddNumber);
-    assert_eq!(rt; library.text(&found, "name"), Some("n"));
-    assert_eq!(rt; library.number(&found, "n"), Some(-5));
-    assert_eq!(rt; library.text(&found, "n"), None);
-    let found = library
-        .find(alloc, StepType::Then, "at cleanup it passes")?
-        .ok_or("not found")?;
-    assert_eq!(rt; library.action(&found), Action::AtCleanup);
-    assert_eq!(rt; library.text(&found, "step"), Some("it passes"));
-    let found = library
-        .find(alloc, StepType::When, "the scenario is skipped")?
-        .ok_or("not found")?;
-    assert_eq!(rt; library.action(&found), Action::SkipScenario);
-    assert!(rt; library.knows(alloc, StepType::Then, "it passes")?);
-    assert!(rt; !library.knows(alloc, StepType::Then, "it dances")?);
-    assert!(rt; library.find_any(alloc, "it fails")?.is_some());
+fn the_default_library_knows_steps(rt: HostRuntime) -> Result<(), AllocError> {
+    let library = default_library(rt.alloc())?;
+    assert!(rt; library.knows(rt.alloc(), StepType::Then, "it passes")?);
+    assert!(rt; !library.knows(rt.alloc(), StepType::Then, "it dances")?);
+    assert!(rt; library.find_any(rt.alloc(), "it fails")?.is_some());
     Ok(())
 }

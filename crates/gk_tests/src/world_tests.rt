@@ -1,9 +1,8 @@
-ghost use Rattle.std.specs.Prelude.{◌≡◌, ◌<◌, ◌+◌, IfOk};
+ghost use Rattle.std.specs.Prelude.{◌≡◌, ◌<◌, ◌+◌};
 ghost use Rattle.gk_world.specs.Sandbox.{depth, layers};
 
 use gk_world::{LONGEST_TEXT, Listing, Sandbox, WorldFault};
-use std::alloc::Global;
-use std::test::Fail;
+use std::alloc::{AllocError, Global};
 
 /// A call that changes a sandbox.
 #[derive(Clone, Copy)]
@@ -131,7 +130,7 @@ fn calls_answer_and_change_as_stated(rt: HostRuntime) {
     assert!(rt; world.file("f").is_none() && world.recorded() == 0);
 }
 
-fn repeated(alloc: Global, count: usize) -> Result<String, Fail> {
+fn repeated(alloc: Global, count: usize) -> Result<String, AllocError> {
     let mut text = String::new(alloc);
     for _ in 0..count {
         text.push('x')?;
@@ -139,32 +138,41 @@ fn repeated(alloc: Global, count: usize) -> Result<String, Fail> {
     Ok(text)
 }
 
+/// Whether names have their limit.
+fn names_have_limits(world: &mut Sandbox, alloc: Global) -> Result<bool, AllocError> {
+    let longest = repeated(alloc, 255)?;
+    let longer = repeated(alloc, 256)?;
+    let refused = world.put_file(&longer, "y");
+    let put = world.put_file(&longest, "y");
+    Ok(refused == Err(WorldFault::BadName) && put.is_ok())
+}
+
+/// Whether texts have their limit, which no other fault comes after.
+fn texts_have_limits(world: &mut Sandbox, longest: &str, longer: &str) -> bool {
+    let nameless = world.put_file("", longer);
+    let refused = world.put_env("f", longer);
+    let put = world.put_file("f", longest);
+    let appended = world.append_file("f", "x");
+    nameless == Err(WorldFault::BadName)
+        && refused == Err(WorldFault::TextTooLong)
+        && put.is_ok()
+        && appended == Err(WorldFault::TextTooLong)
+        && world.file("f") == Some(longest)
+}
+
+/// Whether names and texts have their limits.
+fn limits_hold(world: &mut Sandbox, alloc: Global) -> Result<bool, AllocError> {
+    let longest = repeated(alloc, LONGEST_TEXT)?;
+    let longer = repeated(alloc, LONGEST_TEXT + 1)?;
+    let holds_of_names = names_have_limits(world, alloc)?;
+    Ok(holds_of_names && texts_have_limits(world, &longest, &longer))
+}
+
 #[test]
-fn names_and_texts_have_limits(rt: HostRuntime) -> Result<(), Fail> {
-    let longest = repeated(rt.alloc(), LONGEST_TEXT)?;
-    let text = repeated(rt.alloc(), LONGEST_TEXT + 1)?;
-    let name = repeated(rt.alloc(), 255)?;
-    let long_name = repeated(rt.alloc(), 256)?;
+fn names_and_texts_have_limits(rt: HostRuntime) {
     let mut world = Sandbox::new(rt.alloc());
-    let answers = [
-        world.put_file("", &text),
-        world.put_file(&long_name, "y"),
-        world.put_file(&name, "y"),
-        world.put_env("f", &text),
-        world.put_file("f", &longest),
-        world.append_file("f", "x"),
-    ];
-    let stated = [
-        Err(WorldFault::BadName),
-        Err(WorldFault::BadName),
-        Ok(()),
-        Err(WorldFault::TextTooLong),
-        Ok(()),
-        Err(WorldFault::TextTooLong),
-    ];
-    assert_eq!(rt; answers, stated);
-    assert!(rt; world.file("f") == Some(longest.as_str()));
-    Ok(())
+    let answer = limits_hold(&mut world, rt.alloc());
+    assert!(rt; matches!(answer, Ok(true)));
 }
 
 /// Makes a call at each name, and counts those that are carried out.
@@ -207,7 +215,7 @@ fn is_same(one: &Listing, other: &Listing) -> bool {
     one.files == other.files && one.env == other.env && one.values == other.values
 }
 
-fn forty_names(alloc: Global) -> Result<Vec<String>, Fail> {
+fn forty_names(alloc: Global) -> Result<Vec<String>, AllocError> {
     let mut names = Vec::new(alloc);
     for number in 0..40 {
         names.push(format!(in alloc; "name {number}")?)?;
@@ -215,16 +223,15 @@ fn forty_names(alloc: Global) -> Result<Vec<String>, Fail> {
     Ok(names)
 }
 
-/// A sandbox with a file and a variable for each of these names.
-fn filled(alloc: Global, names: &[String]) -> Result<Sandbox, Fail>
-    ensures { IfOk result (λ world. depth world ≡ 0) }
+/// Puts a file and a variable for each of these names.
+fn fill(world: &mut Sandbox, names: &[String]) -> Result<(), WorldFault>
+    ensures { world.new.saved ≡ world.old.saved }
 {
-    let mut world = Sandbox::new(alloc);
     for name in names {
         world.put_file(name, "before")?;
         world.put_env(name, "before")?;
     }
-    Ok(world)
+    Ok(())
 }
 
 /// Makes changes in a new layer, which ends. The answer is how many were carried out.
@@ -264,12 +271,21 @@ fn three_layers_end(world: &mut Sandbox, names: &[String], rounds: usize) -> boo
     done > 100 && middle > 100 && inner > 100 && recorded == done
 }
 
-#[test]
-fn three_layers_give_back_a_thousand_changes(rt: HostRuntime) -> Result<(), Fail> {
-    let names = forty_names(rt.alloc())?;
-    let mut world = filled(rt.alloc(), &names)?;
+/// Whether all is as before after three layers with changes, and enough of them were carried out.
+fn three_layers_give_back(world: &mut Sandbox, alloc: Global) -> Result<bool, WorldFault>
+    requires { depth world.old ≡ 0 }
+{
+    let names = forty_names(alloc)?;
+    fill(world, &names)?;
     let before = world.listing()?;
-    assert!(rt; three_layers_end(&mut world, &names, 9));
-    assert!(rt; is_same(&before, &world.listing()?));
-    Ok(())
+    let is_enough = three_layers_end(world, &names, 9);
+    let after = world.listing()?;
+    Ok(is_enough && is_same(&before, &after))
+}
+
+#[test]
+fn three_layers_give_back_a_thousand_changes(rt: HostRuntime) {
+    let mut world = Sandbox::new(rt.alloc());
+    let answer = three_layers_give_back(&mut world, rt.alloc());
+    assert!(rt; matches!(answer, Ok(true)));
 }

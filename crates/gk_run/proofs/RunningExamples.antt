@@ -1,0 +1,385 @@
+-- Worked examples of running, which hold by computation. The steps' texts are short: "write a 1" is a file named a with the text 1.
+use Rattle.std.specs.Prelude.{ℤ, pos, Option, Some, None, codes}
+use Rattle.std.specs.Fmt.{digits}
+use Rattle.std.specs.Str.{chars, is_utf8}
+use lib.Utf8
+use Rattle.std.proofs.Common.{◌≡◌, ℕ, Bool, true, false, List, [], ◌∷◌, ◌++◌, map, refl}
+use Rattle.gk_gherkin.specs.declared.feature.StepType.TheVariants.{Given}
+use Rattle.gk_gherkin.specs.declared.hooks.HookKind.{HookKind}
+use Rattle.gk_gherkin.specs.declared.hooks.HookKind.TheVariants as kinds
+use Rattle.gk_gherkin.specs.Feature.{BlockValue, Empty, Table, StepValue}
+use Rattle.gk_gherkin.specs.Hooks.{HookValue}
+use Rattle.gk_steps.specs.declared.action.Action.{Action}
+use Rattle.gk_steps.specs.declared.action.Action.TheVariants as actions
+use Rattle.gk_steps.specs.declared.pattern.FieldKind.TheVariants.{Plain, Decimal}
+use Rattle.gk_steps.specs.Pattern.{PieceValue, FieldPiece, Literal}
+use Rattle.gk_steps.specs.Matching.{match_of}
+use Rattle.gk_steps.specs.Finding.{EntryValue, LibraryValue, found, found_any}
+use Rattle.gk_world.specs.State.{State, nothing}
+use Rattle.gk_run.specs.declared.results.Status.{Status}
+use Rattle.gk_run.specs.declared.results.Status.TheVariants.{Passed, Failed, Skipped, Undefined, Untested, Memory}
+use Rattle.gk_run.specs.declared.results.Reason.{Reason}
+use Rattle.gk_run.specs.declared.results.Reason.TheVariants as reasons
+use Rattle.gk_run.specs.declared.results.Outcome.{Outcome}
+use Rattle.gk_run.specs.declared.results.Outcome.TheVariants as outcomes
+use Rattle.gk_run.specs.Acting.{act}
+use Rattle.gk_run.specs.Results.{CaseRow, FeatureRow, Results}
+use Rattle.gk_run.specs.Section.{Cut, nowhere, in_before, in_steps, in_after, in_cleanups}
+use Rattle.gk_run.specs.Alone.{Run, reached_row}
+use Rattle.gk_run.specs.Chosen.{MemberValue, ChosenValue}
+use Rattle.gk_run.specs.Judged.{FeatureCuts, Cuts, uncut, uncut_feature, results_from}
+
+-- a step with a block
+abbrev step_with : List ℕ → BlockValue → StepValue
+step_with text block = record { keyword = codes "Given"; step_type = Given; text = text; block = block; line = 1 }
+
+-- steps without blocks
+abbrev steps_of : List (List ℕ) → List StepValue
+steps_of texts = map (λ text. step_with text Empty) texts
+
+-- a hook without a tag
+abbrev hook : HookKind → List (List ℕ) → HookValue
+hook kind texts = record { kind = kind; tag = None; line = 1; steps = steps_of texts }
+
+-- a hook for a tag
+abbrev tag_hook : HookKind → List ℕ → List (List ℕ) → HookValue
+tag_hook kind tag texts = record { kind = kind; tag = Some tag; line = 1; steps = steps_of texts }
+
+-- a selected scenario with tags
+abbrev tagged : List (List ℕ) → List StepValue → MemberValue
+tagged tags steps = record { scenario = record { name = codes "S"; keyword = codes "Scenario"; line = 1; tags = tags; own_tags = tags; steps = steps }; selected = true }
+
+-- a selected scenario
+abbrev scenario : List (List ℕ) → MemberValue
+scenario texts = tagged [] (steps_of texts)
+
+-- a scenario that isn't selected
+abbrev unselected : List (List ℕ) → MemberValue
+unselected texts = record (scenario texts) { selected = false }
+
+-- a feature
+abbrev feature : List MemberValue → ChosenValue
+feature members = record { source = codes "f"; name = codes "f"; line = 1; tags = []; members = members }
+
+-- a run that doesn't stop at a failure
+abbrev run : List HookValue → LibraryValue → Run
+run hooks library = record { library = library; hooks = hooks; stop = false }
+
+-- nothing is there
+abbrev start : State
+start = record { files = nothing; env = nothing; outer = nothing; own = nothing }
+
+-- a step's status, with the reason of one that failed
+abbrev StepSeen : Type 0
+StepSeen = Status × Option Reason
+
+abbrev ok : StepSeen
+ok = (Passed, None)
+
+abbrev failed : Reason → StepSeen
+failed why = (Failed, Some why)
+
+abbrev with_status : Status → StepSeen
+with_status status = (status, None)
+
+-- what is looked at of a scenario
+record CaseSeen : Type 0 where
+  verdict : Status
+  around : Status
+  cleanups : List Outcome
+  steps : List StepSeen
+
+abbrev case_seen : CaseRow → CaseSeen
+case_seen row = record { verdict = row.status; around = row.around; cleanups = row.cleanups; steps = map (λ s. (s.status, s.reason)) row.steps }
+
+-- a scenario without cleanups, whose hooks passed
+abbrev simple : Status → List StepSeen → CaseSeen
+simple verdict steps = record { verdict = verdict; around = Passed; cleanups = []; steps = steps }
+
+-- a scenario with two steps that isn't reached
+abbrev two_untested : CaseSeen
+two_untested = simple Untested (with_status Untested ∷ with_status Untested ∷ [])
+
+-- what is looked at of a feature
+record FeatureSeen : Type 0 where
+  verdict : Status
+  around : Status
+  cases : List CaseSeen
+
+abbrev feature_seen : FeatureRow → FeatureSeen
+feature_seen row = record { verdict = row.status; around = row.around; cases = map case_seen row.cases }
+
+-- what is looked at of a run
+record RunSeen : Type 0 where
+  around : Status
+  features : List FeatureSeen
+
+abbrev run_seen : Results → RunSeen
+run_seen results = record { around = results.around; features = map feature_seen results.features }
+
+-- a run with one feature, cut so in this feature
+abbrev one_cut : Run → FeatureCuts → List MemberValue → RunSeen
+one_cut r cuts members = run_seen (results_from r start (record uncut { features = cuts ∷ [] }) (feature members ∷ []))
+
+-- a run with one feature
+abbrev one_run : Run → List MemberValue → RunSeen
+one_run r members = one_cut r uncut_feature members
+
+-- what one feature comes to in a run whose own hooks passed
+abbrev comes_to : Status → Status → List CaseSeen → RunSeen
+comes_to verdict around cases = record { around = Passed; features = record { verdict = verdict; around = around; cases = cases } ∷ [] }
+
+-- a scenario, cut so
+abbrev cut_row : Run → Cut → MemberValue → CaseSeen
+cut_row r cut m = case_seen (reached_row r start cut m.scenario)
+
+-- an entry for steps of each type
+abbrev entry : List PieceValue → Action → EntryValue
+entry pattern action = record { step_type = None; pattern = pattern; action = action }
+
+-- an entry without fields
+abbrev word : List ℕ → Action → EntryValue
+word text action = entry (Literal text ∷ []) action
+
+abbrev name_piece : PieceValue
+name_piece = FieldPiece (codes "name") Plain
+
+-- an entry with a name
+abbrev of_name : List ℕ → Action → EntryValue
+of_name front action = entry (Literal front ∷ name_piece ∷ []) action
+
+-- an entry with a name and a text
+abbrev of_text : List ℕ → Action → EntryValue
+of_text front action = entry (Literal front ∷ name_piece ∷ Literal (codes " ") ∷ FieldPiece (codes "text") Plain ∷ []) action
+
+-- an entry with a name and a number
+abbrev of_number : List ℕ → Action → EntryValue
+of_number front action = entry (Literal front ∷ name_piece ∷ Literal (codes " ") ∷ FieldPiece (codes "n") Decimal ∷ []) action
+
+abbrev write : EntryValue
+write = of_text (codes "write ") actions.WriteFile
+
+abbrev append : EntryValue
+append = of_text (codes "append ") actions.AppendFile
+
+abbrev is : EntryValue
+is = of_text (codes "is ") actions.FileIs
+
+abbrev later : EntryValue
+later = entry (Literal (codes "later ") ∷ FieldPiece (codes "step") Plain ∷ []) actions.AtCleanup
+
+abbrev pass : EntryValue
+pass = word (codes "pass") actions.Pass
+
+abbrev fail : EntryValue
+fail = word (codes "fail") actions.Fail
+
+abbrev skip : EntryValue
+skip = word (codes "skip") actions.SkipScenario
+
+-- What a failed scenario changed is undone, and its feature's files are there again.
+undone_wholly : one_run
+    (run (hook kinds.BeforeFeature (codes "write a 1" ∷ codes "write b 2" ∷ []) ∷ [])
+    (write ∷ is ∷ fail ∷ of_name (codes "remove ") actions.RemoveFile ∷ entry (Literal (codes "move ") ∷ name_piece ∷ Literal (codes " ") ∷ FieldPiece (codes "to") Plain ∷ []) actions.RenameFile ∷ []))
+    (scenario (codes "remove a" ∷ codes "write a 3" ∷ codes "move a b" ∷ codes "write a 4" ∷ codes "fail" ∷ []) ∷ scenario (codes "is a 1" ∷ codes "is b 2" ∷ []) ∷ []) ≡
+    comes_to Failed Passed (simple Failed (ok ∷ ok ∷ ok ∷ ok ∷ failed reasons.Asked ∷ []) ∷ simple Passed (ok ∷ ok ∷ []) ∷ [])
+unfolding found found_any match_of is_utf8 chars lib.Utf8.encode act
+undone_wholly = refl
+
+-- a table of files, of which the last has no name
+abbrev three_files : BlockValue
+three_files = Table ((codes "name" ∷ codes "text" ∷ []) ∷ (codes "one" ∷ codes "1" ∷ []) ∷ (codes "two" ∷ codes "2" ∷ []) ∷ ([] ∷ codes "3" ∷ []) ∷ [])
+
+-- Rows that were written before the refused one stay until the layer ends: a cleanup still sees them, the next scenario doesn't.
+earlier_rows_stay : one_run
+    (run [] (later ∷ of_name (codes "exists ") actions.FileExists ∷ word (codes "files") actions.WriteFiles ∷ of_name (codes "absent ") actions.FileAbsent ∷ []))
+    (tagged [] (step_with (codes "later exists two") Empty ∷ step_with (codes "files") three_files ∷ []) ∷ scenario (codes "absent one" ∷ []) ∷ []) ≡
+    comes_to Failed Passed (record { verdict = Failed; around = Passed; cleanups = outcomes.Passed ∷ []; steps = ok ∷ failed reasons.BadName ∷ [] } ∷ simple Passed (ok ∷ []) ∷ [])
+unfolding found found_any match_of is_utf8 chars lib.Utf8.encode act
+earlier_rows_stay = refl
+
+-- A value of the feature is hidden in a scenario, and seen again; it is deleted only where it was set.
+hidden_and_seen_again : one_run
+    (run (hook kinds.BeforeFeature (codes "set n 5" ∷ []) ∷ [])
+    (of_number (codes "set ") actions.SetNumber ∷ of_number (codes "add ") actions.AddNumber ∷ of_number (codes "is ") actions.NumberIs ∷ of_name (codes "delete ") actions.DeleteValue ∷ []))
+    (scenario (codes "add n 2" ∷ codes "is n 7" ∷ codes "delete n" ∷ codes "is n 5" ∷ codes "delete n" ∷ []) ∷ []) ≡
+    comes_to Failed Passed (simple Failed (ok ∷ ok ∷ ok ∷ ok ∷ failed reasons.OtherLayer ∷ []) ∷ [])
+unfolding found found_any match_of is_utf8 chars lib.Utf8.encode act digits
+hidden_and_seen_again = refl
+
+-- steps that register cleanups
+abbrev cleaning : Run
+cleaning = run [] (later ∷ write ∷ append ∷ is ∷ fail ∷ [])
+
+-- four cleanups: the third registered fails, and the first asks for what the others wrote
+abbrev four_cleanups : MemberValue
+four_cleanups = scenario (codes "later is l rp" ∷ codes "later append l p" ∷ codes "later fail" ∷ codes "later write l r" ∷ [])
+
+-- Cleanups run last in, first out, and one that fails doesn't keep the others from running.
+last_in_first_out : cut_row cleaning nowhere four_cleanups ≡
+    record { verdict = Failed; around = Failed; cleanups = outcomes.Passed ∷ outcomes.Failed reasons.Asked ∷ outcomes.Passed ∷ outcomes.Passed ∷ []; steps = ok ∷ ok ∷ ok ∷ ok ∷ [] }
+unfolding found found_any match_of is_utf8 chars lib.Utf8.encode act
+last_in_first_out = refl
+
+-- Memory was refused in the third of them: its outcome is the last.
+cut_in_cleanups : cut_row cleaning (in_cleanups 2) four_cleanups ≡
+    record { verdict = Memory; around = Memory; cleanups = outcomes.Passed ∷ outcomes.Failed reasons.Asked ∷ outcomes.Memory ∷ []; steps = ok ∷ ok ∷ ok ∷ ok ∷ [] }
+unfolding found found_any match_of is_utf8 chars lib.Utf8.encode act
+cut_in_cleanups = refl
+
+-- A cleanup that registers a cleanup fails, and so does one that skips; one that no entry matches isn't registered.
+not_here : cut_row (run [] (later ∷ skip ∷ [])) nowhere (scenario (codes "later later skip" ∷ codes "later skip" ∷ codes "later pass" ∷ [])) ≡
+    record { verdict = Failed; around = Failed; cleanups = outcomes.Failed reasons.NotHere ∷ outcomes.Failed reasons.NotHere ∷ []; steps = ok ∷ ok ∷ failed reasons.NoStep ∷ [] }
+unfolding found found_any match_of is_utf8 chars lib.Utf8.encode act
+not_here = refl
+
+-- entries without fields
+abbrev common : LibraryValue
+common = pass ∷ fail ∷ skip ∷ []
+
+abbrev failing : MemberValue
+failing = scenario (codes "fail" ∷ codes "pass" ∷ codes "unknown" ∷ [])
+
+-- After a failed step a step is skipped where the library matches it, and else undefined.
+after_a_failure : cut_row (run [] common) nowhere failing ≡ simple Failed (failed reasons.Asked ∷ with_status Skipped ∷ with_status Undefined ∷ [])
+unfolding found found_any match_of act
+after_a_failure = refl
+
+-- Memory was refused while the second of them was looked up.
+cut_after_a_failure : cut_row (run [] common) (in_steps 1) failing ≡ simple Memory (failed reasons.Asked ∷ with_status Memory ∷ with_status Untested ∷ [])
+unfolding found found_any match_of act
+cut_after_a_failure = refl
+
+-- After an undefined step too, and no later step is carried out.
+after_an_undefined_step : cut_row (run [] common) nowhere (scenario (codes "unknown" ∷ codes "fail" ∷ [])) ≡ simple Failed (with_status Undefined ∷ with_status Skipped ∷ [])
+unfolding found found_any match_of act
+after_an_undefined_step = refl
+
+-- A scenario that skips itself: every later step is skipped, matched or not.
+skips_itself : one_run (run [] common) (scenario (codes "pass" ∷ codes "skip" ∷ codes "unknown" ∷ []) ∷ []) ≡
+    comes_to Skipped Passed (simple Skipped (ok ∷ with_status Skipped ∷ with_status Skipped ∷ []) ∷ [])
+unfolding found found_any match_of act
+skips_itself = refl
+
+-- One that skips itself in its before hook: all of its steps are skipped.
+skips_before : cut_row (run (hook kinds.BeforeScenario (codes "skip" ∷ []) ∷ []) common) nowhere failing ≡
+    simple Skipped (with_status Skipped ∷ with_status Skipped ∷ with_status Skipped ∷ [])
+unfolding found found_any match_of act
+skips_before = refl
+
+-- Its after hook still runs, and may not skip.
+skips_after : cut_row (run (hook kinds.BeforeScenario (codes "skip" ∷ []) ∷ hook kinds.AfterScenario (codes "skip" ∷ []) ∷ []) common) nowhere failing ≡
+    record { verdict = Failed; around = Failed; cleanups = []; steps = with_status Skipped ∷ with_status Skipped ∷ with_status Skipped ∷ [] }
+unfolding found found_any match_of act
+skips_after = refl
+
+-- hooks that write down that they ran, before and after a scenario
+abbrev ordered_hooks : List HookValue
+ordered_hooks =
+    tag_hook kinds.BeforeTag (codes "@a") (codes "write l a" ∷ []) ∷ tag_hook kinds.BeforeTag (codes "@b") (codes "append l b" ∷ []) ∷ hook kinds.BeforeScenario (codes "append l s" ∷ []) ∷
+    hook kinds.AfterScenario (codes "append l S" ∷ []) ∷ tag_hook kinds.AfterTag (codes "@a") (codes "is l absS" ∷ []) ∷ tag_hook kinds.AfterTag (codes "@b") (codes "append l B" ∷ []) ∷ []
+
+-- a run with these hooks and others
+abbrev ordered : List HookValue → Run
+ordered others = run (ordered_hooks ++ others) (later ∷ write ∷ append ∷ is ∷ fail ∷ [])
+
+-- a scenario that looks at what they wrote
+abbrev ordered_scenario : MemberValue
+ordered_scenario = tagged (codes "@a" ∷ codes "@b" ∷ []) (steps_of (codes "later is l absSB" ∷ codes "is l abs" ∷ []))
+
+-- The hooks of tags come before the before hook, and after the after hook, and cleanups after all of them.
+hooks_in_order : one_run (ordered []) (ordered_scenario ∷ []) ≡
+    comes_to Passed Passed (record { verdict = Passed; around = Passed; cleanups = outcomes.Passed ∷ []; steps = ok ∷ ok ∷ [] } ∷ [])
+unfolding found found_any match_of is_utf8 chars lib.Utf8.encode act
+hooks_in_order = refl
+
+-- With a before hook of the feature that fails, nothing of the scenario is run.
+failed_before_feature : one_run (ordered (hook kinds.BeforeFeature (codes "fail" ∷ []) ∷ [])) (ordered_scenario ∷ []) ≡ comes_to Failed Failed (two_untested ∷ [])
+unfolding found found_any match_of is_utf8 chars lib.Utf8.encode act
+failed_before_feature = refl
+
+-- Memory was refused in its before hooks: all steps are untested, and no after hook and no cleanup runs.
+cut_in_before : cut_row (ordered []) (in_before 1) ordered_scenario ≡ record { verdict = Memory; around = Memory; cleanups = []; steps = with_status Untested ∷ with_status Untested ∷ [] }
+unfolding found found_any match_of is_utf8 chars lib.Utf8.encode act
+cut_in_before = refl
+
+-- Memory was refused in a step: the later ones are untested, and no after hook and no cleanup runs.
+cut_in_steps : cut_row (ordered []) (in_steps 0) ordered_scenario ≡ simple Memory (with_status Memory ∷ with_status Untested ∷ [])
+unfolding found found_any match_of is_utf8 chars lib.Utf8.encode act
+cut_in_steps = refl
+
+-- Memory was refused in its after hooks: its steps' statuses stay, and no cleanup runs.
+cut_in_after : cut_row (ordered []) (in_after 1) ordered_scenario ≡ record { verdict = Memory; around = Memory; cleanups = []; steps = ok ∷ ok ∷ [] }
+unfolding found found_any match_of is_utf8 chars lib.Utf8.encode act
+cut_in_after = refl
+
+-- A cut at an event that there isn't is none.
+cut_nowhere : cut_row (ordered []) (in_after 3) ordered_scenario ≡ cut_row (ordered []) nowhere ordered_scenario
+unfolding found found_any match_of is_utf8 chars lib.Utf8.encode act
+cut_nowhere = refl
+
+-- The first step of an after hook that fails ends that hook, and the others still run.
+after_hooks_by_themselves : cut_row
+    (run (hook kinds.AfterScenario (codes "fail" ∷ codes "write l x" ∷ []) ∷ tag_hook kinds.AfterTag (codes "@a") (codes "write l a" ∷ []) ∷ []) (later ∷ write ∷ is ∷ fail ∷ [])) nowhere
+    (tagged (codes "@a" ∷ []) (steps_of (codes "later is l a" ∷ []))) ≡
+    record { verdict = Failed; around = Failed; cleanups = outcomes.Passed ∷ []; steps = ok ∷ [] }
+unfolding found found_any match_of is_utf8 chars lib.Utf8.encode act
+after_hooks_by_themselves = refl
+
+-- a scenario that is selected, and one that isn't
+abbrev two_scenarios : List MemberValue
+two_scenarios = scenario (codes "pass" ∷ codes "unknown" ∷ []) ∷ unselected (codes "fail" ∷ []) ∷ []
+
+abbrev not_selected : CaseSeen
+not_selected = simple Skipped (with_status Skipped ∷ [])
+
+-- A feature whose before list failed: the after hook still runs, and memory may be refused in it.
+after_a_failed_before_list : one_cut
+    (run (hook kinds.BeforeFeature (codes "skip" ∷ []) ∷ hook kinds.AfterFeature (codes "pass" ∷ []) ∷ []) common) (record { own = in_after 0; cases = [] }) two_scenarios ≡
+    comes_to Memory Memory (two_untested ∷ not_selected ∷ [])
+unfolding found found_any match_of act
+after_a_failed_before_list = refl
+
+-- Without that it is failed: the hook of a feature may not skip.
+failed_before_list : one_run (run (hook kinds.BeforeFeature (codes "skip" ∷ []) ∷ hook kinds.AfterFeature (codes "pass" ∷ []) ∷ []) common) two_scenarios ≡
+    comes_to Failed Failed (two_untested ∷ not_selected ∷ [])
+unfolding found found_any match_of act
+failed_before_list = refl
+
+-- A feature without a selected scenario runs no hook.
+none_selected : one_run (run (hook kinds.BeforeFeature (codes "fail" ∷ []) ∷ []) common) (unselected (codes "fail" ∷ []) ∷ []) ≡ comes_to Skipped Passed (not_selected ∷ [])
+unfolding found found_any match_of act
+none_selected = refl
+
+-- A run whose before hook failed: no feature is begun.
+failed_before_all : one_run (run (hook kinds.BeforeAll (codes "unknown" ∷ []) ∷ hook kinds.BeforeFeature (codes "fail" ∷ []) ∷ []) common) two_scenarios ≡
+    record { around = Failed; features = record { verdict = Untested; around = Passed; cases = two_untested ∷ not_selected ∷ [] } ∷ [] }
+unfolding found found_any match_of act
+failed_before_all = refl
+
+-- two features, the second scenario of the first of which fails, in a run that stops there or doesn't
+abbrev stopping : Bool → RunSeen
+stopping stop =
+    let r = record (run (hook kinds.BeforeFeature (codes "pass" ∷ []) ∷ hook kinds.AfterAll (codes "fail" ∷ []) ∷ []) common) { stop = stop } in
+    run_seen (results_from r start uncut (feature (scenario (codes "pass" ∷ []) ∷ scenario (codes "fail" ∷ []) ∷ scenario (codes "pass" ∷ []) ∷ []) ∷ feature (scenario (codes "pass" ∷ []) ∷ []) ∷ []))
+
+abbrev one_passed : CaseSeen
+one_passed = simple Passed (ok ∷ [])
+
+abbrev one_failed : CaseSeen
+one_failed = simple Failed (failed reasons.Asked ∷ [])
+
+abbrev one_untested : CaseSeen
+one_untested = simple Untested (with_status Untested ∷ [])
+
+-- Where a run stops at a failure, later scenarios are untested and later features aren't begun; the after hooks of what was begun still run.
+stops : stopping true ≡
+    record { around = Failed; features = record { verdict = Failed; around = Passed; cases = one_passed ∷ one_failed ∷ one_untested ∷ [] } ∷ record { verdict = Untested; around = Passed; cases = one_untested ∷ [] } ∷ [] }
+unfolding found found_any match_of act
+stops = refl
+
+-- Where it doesn't, all are run.
+runs_on : stopping false ≡
+    record { around = Failed; features = record { verdict = Failed; around = Passed; cases = one_passed ∷ one_failed ∷ one_passed ∷ [] } ∷ record { verdict = Passed; around = Passed; cases = one_passed ∷ [] } ∷ [] }
+unfolding found found_any match_of act
+runs_on = refl
