@@ -9,5 +9,5 @@ pub mod CleanLemmas
 pub mod StepsLemmas
 pub mod SectionLemmas
 pub mod CasesLemmas
-pub mod FeaturesLemmas
+pub mod OpenRunLemmas
 pub mod OneList

@@ -1,5 +1,5 @@
 -- Worked examples of running, which hold by computation. The steps' texts are short: "write a 1" is a file named a with the text 1.
-use Rattle.std.specs.Prelude.{ℤ, pos, Option, Some, None, codes}
+use Rattle.std.specs.Prelude.{Option, Some, None, codes}
 use Rattle.std.specs.Fmt.{digits}
 use Rattle.std.specs.Str.{chars, is_utf8}
 use lib.Utf8
@@ -27,7 +27,7 @@ use Rattle.gk_run.specs.Results.{CaseRow, FeatureRow, Results}
 use Rattle.gk_run.specs.Section.{Cut, nowhere, in_before, in_steps, in_after, in_cleanups}
 use Rattle.gk_run.specs.Alone.{Run, reached_row}
 use Rattle.gk_run.specs.Chosen.{MemberValue, ChosenValue}
-use Rattle.gk_run.specs.Judged.{FeatureCuts, Cuts, uncut, uncut_feature, results_from}
+use Rattle.gk_run.specs.Judged.{FeatureCuts, uncut, uncut_feature, results_from}
 
 -- a step with a block
 abbrev step_with : List ℕ → BlockValue → StepValue
@@ -346,6 +346,12 @@ failed_before_list : one_run (run (hook kinds.BeforeFeature (codes "skip" ∷ []
 unfolding found found_any match_of act
 failed_before_list = refl
 
+-- Memory was refused in its before list: its scenarios are untested.
+cut_before_feature : one_cut (run (hook kinds.BeforeFeature (codes "pass" ∷ codes "pass" ∷ []) ∷ []) common) (record { own = in_before 1; cases = in_steps 0 ∷ [] }) two_scenarios ≡
+    comes_to Memory Memory (two_untested ∷ not_selected ∷ [])
+unfolding found found_any match_of act
+cut_before_feature = refl
+
 -- A feature without a selected scenario runs no hook.
 none_selected : one_run (run (hook kinds.BeforeFeature (codes "fail" ∷ []) ∷ []) common) (unselected (codes "fail" ∷ []) ∷ []) ≡ comes_to Skipped Passed (not_selected ∷ [])
 unfolding found found_any match_of act
@@ -356,6 +362,16 @@ failed_before_all : one_run (run (hook kinds.BeforeAll (codes "unknown" ∷ []) 
     record { around = Failed; features = record { verdict = Untested; around = Passed; cases = two_untested ∷ not_selected ∷ [] } ∷ [] }
 unfolding found found_any match_of act
 failed_before_all = refl
+
+-- a scenario that finds no file, and writes one
+abbrev same_steps : MemberValue
+same_steps = scenario (codes "absent f" ∷ codes "write f x" ∷ codes "is f x" ∷ codes "pass" ∷ [])
+
+-- Memory was refused in the third step of the second scenario: it alone is spoilt, and the third starts from the feature's state.
+spoilt_alone : one_cut (run [] (of_name (codes "absent ") actions.FileAbsent ∷ write ∷ is ∷ pass ∷ [])) (record { own = nowhere; cases = nowhere ∷ in_steps 2 ∷ [] }) (same_steps ∷ same_steps ∷ same_steps ∷ []) ≡
+    comes_to Memory Passed (simple Passed (ok ∷ ok ∷ ok ∷ ok ∷ []) ∷ simple Memory (ok ∷ ok ∷ with_status Memory ∷ with_status Untested ∷ []) ∷ simple Passed (ok ∷ ok ∷ ok ∷ ok ∷ []) ∷ [])
+unfolding found found_any match_of is_utf8 chars lib.Utf8.encode act
+spoilt_alone = refl
 
 -- two features, the second scenario of the first of which fails, in a run that stops there or doesn't
 abbrev stopping : Bool → RunSeen

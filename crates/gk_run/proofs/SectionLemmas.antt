@@ -15,7 +15,7 @@ use Rattle.gk_run.specs.declared.section_hooks.Level.{Level}
 use Rattle.gk_run.specs.declared.section_hooks.Level.TheVariants as levels
 use Rattle.gk_run.specs.Acting.{CleanupValue}
 use Rattle.gk_run.specs.Alone.{Run, Steps, alone, rows_of_steps, steps_after, verdict_of}
-use Rattle.gk_run.specs.Closing.{cleaned, closing}
+use Rattle.gk_run.specs.Closing.{closing}
 use Rattle.gk_run.specs.Ending.{around_status, ended_of, has_passed, verdict_status, worse}
 use Rattle.gk_run.specs.Judged.{section_events}
 use Rattle.gk_run.specs.Results.{CaseRow, StepRow}

@@ -5,7 +5,7 @@ use Rattle.gk_world.specs.Sandbox.{SandboxValue, depth}
 use Rattle.gk_run.specs.declared.section_hooks.Level.TheVariants as levels
 use Rattle.gk_run.specs.declared.open_run.Suite.{Suite}
 use Rattle.gk_run.specs.declared.results.Status.{Status}
-use Rattle.gk_run.specs.Results.{FeatureRow, Results}
+use Rattle.gk_run.specs.Results.{FeatureRow}
 use Rattle.gk_run.specs.Ending.{has_passed}
 use Rattle.gk_run.specs.Cleanups.{cleanups_value}
 use Rattle.gk_run.specs.SectionHooks.{begun}

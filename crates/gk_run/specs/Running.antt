@@ -1,7 +1,6 @@
 -- Proof machinery, but for the first three: what the code's calls do.
 use Rattle.std.specs.Prelude.{◌≡◌, ◌⊎◌, ℕ, Bool, true, ◌&&◌, length, List, [], ◌++◌, map, Option, Some}
 use Rattle.gk_gherkin.specs.Feature.{StepValue}
-use Rattle.gk_gherkin.specs.Hooks.{HookValue}
 use Rattle.gk_select.specs.Case.{CaseValue}
 use Rattle.gk_steps.specs.Finding.{LibraryValue}
 use Rattle.gk_world.specs.State.{State}

@@ -183,7 +183,7 @@ fn each_prefix_is_read_or_refused(rt: HostRuntime) -> Result<(), Fail> {
     Ok(())
 }
 
-// As many bytes as a file may have, and the bytes at the end, of which the whole is one comment.
+// A comment as long as a file may be, and what comes after it.
 fn comment(alloc: Global, tail: &str) -> Result<String, AllocError> {
     text(alloc, "", "################", LIMIT / 16, tail)
 }

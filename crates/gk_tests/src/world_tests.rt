@@ -147,7 +147,7 @@ fn names_have_limits(world: &mut Sandbox, alloc: Global) -> Result<bool, AllocEr
     Ok(refused == Err(WorldFault::BadName) && put.is_ok())
 }
 
-/// Whether texts have their limit, which no other fault comes after.
+/// Whether texts have their limit. A bad name is the fault before a text that is too long.
 fn texts_have_limits(world: &mut Sandbox, longest: &str, longer: &str) -> bool {
     let nameless = world.put_file("", longer);
     let refused = world.put_env("f", longer);

@@ -1,10 +1,10 @@
-use Rattle.std.proofs.Common.{◌≡◌, cond, ◌∙◌, sym, subst, ap}
+use Rattle.std.proofs.Common.{cond, ◌∙◌, sym, subst}
 use Rattle.gk_gherkin.specs.Feature.{block_value}
 use Rattle.gk_steps.specs.declared.action.Action.TheVariants as actions
 use Rattle.gk_steps.specs.Finding.{library_value, found_value, action_of}
 use Rattle.gk_world.specs.State.{state_of}
 use Rattle.gk_run.specs.declared.results.Reason.TheVariants as reasons
-use Rattle.gk_run.specs.Acting.{Acted, skips, fails, given, done_of, may_skip, carried_out, without_cleanups, IsDone, IsExactly, HasRegistered, at_site}
+use Rattle.gk_run.specs.Acting.{Acted, skips, fails, done_of, may_skip, carried_out, IsDone, IsExactly, HasRegistered}
 use Rattle.gk_run.specs.Cleanups.{cleanups_value}
 use Rattle.gk_run.proofs.ActingLemmas.{act_is, act_row_is, row_by, none_registered, skip_exact, exact_done}
 use Rattle.gk_run.proofs.acting.act.Goals as goal

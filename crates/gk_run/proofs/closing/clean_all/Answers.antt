@@ -1,10 +1,9 @@
-use Rattle.std.proofs.Common.{◌≡◌, ◌∙◌, ◌++◌, ◌∷◌, [], List, map, sym, subst, arith, ap, refl}
+use Rattle.std.proofs.Common.{◌≡◌, ◌∙◌, ◌++◌, ◌∷◌, [], List, map, sym, subst, arith, ap}
 use Rattle.std.proofs.lemmas.List.{map_push}
 use Rattle.gk_steps.specs.Finding.{library_value}
 use Rattle.gk_world.specs.State.{state_of}
 use Rattle.gk_run.specs.declared.ending.Ending.{Ending}
 use Rattle.gk_run.specs.declared.cleanups.Cleanup.{Cleanup}
-use Rattle.gk_run.specs.Acting.{CleanupValue}
 use Rattle.gk_run.specs.Cleanups.{cleanup_value}
 use Rattle.gk_run.specs.Closing.{cleaned}
 use Rattle.gk_run.specs.Ending.{worse}

@@ -1,4 +1,4 @@
-use Rattle.std.proofs.Common.{◌≡◌, ◌≤◌, ◌+◌, length, map, vec_capacity}
+use Rattle.std.proofs.Common.{◌≤◌, ◌+◌, length, map, vec_capacity}
 use Rattle.gk_steps.specs.Finding.{library_value}
 use Rattle.gk_world.specs.State.{state_of}
 use Rattle.gk_run.specs.Acting.{KeepsLayers}

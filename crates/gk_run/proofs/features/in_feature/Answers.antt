@@ -1,4 +1,4 @@
-use Rattle.std.proofs.Common.{◌≡◌, ◌∙◌, List, true, map, sym, ap, subst}
+use Rattle.std.proofs.Common.{◌∙◌, List, true, map, sym, ap, subst}
 use Rattle.gk_gherkin.specs.Feature.{texts}
 use Rattle.gk_world.specs.State.{State, state_of, enter}
 use Rattle.gk_run.specs.declared.ending.Ending.{Ending}

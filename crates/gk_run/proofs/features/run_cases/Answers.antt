@@ -1,13 +1,12 @@
-use Rattle.std.proofs.Common.{false, true, Bool, ◌&&◌, get_or, ◌≡◌, ◌<◌, ◌+◌, ◌∷◌, [], ◌++◌, List, length, drop, map, arith, ap, sym, subst, ◌∙◌, refl}
+use Rattle.std.proofs.Common.{false, Bool, ◌&&◌, get_or, ◌≡◌, ◌<◌, ◌+◌, ◌∷◌, [], ◌++◌, List, length, drop, map, arith, ap, sym, subst, ◌∙◌, refl}
 use Rattle.std.specs.Vec.Iter.{into_iter_items}
 use Rattle.std.proofs.lemmas.List.{map_push}
 use Rattle.gk_select.specs.declared.case.Case.{Case}
-use Rattle.gk_world.specs.State.{State, state_of}
+use Rattle.gk_world.specs.State.{state_of}
 use Rattle.gk_run.specs.Results.{CaseRow, case_row}
-use Rattle.gk_run.specs.Section.{Cut}
 use Rattle.gk_run.specs.Alone.{run_of}
 use Rattle.gk_run.specs.Chosen.{MemberValue, member_of, members_of}
-use Rattle.gk_run.specs.Judged.{stays_open, case_of}
+use Rattle.gk_run.specs.Judged.{stays_open}
 use Rattle.gk_run.proofs.CasesLemmas.{GoesCases, cases_first, cases_on, cases_last, paired_on, and_left}
 use Rattle.gk_run.proofs.Nothing.{nothing_in}
 use Rattle.gk_run.proofs.features.run_cases.Goals as goal

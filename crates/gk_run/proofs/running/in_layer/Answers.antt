@@ -1,4 +1,4 @@
-use Rattle.std.proofs.Common.{◌≡◌, ◌∙◌, List, [], map, sym, ap, subst, false}
+use Rattle.std.proofs.Common.{◌∙◌, List, [], map, sym, ap, subst, false}
 use Rattle.gk_gherkin.specs.Feature.{texts, step_value}
 use Rattle.gk_world.specs.State.{State, state_of, enter}
 use Rattle.gk_run.specs.declared.results.Outcome.{Outcome}

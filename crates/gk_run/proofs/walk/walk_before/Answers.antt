@@ -1,12 +1,10 @@
-use Rattle.std.proofs.Common.{◌∙◌, ◌≡◌, ◌+◌, ◌++◌, List, None, Some, ℕ, drop, map, sym, subst, ap, refl, string_bytes}
+use Rattle.std.proofs.Common.{◌∙◌, ◌≡◌, ◌+◌, List, None, Some, ℕ, drop, map, sym, subst, ap, refl, string_bytes}
 use Rattle.gk_gherkin.specs.declared.hooks.HookKind.TheVariants as kinds
 use Rattle.gk_gherkin.specs.Feature.{StepValue, step_value, texts}
 use Rattle.gk_gherkin.specs.Hooks.{hooks_value}
 use Rattle.gk_steps.specs.Finding.{library_value}
 use Rattle.gk_world.specs.State.{state_of}
 use Rattle.gk_run.specs.declared.acting.Site.{Site}
-use Rattle.gk_run.specs.declared.acting.Site.TheVariants as sites
-use Rattle.gk_run.specs.declared.ending.Ending.{Ending}
 use Rattle.gk_run.specs.Cleanups.{cleanups_value}
 use Rattle.gk_run.specs.Walk.{walk}
 use Rattle.gk_run.specs.SectionHooks.{before_site, before_kind, hook_steps}
