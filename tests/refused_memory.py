@@ -95,6 +95,93 @@ And nothing knows this
             "b.feature": "Feature: g\nScenario: four\nThen the file \"a\" should be \"12\"\n",
         },
     ),
+    "files of a feature that a scenario takes away": (
+        ["--hooks", "h.hooks", "a.feature"],
+        {
+            "h.hooks": 'before_feature:\nGiven a file named "a" containing "1"\nAnd a file named "b" containing "2"\n',
+            "a.feature": """Feature: f
+Scenario: A
+When the file "a" is removed
+And a file named "a" containing "3"
+And the file "a" is renamed to "b"
+And a file named "a" containing "4"
+And it fails
+Scenario: B
+Then the file "a" should be "1"
+And the file "b" should be "2"
+""",
+        },
+    ),
+    "a cleanup after a refused table": (
+        ["a.feature"],
+        {
+            "a.feature": """Feature: f
+Scenario: S
+Given at cleanup the file "two" should exist
+When these files:
+| name | text |
+| one | 1 |
+| two | 2 |
+| | 3 |
+Scenario: T
+Then the file "one" should not exist
+""",
+        },
+    ),
+    "a number of a feature": (
+        ["--hooks", "h.hooks", "a.feature"],
+        {
+            "h.hooks": 'before_feature:\nGiven the number "n" is set to 5\n',
+            "a.feature": """Feature: f
+Scenario: s
+When the number "n" grows by 2
+Then the number "n" should be 7
+When the value "n" is deleted
+Then the number "n" should be 5
+When the value "n" is deleted
+""",
+        },
+    ),
+    "cleanups, the last first": (
+        ["a.feature"],
+        {
+            "a.feature": """Feature: f
+Scenario: s
+Given at cleanup the file "log" should be "rp"
+And at cleanup the file "log" is extended with "p"
+And at cleanup it fails
+And at cleanup a file named "log" containing "r"
+""",
+        },
+    ),
+    "a scenario that skips itself": (
+        ["a.feature"],
+        {"a.feature": "Feature: f\nScenario: s\nGiven it passes\nAnd the scenario is skipped\nAnd nothing knows this\n"},
+    ),
+    "hooks of tags": (
+        ["--hooks", "h.hooks", "a.feature"],
+        {
+            "h.hooks": """before_tag @a:
+Given a file named "log" containing "a"
+before_tag @b:
+Given the file "log" is extended with "b"
+before_scenario:
+Given the file "log" is extended with "s"
+after_scenario:
+Given the file "log" is extended with "S"
+after_tag @a:
+Then the file "log" should be "absS"
+after_tag @b:
+Given the file "log" is extended with "B"
+""",
+            "a.feature": """Feature: f
+@a @b
+Scenario: s
+Given at cleanup the file "log" should be "absSB"
+Then the file "log" should be "abs"
+""",
+        },
+    ),
     "hooks that fail": (
         ["--hooks", "h.hooks", "a.feature"],
         {
