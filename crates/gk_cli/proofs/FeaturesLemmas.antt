@@ -1,6 +1,5 @@
 -- Features, one after another, and what their status says of them.
-use Rattle.std.proofs.Common.{◌≡◌, ◌≢◌, ℕ, Bool, true, false, cond, ◌&&◌, ◌||◌, List, [], ◌∷◌, ◌++◌, map, refl, ap, sym, subst, ◌∙◌, append_assoc, length, arith}
-use Rattle.std.specs.Io.KnownBytes.{Appends}
+use Rattle.std.proofs.Common.{◌≡◌, ◌≢◌, ℕ, Bool, true, false, cond, ◌&&◌, ◌||◌, List, [], ◌∷◌, ◌++◌, map, refl, ap, sym, subst, ◌∙◌, inl, inr, length, arith}
 use Rattle.std.specs.List.{AllByRecursion, list_any}
 use Rattle.std.proofs.lemmas.Bool.{true≢false}
 use Rattle.std.proofs.lemmas.List.{append-nil}
@@ -20,45 +19,25 @@ use Rattle.gk_run.specs.SectionHooks.{begun}
 use Rattle.gk_run.specs.Section.{happened, before_passed}
 use Rattle.gk_run.specs.Alone.{Run}
 use Rattle.gk_run.specs.Chosen.{ChosenValue}
-use Rattle.gk_run.specs.Judged.{FeatureCuts, uncut_feature, first_or, later, stays_open, verdict_by, feature_verdict, feature_of, features_of, section_state, section_events, Judged, plain_results, is_memory_case, is_memory_feature, has_memory, OneList}
-use Rattle.gk_run.specs.Running.{IsSame, IsWalked, IsSectionEnd, IsFeatureResult}
+use Rattle.gk_run.specs.Features.{FeatureCuts, uncut_feature, first_or, later, stays_open, verdict_by, feature_verdict, feature_of, features_of, section_state, section_events}
+use Rattle.gk_run.specs.Judged.{Cuts, dry_results, results_from, Judged, plain_results, is_memory_case, is_memory_feature, has_memory, OneList}
+use Rattle.gk_run.specs.Running.{IsSame, IsWalked, IsSectionEnd}
 use Rattle.gk_run.specs.OpenRun.{IsStarted, IsKept, AreFeatures, FinishedRunsAreJudged}
+use Rattle.gk_run.specs.DryRun.{dry_features_of}
+use Rattle.gk_steps.specs.Finding.{LibraryValue}
 use Rattle.gk_report.specs.Summary.{feature_statuses, scenario_statuses, step_statuses, status}
-use Rattle.gk_report.specs.PlainReport.{report}
+use Rattle.gk_report.specs.Report.{report}
+use Rattle.gk_cli.specs.declared.run_fault.RunFault.{RunFault}
+use Rattle.gk_cli.specs.declared.run_fault.RunFault.TheVariants.{Read, Library, Hooks, Select, Write, Memory}
 use Rattle.gk_cli.specs.Inputs.{Request, Inputs, AreInputs}
-use Rattle.gk_cli.specs.Suite.{Device, IsReported, AreJudged, InputsAreUnique, run_with}
+use Rattle.gk_cli.specs.RunFault.{IsUnread}
+use Rattle.gk_cli.specs.Suite.{Device, IsReported, JudgedReport, IsPlain, Plain, AreJudged, IsUntouched, Cut, SaysFault, InputsAreUnique, run_with}
+use Rattle.gk_cli.specs.WrittenRun.{IsWhole, IsPart}
 
 -- A list without length.
 pub nothing_in : {A : Type 0} (xs : List A) → length xs ≡ 0 → xs ≡ []
 nothing_in [] h = refl
 nothing_in (x ∷ xs) h = absurd (omega arith)
-
--- However the features that are left are cut, the whole has cuts with these rows before the others.
-abbrev pub GoesFeatures : Run → State → Bool → List ChosenValue → List FeatureRow → Bool → List ChosenValue → Type 0
-GoesFeatures run first first_open all rows is_open left =
-    (outside : State) → (first_open ≡ true → first ≡ outside) → (cuts : List FeatureCuts) → (whole : List FeatureCuts) × (rows ++ features_of run outside is_open cuts left ≡ features_of run outside first_open whole all)
-
-pub features_first : (run : Run) (first : State) (first_open : Bool) (all : List ChosenValue) → GoesFeatures run first first_open all [] first_open all
-features_first run first first_open all outside opens cuts = (cuts, refl)
-
-pub features_on : (run : Run) (first now : State) (first_open : Bool) (all : List ChosenValue) (rows pushed : List FeatureRow) (row : FeatureRow) (is_open next : Bool) (f : ChosenValue) (left : List ChosenValue) →
-    now ≡ first → (is_open ≡ true → first_open ≡ true) → IsFeatureResult run now is_open f row → next ≡ (is_open && stays_open run row.status) → pushed ≡ rows ++ row ∷ [] →
-    GoesFeatures run first first_open all rows is_open (f ∷ left) → GoesFeatures run first first_open all pushed next left
-features_on run first now first_open all rows pushed row is_open next f left same earlier one nexts push goes outside opens cuts =
-    let here = one outside (λ o. same ∙ opens (earlier o)) in
-    let whole = goes outside opens (here.0 ∷ cuts) in (
-      whole.0,
-      ap (λ rs. rs ++ features_of run outside next cuts left) push
-          ∙ append_assoc rows (row ∷ []) (features_of run outside next cuts left)
-          ∙ ap (λ b. rows ++ row ∷ features_of run outside b cuts left) nexts
-          ∙ ap (λ (x : FeatureRow). rows ++ x ∷ features_of run outside (is_open && stays_open run x.status) cuts left) here.1
-          ∙ whole.1,
-    )
-
-pub features_last : (run : Run) (first : State) (first_open : Bool) (all : List ChosenValue) (rows : List FeatureRow) (is_open : Bool) (left : List ChosenValue) → left ≡ [] →
-    GoesFeatures run first first_open all rows is_open left → AreFeatures run first first_open all rows
-features_last run first first_open all rows is_open [] none goes outside opens = let whole = goes outside opens [] in (whole.0, sym (append-nil rows) ∙ whole.1)
-features_last run first first_open all rows is_open (f ∷ left) none goes outside opens = let no : ⊥ = cc in absurd no
 
 pub and_left : (a b : Bool) → (a && b) ≡ true → a ≡ true
 and_left true b h = refl
@@ -93,6 +72,19 @@ all_verdicts run outside is_open cuts [] = tt
 all_verdicts run outside is_open cuts (f ∷ fs) =
     let row = feature_of run outside is_open (first_or uncut_feature cuts) f in
     (refl, all_verdicts run outside (is_open && stays_open run row.status) (later cuts) fs)
+
+all_dry_verdicts : (library : LibraryValue) (cuts : List FeatureCuts) (fs : List ChosenValue) → AllByRecursion HasVerdict (dry_features_of library cuts fs)
+all_dry_verdicts library cuts [] = tt
+all_dry_verdicts library cuts (f ∷ fs) = (refl, all_dry_verdicts library (later cuts) fs)
+
+either_verdicts : (b : Bool) (x y : Results) → AllByRecursion HasVerdict x.features → AllByRecursion HasVerdict y.features → (let r : Results = cond b x y in AllByRecursion HasVerdict r.features)
+either_verdicts true x y p q = p
+either_verdicts false x y p q = q
+
+run_verdicts : (run : Run) (start : State) (cuts : Cuts) (fs : List ChosenValue) → (let r : Results = results_from run start cuts fs in AllByRecursion HasVerdict r.features)
+run_verdicts run start cuts fs =
+    let events = happened cuts.own (section_events run levels.Run [] start) in
+    all_verdicts run (section_state run levels.Run [] start) (before_passed events) cuts.features fs
 
 or_left : (a b : Bool) → (a || b) ≡ false → a ≡ false
 or_left false b h = refl
@@ -138,19 +130,56 @@ no_memory run contents features results judged h =
     let none : (is_memory results.around || list_any is_memory ends) ≡ false =
     not_four (is_memory results.around || list_any is_memory ends) ((is_failed results.around || list_any is_failed ends) || list_any is_undefined (step_statuses rows)) h in
     let cuts = judged.0 in
-    let events = happened cuts.own (section_events run levels.Run [] (state_of contents)) in
-    let verdicts = subst (λ (r : Results). AllByRecursion HasVerdict r.features) (sym judged.1) (all_verdicts run (section_state run levels.Run [] (state_of contents)) (before_passed events) cuts.features features) in
+    let either = either_verdicts run.dry_run (dry_results run cuts features) (results_from run (state_of contents) cuts features) (all_dry_verdicts run.library cuts.features features) (run_verdicts run (state_of contents) cuts features) in
+    let verdicts = subst (λ (r : Results). AllByRecursion HasVerdict r.features) (sym judged.1) either in
     let others = sym (list_any-append is_memory (feature_statuses rows) (scenario_statuses rows)) ∙ or_right (is_memory results.around) (list_any is_memory ends) none in
     or_none (is_memory results.around) (list_any is_memory_feature rows) (or_left (is_memory results.around) (list_any is_memory ends) none)
     (memory_features rows verdicts (or_left (list_any is_memory (feature_statuses rows)) (list_any is_memory (scenario_statuses rows)) others))
 
 -- Of the judged lists of what is asked for, the plain one alone has a status other than 4.
 pub only_list : InputsAreUnique → OneList → (r : Request) (contents : Contents) (answer : ℕ) → answer ≢ 4 → (inputs : Inputs) → AreInputs r inputs →
-    (results : Results) → AreJudged r contents results → answer ≡ status results → results ≡ plain_results (run_with inputs) contents inputs.features
+    (results : Results) → AreJudged r contents results → answer ≡ status results → results ≡ plain_results (run_with r inputs) contents inputs.features
 only_list unique one r contents answer other inputs read results also answered =
-    one (run_with also.inputs) contents also.inputs.features results also.judged (no_memory (run_with also.inputs) contents also.inputs.features results also.judged (λ four. other (answered ∙ four)))
-    ∙ ap (λ i. plain_results (run_with i) contents i.features) (unique r also.inputs inputs also.read read)
+    one (run_with r also.inputs) contents also.inputs.features results also.judged (no_memory (run_with r also.inputs) contents also.inputs.features results also.judged (λ four. other (answered ∙ four)))
+    ∙ ap (λ i. plain_results (run_with r i) contents i.features) (unique r also.inputs inputs also.read read)
 
--- What was written is the report of these results.
-pub reported_by : {old new : Device} {answer : ℕ} (results : Results) {bytes : List ℕ} → bytes ≡ report results → Appends old.bytes new.bytes bytes → answer ≡ status results → IsReported old new answer results
-reported_by {old} {new} results whole written answered = record { written = subst (Appends old.bytes new.bytes) whole written; answered = answered }
+-- What was written whole is the report of a judged list.
+pub whole_is_judged : (r : Request) (contents : Contents) (old new : Device) (inputs : Inputs) (answer : ℕ) → AreInputs r inputs → IsWhole (run_with r inputs) contents inputs.features r.style old new answer → JudgedReport r contents old new answer
+whole_is_judged r contents old new inputs answer read whole = (whole.0, whole.2, record { inputs = inputs; read = read; judged = whole.1 })
+
+-- At each status but 4 that list is the plain one.
+pub whole_is_plain : InputsAreUnique → OneList → (r : Request) (contents : Contents) (old new : Device) (inputs : Inputs) (answer : ℕ) → AreInputs r inputs →
+    IsWhole (run_with r inputs) contents inputs.features r.style old new answer → Plain r contents old new answer
+whole_is_plain unique one r contents old new inputs answer read whole other =
+    let results = whole.0 in
+    let reported = whole.2 in
+    let run = run_with r inputs in
+    let unmarked = no_memory run contents inputs.features results whole.1 (λ four. other (reported.answered ∙ four)) in
+    let same = one run contents inputs.features results whole.1 unmarked in
+    record {
+      inputs = inputs;
+      read = read;
+      reported = subst (IsReported r.style old new answer) same reported;
+      unmarked = ap has_memory (sym same) ∙ unmarked;
+      only = only_list unique one r contents answer other inputs read;
+    }
+
+-- What was written in part is a prefix of the report of a judged list.
+pub part_is_cut : (r : Request) (contents : Contents) (old new : Device) (inputs : Inputs) (fault : RunFault) → AreInputs r inputs → IsPart (run_with r inputs) contents inputs.features r.style old new fault → SaysFault r contents old new fault
+part_is_cut r contents old new inputs (Read input why) read part = absurd part.2.why
+part_is_cut r contents old new inputs (Library why) read part = absurd part.2.why
+part_is_cut r contents old new inputs (Hooks why) read part = absurd part.2.why
+part_is_cut r contents old new inputs (Select input why) read part = absurd part.2.why
+part_is_cut r contents old new inputs Write read part =
+    ((part.0, record { judged = record { inputs = inputs; read = read; judged = part.1 }; written = part.2.written; unflushed = part.2.unflushed }), part.2.why)
+part_is_cut r contents old new inputs Memory read part =
+    inr ((part.0, record { judged = record { inputs = inputs; read = read; judged = part.1 }; written = part.2.written; unflushed = part.2.unflushed }), part.2.why)
+
+-- What doesn't read writes nothing.
+pub unread_is_untouched : (r : Request) (contents : Contents) (old new : Device) (fault : RunFault) → IsUnread r fault → IsUntouched old new → SaysFault r contents old new fault
+unread_is_untouched r contents old new (Read input why) unread same = (unread, same)
+unread_is_untouched r contents old new (Library why) unread same = (unread, same)
+unread_is_untouched r contents old new (Hooks why) unread same = (unread, same)
+unread_is_untouched r contents old new (Select input why) unread same = (unread, same)
+unread_is_untouched r contents old new Write unread same = absurd unread
+unread_is_untouched r contents old new Memory unread same = inl same

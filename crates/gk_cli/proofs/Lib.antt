@@ -3,6 +3,8 @@ pub mod SourceLemmas
 pub mod ArgumentsLemmas
 pub mod WorkedArguments
 pub mod InputsLemmas
+pub mod GrowingReportLemmas
+pub mod WrittenRunLemmas
 pub mod FeaturesLemmas
 pub mod WorkedRun
 pub mod WorkedHooksRun

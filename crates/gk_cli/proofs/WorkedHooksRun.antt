@@ -28,10 +28,11 @@ use Rattle.gk_run.specs.Results.{Results}
 use Rattle.gk_run.specs.Judged.{plain_results}
 use Rattle.gk_report.specs.ReportTexts.{status_text, reason_text, one_line}
 use Rattle.gk_report.specs.Summary.{status}
-use Rattle.gk_report.specs.PlainReport.{status_line, step_line, case_line, around_line, feature_line, counted, count_line, closing_lines, report}
+use Rattle.gk_report.specs.PlainReport.{status_line, step_line, case_line, around_line, feature_line, counted, count_line, closing_lines}
+use Rattle.gk_report.specs.Report.{report}
 use Rattle.gk_cli.specs.Inputs.{Request, Inputs, AreInputs}
 use Rattle.gk_cli.specs.Suite.{Device, Plain, InputsAreUnique, run_with}
-use Rattle.gk_cli.proofs.WorkedRun.{ends_so, one_request, one_inputs, one_inputs_read, one_results}
+use Rattle.gk_cli.proofs.WorkedRun.{plain_style, ends_so, one_request, one_inputs, one_inputs_read, one_results}
 
 -- A hooks file: a step that passes before each scenario, and one that no entry matches after the run.
 abbrev hooks_bytes : List ℕ
@@ -135,7 +136,7 @@ abbrev hooks_results : Results
 hooks_results = record one_results { around = statuses.Failed }
 
 -- They are those of the inputs.
-hooks_is_plain : plain_results (run_with hooks_inputs) nothing_yet hooks_inputs.features ≡ hooks_results
+hooks_is_plain : plain_results (run_with hooks_request hooks_inputs) nothing_yet hooks_inputs.features ≡ hooks_results
 unfolding cases is_chosen found match_of act
 hooks_is_plain = refl
 
@@ -144,7 +145,7 @@ abbrev hooks_report : List ℕ
 hooks_report = codes "Feature: one ... passed\n  Scenario: first ... passed\n    Given it passes ... passed\n\n(hooks and cleanups) ... failed\n1 feature passed, 0 failed, 0 skipped\n1 scenario passed, 0 failed, 0 skipped\n1 step passed, 0 failed, 0 skipped, 0 undefined\n"
 
 -- The results have that report.
-hooks_reports : report hooks_results ≡ hooks_report
+hooks_reports : report plain_style hooks_results ≡ hooks_report
 unfolding digits status_text reason_text one_line status_line step_line case_line around_line feature_line counted count_line closing_lines
 hooks_reports = refl
 

@@ -37,11 +37,12 @@ use Rattle.gk_run.specs.Results.{StepRow, CaseRow, Results}
 use Rattle.gk_run.specs.Judged.{uncut, plain_results}
 use Rattle.gk_report.specs.ReportTexts.{status_text, reason_text, one_line}
 use Rattle.gk_report.specs.Summary.{status}
-use Rattle.gk_report.specs.PlainReport.{status_line, step_line, case_line, around_line, feature_line, counted, count_line, closing_lines, report}
+use Rattle.gk_report.specs.PlainReport.{status_line, step_line, case_line, around_line, feature_line, counted, count_line, closing_lines}
+use Rattle.gk_report.specs.Report.{report}
 use Rattle.gk_cli.specs.Source.{SourceValue}
 use Rattle.gk_cli.specs.Inputs.{Request, Inputs, AreInputs, HasRoom, chosen_of}
 use Rattle.gk_cli.specs.Suite.{Device, Plain, InputsAreUnique, run_with}
-use Rattle.gk_cli.proofs.WorkedRun.{ends_so, other_name, same_from_bare}
+use Rattle.gk_cli.proofs.WorkedRun.{plain_style, ends_so, other_name, same_from_bare}
 
 -- The feature file.
 abbrev bytes : List ℕ
@@ -79,7 +80,7 @@ source = record { name = codes "mixed.feature"; bytes = bytes }
 
 -- What is asked for: the scenarios with the tag `@shop`, or without `@slow`.
 abbrev request : Request
-request = record { tags = codes "shop,~slow" ∷ []; lines = []; library = Some library_bytes; hooks = None; sources = source ∷ [] }
+request = record { tags = codes "shop,~slow" ∷ []; lines = []; dry_run = false; stop = false; style = plain_style; library = Some library_bytes; hooks = None; sources = source ∷ [] }
 
 -- The lines of the feature file, and the lines from each of them on.
 abbrev line_1 : LineValue
@@ -519,9 +520,9 @@ results = record {
 }
 
 -- They are those of the inputs.
-is_plain : plain_results (run_with inputs) nothing_yet inputs.features ≡ results
+is_plain : plain_results (run_with request inputs) nothing_yet inputs.features ≡ results
 unfolding cases filled filled_from cell_under digits is_chosen found match_of is_utf8 chars lib.Utf8.encode act
-is_plain = same_from_bare (run_with inputs) uncut inputs.features ∙ refl
+is_plain = same_from_bare (run_with request inputs) uncut inputs.features ∙ refl
 
 -- Their report and their status.
 abbrev text : List ℕ
@@ -541,7 +542,7 @@ text = codes "Feature: mixed ... failed\n"
     ++ codes "4 steps passed, 1 failed, 0 skipped, 1 undefined\n"
 
 -- The results have that report.
-reports : report results ≡ text
+reports : report plain_style results ≡ text
 unfolding digits status_text reason_text one_line status_line step_line case_line around_line feature_line counted count_line closing_lines
 reports = refl
 

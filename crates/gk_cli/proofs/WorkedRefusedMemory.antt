@@ -24,26 +24,27 @@ use Rattle.gk_run.specs.Chosen.{MemberValue, ChosenValue}
 use Rattle.gk_run.specs.Judged.{Cuts, FeatureCuts, uncut_feature, first_or, later, section_state, feature_verdict, Judged}
 use Rattle.gk_report.specs.ReportTexts.{status_text, reason_text, one_line}
 use Rattle.gk_report.specs.Summary.{status}
-use Rattle.gk_report.specs.PlainReport.{status_line, step_line, case_line, around_line, feature_line, counted, count_line, closing_lines, report}
+use Rattle.gk_report.specs.PlainReport.{status_line, step_line, case_line, around_line, feature_line, counted, count_line, closing_lines}
+use Rattle.gk_report.specs.Report.{report}
 use Rattle.gk_cli.specs.Inputs.{Request, Inputs, AreInputs, member_by}
 use Rattle.gk_cli.specs.Suite.{Device, IsReported, JudgedReport, InputsAreUnique, run_with}
-use Rattle.gk_cli.proofs.WorkedRun.{bare_state, one_feature, two_feature, set_step, ask_step, results_from_bare, same_from_bare, one_request, one_inputs, one_inputs_read, one_results, one_report, one_reports, one_status, two_request, two_inputs, two_inputs_read, two_results, two_report, two_reports, two_status}
+use Rattle.gk_cli.proofs.WorkedRun.{plain_style, bare_state, one_feature, two_feature, set_step, ask_step, results_from_bare, same_from_bare, one_request, one_inputs, one_inputs_read, one_results, one_report, one_reports, one_status, two_request, two_inputs, two_inputs_read, two_results, two_report, two_reports, two_status}
 
 -- This report was written, and this status is answered.
 abbrev IsAnswered : Device → Device → ℕ → List ℕ → ℕ → Type 0
 IsAnswered old new answer text number = Appends old.bytes new.bytes text × (answer ≡ number)
 
 -- What the report and the status of results say, where these are known.
-answered : (old new : Device) (answer : ℕ) (results known : Results) (text : List ℕ) (number : ℕ) → results ≡ known → report known ≡ text → status known ≡ number → IsReported old new answer results → IsAnswered old new answer text number
+answered : (old new : Device) (answer : ℕ) (results known : Results) (text : List ℕ) (number : ℕ) → results ≡ known → report plain_style known ≡ text → status known ≡ number → IsReported plain_style old new answer results → IsAnswered old new answer text number
 answered old new answer results known text number are reports ends r =
-    (subst (λ (bytes : List ℕ). Appends old.bytes new.bytes bytes) (ap report are ∙ reports) r.written, r.answered ∙ ap status are ∙ ends)
+    (subst (λ (bytes : List ℕ). Appends old.bytes new.bytes bytes) (ap (report plain_style) are ∙ reports) r.written, r.answered ∙ ap status are ∙ ends)
 
 -- A run of a request whose inputs are known writes and answers what some cuts give.
-judged_ends : (r : Request) (inputs : Inputs) → AreInputs r inputs → InputsAreUnique → (old new : Device) (answer : ℕ) → JudgedReport r nothing_yet old new answer → (cuts : Cuts) × IsReported old new answer (results_from_bare (run_with inputs) cuts inputs.features)
+judged_ends : (r : Request) (inputs : Inputs) → AreInputs r inputs → InputsAreUnique → (old new : Device) (answer : ℕ) → JudgedReport r nothing_yet old new answer → (cuts : Cuts) × IsReported r.style old new answer (results_from_bare (run_with r inputs) cuts inputs.features)
 judged_ends r inputs read unique old new answer (results, reported, are) =
     let same : are.inputs ≡ inputs = unique r are.inputs inputs are.read read in
-    let judged : Judged (run_with inputs) nothing_yet inputs.features results = subst (λ (i : Inputs). Judged (run_with i) nothing_yet i.features results) same are.judged in
-    (judged.0, subst (λ (x : Results). IsReported old new answer x) (judged.1 ∙ same_from_bare (run_with inputs) judged.0 inputs.features) reported)
+    let judged : Judged (run_with r inputs) nothing_yet inputs.features results = subst (λ (i : Inputs). Judged (run_with r i) nothing_yet i.features results) same are.judged in
+    (judged.0, subst (λ (x : Results). IsReported r.style old new answer x) (judged.1 ∙ same_from_bare (run_with r inputs) judged.0 inputs.features) reported)
 
 -- The cuts of a run of one feature, in its scenarios alone.
 abbrev cuts_of : List Cut → Cuts
@@ -51,7 +52,7 @@ cuts_of cuts = record { own = nowhere; features = record { own = nowhere; cases 
 
 -- A run without hooks.
 abbrev bare_run : LibraryValue → Run
-bare_run library = record { library = library; hooks = []; stop = false }
+bare_run library = record { library = library; hooks = []; dry_run = false; stop = false }
 
 -- A feature without tags.
 abbrev bare_feature : List ℕ → List ℕ → ℕ → List MemberValue → ChosenValue
@@ -110,12 +111,12 @@ abbrev one_memory_report : List ℕ
 one_memory_report = codes "Feature: one ... memory\n  Scenario: first ... memory\n    Given it passes ... memory\n\n0 features passed, 0 failed, 0 skipped, 1 memory\n0 scenarios passed, 0 failed, 0 skipped, 1 memory\n0 steps passed, 0 failed, 0 skipped, 0 undefined, 1 memory\n"
 
 -- The results have that report.
-one_memory_reports : report one_memory ≡ one_memory_report
+one_memory_reports : report plain_style one_memory ≡ one_memory_report
 unfolding digits status_text reason_text one_line status_line step_line case_line around_line feature_line counted count_line closing_lines
 one_memory_reports = refl
 
 -- The results of that scenario, by its cut: a cut at an event that it doesn't have is none.
-one_by_cut : (cut : Cut) → let results : Results = results_from_bare (run_with one_inputs) (cuts_of (cut ∷ [])) one_inputs.features in (results ≡ one_results) ⊎ (results ≡ one_memory)
+one_by_cut : (cut : Cut) → let results : Results = results_from_bare (run_with one_request one_inputs) (cuts_of (cut ∷ [])) one_inputs.features in (results ≡ one_results) ⊎ (results ≡ one_memory)
 unfolding cases is_chosen found match_of act
 one_by_cut nowhere = inl refl
 one_by_cut (in_before n) = inl refl
@@ -125,7 +126,7 @@ one_by_cut (in_after n) = inl refl
 one_by_cut (in_cleanups n) = inl refl
 
 -- The same by all cuts of a run.
-one_by_cuts : (cuts : Cuts) → let results : Results = results_from_bare (run_with one_inputs) cuts one_inputs.features in (results ≡ one_results) ⊎ (results ≡ one_memory)
+one_by_cuts : (cuts : Cuts) → let results : Results = results_from_bare (run_with one_request one_inputs) cuts one_inputs.features in (results ≡ one_results) ⊎ (results ≡ one_memory)
 unfolding cases
 one_by_cuts cuts =
     let same = scenarios_cut one_inputs.library cuts (codes "one.feature") (codes "one") 1 (map (member_by (is_chosen [] [])) (cases one_feature)) in
@@ -139,7 +140,7 @@ pub one_judged : InputsAreUnique → (old new : Device) (answer : ℕ) → Judge
     IsAnswered old new answer one_report 0 ⊎ IsAnswered old new answer one_memory_report 4
 one_judged unique old new answer judged =
     let (cuts, reported) = judged_ends one_request one_inputs one_inputs_read unique old new answer judged in
-    let results : Results = results_from_bare (run_with one_inputs) cuts one_inputs.features in
+    let results : Results = results_from_bare (run_with one_request one_inputs) cuts one_inputs.features in
     elim (one_by_cuts cuts) [
       | inl is ↦ inl (answered old new answer results one_results one_report 0 is one_reports one_status reported)
       | inr is ↦ inr (answered old new answer results one_memory one_memory_report 4 is one_memory_reports refl reported)
@@ -190,7 +191,7 @@ abbrev memory_in_A_report : List ℕ
 memory_in_A_report = codes "Feature: two ... memory\n  Scenario: A ... memory\n    When the variable \"X\" is set to \"1\" ... memory\n  Scenario: B ... failed\n    Then the variable \"X\" should be \"1\" ... failed: absent\n\n0 features passed, 0 failed, 0 skipped, 1 memory\n0 scenarios passed, 1 failed, 0 skipped, 1 memory\n0 steps passed, 1 failed, 0 skipped, 0 undefined, 1 memory\n"
 
 -- The results have that report.
-memory_in_A_reports : report memory_in_A ≡ memory_in_A_report
+memory_in_A_reports : report plain_style memory_in_A ≡ memory_in_A_report
 unfolding digits status_text reason_text one_line status_line step_line case_line around_line feature_line counted count_line closing_lines
 memory_in_A_reports = refl
 
@@ -199,7 +200,7 @@ abbrev memory_in_B_report : List ℕ
 memory_in_B_report = codes "Feature: two ... memory\n  Scenario: A ... passed\n    When the variable \"X\" is set to \"1\" ... passed\n  Scenario: B ... memory\n    Then the variable \"X\" should be \"1\" ... memory\n\n0 features passed, 0 failed, 0 skipped, 1 memory\n1 scenario passed, 0 failed, 0 skipped, 1 memory\n1 step passed, 0 failed, 0 skipped, 0 undefined, 1 memory\n"
 
 -- The results have that report.
-memory_in_B_reports : report memory_in_B ≡ memory_in_B_report
+memory_in_B_reports : report plain_style memory_in_B ≡ memory_in_B_report
 unfolding digits status_text reason_text one_line status_line step_line case_line around_line feature_line counted count_line closing_lines
 memory_in_B_reports = refl
 
@@ -208,7 +209,7 @@ abbrev memory_in_both_report : List ℕ
 memory_in_both_report = codes "Feature: two ... memory\n  Scenario: A ... memory\n    When the variable \"X\" is set to \"1\" ... memory\n  Scenario: B ... memory\n    Then the variable \"X\" should be \"1\" ... memory\n\n0 features passed, 0 failed, 0 skipped, 1 memory\n0 scenarios passed, 0 failed, 0 skipped, 2 memory\n0 steps passed, 0 failed, 0 skipped, 0 undefined, 2 memory\n"
 
 -- The results have that report.
-memory_in_both_reports : report memory_in_both ≡ memory_in_both_report
+memory_in_both_reports : report plain_style memory_in_both ≡ memory_in_both_report
 unfolding digits status_text reason_text one_line status_line step_line case_line around_line feature_line counted count_line closing_lines
 memory_in_both_reports = refl
 
@@ -226,10 +227,10 @@ case_B = record { keyword = codes "Scenario"; name = codes "B"; line = 4; steps 
 
 -- The state that both begin from.
 abbrev two_section : State
-two_section = section_state (run_with two_inputs) levels.Feature [] (section_state (run_with two_inputs) levels.Run [] bare_state)
+two_section = section_state (run_with two_request two_inputs) levels.Feature [] (section_state (run_with two_request two_inputs) levels.Run [] bare_state)
 
 -- The row of the first scenario, by its cut.
-A_by_cut : (cut : Cut) → let row = reached_row (run_with two_inputs) two_section cut case_A in (row ≡ row_A statuses.Passed) ⊎ (row ≡ row_A statuses.Memory)
+A_by_cut : (cut : Cut) → let row = reached_row (run_with two_request two_inputs) two_section cut case_A in (row ≡ row_A statuses.Passed) ⊎ (row ≡ row_A statuses.Memory)
 unfolding found match_of is_utf8 chars lib.Utf8.encode act
 A_by_cut nowhere = inl refl
 A_by_cut (in_before n) = inl refl
@@ -239,7 +240,7 @@ A_by_cut (in_after n) = inl refl
 A_by_cut (in_cleanups n) = inl refl
 
 -- The row of the second scenario, by its cut.
-B_by_cut : (cut : Cut) → let row = reached_row (run_with two_inputs) two_section cut case_B in (row ≡ row_B failed_B) ⊎ (row ≡ row_B memory_B)
+B_by_cut : (cut : Cut) → let row = reached_row (run_with two_request two_inputs) two_section cut case_B in (row ≡ row_B failed_B) ⊎ (row ≡ row_B memory_B)
 unfolding found match_of is_utf8 chars lib.Utf8.encode act
 B_by_cut nowhere = inl refl
 B_by_cut (in_before n) = inl refl
@@ -256,7 +257,7 @@ two_of a b = record {
 }
 
 -- The results are those with the two scenarios' rows.
-two_by_rows : (a b : Cut) → results_from_bare (run_with two_inputs) (cuts_of (a ∷ b ∷ [])) two_inputs.features ≡ two_of (reached_row (run_with two_inputs) two_section a case_A) (reached_row (run_with two_inputs) two_section b case_B)
+two_by_rows : (a b : Cut) → results_from_bare (run_with two_request two_inputs) (cuts_of (a ∷ b ∷ [])) two_inputs.features ≡ two_of (reached_row (run_with two_request two_inputs) two_section a case_A) (reached_row (run_with two_request two_inputs) two_section b case_B)
 unfolding cases is_chosen
 two_by_rows a b = refl
 
@@ -268,13 +269,13 @@ one_of_four a b results is (inl p) (inr q) = inr (inr (inl (is ∙ ap₂ two_of 
 one_of_four a b results is (inr p) (inr q) = inr (inr (inr (is ∙ ap₂ two_of p q)))
 
 -- The results, by the two scenarios' cuts.
-two_by_cut : (a b : Cut) → IsOneOfFour (results_from_bare (run_with two_inputs) (cuts_of (a ∷ b ∷ [])) two_inputs.features)
+two_by_cut : (a b : Cut) → IsOneOfFour (results_from_bare (run_with two_request two_inputs) (cuts_of (a ∷ b ∷ [])) two_inputs.features)
 two_by_cut a b =
-    one_of_four (reached_row (run_with two_inputs) two_section a case_A) (reached_row (run_with two_inputs) two_section b case_B) (results_from_bare (run_with two_inputs) (cuts_of (a ∷ b ∷ [])) two_inputs.features)
+    one_of_four (reached_row (run_with two_request two_inputs) two_section a case_A) (reached_row (run_with two_request two_inputs) two_section b case_B) (results_from_bare (run_with two_request two_inputs) (cuts_of (a ∷ b ∷ [])) two_inputs.features)
     (two_by_rows a b) (A_by_cut a) (B_by_cut b)
 
 -- The same by all cuts of a run.
-two_by_cuts : (cuts : Cuts) → IsOneOfFour (results_from_bare (run_with two_inputs) cuts two_inputs.features)
+two_by_cuts : (cuts : Cuts) → IsOneOfFour (results_from_bare (run_with two_request two_inputs) cuts two_inputs.features)
 unfolding cases
 two_by_cuts cuts =
     let own = (first_or uncut_feature cuts.features).cases in
@@ -286,7 +287,7 @@ pub two_judged : InputsAreUnique → (old new : Device) (answer : ℕ) → Judge
     IsAnswered old new answer two_report 1 ⊎ (IsAnswered old new answer memory_in_A_report 4 ⊎ (IsAnswered old new answer memory_in_B_report 4 ⊎ IsAnswered old new answer memory_in_both_report 4))
 two_judged unique old new answer judged =
     let (cuts, reported) = judged_ends two_request two_inputs two_inputs_read unique old new answer judged in
-    let results : Results = results_from_bare (run_with two_inputs) cuts two_inputs.features in
+    let results : Results = results_from_bare (run_with two_request two_inputs) cuts two_inputs.features in
     elim (two_by_cuts cuts) [
       | inl is ↦ inl (answered old new answer results two_results two_report 1 is two_reports two_status reported)
       | inr (inl is) ↦ inr (inl (answered old new answer results memory_in_A memory_in_A_report 4 is memory_in_A_reports refl reported))

@@ -1,5 +1,5 @@
 -- Whole runs by computation: from the bytes of a feature file to the report's bytes and the status.
-use Rattle.std.specs.Prelude.{◌≡◌, ◌≢◌, ℕ, Bool, not, List, [], ◌∷◌, slice_index, filter, Some, None, codes}
+use Rattle.std.specs.Prelude.{◌≡◌, ◌≢◌, ℕ, Bool, false, not, List, [], ◌∷◌, slice_index, filter, Some, None, codes}
 use Rattle.std.specs.Io.KnownBytes.{Appends}
 use Rattle.std.specs.Fmt.{digits}
 use Rattle.std.specs.FinMap.{get-empty}
@@ -37,19 +37,26 @@ use Rattle.gk_run.specs.Chosen.{ChosenValue}
 use Rattle.gk_run.specs.Judged.{Cuts, uncut, results_from, results_of, plain_results}
 use Rattle.gk_report.specs.ReportTexts.{status_text, reason_text, one_line}
 use Rattle.gk_report.specs.Summary.{status}
-use Rattle.gk_report.specs.PlainReport.{status_line, step_line, case_line, around_line, feature_line, counted, count_line, closing_lines, report}
+use Rattle.gk_report.specs.PlainReport.{status_line, step_line, case_line, around_line, feature_line, counted, count_line, closing_lines}
+use Rattle.gk_report.specs.declared.report.Style.{Style}
+use Rattle.gk_report.specs.declared.report.Format.TheVariants as formats
+use Rattle.gk_report.specs.Report.{report}
 use Rattle.gk_cli.specs.Source.{SourceValue}
 use Rattle.gk_cli.specs.Inputs.{Request, Inputs, AreRead, AreInputs, IsLibrary, HasRoom, chosen_of}
 use Rattle.gk_cli.specs.Suite.{Device, Plain, InputsAreUnique, run_with}
 
+-- The plain style, in which nothing is left out.
+abbrev pub plain_style : Style
+plain_style = record { format = formats.Plain; no_skipped = false }
+
 -- What a run of a request writes and answers, where its inputs, their results, and the report and the status of these are known.
-pub ends_so : (r : Request) (inputs : Inputs) (results : Results) (text : List ℕ) (number : ℕ) → AreInputs r inputs → plain_results (run_with inputs) nothing_yet inputs.features ≡ results → report results ≡ text → status results ≡ number →
+pub ends_so : (r : Request) (inputs : Inputs) (results : Results) (text : List ℕ) (number : ℕ) → AreInputs r inputs → plain_results (run_with r inputs) nothing_yet inputs.features ≡ results → report r.style results ≡ text → status results ≡ number →
     InputsAreUnique → (old new : Device) (answer : ℕ) → Plain r nothing_yet old new answer → answer ≢ 4 → Appends old.bytes new.bytes text × (answer ≡ number)
 ends_so r inputs results text number read is_plain reports ends unique old new answer plain not_memory =
     let p = plain not_memory in
     let same : p.inputs ≡ inputs = unique r p.inputs inputs p.read read in
-    let are : plain_results (run_with p.inputs) nothing_yet p.inputs.features ≡ results = ap (λ (i : Inputs). plain_results (run_with i) nothing_yet i.features) same ∙ is_plain in
-    (subst (λ (bytes : List ℕ). Appends old.bytes new.bytes bytes) (ap report are ∙ reports) p.reported.written, p.reported.answered ∙ ap status are ∙ ends)
+    let are : plain_results (run_with r p.inputs) nothing_yet p.inputs.features ≡ results = ap (λ (i : Inputs). plain_results (run_with r i) nothing_yet i.features) same ∙ is_plain in
+    (subst (λ (bytes : List ℕ). Appends old.bytes new.bytes bytes) (ap (report r.style) are ∙ reports) p.reported.written, p.reported.answered ∙ ap status are ∙ ends)
 
 -- The state of a new sandbox: no file, no variable, no value.
 abbrev pub bare_state : State
@@ -78,7 +85,7 @@ one_source = record { name = codes "one.feature"; bytes = one_bytes }
 
 -- What is asked for: all scenarios of that feature.
 abbrev pub one_request : Request
-one_request = record { tags = []; lines = []; library = Some pass_bytes; hooks = None; sources = one_source ∷ [] }
+one_request = record { tags = []; lines = []; dry_run = false; stop = false; style = plain_style; library = Some pass_bytes; hooks = None; sources = one_source ∷ [] }
 
 -- What the feature file says.
 abbrev pub one_step : StepValue
@@ -234,7 +241,7 @@ one_results = record {
 }
 
 -- They are those of the inputs.
-one_is_plain : plain_results (run_with one_inputs) nothing_yet one_inputs.features ≡ one_results
+one_is_plain : plain_results (run_with one_request one_inputs) nothing_yet one_inputs.features ≡ one_results
 unfolding cases is_chosen found match_of act
 one_is_plain = refl
 
@@ -243,7 +250,7 @@ abbrev pub one_report : List ℕ
 one_report = codes "Feature: one ... passed\n  Scenario: first ... passed\n    Given it passes ... passed\n\n1 feature passed, 0 failed, 0 skipped\n1 scenario passed, 0 failed, 0 skipped\n1 step passed, 0 failed, 0 skipped, 0 undefined\n"
 
 -- The results have that report.
-pub one_reports : report one_results ≡ one_report
+pub one_reports : report plain_style one_results ≡ one_report
 unfolding digits status_text reason_text one_line status_line step_line case_line around_line feature_line counted count_line closing_lines
 one_reports = refl
 
@@ -269,7 +276,7 @@ two_source = record { name = codes "two.feature"; bytes = two_bytes }
 
 -- What is asked for: all scenarios of that feature.
 abbrev pub two_request : Request
-two_request = record { tags = []; lines = []; library = Some variable_bytes; hooks = None; sources = two_source ∷ [] }
+two_request = record { tags = []; lines = []; dry_run = false; stop = false; style = plain_style; library = Some variable_bytes; hooks = None; sources = two_source ∷ [] }
 
 -- What the feature file says.
 abbrev pub set_step : StepValue
@@ -508,16 +515,16 @@ two_results = record {
 }
 
 -- They are those of the inputs.
-two_is_plain : plain_results (run_with two_inputs) nothing_yet two_inputs.features ≡ two_results
+two_is_plain : plain_results (run_with two_request two_inputs) nothing_yet two_inputs.features ≡ two_results
 unfolding cases is_chosen found match_of is_utf8 chars lib.Utf8.encode act
-two_is_plain = same_from_bare (run_with two_inputs) uncut two_inputs.features ∙ refl
+two_is_plain = same_from_bare (run_with two_request two_inputs) uncut two_inputs.features ∙ refl
 
 -- Their report and their status.
 abbrev pub two_report : List ℕ
 two_report = codes "Feature: two ... failed\n  Scenario: A ... passed\n    When the variable \"X\" is set to \"1\" ... passed\n  Scenario: B ... failed\n    Then the variable \"X\" should be \"1\" ... failed: absent\n\n0 features passed, 1 failed, 0 skipped\n1 scenario passed, 1 failed, 0 skipped\n1 step passed, 1 failed, 0 skipped, 0 undefined\n"
 
 -- The results have that report.
-pub two_reports : report two_results ≡ two_report
+pub two_reports : report plain_style two_results ≡ two_report
 unfolding digits status_text reason_text one_line status_line step_line case_line around_line feature_line counted count_line closing_lines
 two_reports = refl
 
@@ -602,7 +609,7 @@ abbrev line_report : List ℕ
 line_report = codes "Feature: two ... passed\n  Scenario: A ... passed\n    When the variable \"X\" is set to \"1\" ... passed\n  Scenario: B ... skipped\n    Then the variable \"X\" should be \"1\" ... skipped\n\n1 feature passed, 0 failed, 0 skipped\n1 scenario passed, 0 failed, 1 skipped\n1 step passed, 0 failed, 1 skipped, 0 undefined\n"
 
 -- The results have that report.
-line_reports : report line_results ≡ line_report
+line_reports : report plain_style line_results ≡ line_report
 unfolding digits status_text reason_text one_line status_line step_line case_line around_line feature_line counted count_line closing_lines
 line_reports = refl
 
@@ -693,7 +700,7 @@ abbrev several_report : List ℕ
 several_report = codes "Feature: one ... passed\n  Scenario: first ... passed\n    Given it passes ... passed\n\nFeature: one ... passed\n  Scenario: first ... passed\n    Given it passes ... passed\n\n2 features passed, 0 failed, 0 skipped\n2 scenarios passed, 0 failed, 0 skipped\n2 steps passed, 0 failed, 0 skipped, 0 undefined\n"
 
 -- The results have that report.
-several_reports : report several_results ≡ several_report
+several_reports : report plain_style several_results ≡ several_report
 unfolding digits status_text reason_text one_line status_line step_line case_line around_line feature_line counted count_line closing_lines
 several_reports = refl
 

@@ -18,22 +18,35 @@ use Rattle.gk_steps.specs.DefaultFile.{default_text}
 use Rattle.gk_steps.specs.Finding.{LibraryValue, library_value}
 use Rattle.gk_run.specs.declared.chosen.Chosen.{Chosen}
 use Rattle.gk_run.specs.Chosen.{MemberValue, ChosenValue, chosen_value, IsPaired}
+use Rattle.gk_report.specs.declared.report.Style.{Style}
 use Rattle.gk_cli.specs.declared.arguments.Options.{Options}
 use Rattle.gk_cli.specs.declared.inputs.ReadInputs.{ReadInputs}
 use Rattle.gk_cli.specs.declared.source.Source.{Source}
 use Rattle.gk_cli.specs.Source.{SourceValue, source_value}
 
--- What a run is asked for: the texts of tags, the lines, the bytes of a library file or none, those of a hooks file or none, and the sources.
+-- What a run is asked for: the texts of tags, the lines, whether it is a dry run, whether the first failure stops it, the report's style, the bytes of a library file or none, those of a hooks file or none, and the sources.
 pub record Request : Type 0 where
   pub tags : List (List ℕ)
   pub lines : List ℕ
+  pub dry_run : Bool
+  pub stop : Bool
+  pub style : Style
   pub library : Option (List ℕ)
   pub hooks : Option (List ℕ)
   pub sources : List SourceValue
 
 -- What options, a library file, a hooks file and sources ask for.
 abbrev pub request_of : Options → Option (List ℕ) → Option (List ℕ) → List SourceValue → Request
-request_of options library hooks sources = record { tags = texts options.tags.items; lines = options.lines.items; library = library; hooks = hooks; sources = sources }
+request_of options library hooks sources = record {
+  tags = texts options.tags.items;
+  lines = options.lines.items;
+  dry_run = options.dry_run;
+  stop = options.stop;
+  style = options.style;
+  library = library;
+  hooks = hooks;
+  sources = sources;
+}
 
 -- What a run's arguments ask for.
 abbrev pub asked : Options → Option (Bor (List ℕ)) → Option (Bor (List ℕ)) → List Source → Request

@@ -5,3 +5,5 @@ pub mod Source
 pub mod Inputs
 pub mod RunFault
 pub mod Suite
+pub mod GrowingReport
+pub mod WrittenRun

@@ -1,28 +1,24 @@
 -- What a whole run may answer and write.
-use Rattle.std.specs.Prelude.{◌≡◌, ◌≢◌, ℕ, false, List, [], map, Option}
+use Rattle.std.specs.Prelude.{◌≡◌, ◌≢◌, ◌≤◌, ◌+◌, ◌⊎◌, ℕ, false, List, [], length, Option}
 use Rattle.std.specs.Io.KnownBytes.{Appends}
 use Rattle.gk_world.specs.Contents.{Contents}
-use Rattle.gk_run.specs.declared.results.FeatureResult.{FeatureResult}
-use Rattle.gk_run.specs.declared.results.Status.{Status}
-use Rattle.gk_run.specs.Results.{Results, feature_row}
+use Rattle.gk_run.specs.Results.{Results}
 use Rattle.gk_run.specs.Alone.{Run}
 use Rattle.gk_run.specs.Judged.{Judged, plain_results, has_memory}
-use Rattle.gk_report.specs.PlainReport.{report}
+use Rattle.gk_report.specs.declared.report.Style.{Style}
+use Rattle.gk_report.specs.Report.{report}
 use Rattle.gk_report.specs.Summary.{status}
+use Rattle.gk_cli.specs.declared.arguments.Options.{Options}
 use Rattle.gk_cli.specs.declared.counted.Counted.{Counted}
 use Rattle.gk_cli.specs.declared.run_fault.RunFault.{RunFault}
-use Rattle.gk_cli.specs.declared.run_fault.RunFault.TheVariants.{Write}
+use Rattle.gk_cli.specs.declared.run_fault.RunFault.TheVariants.{Write, Memory}
 use Rattle.gk_cli.specs.Counted.{inner_of, calls_of, flushes_of, failures_of, one_more, IsPrefixWritten}
 use Rattle.gk_cli.specs.Inputs.{Request, Inputs, AreInputs}
 use Rattle.gk_cli.specs.RunFault.{IsUnread}
 
 -- What stays the same during a run of these inputs.
-abbrev pub run_with : Inputs → Run
-run_with inputs = record { library = inputs.library; hooks = inputs.hooks; stop = false }
-
--- What the results of features say, with how the run's own hooks and cleanups ended.
-abbrev pub results_of : List FeatureResult → Status → Results
-results_of results around = record { features = map feature_row results; around = around }
+abbrev pub run_with : Request → Inputs → Run
+run_with r inputs = record { library = inputs.library; hooks = inputs.hooks; dry_run = r.dry_run; stop = r.stop }
 
 -- A writer: the bytes that it has taken, where they are known, and the counts of its calls, flushes and failures.
 pub record Device : Type 0 where
@@ -35,32 +31,35 @@ pub record Device : Type 0 where
 abbrev pub device_of : {W : Type 0} → (W → Option (List ℕ)) → Counted W → Device
 device_of bytes_of out = record { bytes = bytes_of (inner_of out); calls = calls_of out; flushes = flushes_of out; failures = failures_of out }
 
--- The report of these results was written, and their status is answered.
-pub record IsReported (old new : Device) (answer : ℕ) (results : Results) : Type 0 where
-  pub written : Appends old.bytes new.bytes (report results)
+-- The report of these results was written, and their status is answered. The writer didn't fail, wasn't flushed, and was called no more often than there are bytes, so never for an empty piece.
+pub record IsReported (style : Style) (old new : Device) (answer : ℕ) (results : Results) : Type 0 where
+  pub written : Appends old.bytes new.bytes (report style results)
   pub answered : answer ≡ status results
+  pub turns : new.calls ≤ old.calls + length (report style results)
+  pub quiet : new.failures ≡ old.failures
+  pub unflushed : new.flushes ≡ old.flushes
 
 -- There is a list of results whose report was written and whose status is answered.
-abbrev pub Reported : Device → Device → ℕ → Type 0
-Reported old new answer = (results : Results) × IsReported old new answer results
+abbrev pub Reported : Style → Device → Device → ℕ → Type 0
+Reported style old new answer = (results : Results) × IsReported style old new answer results
 
--- The results are judged for what is asked for: each selected scenario has in them the verdict and the step statuses that plain maps give it alone from its section's state, rows marked memory excepted.
+-- The results are judged for what is asked for: each selected scenario that was reached has in them the verdict and the step statuses that plain maps give it alone from its section's state, rows marked memory excepted.
 pub record AreJudged (r : Request) (contents : Contents) (results : Results) : Type 0 where
   pub inputs : Inputs
   pub read : AreInputs r inputs
-  pub judged : Judged (run_with inputs) contents inputs.features results
+  pub judged : Judged (run_with r inputs) contents inputs.features results
 
 -- The list whose report was written and whose status is answered is judged.
 abbrev pub JudgedReport : Request → Contents → Device → Device → ℕ → Type 0
-JudgedReport r contents old new answer = (results : Results) × IsReported old new answer results × AreJudged r contents results
+JudgedReport r contents old new answer = (results : Results) × IsReported r.style old new answer results × AreJudged r contents results
 
 -- That list is the one that plain maps give; no scenario in it is marked memory; and what is asked for has no other judged list with this status.
 pub record IsPlain (r : Request) (contents : Contents) (old new : Device) (answer : ℕ) : Type 0 where
   pub inputs : Inputs
   pub read : AreInputs r inputs
-  pub reported : IsReported old new answer (plain_results (run_with inputs) contents inputs.features)
-  pub unmarked : has_memory (plain_results (run_with inputs) contents inputs.features) ≡ false
-  pub only : (results : Results) → AreJudged r contents results → answer ≡ status results → results ≡ plain_results (run_with inputs) contents inputs.features
+  pub reported : IsReported r.style old new answer (plain_results (run_with r inputs) contents inputs.features)
+  pub unmarked : has_memory (plain_results (run_with r inputs) contents inputs.features) ≡ false
+  pub only : (results : Results) → AreJudged r contents results → answer ≡ status results → results ≡ plain_results (run_with r inputs) contents inputs.features
 
 -- So it is at each status other than 4.
 abbrev pub Plain : Request → Contents → Device → Device → ℕ → Type 0
@@ -73,18 +72,26 @@ pub record IsUntouched (old new : Device) : Type 0 where
   pub flushes : new.flushes ≡ old.flushes
   pub failures : new.failures ≡ old.failures
 
--- The writer failed once, and took a prefix of the report of a judged list.
+-- The writer took a prefix of the report of a judged list.
 pub record IsCutShort (r : Request) (contents : Contents) (old new : Device) (results : Results) : Type 0 where
   pub judged : AreJudged r contents results
-  pub written : IsPrefixWritten old.bytes new.bytes (report results)
-  pub failed : new.failures ≡ one_more old.failures
+  pub written : IsPrefixWritten old.bytes new.bytes (report r.style results)
   pub unflushed : new.flushes ≡ old.flushes
 
--- What each fault says: where the writer failed, a prefix was written; else what is asked for doesn't read, or memory was refused, and nothing was written.
+-- The writer took a prefix of the report of some judged list.
+abbrev pub Cut : Request → Contents → Device → Device → Type 0
+Cut r contents old new = (results : Results) × IsCutShort r contents old new results
+
+-- What each fault says. Where the writer failed, it failed once, and a prefix was written. Where memory was refused, nothing was written, or a prefix was and the writer didn't fail. Else what is asked for doesn't read, and nothing was written.
 abbrev pub SaysFault : Request → Contents → Device → Device → RunFault → Type 0
-SaysFault r contents old new Write = (results : Results) × IsCutShort r contents old new results
+SaysFault r contents old new Write = Cut r contents old new × (new.failures ≡ one_more old.failures)
+SaysFault r contents old new Memory = IsUntouched old new ⊎ (Cut r contents old new × (new.failures ≡ old.failures))
 SaysFault r contents old new fault = IsUnread r fault × IsUntouched old new
 
 -- What is asked for reads in one way only.
 abbrev pub InputsAreUnique : Type 0
 InputsAreUnique = (r : Request) (one other : Inputs) → AreInputs r one → AreInputs r other → one ≡ other
+
+-- Proof machinery: what stays the same during a run with these options.
+abbrev pub run_by : Options → Inputs → Run
+run_by options inputs = record { library = inputs.library; hooks = inputs.hooks; dry_run = options.dry_run; stop = options.stop }

@@ -7,10 +7,11 @@ ghost use Rattle.gk_cli.specs.Arguments.{files_rule, tags_rule, line_rule, libra
 use clap::builder::ValueParser;
 use clap::error::ErrorKind;
 use clap::{Arg, ArgAction, ArgMatches, Command};
+use gk_report::{Format, Style};
 use std::alloc::{AllocError, AllocFailed, Global};
 use thiserror::Error;
 
-/// Which scenarios run.
+/// Which scenarios run, how they run, and how the report is written.
 #[derive(Debug, Drop)]
 pub struct Options {
     /// The texts of `--tags`, in order. All of them have to hold; none chooses every scenario.
@@ -18,6 +19,12 @@ pub struct Options {
     /// The numbers of `--line`, in order, each at least 1. One of them has to be a scenario's; none chooses
     /// every scenario.
     pub lines: Vec<u32>,
+    /// No feature is begun: each step of a selected scenario is only looked up in the library.
+    pub dry_run: bool,
+    /// What comes after the first scenario or feature that is failed or memory isn't run.
+    pub stop: bool,
+    /// How the report is written.
+    pub style: Style,
 }
 
 /// What the arguments of the command line ask for.
@@ -226,7 +233,16 @@ fn words_of(alloc: Global, matches: &ArgMatches) -> Result<Words, WordsFault>
     let library = copied_text(alloc, matches.get_str("library"))?;
     let hooks = copied_text(alloc, matches.get_str("hooks"))?;
     let env = variables(alloc, matches.get_strs("env").unwrap_or(&[]))?;
-    let options = Options { tags, lines };
+    let options = Options {
+        tags,
+        lines,
+        dry_run: false,
+        stop: false,
+        style: Style {
+            format: Format::Plain,
+            no_skipped: false,
+        },
+    };
     Ok(Words {
         options,
         library,

@@ -4,10 +4,12 @@
 
 mod arguments;
 mod counted;
+mod growing_report;
 mod inputs;
 mod run_fault;
 mod source;
 mod suite;
+mod written_run;
 
 pub use arguments::{Options, Words, WordsFault, read_words};
 pub use counted::{Counted, NotWritten, write_whole};

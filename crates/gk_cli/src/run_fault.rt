@@ -28,8 +28,8 @@ pub enum RunFault {
     },
     /// The writer failed in this call, or took no byte of a piece. A prefix of the report was written.
     Write,
-    /// A growth of memory was refused outside the steps of scenarios, hooks and cleanups. Nothing was
-    /// written.
+    /// A growth of memory was refused outside the steps of scenarios, hooks and cleanups. A prefix of the
+    /// report was written; nothing, where the inputs were still being read.
     Memory,
 }
 

@@ -1,35 +1,23 @@
 //! The whole run.
-ghost use Rattle.std.specs.Prelude.{◌≡◌, ◌≤◌, ◌-◌, ◌^◌, ◌<◌, false, suc, [], map, length, vec_capacity, IfOk, IfErr, OnOk, string_bytes};
-ghost use Rattle.std.specs.List.{AllByRecursion};
-ghost use Rattle.gk_world.specs.State.{state_of};
-ghost use Rattle.gk_world.specs.Sandbox.{depth, layers};
-ghost use Rattle.gk_run.specs.Results.{feature_row};
-ghost use Rattle.gk_run.specs.Alone.{run_of};
-ghost use Rattle.gk_run.specs.Chosen.{chosen_value, IsPaired};
-ghost use Rattle.gk_run.specs.Judged.{Judged};
+ghost use Rattle.std.specs.Prelude.{◌≡◌, ◌-◌, ◌^◌, ◌<◌, IfOk, IfErr, OnOk};
+ghost use Rattle.gk_world.specs.Sandbox.{depth};
 ghost use Rattle.gk_run.specs.Running.{IsSame};
-ghost use Rattle.gk_run.specs.OpenRun.{IsKept, AreFeatures};
-ghost use Rattle.gk_report.specs.PlainReport.{report};
-ghost use Rattle.gk_report.specs.Summary.{status};
 ghost use Rattle.gk_cli.specs.Counted.{failures_of, flushes_of};
 ghost use Rattle.gk_cli.specs.Inputs.{asked};
-ghost use Rattle.gk_cli.specs.Suite.{device_of, results_of, Reported, JudgedReport, Plain, SaysFault, InputsAreUnique};
+ghost use Rattle.gk_cli.specs.Suite.{device_of, Reported, JudgedReport, Plain, SaysFault, InputsAreUnique};
 
 use crate::arguments::Options;
-use crate::counted::{Counted, write_whole};
-use crate::inputs::{ReadInputs, read_inputs};
+use crate::counted::Counted;
+use crate::inputs::read_inputs;
 use crate::run_fault::RunFault;
 use crate::source::Source;
-use gk_gherkin::{HookFile, hooks_reading_is_unique, reading_is_unique};
-use gk_report::{report_of, summarize};
-use gk_run::{
-    Chosen, FeatureResult, NoRoom, Status, Suite, finished_runs_are_judged,
-    without_memory_there_is_one_list,
-};
+use crate::written_run::write_run;
+use gk_gherkin::{hooks_reading_is_unique, reading_is_unique};
+use gk_run::without_memory_there_is_one_list;
 use gk_select::texts_have_one_rule;
-use gk_steps::{Library, library_reading_is_unique};
+use gk_steps::library_reading_is_unique;
 use gk_world::Sandbox;
-use std::alloc::{AllocError, Global};
+use std::alloc::Global;
 use std::io::Write;
 
 fn inputs_are_unique()
@@ -41,87 +29,11 @@ fn inputs_are_unique()
     hooks_reading_is_unique();
 }
 
-// Runs the features of a run that was begun, one after another; `results` has room for theirs.
-fn run_features(
-    alloc: Global,
-    sandbox: &mut Sandbox,
-    library: &Library,
-    hooks: &HookFile,
-    suite: &mut Suite,
-    features: Vec<Chosen>,
-    results: Vec<FeatureResult>,
-) -> Result<Vec<FeatureResult>, NoRoom>
-    requires layer { suc (depth sandbox.old) < layers }
-    requires empty { results.items ≡ [] }
-    requires paired { AllByRecursion IsPaired features.items }
-    requires room { length features.items ≤ vec_capacity results }
-    ensures rows { IfOk result (λ rs. AreFeatures (run_of library.now hooks.now suite.old.stop) (state_of sandbox.old.now) suite.old.is_open (map chosen_value features.items) (map feature_row rs.items)) }
-    ensures kept { IsKept suite.old suite.new }
-    ensures same { IsSame sandbox.old sandbox.new }
-{
-    let mut results = results;
-    for feature in features {
-        results.push_reserved(suite.feature(alloc, sandbox, library, hooks, feature)?);
-    }
-    Ok(results)
-}
-
-// The results of features, and how the run's own hooks and cleanups ended.
-#[derive(Drop)]
-struct RunResult {
-    features: Vec<FeatureResult>,
-    around: Status,
-}
-
-// Runs features as one run. Where a result has no room the run is finished, and its answer is given up.
-fn run_all(
-    alloc: Global,
-    sandbox: &mut Sandbox,
-    library: &Library,
-    hooks: &HookFile,
-    features: Vec<Chosen>,
-) -> Result<RunResult, NoRoom>
-    requires outside { depth sandbox.old ≡ 0 }
-    requires paired { AllByRecursion IsPaired features.items }
-    ensures judged { IfOk result (λ r. Judged (run_of library.now hooks.now false) sandbox.old.now (map chosen_value features.items) (results_of r.features.items r.around)) }
-    ensures same { IsSame sandbox.old sandbox.new }
-{
-    // No code runs here: the law says that the results of a run that was finished are judged.
-    finished_runs_are_judged();
-    let results = match Vec::with_capacity(alloc, features.len()) {
-        Ok(results) => results,
-        Err(AllocError) => return Err(NoRoom),
-    };
-    let mut suite = Suite::start(alloc, sandbox, library, hooks, false);
-    let told = run_features(
-        alloc, sandbox, library, hooks, &mut suite, features, results,
-    );
-    let around = suite.finish(alloc, sandbox, library, hooks);
-    let features = told?;
-    Ok(RunResult { features, around })
-}
-
-// A report, and the status that goes with it.
-#[derive(Drop)]
-struct Finished {
-    report: String,
-    status: u8,
-}
-
-fn finish(alloc: Global, results: &[FeatureResult], around: Status) -> Result<Finished, AllocError>
-    ensures report { IfOk result (λ f. string_bytes f.report ≡ report (results_of results.now around)) }
-    ensures status { IfOk result (λ f. f.status ≡ status (results_of results.now around)) }
-{
-    let summary = summarize(results);
-    Ok(Finished {
-        report: report_of(alloc, results, around, &summary)?,
-        status: summary.status(around),
-    })
-}
-
 /// Reads what is asked for, runs the selected scenarios of the features in order, with the hooks and cleanups
-/// of the run, of each feature and of each scenario around them, and writes the report. Without `library` the
-/// steps are those of the default library; without `hooks` there are none.
+/// of the run, of each feature and of each scenario around them, and writes the report: its head before the
+/// run begins, the part of each feature when it has ended, and its tail when the run has. A feature's result
+/// is counted and given up once its part is written. Without `library` the steps are those of the default
+/// library; without `hooks` there are none. In a dry run no hook, step or cleanup is run.
 ///
 /// The answer is the status of the run: 0 where nothing failed, 1 where a scenario, a hook or a cleanup failed
 /// or a step is undefined, 4 where memory was refused in one of these. `RunFault` says when each error comes and
@@ -141,7 +53,7 @@ pub fn run_suite<W: Write>(
     requires outside { depth sandbox.old ≡ 0 }
 
     // What was written and what is answered are the report and the status of one list of results.
-    ensures reported { IfOk result (Reported (device_of W.contents out.old) (device_of W.contents out.new)) }
+    ensures reported { IfOk result (Reported options.now.style (device_of W.contents out.old) (device_of W.contents out.new)) }
     // That list is judged: each selected scenario in it has the verdict and the step statuses that plain
     // maps give it alone from its section's state, rows marked memory excepted.
     ensures judged { IfOk result (JudgedReport (asked options.now library.entry hooks.entry sources.now) sandbox.old.now (device_of W.contents out.old) (device_of W.contents out.new)) }
@@ -159,24 +71,8 @@ pub fn run_suite<W: Write>(
     // without a mark of memory are the plain ones.
     inputs_are_unique();
     without_memory_there_is_one_list();
-    let ReadInputs {
-        library: steps,
-        hooks: around,
-        features,
-    } = match read_inputs(alloc, options, library, hooks, sources) {
-        Ok(inputs) => inputs,
-        Err(fault) => return Err(fault),
-    };
-    let results = match run_all(alloc, sandbox, &steps, &around, features) {
-        Ok(results) => results,
-        Err(NoRoom) => return Err(RunFault::Memory),
-    };
-    let finished = match finish(alloc, results.features.as_slice(), results.around) {
-        Ok(finished) => finished,
-        Err(AllocError) => return Err(RunFault::Memory),
-    };
-    match write_whole(out, finished.report.as_bytes()) {
-        Ok(()) => Ok(finished.status),
-        Err(_) => Err(RunFault::Write),
+    match read_inputs(alloc, options, library, hooks, sources) {
+        Ok(inputs) => write_run(alloc, sandbox, options, inputs, out),
+        Err(fault) => Err(fault),
     }
 }

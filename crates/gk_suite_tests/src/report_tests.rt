@@ -1,92 +1,108 @@
-use gk_report::{report_of, summarize};
+use gk_report::{Format, Style, Summary, head, part, tail};
 use gk_run::{CaseResult, FeatureResult, Outcome, Reason, Status, StepResult};
 use std::alloc::{AllocError, Global};
 use std::test::Fail;
 
-fn feature(alloc: Global) -> Result<FeatureResult, AllocError> {
-    let mut steps = Vec::new(alloc);
-    steps.push(StepResult {
+fn step(
+    alloc: Global,
+    text: &str,
+    status: Status,
+    reason: Option<Reason>,
+) -> Result<StepResult, AllocError> {
+    Ok(StepResult {
         keyword: String::from_str(alloc, "Given")?,
-        text: String::from_str(alloc, "a\nb")?,
+        text: String::from_str(alloc, text)?,
         line: 3,
-        status: Status::Failed,
-        reason: Some(Reason::TextTooLong),
-    })?;
-    let mut cases = Vec::new(alloc);
-    cases.push(CaseResult {
+        status,
+        reason,
+    })
+}
+
+// A scenario of one step, whose cleanups failed where it did.
+fn case(alloc: Global, line: u32, status: Status) -> Result<CaseResult, AllocError> {
+    let mut steps = Vec::new(alloc);
+    let reason = match status {
+        Status::Failed => Some(Reason::TextTooLong),
+        _ => None,
+    };
+    steps.push(step(alloc, "a\n\"b\"", status, reason)?)?;
+    let mut cleanups = Vec::new(alloc);
+    cleanups.push(Outcome::Passed)?;
+    Ok(CaseResult {
         keyword: String::from_str(alloc, "Example")?,
         name: String::from_str(alloc, "one")?,
-        line: 2,
-        status: Status::Failed,
-        around: Status::Passed,
-        cleanups: Vec::new(alloc),
+        line,
+        status,
+        around: status,
+        cleanups,
         steps,
-    })?;
+    })
+}
+
+fn feature(alloc: Global, status: Status) -> Result<FeatureResult, AllocError> {
+    let mut cases = Vec::new(alloc);
+    cases.push(case(alloc, 2, status)?)?;
+    cases.push(case(alloc, 4, Status::Skipped)?)?;
     Ok(FeatureResult {
         source: String::from_str(alloc, "a.feature")?,
         name: String::from_str(alloc, "")?,
         line: 1,
-        status: Status::Failed,
+        status,
         around: Status::Passed,
         cases,
     })
 }
 
-// A feature with a scenario whose last cleanup failed, and with a hook of its own that failed.
-fn feature_with_hooks(alloc: Global) -> Result<FeatureResult, AllocError> {
-    let mut steps = Vec::new(alloc);
-    steps.push(StepResult {
-        keyword: String::from_str(alloc, "Given")?,
-        text: String::from_str(alloc, "at cleanup it fails")?,
-        line: 3,
-        status: Status::Passed,
-        reason: None,
-    })?;
-    let mut cleanups = Vec::new(alloc);
-    cleanups.push(Outcome::Failed(Reason::Asked))?;
-    let mut cases = Vec::new(alloc);
-    cases.push(CaseResult {
-        keyword: String::from_str(alloc, "Scenario")?,
-        name: String::from_str(alloc, "one")?,
-        line: 2,
-        status: Status::Failed,
-        around: Status::Failed,
-        cleanups,
-        steps,
-    })?;
-    Ok(FeatureResult {
-        source: String::from_str(alloc, "a.feature")?,
-        name: String::from_str(alloc, "f")?,
-        line: 1,
-        status: Status::Failed,
-        around: Status::Failed,
-        cases,
-    })
+// The report of a feature that is skipped and one that failed, and the status.
+fn report(alloc: Global, style: Style) -> Result<String, AllocError> {
+    let mut out = head(alloc, style)?;
+    let mut summary = Summary::new();
+    let skipped = feature(alloc, Status::Skipped)?;
+    let first = part(alloc, style, true, &skipped)?;
+    summary.add(&skipped);
+    out.push_str(first.as_str())?;
+    let failed = feature(alloc, Status::Failed)?;
+    out.push_str(part(alloc, style, first.is_empty(), &failed)?.as_str())?;
+    summary.add(&failed);
+    out.push_str(tail(alloc, style, &summary, Status::Failed)?.as_str())?;
+    write!(out, "{}", summary.status(Status::Failed))?;
+    Ok(out)
 }
 
-#[test]
-fn reports_a_feature_and_its_counts(rt: HostRuntime) -> Result<(), Fail> {
-    let mut results = Vec::new(rt.alloc());
-    results.push(feature(rt.alloc())?)?;
-    let summary = summarize(results.as_slice());
-    let report = report_of(rt.alloc(), results.as_slice(), Status::Passed, &summary)?;
-    let wanted =
-        "Feature:  ... failed\n  Example: one ... failed\n    Given a\\nb ... failed: text too long\n\n0 features passed, 1 failed, 0 skipped\n0 scenarios passed, 1 failed, 0 skipped\n0 steps passed, 1 failed, 0 skipped, 0 undefined\n";
-    assert_eq!(rt; report.as_str(), wanted);
-    assert_eq!(rt; summary.status(Status::Passed), 1);
-    assert_eq!(rt; summary.steps.failed, 1);
-    Ok(())
-}
+// The format, whether what is skipped is left out, and the report.
+const REPORTS: [(Format, bool, &str); 5] = [
+    (
+        Format::Plain,
+        false,
+        "Feature:  ... skipped\n  Example: one ... skipped\n    Given a\\n\"b\" ... skipped\n    (hooks and cleanups) ... skipped\n  Example: one ... skipped\n    Given a\\n\"b\" ... skipped\n    (hooks and cleanups) ... skipped\n\nFeature:  ... failed\n  Example: one ... failed\n    Given a\\n\"b\" ... failed: text too long\n    (hooks and cleanups) ... failed\n  Example: one ... skipped\n    Given a\\n\"b\" ... skipped\n    (hooks and cleanups) ... skipped\n\n(hooks and cleanups) ... failed\n0 features passed, 1 failed, 1 skipped\n0 scenarios passed, 1 failed, 3 skipped\n0 steps passed, 1 failed, 3 skipped, 0 undefined\n1",
+    ),
+    (
+        Format::Plain,
+        true,
+        "Feature:  ... failed\n  Example: one ... failed\n    Given a\\n\"b\" ... failed: text too long\n    (hooks and cleanups) ... failed\n\n(hooks and cleanups) ... failed\n0 features passed, 1 failed, 1 skipped\n0 scenarios passed, 1 failed, 3 skipped\n0 steps passed, 1 failed, 3 skipped, 0 undefined\n1",
+    ),
+    (
+        Format::Progress,
+        false,
+        "a.feature  SS  skipped\na.feature  FS  failed\n(hooks and cleanups) ... failed\n0 features passed, 1 failed, 1 skipped\n0 scenarios passed, 1 failed, 3 skipped\n0 steps passed, 1 failed, 3 skipped, 0 undefined\n1",
+    ),
+    (
+        Format::Progress,
+        true,
+        "a.feature  F  failed\n(hooks and cleanups) ... failed\n0 features passed, 1 failed, 1 skipped\n0 scenarios passed, 1 failed, 3 skipped\n0 steps passed, 1 failed, 3 skipped, 0 undefined\n1",
+    ),
+    (
+        Format::Json,
+        true,
+        "{\"features\":[{\"around\":\"passed\",\"line\":1,\"name\":\"\",\"scenarios\":[{\"around\":\"failed\",\"keyword\":\"Example\",\"line\":2,\"name\":\"one\",\"status\":\"failed\",\"steps\":[{\"keyword\":\"Given\",\"line\":3,\"reason\":\"text too long\",\"status\":\"failed\",\"text\":\"a\\n\\\"b\\\"\"}]}],\"source\":\"a.feature\",\"status\":\"failed\"}],\"run\":\"failed\",\"status\":1,\"summary\":{\"features\":{\"failed\":1,\"memory\":0,\"passed\":0,\"skipped\":1,\"untested\":0},\"scenarios\":{\"failed\":1,\"memory\":0,\"passed\":0,\"skipped\":3,\"untested\":0},\"steps\":{\"failed\":1,\"memory\":0,\"passed\":0,\"skipped\":3,\"undefined\":0,\"untested\":0}}}\n1",
+    ),
+];
 
 #[test]
-fn reports_hooks_and_cleanups(rt: HostRuntime) -> Result<(), Fail> {
-    let mut results = Vec::new(rt.alloc());
-    results.push(feature_with_hooks(rt.alloc())?)?;
-    let summary = summarize(results.as_slice());
-    let report = report_of(rt.alloc(), results.as_slice(), Status::Memory, &summary)?;
-    let wanted =
-        "Feature: f ... failed\n  Scenario: one ... failed\n    Given at cleanup it fails ... passed\n    (hooks and cleanups) ... failed\n  (hooks and cleanups) ... failed\n\n(hooks and cleanups) ... memory\n0 features passed, 1 failed, 0 skipped\n0 scenarios passed, 1 failed, 0 skipped\n1 step passed, 0 failed, 0 skipped, 0 undefined\n";
-    assert_eq!(rt; report.as_str(), wanted);
-    assert_eq!(rt; summary.status(Status::Memory), 4);
+fn reports_in_each_format(rt: HostRuntime) -> Result<(), Fail> {
+    for (format, no_skipped, wanted) in REPORTS {
+        let found = report(rt.alloc(), Style { format, no_skipped })?;
+        assert_eq!(rt; found.as_str(), wanted);
+    }
     Ok(())
 }

@@ -1,0 +1,111 @@
+use Rattle.std.proofs.Common.{◌≡◌, ◌<◌, ◌∷◌, [], ◌&&◌, ◌∙◌, Bool, List, suc, length, map, arith, ap, sym, subst, refl}
+use Rattle.std.specs.List.{AllByRecursion}
+use Rattle.std.specs.Vec.Iter.{into_iter_items}
+use Rattle.gk_world.specs.State.{state_of}
+use Rattle.gk_world.specs.Sandbox.{layers}
+use Rattle.gk_run.specs.Alone.{run_of}
+use Rattle.gk_run.specs.Chosen.{ChosenValue, chosen_value, IsPaired}
+use Rattle.gk_run.specs.Features.{stays_open_by}
+use Rattle.gk_run.specs.OpenRun.{AreFeatures}
+use Rattle.gk_cli.specs.Suite.{device_of}
+use Rattle.gk_cli.specs.WrittenRun.{IsRunNext, EndsNext, AreWrittenUpTo}
+use Rattle.gk_cli.proofs.GrowingReportLemmas.{passed_on}
+use Rattle.gk_cli.proofs.FeaturesLemmas.{nothing_in, and_left, kept_on, same_on}
+use Rattle.gk_cli.proofs.WrittenRunLemmas.{Running, running_first, running_next, running_last, running_stopped}
+use Rattle.gk_cli.proofs.written_run.run_features.Goals as goal
+
+pub loop-feature-init : goal.loop-feature-init
+loop-feature-init g c =
+    let here : into_iter_items c.into_iter-feature-iterator.result ≡ c.args.features.items = c.into_iter-feature-iterator.ensures.into_iter_gives.0 in
+    let run = run_of c.args.library.now c.args.hooks.now c.args.suite.now.stop in
+    let first = state_of c.args.sandbox.now.now in
+    let was_open = c.args.suite.now.is_open in
+    let all = map chosen_value c.args.features.items in
+    let device = device_of g.W.Write.contents c.args.out.now in
+    let report = c.args.report.now in
+    record {
+      goes = subst (λ (left : List ChosenValue). Running run first was_open all device report left was_open device report) (sym (ap (map chosen_value) here)) (running_first run first was_open all device report);
+      style = refl;
+      same = record { contents = refl; saved = refl; marks = refl; recorded = refl };
+      kept = record { layer = refl; before = refl; cleanups = refl; stops = refl };
+      earlier = λ h. h;
+      paired = subst (AllByRecursion IsPaired) (sym here) c.requires.paired;
+      counted = let l = c.into_iter-feature-iterator.ensures.into_iter_gives.1 in let v = c.args.features.ok.0 in let f = ap length here in omega arith;
+    }
+
+pub run_next-requires-clause-layer : goal.run_next-requires-clause-layer
+run_next-requires-clause-layer g c = subst (λ saved. suc (length saved) < layers) (sym c.loop-feature.invariant.same.saved) c.requires.layer
+
+pub run_next-requires-clause-paired : goal.run_next-requires-clause-paired
+run_next-requires-clause-paired g c =
+    let all : AllByRecursion IsPaired (c.in-Some.feature ∷ into_iter_items c.next.new.self) = subst (AllByRecursion IsPaired) c.in-Some.ensures.steps.0 c.loop-feature.invariant.paired in
+    all.0
+
+pub loop-feature-preserved : goal.loop-feature-preserved
+loop-feature-preserved g c =
+    let run = run_of c.args.library.now c.args.hooks.now c.args.suite.now.stop in
+    let first = state_of c.args.sandbox.now.now in
+    let was_open = c.args.suite.now.is_open in
+    let all = map chosen_value c.args.features.items in
+    let s = c.in-Some.ensures.steps in
+    let f = ap length s.0 in
+    let this = chosen_value c.in-Some.feature in
+    let left = map chosen_value (into_iter_items c.next.new.self) in
+    let now = state_of c.loop-feature.sandbox.now in
+    let is_open = c.loop-feature.suite.is_open in
+    let stops = c.loop-feature.invariant.kept.stops in
+    let old = device_of g.W.Write.contents c.args.out.now in
+    let there = device_of g.W.Write.contents c.loop-feature.out in
+    let new = device_of g.W.Write.contents c.run_next.new.out in
+    let before = subst (λ (ls : List ChosenValue). Running run first was_open all old c.args.report.now ls is_open there c.loop-feature.report) (ap (map chosen_value) s.0) c.loop-feature.invariant.goes in
+    let one : IsRunNext run now is_open c.run_next.new.suite.is_open this there c.loop-feature.report new c.run_next.new.report =
+    subst (λ (x : Bool). IsRunNext (run_of c.args.library.now c.args.hooks.now x) now is_open c.run_next.new.suite.is_open this there c.loop-feature.report new c.run_next.new.report) stops c.in_ok-run_next.ensures.ok in
+    let paired : AllByRecursion IsPaired (c.in-Some.feature ∷ into_iter_items c.next.new.self) = subst (AllByRecursion IsPaired) s.0 c.loop-feature.invariant.paired in
+    record {
+      goes = running_next run first now was_open all old c.args.report.now this left is_open c.run_next.new.suite.is_open there c.loop-feature.report new c.run_next.new.report
+          (ap state_of c.loop-feature.invariant.same.contents) c.loop-feature.invariant.earlier one before;
+      style = c.run_next.ensures.style ∙ c.loop-feature.invariant.style;
+      same = same_on _ _ _ c.loop-feature.invariant.same c.run_next.ensures.same;
+      kept = kept_on c.args.suite.now c.loop-feature.suite c.run_next.new.suite c.loop-feature.invariant.kept c.run_next.ensures.kept;
+      earlier = λ h. c.loop-feature.invariant.earlier (and_left is_open (stays_open_by c.args.suite.now.stop one.row.status) (sym one.opens ∙ h));
+      paired = paired.1;
+      counted = omega arith;
+    }
+
+pub returns-in_err-run_next-clause-err : goal.returns-in_err-run_next-clause-err
+returns-in_err-run_next-clause-err g c =
+    let run = run_of c.args.library.now c.args.hooks.now c.args.suite.now.stop in
+    let first = state_of c.args.sandbox.now.now in
+    let was_open = c.args.suite.now.is_open in
+    let all = map chosen_value c.args.features.items in
+    let s = c.in-Some.ensures.steps in
+    let this = chosen_value c.in-Some.feature in
+    let left = map chosen_value (into_iter_items c.next.new.self) in
+    let now = state_of c.loop-feature.sandbox.now in
+    let is_open = c.loop-feature.suite.is_open in
+    let stops = c.loop-feature.invariant.kept.stops in
+    let old = device_of g.W.Write.contents c.args.out.now in
+    let there = device_of g.W.Write.contents c.loop-feature.out in
+    let new = device_of g.W.Write.contents c.run_next.new.out in
+    let before = subst (λ (ls : List ChosenValue). Running run first was_open all old c.args.report.now ls is_open there c.loop-feature.report) (ap (map chosen_value) s.0) c.loop-feature.invariant.goes in
+    let ended : EndsNext run now is_open this there c.loop-feature.report new c.in_err-run_next.field-0.0 =
+    subst (λ (x : Bool). EndsNext (run_of c.args.library.now c.args.hooks.now x) now is_open this there c.loop-feature.report new c.in_err-run_next.field-0.0) stops c.in_err-run_next.ensures.err in
+    passed_on c.from_residual.result c.from_residual.ensures.1 (λ fault same.
+        subst (AreWrittenUpTo (AreFeatures run first was_open) all old c.args.report.now new) (sym same)
+        (running_stopped run first now was_open all old c.args.report.now this left is_open there c.loop-feature.report new c.in_err-run_next.field-0.0 (ap state_of c.loop-feature.invariant.same.contents) c.loop-feature.invariant.earlier c.loop-feature.invariant.style
+        ended before))
+
+pub returns-in_err-run_next-clause-style : goal.returns-in_err-run_next-clause-style
+returns-in_err-run_next-clause-style g c = c.run_next.ensures.style ∙ c.loop-feature.invariant.style
+
+pub returns-in_err-run_next-clause-kept : goal.returns-in_err-run_next-clause-kept
+returns-in_err-run_next-clause-kept g c = kept_on c.args.suite.now c.loop-feature.suite c.run_next.new.suite c.loop-feature.invariant.kept c.run_next.ensures.kept
+
+pub returns-in_err-run_next-clause-same : goal.returns-in_err-run_next-clause-same
+returns-in_err-run_next-clause-same g c = same_on _ _ _ c.loop-feature.invariant.same c.run_next.ensures.same
+
+pub returns-clause-ok : goal.returns-clause-ok
+returns-clause-ok g c =
+    let none : into_iter_items c.loop-feature.feature-iterator ≡ [] = nothing_in (into_iter_items c.loop-feature.feature-iterator) (c.loop-feature.invariant.counted ∙ c.in-None.ensures.steps.0) in
+    running_last (run_of c.args.library.now c.args.hooks.now c.args.suite.now.stop) (state_of c.args.sandbox.now.now) c.args.suite.now.is_open (map chosen_value c.args.features.items) (device_of g.W.Write.contents c.args.out.now) c.args.report.now
+    (map chosen_value (into_iter_items c.loop-feature.feature-iterator)) c.loop-feature.suite.is_open (device_of g.W.Write.contents c.loop-feature.out) c.loop-feature.report (ap (map chosen_value) none) c.loop-feature.invariant.goes

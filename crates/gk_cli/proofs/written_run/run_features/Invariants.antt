@@ -1,0 +1,24 @@
+use Rattle.std.proofs.Common.{◌≡◌, true, map, length}
+use Rattle.std.specs.List.{AllByRecursion}
+use Rattle.std.specs.Vec.Iter.{into_iter_items, into_iter_len}
+use Rattle.gk_world.specs.State.{state_of}
+use Rattle.gk_run.specs.Alone.{run_of}
+use Rattle.gk_run.specs.Chosen.{chosen_value, IsPaired}
+use Rattle.gk_run.specs.Running.{IsSame}
+use Rattle.gk_run.specs.OpenRun.{IsKept}
+use Rattle.gk_cli.specs.Suite.{device_of}
+use Rattle.gk_cli.specs.GrowingReport.{style_of}
+use Rattle.gk_cli.proofs.WrittenRunLemmas.{Running}
+use Rattle.gk_cli.proofs.written_run.run_features.Given as goal
+
+abbrev pub invariant-loop-feature : goal.invariant-loop-feature
+invariant-loop-feature g l = record {
+  goes : Running (run_of l.library l.hooks l.fn.suite.stop) (state_of l.fn.sandbox.now) l.fn.suite.is_open (map chosen_value l.fn.features.items) (device_of g.W.Write.contents l.fn.out) l.fn.report
+      (map chosen_value (into_iter_items l.feature-iterator)) l.suite.is_open (device_of g.W.Write.contents l.out) l.report;
+  style : style_of l.report ≡ style_of l.fn.report;
+  same : IsSame l.fn.sandbox l.sandbox;
+  kept : IsKept l.fn.suite l.suite;
+  earlier : l.suite.is_open ≡ true → l.fn.suite.is_open ≡ true;
+  paired : AllByRecursion IsPaired (into_iter_items l.feature-iterator);
+  counted : length (into_iter_items l.feature-iterator) ≡ into_iter_len l.feature-iterator;
+}

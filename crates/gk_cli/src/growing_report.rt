@@ -1,0 +1,106 @@
+//! A report that is written as it grows.
+ghost use Rattle.std.specs.Prelude.{◌≡◌, ◌&&◌, [], OnOk, IfOk, IfErr};
+ghost use Rattle.gk_run.specs.Results.{feature_row};
+ghost use Rattle.gk_report.specs.Report.{is_empty, report};
+ghost use Rattle.gk_cli.specs.Suite.{device_of};
+ghost use Rattle.gk_cli.specs.GrowingReport.{IsWritten, IsStopped};
+
+use crate::counted::{Counted, write_whole};
+use crate::run_fault::RunFault;
+use gk_report::{Style, Summary, head, part, reports_grow_by_parts, tail};
+use gk_run::{FeatureResult, Status};
+use std::alloc::Global;
+use std::io::Write;
+
+fn write_piece<W: Write>(out: &mut Counted<W>, text: &str) -> Result<(), RunFault>
+    ensures ok { OnOk result (IsWritten (device_of W.contents out.old) (device_of W.contents out.new) text.now) }
+    ensures err { IfErr result (IsStopped (device_of W.contents out.old) (device_of W.contents out.new) text.now) }
+{
+    match write_whole(out, text.as_bytes()) {
+        Ok(()) => Ok(()),
+        Err(_) => Err(RunFault::Write),
+    }
+}
+
+// Whether nothing is printed yet, with one part more.
+fn is_still_first(is_first: bool, text: &str) -> bool
+    ensures { result ≡ (is_first && is_empty text.now) }
+{
+    is_first && text.is_empty()
+}
+
+/// A report of which the head and the parts of some features are written. What is written isn't kept.
+#[derive(Debug, Drop)]
+pub struct GrowingReport {
+    style: Style,
+    // Of the features whose parts are written.
+    summary: Summary,
+    // Each of these parts is empty.
+    is_first: bool,
+}
+
+impl GrowingReport {
+    ghost use Rattle.std.specs.Prelude.{◌≡◌, ℕ, [], List, OnOk, IfOk, IfErr};
+    ghost use Rattle.gk_run.specs.Results.{FeatureRow, feature_row};
+    ghost use Rattle.gk_report.specs.Report.{report};
+    ghost use Rattle.gk_cli.specs.Suite.{Device, device_of, IsReported};
+    ghost use Rattle.gk_cli.specs.GrowingReport.{so_far, IsStopped, IsGrown, Grows, Stops, style_of, results_with};
+
+    /// Writes the head.
+    pub fn start<W: Write>(
+        alloc: Global,
+        style: Style,
+        out: &mut Counted<W>,
+    ) -> Result<GrowingReport, RunFault>
+        ensures ok { IfOk result (λ g. IsGrown (device_of W.contents out.old) (device_of W.contents out.new) g []) }
+        ensures style { IfOk result (λ g. style_of g ≡ style) }
+        ensures err { IfErr result (IsStopped (device_of W.contents out.old) (device_of W.contents out.new) (so_far style [])) }
+    {
+        let text = head(alloc, style)?;
+        write_piece(out, text.as_str())?;
+        Ok(GrowingReport {
+            style,
+            summary: Summary::new(),
+            is_first: true,
+        })
+    }
+
+    /// Writes the part of a feature, and counts it.
+    pub fn add<W: Write>(
+        &mut self,
+        alloc: Global,
+        feature: FeatureResult,
+        out: &mut Counted<W>,
+    ) -> Result<(), RunFault>
+        ensures ok { OnOk result (Grows (device_of W.contents out.old) self.old (device_of W.contents out.new) self.new (feature_row feature)) }
+        ensures style { style_of self.new ≡ style_of self.old }
+        ensures err { IfErr result (Stops (device_of W.contents out.old) self.old (device_of W.contents out.new) (feature_row feature)) }
+    {
+        // No code runs here: the law says how a report grows by a part.
+        reports_grow_by_parts();
+        let text = part(alloc, self.style, self.is_first, &feature)?;
+        write_piece(out, text.as_str())?;
+        self.summary.add(&feature);
+        self.is_first = is_still_first(self.is_first, text.as_str());
+        Ok(())
+    }
+
+    /// Writes the tail. Answers the status of the run, `around` being how its own hooks and cleanups ended.
+    pub fn finish<W: Write>(
+        self,
+        alloc: Global,
+        around: Status,
+        out: &mut Counted<W>,
+    ) -> Result<u8, RunFault>
+        ensures ok { IfOk result (λ status. (before : Device) (rows : List FeatureRow) → IsGrown before (device_of W.contents out.old) self rows →
+            IsReported (style_of self) before (device_of W.contents out.new) status (results_with rows around)) }
+        ensures err { IfErr result (λ fault. (before : Device) (rows : List FeatureRow) → IsGrown before (device_of W.contents out.old) self rows →
+            IsStopped before (device_of W.contents out.new) (report (style_of self) (results_with rows around)) fault) }
+    {
+        // No code runs here: the law says what a whole report is.
+        reports_grow_by_parts();
+        let text = tail(alloc, self.style, &self.summary, around)?;
+        write_piece(out, text.as_str())?;
+        Ok(self.summary.status(around))
+    }
+}
