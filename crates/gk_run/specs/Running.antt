@@ -22,7 +22,7 @@ use Rattle.gk_run.specs.Closing.{Closing}
 use Rattle.gk_run.specs.Section.{is_place, cut_marks, cut_outcomes, Cut, happened, before_passed, around_of}
 use Rattle.gk_run.specs.Alone.{Run, Steps, steps_after, rows_of_steps, alone, verdict_of, reached_row}
 use Rattle.gk_run.specs.Chosen.{MemberValue, ChosenValue}
-use Rattle.gk_run.specs.Judged.{happened_in, section_events, section_state, FeatureCuts, cases_of, feature_of}
+use Rattle.gk_run.specs.Features.{happened_in, section_events, section_state, FeatureCuts, cases_of, feature_of}
 
 -- Files, variables, values and layers are as they were, and as many changes are recorded.
 pub record IsSame (old new : SandboxValue) : Type 0 where

@@ -10,8 +10,8 @@ ghost use Rattle.gk_run.specs.Results.{case_row, feature_row};
 ghost use Rattle.gk_run.specs.Section.{Cut};
 ghost use Rattle.gk_run.specs.Alone.{run_of};
 ghost use Rattle.gk_run.specs.Chosen.{member_of, members_of, chosen_value, IsPaired};
-ghost use Rattle.gk_run.specs.Judged as spec;
-ghost use Rattle.gk_run.specs.Judged.{FeatureCuts, case_of, feature_of, case_statuses, feature_verdict};
+ghost use Rattle.gk_run.specs.Features as spec;
+ghost use Rattle.gk_run.specs.Features.{FeatureCuts, case_of, feature_of, case_statuses, feature_verdict};
 ghost use Rattle.gk_run.specs.Running.{IsSame, AreCases, IsFeatureEnd, IsFeatureResult};
 
 use crate::chosen::Chosen;
@@ -257,7 +257,8 @@ fn verdict_by(memory: bool, failed: bool, untested: bool, passed: bool) -> Statu
     Status::Skipped
 }
 
-fn feature_status(around: Status, cases: &[CaseResult]) -> Status
+/// The verdict of a feature.
+pub fn feature_status(around: Status, cases: &[CaseResult]) -> Status
     ensures { result ≡ feature_verdict around (case_statuses (map case_row cases.now)) }
 {
     let memory = either(is_memory_status(around), any_memory(cases));

@@ -11,9 +11,9 @@ ghost use Rattle.gk_run.specs.Ending as endings;
 ghost use Rattle.gk_run.specs.SectionHooks.{begun};
 ghost use Rattle.gk_run.specs.Alone.{run_of};
 ghost use Rattle.gk_run.specs.Chosen.{chosen_value, IsPaired};
-ghost use Rattle.gk_run.specs.Judged.{stays_open_by};
+ghost use Rattle.gk_run.specs.Features.{stays_open_by};
 ghost use Rattle.gk_run.specs.Running.{IsSame, IsWalked, IsSectionEnd, IsFeatureResult};
-ghost use Rattle.gk_run.specs.OpenRun.{IsStarted, IsKept, FinishedRunsAreJudged};
+ghost use Rattle.gk_run.specs.OpenRun.{IsStarted, IsKept, FinishedRunsAreJudged, UnfinishedRunsAreJudged};
 
 use crate::chosen::Chosen;
 use crate::cleanups::Cleanups;
@@ -162,4 +162,10 @@ impl Suite {
 /// features' results and what `Suite::finish` answers. (this project's profile)
 pub fn finished_runs_are_judged()
     ensures { FinishedRunsAreJudged }
+{}
+
+/// A run that was begun and isn't finished has results that begin judged results: those of the features
+/// that were run, whatever features come after them. (this project's profile)
+pub fn unfinished_runs_are_judged()
+    ensures { UnfinishedRunsAreJudged }
 {}

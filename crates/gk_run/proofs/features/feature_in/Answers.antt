@@ -7,7 +7,7 @@ use Rattle.gk_run.specs.declared.section_hooks.Level.TheVariants as levels
 use Rattle.gk_run.specs.Results.{case_row}
 use Rattle.gk_run.specs.Alone.{run_of}
 use Rattle.gk_run.specs.Chosen.{members_of, chosen_value, has_selected}
-use Rattle.gk_run.specs.Judged.{feature_verdict, case_statuses}
+use Rattle.gk_run.specs.Features.{feature_verdict, case_statuses}
 use Rattle.gk_run.specs.Running.{IsFeatureEnd}
 use Rattle.gk_run.proofs.CasesLemmas.{feature_is, selected_any}
 use Rattle.gk_run.proofs.features.feature_in.Goals as goal

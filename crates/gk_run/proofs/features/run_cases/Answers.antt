@@ -6,7 +6,7 @@ use Rattle.gk_world.specs.State.{state_of}
 use Rattle.gk_run.specs.Results.{CaseRow, case_row}
 use Rattle.gk_run.specs.Alone.{run_of}
 use Rattle.gk_run.specs.Chosen.{MemberValue, member_of, members_of}
-use Rattle.gk_run.specs.Judged.{stays_open}
+use Rattle.gk_run.specs.Features.{stays_open}
 use Rattle.gk_run.proofs.CasesLemmas.{GoesCases, cases_first, cases_on, cases_last, paired_on, and_left}
 use Rattle.gk_run.proofs.Nothing.{nothing_in}
 use Rattle.gk_run.proofs.features.run_cases.Goals as goal

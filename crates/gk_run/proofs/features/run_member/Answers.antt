@@ -7,7 +7,7 @@ use Rattle.gk_run.specs.Results.{case_row}
 use Rattle.gk_run.specs.Section.{Cut, nowhere}
 use Rattle.gk_run.specs.Alone.{run_of, told_row}
 use Rattle.gk_run.specs.Chosen.{member_of}
-use Rattle.gk_run.specs.Judged.{case_of}
+use Rattle.gk_run.specs.Features.{case_of}
 use Rattle.gk_run.specs.Running.{marks_of}
 use Rattle.gk_run.proofs.CasesLemmas.{if_ok, unselected_is, unreached_is}
 use Rattle.gk_run.proofs.features.run_member.Goals as goal
