@@ -1,6 +1,6 @@
 -- What the loops of a dry run come to.
 use Rattle.std.specs.List.{list_any}
-use Rattle.std.proofs.Common.{Bool, List, [], ap, append_assoc, cond, false, is_some, map, refl, subst, suc, sym, true, ℕ, ◌++◌, ◌||◌, ◌∙◌, ◌∷◌, ◌≡◌}
+use Rattle.std.proofs.Common.{Bool, List, [], ap, append_assoc, cond, false, is_some, map, refl, subst, suc, sym, true, ◌++◌, ◌||◌, ◌∙◌, ◌∷◌, ◌≡◌}
 use Rattle.std.proofs.lemmas.List.{append-nil}
 use Rattle.gk_gherkin.specs.Feature.{StepValue}
 use Rattle.gk_select.specs.Case.{CaseValue}
@@ -10,7 +10,7 @@ use Rattle.gk_run.specs.declared.results.Mark.TheVariants.{Acted, Skipped, Undef
 use Rattle.gk_run.specs.declared.results.Outcome.TheVariants as outcomes
 use Rattle.gk_run.specs.declared.results.Status.{Status}
 use Rattle.gk_run.specs.declared.results.Status.TheVariants as statuses
-use Rattle.gk_run.specs.Alone.{row_of_case, row_of_step, rows_of_steps, told_row, unselected_row}
+use Rattle.gk_run.specs.Alone.{row_of_case, row_of_step, told_row, unselected_row}
 use Rattle.gk_run.specs.Chosen.{ChosenValue, MemberValue}
 use Rattle.gk_run.specs.DryRun.{AreDrySteps, IsDryStep, dry_case_of, dry_cases_of, dry_events, dry_feature_of, dry_mark, dry_row, dry_verdict}
 use Rattle.gk_run.specs.Ending.{is_memory_mark}

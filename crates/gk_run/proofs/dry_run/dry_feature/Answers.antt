@@ -16,5 +16,6 @@ returns c =
     let rows = map case_row c.in_ok-cases.cases.items in
     let verdict : c.feature_status.result ≡ feature_verdict statuses.Passed (case_statuses rows) =
     c.feature_status.ensures ∙ ap (λ (cs : List CaseResult). feature_verdict statuses.Passed (case_statuses (map case_row cs))) c.as_slice-2.ensures.value in
-    dry_feature_is library (chosen_value c.args.chosen) c.feature_status.result rows verdict
-    (subst (λ (ss : List Bool). (cuts : List Cut) × (rows ≡ dry_cases_of library cuts (members_of c.args.chosen.cases.items ss))) c.as_slice.ensures.value c.in_ok-cases.ensures)
+    let known : (cuts : List Cut) × (rows ≡ dry_cases_of library cuts (members_of c.args.chosen.cases.items c.args.chosen.selected.items)) =
+    subst (λ (ss : List Bool). (cuts : List Cut) × (rows ≡ dry_cases_of library cuts (members_of c.args.chosen.cases.items ss))) c.as_slice.ensures.value c.in_ok-cases.ensures in
+    record { row = dry_feature_is library (chosen_value c.args.chosen) c.feature_status.result rows verdict known }
