@@ -19,7 +19,7 @@ use crate::chosen::Chosen;
 use crate::cleanups::Cleanups;
 use crate::closing::close;
 use crate::ending::{Ending, around_status, has_passed, is_memory, worse};
-use crate::features::{both, feature_in, stays_open};
+use crate::features::{Run, both, feature_in, stays_open};
 use crate::results::{FeatureResult, NoRoom, Status};
 use crate::section_hooks::Level;
 use crate::walk::walk_before;
@@ -117,15 +117,13 @@ impl Suite {
         ensures err { OnErr result (self.new.is_open ≡ self.old.is_open) }
         ensures same { IsSame sandbox.old sandbox.new }
     {
-        let result = feature_in(
+        let run = Run {
             alloc,
-            sandbox,
             library,
             hooks,
-            self.stop,
-            self.is_open,
-            chosen,
-        )?;
+            stop: self.stop,
+        };
+        let result = feature_in(&run, sandbox, self.is_open, chosen)?;
         self.is_open = both(self.is_open, stays_open(self.stop, result.status));
         Ok(result)
     }
