@@ -18,7 +18,7 @@ use Rattle.gk_run.specs.Acting.{CleanupValue, passes}
 use Rattle.gk_run.specs.Alone.{Run, reached_row, row_of_step, rows_of_steps, told_row, unreached_row, unselected_row}
 use Rattle.gk_run.specs.Chosen.{ChosenValue, MemberValue, has_selected, member_of, members_of}
 use Rattle.gk_run.specs.Ending.{has_passed}
-use Rattle.gk_run.specs.Judged.{case_of, case_statuses, cases_of, feature_row_of, feature_verdict, happened_in, section_state, stays_open}
+use Rattle.gk_run.specs.Features.{case_of, case_statuses, cases_of, feature_row_of, feature_verdict, happened_in, section_state, stays_open}
 use Rattle.gk_run.specs.Results.{CaseRow, FeatureRow, StepRow, case_row}
 use Rattle.gk_run.specs.Running.{AreCases, IsFeatureEnd, IsFeatureResult, IsSectionEnd, IsWalked, marks_of}
 use Rattle.gk_run.specs.Section.{Cut, around_of, nowhere}

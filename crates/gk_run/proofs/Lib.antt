@@ -9,5 +9,7 @@ pub mod CleanLemmas
 pub mod StepsLemmas
 pub mod SectionLemmas
 pub mod CasesLemmas
+pub mod DryRunLemmas
+pub mod JudgedLemmas
 pub mod OpenRunLemmas
 pub mod OneList

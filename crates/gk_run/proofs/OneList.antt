@@ -3,19 +3,24 @@ use Rattle.std.specs.List.{list_any}
 use Rattle.std.proofs.Common.{Bool, List, [], ap, cond, false, map, refl, subst, sym, true, ℕ, ◌&&◌, ◌++◌, ◌||◌, ◌∙◌, ◌∷◌, ◌≡◌}
 use Rattle.std.proofs.lemmas.Bool.{true≢false}
 use Rattle.gk_select.specs.Case.{CaseValue}
+use Rattle.gk_steps.specs.Finding.{LibraryValue}
 use Rattle.gk_world.specs.State.{State, state_of}
 use Rattle.gk_run.specs.declared.ending.Ending.{Ending}
 use Rattle.gk_run.specs.declared.ending.Ending.TheVariants as endings
 use Rattle.gk_run.specs.declared.results.Mark.TheVariants.{Acted}
+use Rattle.gk_run.specs.declared.results.Status.{Status}
+use Rattle.gk_run.specs.declared.results.Status.TheVariants as statuses
 use Rattle.gk_run.specs.declared.section_hooks.Level.{Level}
 use Rattle.gk_run.specs.declared.section_hooks.Level.TheVariants as levels
 use Rattle.gk_run.specs.Alone.{Run, all_marks, alone, reached_row, row_of_case, unreached_row, unselected_row, verdict_of}
 use Rattle.gk_run.specs.Chosen.{ChosenValue, MemberValue, has_selected}
-use Rattle.gk_run.specs.Ending.{around_status, ended_of, verdict_status}
-use Rattle.gk_run.specs.Judged.{Cuts, FeatureCuts, OneList, case_of, cases_of, feature_of, feature_row_of, features_of, first_or, happened_in, has_memory, is_memory_case, is_memory_feature, later, results_from, section_events, section_state, stays_open, uncut, uncut_feature}
+use Rattle.gk_run.specs.DryRun.{dry_case_of, dry_cases_of, dry_events, dry_feature_of, dry_features_of, dry_mark, dry_row, dry_verdict}
+use Rattle.gk_run.specs.Ending.{around_status, ended_of, is_memory_mark, verdict_status}
+use Rattle.gk_run.specs.Features.{FeatureCuts, case_of, cases_of, feature_of, feature_row_of, features_of, first_or, happened_in, later, section_events, section_state, stays_open, uncut_feature}
+use Rattle.gk_run.specs.Judged.{Cuts, OneList, dry_results, has_memory, is_memory_case, is_memory_feature, results_from, uncut}
 use Rattle.gk_run.specs.Results.{CaseRow, FeatureRow, Results, is_memory}
 use Rattle.gk_run.specs.Section.{Cut, Events, around_of, before_passed, cut_marks, cut_outcomes, happened, in_after, in_before, in_cleanups, in_steps, is_place, marks_around, nowhere}
-use Rattle.gk_run.proofs.EndingLemmas.{cut_ends}
+use Rattle.gk_run.proofs.EndingLemmas.{cut_ends, cut_is_memory}
 use Rattle.gk_run.proofs.SectionLemmas.{in_back, in_front, outcomes_cut}
 
 or_left : (a b : Bool) → (a || b) ≡ false → a ≡ false
@@ -145,5 +150,69 @@ run_kept run start cuts fs h =
     ap with_features (features_kept run section (before_passed events) cuts.features fs (or_right (is_memory (around_of events)) (list_any is_memory_feature features) h))
     ∙ ap whole (section_uncut run levels.Run [] start cuts.own (not_around (ended_of (marks_around events)) (or_left (is_memory (around_of events)) (list_any is_memory_feature features) h)))
 
+-- ---- a dry run
+
+-- a cut in steps is none unless one of them is memory
+steps_uncut : (b : Bool) (n : ℕ) (e : Events) → is_place n e.steps ≡ b → (let now : Events = cond b (record e { steps = cut_marks n e.steps; after = []; cleanups = [] }) e in list_any is_memory_mark now.steps ≡ false) →
+    cond b (record e { steps = cut_marks n e.steps; after = []; cleanups = [] }) e ≡ e
+steps_uncut false n e place h = refl
+steps_uncut true n e place h = absurd (true≢false (sym (cut_is_memory e.steps n place) ∙ h))
+
+dry_uncut : (library : LibraryValue) (cut : Cut) (c : CaseValue) → (let es = dry_events library c in let e = happened cut es in list_any is_memory_mark e.steps ≡ false) → (let es = dry_events library c in happened cut es ≡ es)
+dry_uncut library nowhere c h = refl
+dry_uncut library (in_before n) c h = refl
+dry_uncut library (in_steps n) c h = steps_uncut (is_place n (map (dry_mark library) c.steps)) n (dry_events library c) refl h
+dry_uncut library (in_after n) c h = refl
+dry_uncut library (in_cleanups n) c h = refl
+
+not_dry_verdict : (b : Bool) → (let status : Status = cond b statuses.Memory statuses.Untested in is_memory status ≡ false) → b ≡ false
+not_dry_verdict true h = absurd (true≢false h)
+not_dry_verdict false h = refl
+
+dry_row_kept : (library : LibraryValue) (cut : Cut) (c : CaseValue) → (let row = dry_row library cut c in is_memory row.status ≡ false) → dry_row library cut c ≡ dry_row library nowhere c
+dry_row_kept library cut c h =
+    let e = happened cut (dry_events library c) in
+    ap (λ (e : Events). row_of_case c (dry_verdict e) e) (dry_uncut library cut c (not_dry_verdict (list_any is_memory_mark e.steps) h))
+
+dry_case_kept : (library : LibraryValue) (cut : Cut) (m : MemberValue) → (let row = dry_case_of library cut m in is_memory row.status ≡ false) → dry_case_of library cut m ≡ dry_case_of library nowhere m
+dry_case_kept library cut m h =
+    let c = m.scenario in
+    choice_kept m.selected (dry_row library cut c) (dry_row library nowhere c) (unselected_row c) (unselected_row c) (dry_row_kept library cut c) (λ _. refl) h
+
+dry_cases_kept : (library : LibraryValue) (cuts : List Cut) (ms : List MemberValue) → list_any is_memory_case (dry_cases_of library cuts ms) ≡ false → dry_cases_of library cuts ms ≡ dry_cases_of library [] ms
+dry_cases_kept library cuts [] h = refl
+dry_cases_kept library cuts (m ∷ ms) h =
+    let row = dry_case_of library (first_or nowhere cuts) m in
+    let rest = dry_cases_of library (later cuts) ms in
+    ap (λ rows. row ∷ rows) (dry_cases_kept library (later cuts) ms (or_right (is_memory_case row) (list_any is_memory_case rest) h))
+    ∙ ap (λ (r : CaseRow). r ∷ dry_cases_of library [] ms) (dry_case_kept library (first_or nowhere cuts) m (or_left (is_memory_case row) (list_any is_memory_case rest) h))
+
+dry_feature_kept : (library : LibraryValue) (cuts : FeatureCuts) (f : ChosenValue) → is_memory_feature (dry_feature_of library cuts f) ≡ false → dry_feature_of library cuts f ≡ dry_feature_of library uncut_feature f
+dry_feature_kept library cuts f h = ap (feature_row_of f statuses.Passed) (dry_cases_kept library cuts.cases f.members h)
+
+dry_features_kept : (library : LibraryValue) (cuts : List FeatureCuts) (fs : List ChosenValue) → list_any is_memory_feature (dry_features_of library cuts fs) ≡ false → dry_features_of library cuts fs ≡ dry_features_of library [] fs
+dry_features_kept library cuts [] h = refl
+dry_features_kept library cuts (f ∷ fs) h =
+    let row = dry_feature_of library (first_or uncut_feature cuts) f in
+    let rest = dry_features_of library (later cuts) fs in
+    ap (λ rows. row ∷ rows) (dry_features_kept library (later cuts) fs (or_right (is_memory_feature row) (list_any is_memory_feature rest) h))
+    ∙ ap (λ (r : FeatureRow). r ∷ dry_features_of library [] fs) (dry_feature_kept library (first_or uncut_feature cuts) f (or_left (is_memory_feature row) (list_any is_memory_feature rest) h))
+
+dry_run_kept : (run : Run) (cuts : Cuts) (fs : List ChosenValue) → has_memory (dry_results run cuts fs) ≡ false → dry_results run cuts fs ≡ dry_results run uncut fs
+dry_run_kept run cuts fs h =
+    let with_features : List FeatureRow → Results = λ rows. record { features = rows; around = statuses.Passed } in
+    ap with_features (dry_features_kept run.library cuts.features fs h)
+
+-- ---- both
+
+results_kept : (is_dry : Bool) (x x' y y' : Results) → (has_memory x ≡ false → x ≡ x') → (has_memory y ≡ false → y ≡ y') → (let r : Results = cond is_dry x y in has_memory r ≡ false) → cond is_dry x y ≡ cond is_dry x' y'
+results_kept true x x' y y' f g h = f h
+results_kept false x x' y y' f g h = g h
+
 pub one_list : OneList
-one_list run contents fs results judged h = judged.1 ∙ run_kept run (state_of contents) judged.0 fs (subst (λ r. has_memory r ≡ false) judged.1 h)
+one_list run contents fs results judged h =
+    let start = state_of contents in
+    let cuts = judged.0 in
+    judged.1
+    ∙ results_kept run.dry_run (dry_results run cuts fs) (dry_results run uncut fs) (results_from run start cuts fs) (results_from run start uncut fs) (dry_run_kept run cuts fs) (run_kept run start cuts fs)
+    (subst (λ r. has_memory r ≡ false) judged.1 h)

@@ -1,15 +1,24 @@
--- A whole run.
-use Rattle.std.proofs.Common.{Bool, List, [], ap, sym, ◌∙◌}
-use Rattle.gk_world.specs.State.{state_of}
+-- A whole run, and one that isn't finished.
+use Rattle.std.proofs.Common.{Bool, List, [], ap, refl, sym, ◌&&◌, ◌++◌, ◌∙◌, ◌∷◌, ◌≡◌}
+use Rattle.gk_world.specs.State.{State, state_of}
+use Rattle.gk_run.specs.declared.ending.Ending.{Ending}
+use Rattle.gk_run.specs.declared.ending.Ending.TheVariants as endings
 use Rattle.gk_run.specs.declared.results.Status.{Status}
 use Rattle.gk_run.specs.declared.section_hooks.Level.TheVariants as levels
+use Rattle.gk_run.specs.Acting.{CleanupValue}
+use Rattle.gk_run.specs.Alone.{Run}
+use Rattle.gk_run.specs.Chosen.{ChosenValue}
 use Rattle.gk_run.specs.Cleanups.{cleanups_value}
-use Rattle.gk_run.specs.Judged.{features_of, section_events, section_state}
-use Rattle.gk_run.specs.OpenRun.{FinishedRunsAreJudged}
+use Rattle.gk_run.specs.Ending.{has_passed}
+use Rattle.gk_run.specs.Features.{FeatureCuts, feature_of, features_of, first_or, later, section_events, section_state, stays_open, uncut_feature}
+use Rattle.gk_run.specs.Judged.{Cuts, results_of}
+use Rattle.gk_run.specs.OpenRun.{FinishedRunsAreJudged, UnfinishedRunsAreJudged}
 use Rattle.gk_run.specs.Results.{FeatureRow, Results}
-use Rattle.gk_run.specs.Section.{before_passed, happened}
+use Rattle.gk_run.specs.Running.{IsWalked}
+use Rattle.gk_run.specs.Section.{Cut, before_passed, happened, nowhere}
 use Rattle.gk_run.specs.SectionHooks.{begun}
-use Rattle.gk_run.proofs.SectionLemmas.{passed_state}
+use Rattle.gk_run.proofs.JudgedLemmas.{cuts_of_all, results_by}
+use Rattle.gk_run.proofs.SectionLemmas.{passed_state, section_in_before}
 
 -- a run that was started, whose features were run, and that was finished
 pub judged_all : FinishedRunsAreJudged
@@ -17,9 +26,43 @@ judged_all run old new suite features rows around started told end =
     let start = state_of old.now in
     let outside = section_state run levels.Run [] start in
     let known = told outside (λ o. passed_state (begun run.library run.hooks levels.Run [] start) suite.before (state_of new.now) (cleanups_value suite.cleanups) started.walked (sym started.opened ∙ o)) in
+    let cuts : Cuts = record { own = end.cut; features = known.0 } in
     let with_features : List FeatureRow → Results = λ rs. record { features = rs; around = around } in
     let with_open : Bool → Results = λ x. record { features = features_of run outside x known.0 features; around = around } in
-    let with_around : Status → Results = λ x. record { features = features_of run outside (before_passed (happened end.cut (section_events run levels.Run [] start))) known.0 features; around = x } in (
-      record { own = end.cut; features = known.0 },
-      ap with_features known.1 ∙ ap with_open (started.opened ∙ end.ready) ∙ ap with_around end.hooks,
+    let with_around : Status → Results = λ x. record { features = features_of run outside (before_passed (happened end.cut (section_events run levels.Run [] start))) known.0 features; around = x } in
+    (cuts, ap with_features known.1 ∙ ap with_open (started.opened ∙ end.ready) ∙ ap with_around end.hooks ∙ ap (results_by run old.now cuts features) (sym started.runs))
+
+features_begin : (run : Run) (outside : State) (is_open : Bool) (cuts : List FeatureCuts) (fs others : List ChosenValue) →
+    (more : List FeatureRow) × (features_of run outside is_open (cuts_of_all cuts fs) (fs ++ others) ≡ features_of run outside is_open cuts fs ++ more)
+features_begin run outside is_open cuts [] others = (features_of run outside is_open [] others, refl)
+features_begin run outside is_open cuts (f ∷ fs) others =
+    let row = feature_of run outside is_open (first_or uncut_feature cuts) f in
+    let rest = features_begin run outside (is_open && stays_open run row.status) (later cuts) fs others in
+    (rest.0, ap (λ (rows : List FeatureRow). row ∷ rows) rest.1)
+
+-- a cut of the run's own section that leaves it open, or doesn't, as its before list ended
+opened_by : (run : Run) (start : State) (b : Ending) (s : State) (cs : List CleanupValue) → IsWalked (begun run.library run.hooks levels.Run [] start) b s cs →
+    (cut : Cut) × (has_passed b ≡ before_passed (happened cut (section_events run levels.Run [] start)))
+opened_by run start endings.Memory s cs walked = let end = section_in_before run levels.Run [] start s cs walked in (end.cut, end.ready)
+opened_by run start endings.Passed s cs walked = (nowhere, ap has_passed walked.0)
+opened_by run start endings.Failed s cs walked = (nowhere, ap has_passed walked.0)
+opened_by run start endings.Skipped s cs walked = (nowhere, ap has_passed walked.0)
+
+-- a run that was started, some of whose features were run
+pub judged_so_far : UnfinishedRunsAreJudged
+judged_so_far run old new suite features others rows started known_by =
+    let start = state_of old.now in
+    let outside = section_state run levels.Run [] start in
+    let known = known_by outside (λ o. passed_state (begun run.library run.hooks levels.Run [] start) suite.before (state_of new.now) (cleanups_value suite.cleanups) started.walked (sym started.opened ∙ o)) in
+    let opens = opened_by run start suite.before (state_of new.now) (cleanups_value suite.cleanups) started.walked in
+    let cuts : Cuts = record { own = opens.0; features = cuts_of_all known.0 features } in
+    let begins = features_begin run outside suite.is_open known.0 features others in
+    let features_by : Bool → List FeatureRow = λ x. (let r = results_by run old.now cuts (features ++ others) x in r.features) in (
+      results_of run old.now cuts (features ++ others),
+      begins.0,
+      (cuts, refl),
+      ap features_by started.runs
+          ∙ ap (λ (x : Bool). features_of run outside x (cuts_of_all known.0 features) (features ++ others)) (sym (started.opened ∙ opens.1))
+          ∙ begins.1
+          ∙ ap (λ (rs : List FeatureRow). rs ++ begins.0) (sym known.1),
     )

@@ -15,6 +15,7 @@ use Rattle.gk_steps.specs.declared.pattern.FieldKind.TheVariants.{Plain, Decimal
 use Rattle.gk_steps.specs.Pattern.{PieceValue, FieldPiece, Literal}
 use Rattle.gk_steps.specs.Matching.{match_of}
 use Rattle.gk_steps.specs.Finding.{EntryValue, LibraryValue, found, found_any}
+use Rattle.gk_world.specs.Contents.{Contents}
 use Rattle.gk_world.specs.State.{State, nothing}
 use Rattle.gk_run.specs.declared.results.Status.{Status}
 use Rattle.gk_run.specs.declared.results.Status.TheVariants.{Passed, Failed, Skipped, Undefined, Untested, Memory}
@@ -27,7 +28,8 @@ use Rattle.gk_run.specs.Results.{CaseRow, FeatureRow, Results}
 use Rattle.gk_run.specs.Section.{Cut, nowhere, in_before, in_steps, in_after, in_cleanups}
 use Rattle.gk_run.specs.Alone.{Run, reached_row}
 use Rattle.gk_run.specs.Chosen.{MemberValue, ChosenValue}
-use Rattle.gk_run.specs.Judged.{FeatureCuts, uncut, uncut_feature, results_from}
+use Rattle.gk_run.specs.Features.{FeatureCuts, uncut_feature}
+use Rattle.gk_run.specs.Judged.{uncut, results_from, results_of}
 
 -- a step with a block
 abbrev step_with : List ℕ → BlockValue → StepValue
@@ -61,9 +63,9 @@ unselected texts = record (scenario texts) { selected = false }
 abbrev feature : List MemberValue → ChosenValue
 feature members = record { source = codes "f"; name = codes "f"; line = 1; tags = []; members = members }
 
--- a run that doesn't stop at a failure
+-- a run that isn't dry and doesn't stop at a failure
 abbrev run : List HookValue → LibraryValue → Run
-run hooks library = record { library = library; hooks = hooks; stop = false }
+run hooks library = record { library = library; hooks = hooks; dry_run = false; stop = false }
 
 -- nothing is there
 abbrev start : State
@@ -374,10 +376,12 @@ unfolding found found_any match_of is_utf8 chars lib.Utf8.encode act
 spoilt_alone = refl
 
 -- two features, the second scenario of the first of which fails, in a run that stops there or doesn't
-abbrev stopping : Bool → RunSeen
-stopping stop =
-    let r = record (run (hook kinds.BeforeFeature (codes "pass" ∷ []) ∷ hook kinds.AfterAll (codes "fail" ∷ []) ∷ []) common) { stop = stop } in
-    run_seen (results_from r start uncut (feature (scenario (codes "pass" ∷ []) ∷ scenario (codes "fail" ∷ []) ∷ scenario (codes "pass" ∷ []) ∷ []) ∷ feature (scenario (codes "pass" ∷ []) ∷ []) ∷ []))
+abbrev two_features : List ChosenValue
+two_features = feature (scenario (codes "pass" ∷ []) ∷ scenario (codes "fail" ∷ []) ∷ scenario (codes "pass" ∷ []) ∷ scenario (codes "pass" ∷ []) ∷ []) ∷ feature (scenario (codes "pass" ∷ []) ∷ []) ∷ []
+
+-- their run, with after hooks that fail
+abbrev stopping : Bool → Run
+stopping stop = record (run (hook kinds.AfterFeature (codes "fail" ∷ []) ∷ hook kinds.AfterAll (codes "fail" ∷ []) ∷ []) common) { stop = stop }
 
 abbrev one_passed : CaseSeen
 one_passed = simple Passed (ok ∷ [])
@@ -389,13 +393,66 @@ abbrev one_untested : CaseSeen
 one_untested = simple Untested (with_status Untested ∷ [])
 
 -- Where a run stops at a failure, later scenarios are untested and later features aren't begun; the after hooks of what was begun still run.
-stops : stopping true ≡
-    record { around = Failed; features = record { verdict = Failed; around = Passed; cases = one_passed ∷ one_failed ∷ one_untested ∷ [] } ∷ record { verdict = Untested; around = Passed; cases = one_untested ∷ [] } ∷ [] }
+stops : run_seen (results_from (stopping true) start uncut two_features) ≡
+    record {
+      around = Failed;
+      features = record { verdict = Failed; around = Failed; cases = one_passed ∷ one_failed ∷ one_untested ∷ one_untested ∷ [] } ∷ record { verdict = Untested; around = Passed; cases = one_untested ∷ [] } ∷ [];
+    }
 unfolding found found_any match_of act
 stops = refl
 
 -- Where it doesn't, all are run.
-runs_on : stopping false ≡
-    record { around = Failed; features = record { verdict = Failed; around = Passed; cases = one_passed ∷ one_failed ∷ one_passed ∷ [] } ∷ record { verdict = Passed; around = Passed; cases = one_passed ∷ [] } ∷ [] }
+runs_on : run_seen (results_from (stopping false) start uncut two_features) ≡
+    record {
+      around = Failed;
+      features = record { verdict = Failed; around = Failed; cases = one_passed ∷ one_failed ∷ one_passed ∷ one_passed ∷ [] } ∷ record { verdict = Failed; around = Failed; cases = one_passed ∷ [] } ∷ [];
+    }
 unfolding found found_any match_of act
 runs_on = refl
+
+-- Memory in a scenario stops it, too.
+stops_at_memory : run_seen (results_from (stopping true) start (record uncut { features = record { own = nowhere; cases = in_steps 0 ∷ [] } ∷ [] }) two_features) ≡
+    record {
+      around = Failed;
+      features = record { verdict = Memory; around = Failed; cases = simple Memory (with_status Memory ∷ []) ∷ one_untested ∷ one_untested ∷ one_untested ∷ [] } ∷ record { verdict = Untested; around = Passed; cases = one_untested ∷ [] } ∷ [];
+    }
+unfolding found found_any match_of act
+stops_at_memory = refl
+
+-- A dry run of them: no hook runs, and it doesn't matter that the run is to stop.
+dry_and_stopping : (contents : Contents) → run_seen (results_of (record (stopping true) { dry_run = true }) contents uncut two_features) ≡
+    record {
+      around = Passed;
+      features = record { verdict = Untested; around = Passed; cases = one_untested ∷ one_untested ∷ one_untested ∷ one_untested ∷ [] } ∷ record { verdict = Untested; around = Passed; cases = one_untested ∷ [] } ∷ [];
+    }
+unfolding found found_any match_of act
+dry_and_stopping contents = refl
+
+-- a dry run in which each hook would fail, of scenarios of one feature
+abbrev dry_one : FeatureCuts → List MemberValue → Contents → RunSeen
+dry_one cuts members contents =
+    let hooks = hook kinds.BeforeAll (codes "it fails" ∷ []) ∷ hook kinds.BeforeFeature (codes "it fails" ∷ []) ∷ hook kinds.AfterScenario (codes "it fails" ∷ []) ∷ [] in
+    let r = record (run hooks (word (codes "it passes") actions.Pass ∷ word (codes "it fails") actions.Fail ∷ [])) { dry_run = true } in
+    run_seen (results_of r contents (record uncut { features = cuts ∷ [] }) (feature members ∷ []))
+
+-- a scenario with a step that would fail, one that would pass, and one that no entry matches
+abbrev looked_at : MemberValue
+looked_at = scenario (codes "it fails" ∷ codes "it passes" ∷ codes "nothing knows this" ∷ [])
+
+-- In a dry run a step is untested where the library matches it, and else undefined; its scenario and its feature are untested.
+looked_up_alone : (contents : Contents) → dry_one uncut_feature (looked_at ∷ []) contents ≡
+    comes_to Untested Passed (simple Untested (with_status Untested ∷ with_status Untested ∷ with_status Undefined ∷ []) ∷ [])
+unfolding found found_any match_of act
+looked_up_alone contents = refl
+
+-- Memory was refused while the second step was looked up; there is no hook to refuse it in.
+cut_in_a_dry_run : (contents : Contents) → dry_one (record { own = in_before 0; cases = in_steps 1 ∷ in_before 0 ∷ [] }) (looked_at ∷ looked_at ∷ []) contents ≡
+    comes_to Memory Passed
+    (simple Memory (with_status Untested ∷ with_status Memory ∷ with_status Untested ∷ []) ∷ simple Untested (with_status Untested ∷ with_status Untested ∷ with_status Undefined ∷ []) ∷ [])
+unfolding found found_any match_of act
+cut_in_a_dry_run contents = refl
+
+-- A scenario that isn't selected is skipped there, and no step of it is looked up.
+unselected_in_a_dry_run : (contents : Contents) → dry_one uncut_feature (unselected (codes "nothing knows this" ∷ []) ∷ []) contents ≡ comes_to Skipped Passed (simple Skipped (with_status Skipped ∷ []) ∷ [])
+unfolding found found_any match_of act
+unselected_in_a_dry_run contents = refl

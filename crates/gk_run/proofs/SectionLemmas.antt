@@ -17,7 +17,7 @@ use Rattle.gk_run.specs.Acting.{CleanupValue}
 use Rattle.gk_run.specs.Alone.{Run, Steps, alone, rows_of_steps, steps_after, verdict_of}
 use Rattle.gk_run.specs.Closing.{closing}
 use Rattle.gk_run.specs.Ending.{around_status, ended_of, has_passed, verdict_status, worse}
-use Rattle.gk_run.specs.Judged.{section_events}
+use Rattle.gk_run.specs.Features.{section_events}
 use Rattle.gk_run.specs.Results.{CaseRow, StepRow}
 use Rattle.gk_run.specs.Running.{AreLeft, AreStepped, IsCaseEnd, IsClosed, IsReached, IsSectionEnd, IsWalked, ended_after, ran}
 use Rattle.gk_run.specs.Section.{Events, around_of, before_passed, cut_marks, cut_outcomes, happened, in_after, in_before, in_cleanups, in_steps, is_place, nowhere}

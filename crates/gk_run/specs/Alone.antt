@@ -1,5 +1,5 @@
 -- A case alone: what plain maps give it from its section's state.
-use Rattle.std.specs.Prelude.{Bool, List, [], ◌∷◌, ◌++◌, map}
+use Rattle.std.specs.Prelude.{Bool, false, List, [], ◌∷◌, ◌++◌, map}
 use Rattle.gk_gherkin.specs.declared.hooks.HookFile.{HookFile}
 use Rattle.gk_gherkin.specs.Feature.{StepValue}
 use Rattle.gk_gherkin.specs.Hooks.{HookValue, hooks_value}
@@ -23,15 +23,16 @@ use Rattle.gk_run.specs.SectionHooks.{begun}
 use Rattle.gk_run.specs.Closing.{closing}
 use Rattle.gk_run.specs.Section.{Events, Cut, happened, around_of}
 
--- What stays the same during a run: the step library, the hooks, and whether the first scenario or feature that fails stops it.
+-- What stays the same during a run: the step library, the hooks, whether it is a dry run, in which nothing is carried out, and whether the first scenario or feature that fails stops it. (behave's documentation: `--dry-run`, `--stop`)
 pub record Run : Type 0 where
   pub library : LibraryValue
   pub hooks : List HookValue
+  pub dry_run : Bool
   pub stop : Bool
 
--- The run with a `Library` and a `HookFile`.
+-- The run with a `Library` and a `HookFile`, which isn't dry.
 abbrev pub run_of : Library → HookFile → Bool → Run
-run_of library hooks stop = record { library = library_value library; hooks = hooks_value hooks; stop = stop }
+run_of library hooks stop = record { library = library_value library; hooks = hooks_value hooks; dry_run = false; stop = stop }
 
 -- What becomes of a case's steps, each of them, and the state and the cleanups that they leave.
 pub record Steps : Type 0 where

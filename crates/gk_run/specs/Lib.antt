@@ -10,6 +10,8 @@ pub mod Closing
 pub mod Section
 pub mod Alone
 pub mod Chosen
+pub mod Features
+pub mod DryRun
 pub mod Judged
 pub mod Running
 pub mod OpenRun

@@ -1,5 +1,5 @@
 -- A run that was begun and isn't finished.
-use Rattle.std.specs.Prelude.{◌≡◌, ◌∷◌, [], true, Bool, List, length}
+use Rattle.std.specs.Prelude.{◌≡◌, ◌∷◌, [], ◌++◌, true, false, Bool, List, length}
 use Rattle.gk_world.specs.State.{State, state_of}
 use Rattle.gk_world.specs.Sandbox.{SandboxValue, depth}
 use Rattle.gk_run.specs.declared.section_hooks.Level.TheVariants as levels
@@ -11,11 +11,13 @@ use Rattle.gk_run.specs.Cleanups.{cleanups_value}
 use Rattle.gk_run.specs.SectionHooks.{begun}
 use Rattle.gk_run.specs.Alone.{Run}
 use Rattle.gk_run.specs.Chosen.{ChosenValue}
-use Rattle.gk_run.specs.Judged.{FeatureCuts, features_of, Judged}
+use Rattle.gk_run.specs.Features.{FeatureCuts, features_of}
+use Rattle.gk_run.specs.Judged.{Judged, BeginsJudged}
 use Rattle.gk_run.specs.Running.{IsWalked, IsSectionEnd}
 
--- A run was begun in a layer of its own, and its before list walked through. (behave's documentation: context layers, environment file functions)
+-- A run that isn't dry was begun in a layer of its own, and its before list walked through. (behave's documentation: context layers, environment file functions)
 pub record IsStarted (run : Run) (old new : SandboxValue) (suite : Suite) : Type 0 where
+  pub runs : run.dry_run ≡ false
   pub walked : IsWalked (begun run.library run.hooks levels.Run [] (state_of old.now)) suite.before (state_of new.now) (cleanups_value suite.cleanups)
   pub opened : suite.is_open ≡ has_passed suite.before
   pub stops : suite.stop ≡ run.stop
@@ -39,3 +41,8 @@ abbrev pub FinishedRunsAreJudged : Type 0
 FinishedRunsAreJudged = (run : Run) (old new : SandboxValue) (suite : Suite) (features : List ChosenValue) (rows : List FeatureRow) (around : Status) →
     IsStarted run old new suite → AreFeatures run (state_of new.now) suite.is_open features rows → IsSectionEnd run levels.Run [] (state_of old.now) around (has_passed suite.before) →
     Judged run old.now features (record { features = rows; around = around })
+
+-- A run that was begun, of which some features were run, and that isn't finished has results that begin judged results, whatever features come after them. (this project's profile)
+abbrev pub UnfinishedRunsAreJudged : Type 0
+UnfinishedRunsAreJudged = (run : Run) (old new : SandboxValue) (suite : Suite) (features others : List ChosenValue) (rows : List FeatureRow) →
+    IsStarted run old new suite → AreFeatures run (state_of new.now) suite.is_open features rows → BeginsJudged run old.now (features ++ others) rows

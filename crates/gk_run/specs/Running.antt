@@ -13,6 +13,7 @@ use Rattle.gk_run.specs.declared.results.Mark.{Mark}
 use Rattle.gk_run.specs.declared.results.Mark.TheVariants.{Acted, Skipped, Untested}
 use Rattle.gk_run.specs.declared.ending.Ending.{Ending}
 use Rattle.gk_run.specs.declared.ending.Ending.TheVariants as endings
+use Rattle.gk_run.specs.declared.features.Run as shared
 use Rattle.gk_run.specs.declared.section_hooks.Level.{Level}
 use Rattle.gk_run.specs.Results.{StepRow, CaseRow, FeatureRow}
 use Rattle.gk_run.specs.Ending.{ended_of, ending_of_turn}
@@ -20,9 +21,9 @@ use Rattle.gk_run.specs.Acting.{CleanupValue, Done, done_of, act}
 use Rattle.gk_run.specs.Walk.{Stepped, one_step, mark_of, looked_up, Walked}
 use Rattle.gk_run.specs.Closing.{Closing}
 use Rattle.gk_run.specs.Section.{is_place, cut_marks, cut_outcomes, Cut, happened, before_passed, around_of}
-use Rattle.gk_run.specs.Alone.{Run, Steps, steps_after, rows_of_steps, alone, verdict_of, reached_row}
+use Rattle.gk_run.specs.Alone.{Run, run_of, Steps, steps_after, rows_of_steps, alone, verdict_of, reached_row}
 use Rattle.gk_run.specs.Chosen.{MemberValue, ChosenValue}
-use Rattle.gk_run.specs.Judged.{happened_in, section_events, section_state, FeatureCuts, cases_of, feature_of}
+use Rattle.gk_run.specs.Features.{happened_in, section_events, section_state, FeatureCuts, cases_of, feature_of}
 
 -- Files, variables, values and layers are as they were, and as many changes are recorded.
 pub record IsSame (old new : SandboxValue) : Type 0 where
@@ -38,6 +39,10 @@ IsReached run section c row = (cut : Cut) × (row ≡ reached_row run section cu
 -- A feature's row is that of some cuts, from the run's state where the run is open.
 abbrev pub IsFeatureResult : Run → State → Bool → ChosenValue → FeatureRow → Type 0
 IsFeatureResult run now is_open f row = (outside : State) → (is_open ≡ true → now ≡ outside) → (cuts : FeatureCuts) × (row ≡ feature_of run outside is_open cuts f)
+
+-- What the code's `Run` says.
+abbrev pub run_value : shared.Run → Run
+run_value r = run_of r.library.now r.hooks.now r.stop
 
 -- The same mark for each step of a case.
 abbrev pub marks_of : Mark → CaseValue → List Mark

@@ -10,9 +10,9 @@ ghost use Rattle.gk_run.specs.Results.{case_row, feature_row};
 ghost use Rattle.gk_run.specs.Section.{Cut};
 ghost use Rattle.gk_run.specs.Alone.{run_of};
 ghost use Rattle.gk_run.specs.Chosen.{member_of, members_of, chosen_value, IsPaired};
-ghost use Rattle.gk_run.specs.Judged as spec;
-ghost use Rattle.gk_run.specs.Judged.{FeatureCuts, case_of, feature_of, case_statuses, feature_verdict};
-ghost use Rattle.gk_run.specs.Running.{IsSame, AreCases, IsFeatureEnd, IsFeatureResult};
+ghost use Rattle.gk_run.specs.Features as spec;
+ghost use Rattle.gk_run.specs.Features.{FeatureCuts, case_of, feature_of, case_statuses, feature_verdict};
+ghost use Rattle.gk_run.specs.Running.{IsSame, run_value, AreCases, IsFeatureEnd, IsFeatureResult};
 
 use crate::chosen::Chosen;
 use crate::cleanups::Cleanups;
@@ -28,29 +28,35 @@ use gk_steps::Library;
 use gk_world::{Sandbox, layers_enter};
 use std::alloc::{AllocError, Global};
 
+/// What stays the same during a run, and where its memory comes from.
+#[derive(Clone, Copy)]
+pub(crate) struct Run<'a> {
+    pub(crate) alloc: Global,
+    pub(crate) library: &'a Library,
+    pub(crate) hooks: &'a HookFile,
+    pub(crate) stop: bool,
+}
+
 // The result of a case in a section that is open, or isn't.
 fn run_member(
-    alloc: Global,
+    run: &Run<'_>,
     sandbox: &mut Sandbox,
-    library: &Library,
-    hooks: &HookFile,
-    stop: bool,
     is_open: bool,
     case: Case,
     selected: bool,
 ) -> Result<CaseResult, NoRoom>
     requires room { depth sandbox.old < layers }
     ensures row { IfOk result (λ r. (section : State) → (is_open ≡ true → state_of sandbox.old.now ≡ section) →
-        (cut : Cut) × (case_row r ≡ case_of (run_of library.now hooks.now stop) section is_open cut (member_of case selected))) }
+        (cut : Cut) × (case_row r ≡ case_of (run_value run.now) section is_open cut (member_of case selected))) }
     ensures same { IsSame sandbox.old sandbox.new }
 {
     if !selected {
-        return told_case(alloc, case, Status::Skipped, Mark::Skipped);
+        return told_case(run.alloc, case, Status::Skipped, Mark::Skipped);
     }
     if !is_open {
-        return told_case(alloc, case, Status::Untested, Mark::Untested);
+        return told_case(run.alloc, case, Status::Untested, Mark::Untested);
     }
-    run_case(alloc, sandbox, library, hooks, case)
+    run_case(run.alloc, sandbox, run.library, run.hooks, case)
 }
 
 /// Whether both hold.
@@ -81,11 +87,8 @@ pub fn stays_open(stop: bool, status: Status) -> bool
 
 // Runs the cases of a section that is open, or isn't; `results` has room for theirs.
 fn run_cases(
-    alloc: Global,
+    run: &Run<'_>,
     sandbox: &mut Sandbox,
-    library: &Library,
-    hooks: &HookFile,
-    stop: bool,
     is_open: bool,
     cases: Vec<Case>,
     selected: &[bool],
@@ -95,25 +98,16 @@ fn run_cases(
     requires empty { results.items ≡ [] }
     requires paired { length selected.now ≡ length cases.items }
     requires room { length cases.items ≤ vec_capacity results }
-    ensures rows { IfOk result (λ rs. AreCases (run_of library.now hooks.now stop) (state_of sandbox.old.now) is_open (members_of cases.items selected.now) (map case_row rs.items)) }
+    ensures rows { IfOk result (λ rs. AreCases (run_value run.now) (state_of sandbox.old.now) is_open (members_of cases.items selected.now) (map case_row rs.items)) }
     ensures same { IsSame sandbox.old sandbox.new }
 {
     let mut results = results;
     let mut is_open = is_open;
     let mut place = 0;
     for case in cases {
-        let row = run_member(
-            alloc,
-            sandbox,
-            library,
-            hooks,
-            stop,
-            is_open,
-            case,
-            selected[place],
-        )?;
+        let row = run_member(run, sandbox, is_open, case, selected[place])?;
         place += 1;
-        is_open = both(is_open, stays_open(stop, row.status));
+        is_open = both(is_open, stays_open(run.stop, row.status));
         results.push_reserved(row);
     }
     Ok(results)
@@ -128,11 +122,8 @@ struct FeatureEnd {
 
 // Runs a feature in the layer that was begun for it; `results` has room for its cases.
 fn in_feature(
-    alloc: Global,
+    run: &Run<'_>,
     sandbox: &mut Sandbox,
-    library: &Library,
-    hooks: &HookFile,
-    stop: bool,
     tags: &[String],
     cases: Vec<Case>,
     selected: &[bool],
@@ -144,30 +135,20 @@ fn in_feature(
     requires paired { length selected.now ≡ length cases.items }
     requires room { length cases.items ≤ vec_capacity results }
     ensures end { IfOk result (λ r. (outside : State) → state_of sandbox.old.now ≡ enter outside →
-        IsFeatureEnd (run_of library.now hooks.now stop) Level.Feature outside true (texts tags.now) (members_of cases.items selected.now) r.around (map case_row r.cases.items)) }
+        IsFeatureEnd (run_value run.now) Level.Feature outside true (texts tags.now) (members_of cases.items selected.now) r.around (map case_row r.cases.items)) }
     ensures layers { KeepsLayers sandbox.old sandbox.new }
 {
-    let mut cleanups = Cleanups::new(alloc);
+    let mut cleanups = Cleanups::new(run.alloc);
     let before = walk_before(
-        alloc,
+        run.alloc,
         sandbox,
         &mut cleanups,
-        library,
-        hooks,
+        run.library,
+        run.hooks,
         Level::Feature,
         tags,
     );
-    let cases = run_cases(
-        alloc,
-        sandbox,
-        library,
-        hooks,
-        stop,
-        has_passed(before),
-        cases,
-        selected,
-        results,
-    )?;
+    let cases = run_cases(run, sandbox, has_passed(before), cases, selected, results)?;
     if is_memory(before) {
         return Ok(FeatureEnd {
             around: Status::Memory,
@@ -175,11 +156,11 @@ fn in_feature(
         });
     }
     let closed = close(
-        alloc,
+        run.alloc,
         sandbox,
         cleanups,
-        library,
-        hooks,
+        run.library,
+        run.hooks,
         Level::Feature,
         tags,
     );
@@ -257,7 +238,8 @@ fn verdict_by(memory: bool, failed: bool, untested: bool, passed: bool) -> Statu
     Status::Skipped
 }
 
-fn feature_status(around: Status, cases: &[CaseResult]) -> Status
+/// The verdict of a feature.
+pub fn feature_status(around: Status, cases: &[CaseResult]) -> Status
     ensures { result ≡ feature_verdict around (case_statuses (map case_row cases.now)) }
 {
     let memory = either(is_memory_status(around), any_memory(cases));
@@ -267,11 +249,8 @@ fn feature_status(around: Status, cases: &[CaseResult]) -> Status
 
 // Begins a feature's layer, runs the feature in it, and ends the layer.
 fn begin_feature(
-    alloc: Global,
+    run: &Run<'_>,
     sandbox: &mut Sandbox,
-    library: &Library,
-    hooks: &HookFile,
-    stop: bool,
     tags: &[String],
     cases: Vec<Case>,
     selected: &[bool],
@@ -281,26 +260,21 @@ fn begin_feature(
     requires empty { results.items ≡ [] }
     requires paired { length selected.now ≡ length cases.items }
     requires room { length cases.items ≤ vec_capacity results }
-    ensures end { IfOk result (λ r. IsFeatureEnd (run_of library.now hooks.now stop) Level.Feature (state_of sandbox.old.now) true (texts tags.now) (members_of cases.items selected.now) r.around (map case_row r.cases.items)) }
+    ensures end { IfOk result (λ r. IsFeatureEnd (run_value run.now) Level.Feature (state_of sandbox.old.now) true (texts tags.now) (members_of cases.items selected.now) r.around (map case_row r.cases.items)) }
     ensures same { IsSame sandbox.old sandbox.new }
 {
     // No code runs here: the law says that the layer's state is the run's, entered.
     layers_enter();
     let layer = sandbox.begin();
-    let end = in_feature(
-        alloc, sandbox, library, hooks, stop, tags, cases, selected, results,
-    );
+    let end = in_feature(run, sandbox, tags, cases, selected, results);
     sandbox.end(layer);
     end
 }
 
 // Runs a feature that is begun, or tells the cases of one that isn't.
 fn feature_end(
-    alloc: Global,
+    run: &Run<'_>,
     sandbox: &mut Sandbox,
-    library: &Library,
-    hooks: &HookFile,
-    stop: bool,
     is_begun: bool,
     tags: &[String],
     cases: Vec<Case>,
@@ -312,17 +286,13 @@ fn feature_end(
     requires paired { length selected.now ≡ length cases.items }
     requires room { length cases.items ≤ vec_capacity results }
     ensures end { IfOk result (λ r. (outside : State) → (is_begun ≡ true → state_of sandbox.old.now ≡ outside) →
-        IsFeatureEnd (run_of library.now hooks.now stop) Level.Feature outside is_begun (texts tags.now) (members_of cases.items selected.now) r.around (map case_row r.cases.items)) }
+        IsFeatureEnd (run_value run.now) Level.Feature outside is_begun (texts tags.now) (members_of cases.items selected.now) r.around (map case_row r.cases.items)) }
     ensures same { IsSame sandbox.old sandbox.new }
 {
     if is_begun {
-        return begin_feature(
-            alloc, sandbox, library, hooks, stop, tags, cases, selected, results,
-        );
+        return begin_feature(run, sandbox, tags, cases, selected, results);
     }
-    let cases = run_cases(
-        alloc, sandbox, library, hooks, stop, false, cases, selected, results,
-    )?;
+    let cases = run_cases(run, sandbox, false, cases, selected, results)?;
     Ok(FeatureEnd {
         around: Status::Passed,
         cases,
@@ -331,17 +301,14 @@ fn feature_end(
 
 // Runs a feature of a run that is open, or isn't.
 pub(crate) fn feature_in(
-    alloc: Global,
+    run: &Run<'_>,
     sandbox: &mut Sandbox,
-    library: &Library,
-    hooks: &HookFile,
-    stop: bool,
     is_open: bool,
     chosen: Chosen,
 ) -> Result<FeatureResult, NoRoom>
     requires layer { suc (depth sandbox.old) < layers }
     requires paired { IsPaired chosen }
-    ensures row { IfOk result (λ r. IsFeatureResult (run_of library.now hooks.now stop) (state_of sandbox.old.now) is_open (chosen_value chosen) (feature_row r)) }
+    ensures row { IfOk result (λ r. IsFeatureResult (run_value run.now) (state_of sandbox.old.now) is_open (chosen_value chosen) (feature_row r)) }
     ensures same { IsSame sandbox.old sandbox.new }
 {
     let Chosen {
@@ -352,17 +319,14 @@ pub(crate) fn feature_in(
         cases,
         selected,
     } = chosen;
-    let results = match Vec::with_capacity(alloc, cases.len()) {
+    let results = match Vec::with_capacity(run.alloc, cases.len()) {
         Ok(results) => results,
         Err(AllocError) => return Err(NoRoom),
     };
     let is_begun = both(is_open, has_selected(selected.as_slice()));
     let FeatureEnd { around, cases } = feature_end(
-        alloc,
+        run,
         sandbox,
-        library,
-        hooks,
-        stop,
         is_begun,
         tags.as_slice(),
         cases,
@@ -399,5 +363,11 @@ pub fn run_feature(
     ensures row { IfOk result (λ r. (cuts : FeatureCuts) × (feature_row r ≡ feature_of (run_of library.now hooks.now stop) (state_of sandbox.old.now) true cuts (chosen_value chosen))) }
     ensures same { IsSame sandbox.old sandbox.new }
 {
-    feature_in(alloc, sandbox, library, hooks, stop, true, chosen)
+    let run = Run {
+        alloc,
+        library,
+        hooks,
+        stop,
+    };
+    feature_in(&run, sandbox, true, chosen)
 }

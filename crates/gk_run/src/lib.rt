@@ -1,12 +1,14 @@
 //! Running cases, features and whole runs. A library, hooks, a sandbox and the cases of a feature come
 //! in; the result of each step, case and feature goes out. Each case has the result that plain maps give
-//! it alone from its feature's state, unless memory was refused in it, and the sandbox is as it was.
+//! it alone from its feature's state, unless memory was refused in it, and the sandbox is as it was. In a
+//! dry run steps are only looked up.
 #![tactic(auto)]
 
 mod acting;
 mod chosen;
 mod cleanups;
 mod closing;
+mod dry_run;
 mod ending;
 mod features;
 mod judged;
@@ -21,8 +23,11 @@ mod walk;
 pub use acting::{Site, act};
 pub use chosen::Chosen;
 pub use cleanups::Cleanups;
+pub use dry_run::dry_feature;
 pub use features::run_feature;
-pub use judged::without_memory_there_is_one_list;
-pub use open_run::{Suite, finished_runs_are_judged};
+pub use judged::{
+    dry_runs_are_judged, unfinished_dry_runs_are_judged, without_memory_there_is_one_list,
+};
+pub use open_run::{Suite, finished_runs_are_judged, unfinished_runs_are_judged};
 pub use results::{CaseResult, FeatureResult, NoRoom, Outcome, Reason, Status, StepResult};
 pub use running::run_case;

@@ -11,15 +11,15 @@ ghost use Rattle.gk_run.specs.Ending as endings;
 ghost use Rattle.gk_run.specs.SectionHooks.{begun};
 ghost use Rattle.gk_run.specs.Alone.{run_of};
 ghost use Rattle.gk_run.specs.Chosen.{chosen_value, IsPaired};
-ghost use Rattle.gk_run.specs.Judged.{stays_open_by};
+ghost use Rattle.gk_run.specs.Features.{stays_open_by};
 ghost use Rattle.gk_run.specs.Running.{IsSame, IsWalked, IsSectionEnd, IsFeatureResult};
-ghost use Rattle.gk_run.specs.OpenRun.{IsStarted, IsKept, FinishedRunsAreJudged};
+ghost use Rattle.gk_run.specs.OpenRun.{IsStarted, IsKept, FinishedRunsAreJudged, UnfinishedRunsAreJudged};
 
 use crate::chosen::Chosen;
 use crate::cleanups::Cleanups;
 use crate::closing::close;
 use crate::ending::{Ending, around_status, has_passed, is_memory, worse};
-use crate::features::{both, feature_in, stays_open};
+use crate::features::{Run, both, feature_in, stays_open};
 use crate::results::{FeatureResult, NoRoom, Status};
 use crate::section_hooks::Level;
 use crate::walk::walk_before;
@@ -117,15 +117,13 @@ impl Suite {
         ensures err { OnErr result (self.new.is_open ≡ self.old.is_open) }
         ensures same { IsSame sandbox.old sandbox.new }
     {
-        let result = feature_in(
+        let run = Run {
             alloc,
-            sandbox,
             library,
             hooks,
-            self.stop,
-            self.is_open,
-            chosen,
-        )?;
+            stop: self.stop,
+        };
+        let result = feature_in(&run, sandbox, self.is_open, chosen)?;
         self.is_open = both(self.is_open, stays_open(self.stop, result.status));
         Ok(result)
     }
@@ -162,4 +160,10 @@ impl Suite {
 /// features' results and what `Suite::finish` answers. (this project's profile)
 pub fn finished_runs_are_judged()
     ensures { FinishedRunsAreJudged }
+{}
+
+/// A run that was begun and isn't finished has results that begin judged results: those of the features
+/// that were run, whatever features come after them. (this project's profile)
+pub fn unfinished_runs_are_judged()
+    ensures { UnfinishedRunsAreJudged }
 {}

@@ -15,7 +15,8 @@ pub enum Status {
     Skipped,
     /// No entry of the library matches a step.
     Undefined,
-    /// Memory was refused before a step was reached; a scenario wasn't reached.
+    /// Memory was refused before a step was reached; a scenario wasn't reached; in a dry run, a step that
+    /// an entry of the library matches, and a scenario.
     Untested,
     /// Memory was refused.
     Memory,
@@ -77,7 +78,7 @@ pub enum Mark {
     Undefined,
     /// It isn't carried out, as an earlier step ended the scenario or the scenario isn't selected.
     Skipped,
-    /// It isn't reached.
+    /// It isn't reached, or an entry of the library matches it in a dry run.
     Untested,
 }
 

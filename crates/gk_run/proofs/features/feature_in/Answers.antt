@@ -7,14 +7,14 @@ use Rattle.gk_run.specs.declared.section_hooks.Level.TheVariants as levels
 use Rattle.gk_run.specs.Results.{case_row}
 use Rattle.gk_run.specs.Alone.{run_of}
 use Rattle.gk_run.specs.Chosen.{members_of, chosen_value, has_selected}
-use Rattle.gk_run.specs.Judged.{feature_verdict, case_statuses}
+use Rattle.gk_run.specs.Features.{feature_verdict, case_statuses}
 use Rattle.gk_run.specs.Running.{IsFeatureEnd}
 use Rattle.gk_run.proofs.CasesLemmas.{feature_is, selected_any}
 use Rattle.gk_run.proofs.features.feature_in.Goals as goal
 
 pub returns-clause-row : goal.returns-clause-row
 returns-clause-row c =
-    let run = run_of c.args.library.now c.args.hooks.now c.args.stop in
+    let run = run_of c.args.run.now.library.now c.args.run.now.hooks.now c.args.run.now.stop in
     let f = chosen_value c.args.chosen in
     let around = c.in_ok-around.field-0.around in
     let rows = map case_row c.in_ok-around.field-0.cases.items in

@@ -1,7 +1,7 @@
 use Rattle.std.proofs.Common.{◌≡◌, ◌∙◌, ◌||◌, Bool, map, sym, ap}
 use Rattle.std.specs.List.{list_any}
 use Rattle.gk_run.specs.Results.{is_memory, is_failed, is_untested, is_passed, case_row}
-use Rattle.gk_run.specs.Judged.{verdict_by, case_statuses}
+use Rattle.gk_run.specs.Features.{verdict_by, case_statuses}
 use Rattle.gk_run.proofs.CasesLemmas.{statuses_any}
 use Rattle.gk_run.proofs.features.feature_status.Goals as goal
 

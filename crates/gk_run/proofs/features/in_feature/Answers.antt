@@ -22,7 +22,7 @@ use Rattle.gk_run.proofs.features.in_feature.Goals as goal
 
 pub returns-then-is_memory-clause-end : goal.returns-then-is_memory-clause-end
 returns-then-is_memory-clause-end c = λ outside here.
-    let run = run_of c.args.library.now c.args.hooks.now c.args.stop in
+    let run = run_of c.args.run.now.library.now c.args.run.now.hooks.now c.args.run.now.stop in
     let tags = texts c.args.tags.now in
     let members = members_of c.args.cases.items c.args.selected.now in
     let rows = map case_row c.in_ok-cases.cases.items in
@@ -39,7 +39,7 @@ returns-then-is_memory-clause-end c = λ outside here.
 
 pub returns-clause-end : goal.returns-clause-end
 returns-clause-end c = λ outside here.
-    let run = run_of c.args.library.now c.args.hooks.now c.args.stop in
+    let run = run_of c.args.run.now.library.now c.args.run.now.hooks.now c.args.run.now.stop in
     let tags = texts c.args.tags.now in
     let members = members_of c.args.cases.items c.args.selected.now in
     let rows = map case_row c.in_ok-cases.cases.items in

@@ -6,7 +6,7 @@ use Rattle.gk_world.specs.State.{state_of}
 use Rattle.gk_run.specs.Results.{CaseRow, case_row}
 use Rattle.gk_run.specs.Alone.{run_of}
 use Rattle.gk_run.specs.Chosen.{MemberValue, member_of, members_of}
-use Rattle.gk_run.specs.Judged.{stays_open}
+use Rattle.gk_run.specs.Features.{stays_open}
 use Rattle.gk_run.proofs.CasesLemmas.{GoesCases, cases_first, cases_on, cases_last, paired_on, and_left}
 use Rattle.gk_run.proofs.Nothing.{nothing_in}
 use Rattle.gk_run.proofs.features.run_cases.Goals as goal
@@ -14,7 +14,7 @@ use Rattle.gk_run.proofs.features.run_cases.Goals as goal
 pub loop-case-init : goal.loop-case-init
 loop-case-init c =
     let here : into_iter_items c.into_iter-case-iterator.result ≡ c.args.cases.items = c.into_iter-case-iterator.ensures.into_iter_gives.0 in
-    let run = run_of c.args.library.now c.args.hooks.now c.args.stop in
+    let run = run_of c.args.run.now.library.now c.args.run.now.hooks.now c.args.run.now.stop in
     let first = state_of c.args.sandbox.now.now in
     let all = members_of c.args.cases.items c.args.selected.now in
     let f = ap length here in
@@ -36,7 +36,7 @@ bounds-selected-place c =
 
 pub loop-case-preserved : goal.loop-case-preserved
 loop-case-preserved c =
-    let run = run_of c.args.library.now c.args.hooks.now c.args.stop in
+    let run = run_of c.args.run.now.library.now c.args.run.now.hooks.now c.args.run.now.stop in
     let first = state_of c.args.sandbox.now.now in
     let all = members_of c.args.cases.items c.args.selected.now in
     let s = c.in-Some.ensures.steps in
@@ -66,5 +66,5 @@ loop-case-preserved c =
 pub returns-clause-rows : goal.returns-clause-rows
 returns-clause-rows c =
     let none : into_iter_items c.loop-case.case-iterator ≡ [] = nothing_in (into_iter_items c.loop-case.case-iterator) (c.loop-case.invariant.counted ∙ c.in-None.ensures.steps.0) in
-    cases_last (run_of c.args.library.now c.args.hooks.now c.args.stop) (state_of c.args.sandbox.now.now) c.args.is_open (members_of c.args.cases.items c.args.selected.now) (map case_row c.loop-case.results.items) c.loop-case.is_open
+    cases_last (run_of c.args.run.now.library.now c.args.run.now.hooks.now c.args.run.now.stop) (state_of c.args.sandbox.now.now) c.args.is_open (members_of c.args.cases.items c.args.selected.now) (map case_row c.loop-case.results.items) c.loop-case.is_open
     (members_of (into_iter_items c.loop-case.case-iterator) (drop c.loop-case.place c.args.selected.now)) (ap (λ cs. members_of cs (drop c.loop-case.place c.args.selected.now)) none) c.loop-case.invariant.goes

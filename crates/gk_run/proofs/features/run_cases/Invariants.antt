@@ -11,7 +11,7 @@ use Rattle.gk_run.proofs.features.run_cases.Given as goal
 -- however what is left is cut, the whole has cuts with these rows before the others
 abbrev pub invariant-loop-case : goal.invariant-loop-case
 invariant-loop-case l = record {
-  goes : GoesCases (run_of l.library l.hooks l.stop) (state_of l.fn.sandbox.now) l.fn.is_open (members_of l.fn.cases.items l.selected) (map case_row l.results.items) l.is_open (members_of (into_iter_items l.case-iterator) (drop l.place l.selected));
+  goes : GoesCases (run_of l.run.library.now l.run.hooks.now l.run.stop) (state_of l.fn.sandbox.now) l.fn.is_open (members_of l.fn.cases.items l.selected) (map case_row l.results.items) l.is_open (members_of (into_iter_items l.case-iterator) (drop l.place l.selected));
   same : IsSame l.fn.sandbox l.sandbox;
   earlier : l.is_open ≡ true → l.fn.is_open ≡ true;
   paired : l.place + length (into_iter_items l.case-iterator) ≡ length l.selected;

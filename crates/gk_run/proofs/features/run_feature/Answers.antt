@@ -4,7 +4,7 @@ use Rattle.gk_run.specs.declared.results.FeatureResult.{FeatureResult}
 use Rattle.gk_run.specs.Results.{feature_row}
 use Rattle.gk_run.specs.Alone.{run_of}
 use Rattle.gk_run.specs.Chosen.{chosen_value}
-use Rattle.gk_run.specs.Judged.{FeatureCuts, feature_of}
+use Rattle.gk_run.specs.Features.{FeatureCuts, feature_of}
 use Rattle.gk_run.specs.Running.{IsFeatureResult}
 use Rattle.gk_run.proofs.CasesLemmas.{if_ok}
 use Rattle.gk_run.proofs.features.run_feature.Goals as goal

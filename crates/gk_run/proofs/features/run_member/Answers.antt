@@ -7,14 +7,14 @@ use Rattle.gk_run.specs.Results.{case_row}
 use Rattle.gk_run.specs.Section.{Cut, nowhere}
 use Rattle.gk_run.specs.Alone.{run_of, told_row}
 use Rattle.gk_run.specs.Chosen.{member_of}
-use Rattle.gk_run.specs.Judged.{case_of}
+use Rattle.gk_run.specs.Features.{case_of}
 use Rattle.gk_run.specs.Running.{marks_of}
 use Rattle.gk_run.proofs.CasesLemmas.{if_ok, unselected_is, unreached_is}
 use Rattle.gk_run.proofs.features.run_member.Goals as goal
 
 pub returns-then-not-selected-clause-row : goal.returns-then-not-selected-clause-row
 returns-then-not-selected-clause-row c =
-    let run = run_of c.args.library.now c.args.hooks.now c.args.stop in
+    let run = run_of c.args.run.now.library.now c.args.run.now.hooks.now c.args.run.now.stop in
     let m = member_of c.args.case c.args.selected in
     if_ok (λ (r : CaseResult). case_row r ≡ told_row m.scenario statuses.Skipped (marks_of marks.Skipped m.scenario))
     (λ (r : CaseResult). (section : State) → (c.args.is_open ≡ true → state_of c.args.sandbox.now.now ≡ section) → (x : Cut) × (case_row r ≡ case_of run section c.args.is_open x m))
@@ -22,7 +22,7 @@ returns-then-not-selected-clause-row c =
 
 pub returns-then-not-is_open-clause-row : goal.returns-then-not-is_open-clause-row
 returns-then-not-is_open-clause-row c =
-    let run = run_of c.args.library.now c.args.hooks.now c.args.stop in
+    let run = run_of c.args.run.now.library.now c.args.run.now.hooks.now c.args.run.now.stop in
     let m = member_of c.args.case c.args.selected in
     if_ok (λ (r : CaseResult). case_row r ≡ told_row m.scenario statuses.Untested (marks_of marks.Untested m.scenario))
     (λ (r : CaseResult). (section : State) → (c.args.is_open ≡ true → state_of c.args.sandbox.now.now ≡ section) → (x : Cut) × (case_row r ≡ case_of run section c.args.is_open x m))

@@ -1,0 +1,128 @@
+-- What the loops of a dry run come to.
+use Rattle.std.specs.List.{list_any}
+use Rattle.std.proofs.Common.{Bool, List, [], ap, append_assoc, cond, false, is_some, map, refl, subst, suc, sym, true, ◌++◌, ◌||◌, ◌∙◌, ◌∷◌, ◌≡◌}
+use Rattle.std.proofs.lemmas.List.{append-nil}
+use Rattle.gk_gherkin.specs.Feature.{StepValue}
+use Rattle.gk_select.specs.Case.{CaseValue}
+use Rattle.gk_steps.specs.Finding.{LibraryValue, found}
+use Rattle.gk_run.specs.declared.results.Mark.{Mark}
+use Rattle.gk_run.specs.declared.results.Mark.TheVariants.{Acted, Skipped, Undefined, Untested}
+use Rattle.gk_run.specs.declared.results.Outcome.TheVariants as outcomes
+use Rattle.gk_run.specs.declared.results.Status.{Status}
+use Rattle.gk_run.specs.declared.results.Status.TheVariants as statuses
+use Rattle.gk_run.specs.Alone.{row_of_case, row_of_step, told_row, unselected_row}
+use Rattle.gk_run.specs.Chosen.{ChosenValue, MemberValue}
+use Rattle.gk_run.specs.DryRun.{AreDrySteps, IsDryStep, dry_case_of, dry_cases_of, dry_events, dry_feature_of, dry_mark, dry_row, dry_verdict}
+use Rattle.gk_run.specs.Ending.{is_memory_mark}
+use Rattle.gk_run.specs.Features.{FeatureCuts, case_statuses, feature_verdict}
+use Rattle.gk_run.specs.Results.{CaseRow, FeatureRow, StepRow}
+use Rattle.gk_run.specs.Running.{marks_of}
+use Rattle.gk_run.specs.Section.{Cut, Events, cut_marks, happened, in_steps, nowhere}
+use Rattle.gk_run.proofs.EndingLemmas.{cut_is_memory}
+
+-- ---- the steps of a case
+
+one_more : (library : LibraryValue) (refused next : Bool) (step : StepValue) (steps : List StepValue) (m : Mark) → IsDryStep library refused step m next → (more : List StepRow) (e : Bool) → AreDrySteps library next steps more e →
+    AreDrySteps library refused (step ∷ steps) (row_of_step step m ∷ more) e
+one_more library true next step steps m t more e h =
+    let here = subst (λ (x : Bool). AreDrySteps library x steps more e) t.1 h in
+    (ap (λ x. row_of_step step x ∷ more) t.0 ∙ ap (λ rs. row_of_step step Untested ∷ rs) here.0, here.1)
+one_more library false true step steps m t more e h =
+    let there : AreDrySteps library false (step ∷ steps) (row_of_step step m ∷ more) true = (0, refl, ap (λ x. row_of_step step x ∷ more) t ∙ ap (λ rs. row_of_step step (Acted outcomes.Memory) ∷ rs) h.0) in
+    subst (λ (x : Bool). AreDrySteps library false (step ∷ steps) (row_of_step step m ∷ more) x) (sym h.1) there
+one_more library false false step steps m t more true h =
+    (suc h.0, h.1, ap (λ x. row_of_step step x ∷ more) t ∙ ap (λ rs. row_of_step step (dry_mark library step) ∷ rs) h.2)
+one_more library false false step steps m t more false h = ap (λ x. row_of_step step x ∷ more) t ∙ ap (λ rs. row_of_step step (dry_mark library step) ∷ rs) h
+
+-- whatever the steps that are left come to, all come to, with these rows before theirs
+abbrev pub GoesDrySteps : LibraryValue → Bool → List StepValue → List StepRow → List StepValue → Type 0
+GoesDrySteps library refused left rows all = (more : List StepRow) (e : Bool) → AreDrySteps library refused left more e → AreDrySteps library false all (rows ++ more) e
+
+pub dry_steps_first : (library : LibraryValue) (all : List StepValue) → GoesDrySteps library false all [] all
+dry_steps_first library all more e h = h
+
+pub dry_steps_on : (library : LibraryValue) (all : List StepValue) (refused next : Bool) (step : StepValue) (left : List StepValue) (m : Mark) (rows pushed : List StepRow) → IsDryStep library refused step m next →
+    pushed ≡ rows ++ row_of_step step m ∷ [] → GoesDrySteps library refused (step ∷ left) rows all → GoesDrySteps library next left pushed all
+dry_steps_on library all refused next step left m rows pushed t push whole more e h =
+    subst (λ rs. AreDrySteps library false all rs e) (sym (ap (λ rs. rs ++ more) push ∙ append_assoc rows (row_of_step step m ∷ []) more))
+    (whole (row_of_step step m ∷ more) e (one_more library refused next step left m t more e h))
+
+nothing_left : (library : LibraryValue) (refused : Bool) → AreDrySteps library refused [] [] refused
+nothing_left library true = (refl, refl)
+nothing_left library false = refl
+
+pub dry_steps_last : (library : LibraryValue) (all : List StepValue) (refused : Bool) (left : List StepValue) (rows : List StepRow) → left ≡ [] → GoesDrySteps library refused left rows all → AreDrySteps library false all rows refused
+dry_steps_last library all refused [] rows none whole = subst (λ rs. AreDrySteps library false all rs refused) (append-nil rows) (whole [] refused (nothing_left library refused))
+dry_steps_last library all refused (step ∷ left) rows none whole = let no : ⊥ = cc in absurd no
+
+-- ---- a case
+
+no_memory_mark : (b : Bool) → is_memory_mark (cond b Untested Undefined) ≡ false
+no_memory_mark true = refl
+no_memory_mark false = refl
+
+no_memory : (library : LibraryValue) (steps : List StepValue) → list_any is_memory_mark (map (dry_mark library) steps) ≡ false
+no_memory library [] = refl
+no_memory library (step ∷ steps) =
+    ap (λ b. b || list_any is_memory_mark (map (dry_mark library) steps)) (no_memory_mark (is_some (found library step.step_type step.text))) ∙ no_memory library steps
+
+-- the row of a case with these results of its steps
+abbrev dry_row_by : CaseValue → Status → List StepRow → CaseRow
+dry_row_by c status rows = record { keyword = c.keyword; name = c.name; line = c.line; status = status; around = statuses.Passed; cleanups = []; steps = rows }
+
+-- the verdict by whether memory was refused
+abbrev verdict_of : Bool → Status
+verdict_of refused = cond refused statuses.Memory statuses.Untested
+
+pub dry_is : (library : LibraryValue) (c : CaseValue) (rows : List StepRow) (refused : Bool) (status : Status) → status ≡ cond refused statuses.Memory statuses.Untested → AreDrySteps library false c.steps rows refused →
+    (cut : Cut) × (record { keyword = c.keyword; name = c.name; line = c.line; status = status; around = statuses.Passed; cleanups = []; steps = rows } ≡ dry_row library cut c)
+dry_is library c rows false status s h =
+    let marks = map (dry_mark library) c.steps in
+    (nowhere, ap (λ x. dry_row_by c x rows) (s ∙ ap verdict_of (sym (no_memory library c.steps))) ∙ ap (dry_row_by c (verdict_of (list_any is_memory_mark marks))) h)
+dry_is library c rows true status s h =
+    let n = h.0 in
+    let e = dry_events library c in
+    let marks = cut_marks n e.steps in
+    let now : Events = record { before = []; steps = marks; after = []; cleanups = [] } in
+    let is : now ≡ happened (in_steps n) e = ap (λ (b : Bool). cond b now e) (sym h.1) in (
+      in_steps n,
+      ap (λ x. dry_row_by c x rows) (s ∙ ap verdict_of (sym (cut_is_memory e.steps n h.1)))
+          ∙ ap (dry_row_by c (verdict_of (list_any is_memory_mark marks))) h.2
+          ∙ ap (λ (x : Events). row_of_case c (dry_verdict x) x) is,
+    )
+
+pub dry_unselected : (library : LibraryValue) (m : MemberValue) (row : CaseRow) → m.selected ≡ false → row ≡ told_row m.scenario statuses.Skipped (marks_of Skipped m.scenario) → row ≡ dry_case_of library nowhere m
+dry_unselected library m row h e = let c = m.scenario in e ∙ ap (λ (b : Bool). cond b (dry_row library nowhere c) (unselected_row c)) (sym h)
+
+pub dry_selected : (library : LibraryValue) (m : MemberValue) (row : CaseRow) → m.selected ≡ true → (cut : Cut) × (row ≡ dry_row library cut m.scenario) → (cut : Cut) × (row ≡ dry_case_of library cut m)
+dry_selected library m row h t = (t.0, t.1 ∙ ap (λ (b : Bool). cond b (dry_row library t.0 m.scenario) (unselected_row m.scenario)) (sym h))
+
+-- ---- the cases of a feature
+
+-- however what is left is cut, the whole has cuts with these rows before the others
+abbrev pub GoesDryCases : LibraryValue → List MemberValue → List CaseRow → List MemberValue → Type 0
+GoesDryCases library all rows left = (cuts : List Cut) → (whole : List Cut) × (rows ++ dry_cases_of library cuts left ≡ dry_cases_of library whole all)
+
+pub dry_cases_first : (library : LibraryValue) (all : List MemberValue) → GoesDryCases library all [] all
+dry_cases_first library all cuts = (cuts, refl)
+
+pub dry_cases_on : (library : LibraryValue) (all : List MemberValue) (rows pushed : List CaseRow) (row : CaseRow) (m : MemberValue) (left : List MemberValue) → (cut : Cut) × (row ≡ dry_case_of library cut m) → pushed ≡ rows ++ row ∷ [] →
+    GoesDryCases library all rows (m ∷ left) → GoesDryCases library all pushed left
+dry_cases_on library all rows pushed row m left one push goes cuts =
+    let whole = goes (one.0 ∷ cuts) in (
+      whole.0,
+      ap (λ rs. rs ++ dry_cases_of library cuts left) push
+          ∙ append_assoc rows (row ∷ []) (dry_cases_of library cuts left)
+          ∙ ap (λ (x : CaseRow). rows ++ x ∷ dry_cases_of library cuts left) one.1
+          ∙ whole.1,
+    )
+
+pub dry_cases_last : (library : LibraryValue) (all : List MemberValue) (rows : List CaseRow) (left : List MemberValue) → left ≡ [] → GoesDryCases library all rows left → (cuts : List Cut) × (rows ≡ dry_cases_of library cuts all)
+dry_cases_last library all rows [] none goes = let whole = goes [] in (whole.0, sym (append-nil rows) ∙ whole.1)
+dry_cases_last library all rows (m ∷ left) none goes = let no : ⊥ = cc in absurd no
+
+pub dry_feature_is : (library : LibraryValue) (f : ChosenValue) (status : Status) (rows : List CaseRow) → status ≡ feature_verdict statuses.Passed (case_statuses rows) → (cuts : List Cut) × (rows ≡ dry_cases_of library cuts f.members) →
+    (cuts : FeatureCuts) × (record { source = f.source; name = f.name; line = f.line; status = status; around = statuses.Passed; cases = rows } ≡ dry_feature_of library cuts f)
+dry_feature_is library f status rows verdict known =
+    let row : Status → List CaseRow → FeatureRow = λ s rs. record { source = f.source; name = f.name; line = f.line; status = s; around = statuses.Passed; cases = rs } in
+    (record { own = nowhere; cases = known.0 }, ap (λ (s : Status). row s rows) verdict ∙ ap (λ rs. row (feature_verdict statuses.Passed (case_statuses rs)) rs) known.1)

@@ -1,0 +1,47 @@
+-- The results of a dry run are judged.
+use Rattle.std.proofs.Common.{Bool, List, [], ap, cond, refl, sym, ◌++◌, ◌∙◌, ◌∷◌, ◌≡◌}
+use Rattle.gk_steps.specs.Finding.{LibraryValue}
+use Rattle.gk_world.specs.Contents.{Contents}
+use Rattle.gk_world.specs.State.{state_of}
+use Rattle.gk_run.specs.declared.results.Status.TheVariants as statuses
+use Rattle.gk_run.specs.Alone.{Run}
+use Rattle.gk_run.specs.Chosen.{ChosenValue}
+use Rattle.gk_run.specs.DryRun.{dry_feature_of, dry_features_of}
+use Rattle.gk_run.specs.Features.{FeatureCuts, first_or, later, uncut_feature}
+use Rattle.gk_run.specs.Judged.{Cuts, DryRunsAreJudged, UnfinishedDryRunsAreJudged, dry_results, results_from, results_of}
+use Rattle.gk_run.specs.Results.{FeatureRow, Results}
+use Rattle.gk_run.specs.Section.{nowhere}
+
+-- the results by whether the run is dry
+abbrev pub results_by : Run → Contents → Cuts → List ChosenValue → Bool → Results
+results_by run contents cuts features is_dry = cond is_dry (dry_results run cuts features) (results_from run (state_of contents) cuts features)
+
+-- the cuts of a dry run
+abbrev dry_cuts : List FeatureCuts → Cuts
+dry_cuts cuts = record { own = nowhere; features = cuts }
+
+pub dry_judged : DryRunsAreJudged
+dry_judged run contents features rows is_dry known =
+    let with_features : List FeatureRow → Results = λ rs. record { features = rs; around = statuses.Passed } in
+    (dry_cuts known.0, ap with_features known.1 ∙ ap (results_by run contents (dry_cuts known.0) features) (sym is_dry))
+
+-- the cuts of these features, and no others
+abbrev pub cuts_of_all : List FeatureCuts → List ChosenValue → List FeatureCuts
+cuts_of_all cuts [] = []
+cuts_of_all cuts (f ∷ fs) = first_or uncut_feature cuts ∷ cuts_of_all (later cuts) fs
+
+dry_features_begin : (library : LibraryValue) (cuts : List FeatureCuts) (fs others : List ChosenValue) →
+    dry_features_of library (cuts_of_all cuts fs) (fs ++ others) ≡ dry_features_of library cuts fs ++ dry_features_of library [] others
+dry_features_begin library cuts [] others = refl
+dry_features_begin library cuts (f ∷ fs) others = ap (λ (rows : List FeatureRow). dry_feature_of library (first_or uncut_feature cuts) f ∷ rows) (dry_features_begin library (later cuts) fs others)
+
+pub dry_judged_so_far : UnfinishedDryRunsAreJudged
+dry_judged_so_far run contents features others rows is_dry known =
+    let cuts = dry_cuts (cuts_of_all known.0 features) in
+    let more = dry_features_of run.library [] others in
+    let features_by : Bool → List FeatureRow = λ x. (let r = results_by run contents cuts (features ++ others) x in r.features) in (
+      results_of run contents cuts (features ++ others),
+      more,
+      (cuts, refl),
+      ap features_by is_dry ∙ dry_features_begin run.library known.0 features others ∙ ap (λ (rs : List FeatureRow). rs ++ more) (sym known.1),
+    )

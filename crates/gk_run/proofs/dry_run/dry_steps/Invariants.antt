@@ -1,0 +1,15 @@
+use Rattle.std.proofs.Common.{◌≡◌, ◌+◌, ◌≤◌, map, length, vec_len, vec_capacity}
+use Rattle.std.specs.Vec.Iter.{into_iter_items, into_iter_len}
+use Rattle.gk_gherkin.specs.Feature.{step_value}
+use Rattle.gk_steps.specs.Finding.{library_value}
+use Rattle.gk_run.specs.Results.{step_row}
+use Rattle.gk_run.proofs.DryRunLemmas.{GoesDrySteps}
+use Rattle.gk_run.proofs.dry_run.dry_steps.Given as goal
+
+-- whatever the steps that are left come to, all come to, with these rows before theirs
+abbrev pub invariant-loop-step : goal.invariant-loop-step
+invariant-loop-step l = record {
+  goes : GoesDrySteps (library_value l.library) l.is_refused (map step_value (into_iter_items l.step-iterator)) (map step_row l.results.items) (map step_value l.fn.steps.items);
+  room : vec_len l.results + length (into_iter_items l.step-iterator) ≤ vec_capacity l.results;
+  counted : length (into_iter_items l.step-iterator) ≡ into_iter_len l.step-iterator;
+}

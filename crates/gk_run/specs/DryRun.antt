@@ -1,0 +1,73 @@
+-- A dry run: the steps of selected cases are only looked up.
+use Rattle.std.specs.Prelude.{◌≡◌, ℕ, Bool, true, false, cond, List, [], ◌∷◌, map, is_some}
+use Rattle.std.specs.List.{list_any}
+use Rattle.gk_gherkin.specs.Feature.{StepValue}
+use Rattle.gk_select.specs.Case.{CaseValue}
+use Rattle.gk_steps.specs.Finding.{LibraryValue, found}
+use Rattle.gk_run.specs.declared.results.Status.{Status}
+use Rattle.gk_run.specs.declared.results.Status.TheVariants as statuses
+use Rattle.gk_run.specs.declared.results.Outcome.TheVariants as outcomes
+use Rattle.gk_run.specs.declared.results.Mark.{Mark}
+use Rattle.gk_run.specs.declared.results.Mark.TheVariants.{Acted, Undefined, Untested}
+use Rattle.gk_run.specs.Results.{StepRow, CaseRow, FeatureRow}
+use Rattle.gk_run.specs.Ending.{is_memory_mark}
+use Rattle.gk_run.specs.Section.{is_place, cut_marks, Events, Cut, nowhere, happened}
+use Rattle.gk_run.specs.Alone.{rows_of_steps, row_of_case, unselected_row}
+use Rattle.gk_run.specs.Chosen.{MemberValue, ChosenValue}
+use Rattle.gk_run.specs.Features.{FeatureCuts, uncut_feature, first_or, later, feature_row_of}
+
+-- What becomes of a step of a selected case: it is untested where the library matches it, and undefined where it doesn't. (behave's documentation: `--dry-run`; this project's profile)
+abbrev pub dry_mark : LibraryValue → StepValue → Mark
+dry_mark library step = cond (is_some (found library step.step_type step.text)) Untested Undefined
+
+-- The events of a selected case: its steps alone. (behave's documentation: `--dry-run`)
+abbrev pub dry_events : LibraryValue → CaseValue → Events
+dry_events library c = record { before = []; steps = map (dry_mark library) c.steps; after = []; cleanups = [] }
+
+-- The verdict of a selected case in which this happened: memory where memory was refused at a step, else untested. (this project's profile)
+abbrev pub dry_verdict : Events → Status
+dry_verdict e = cond (list_any is_memory_mark e.steps) statuses.Memory statuses.Untested
+
+-- The result of a selected case, or that cut at one step: memory at this, and untested after it. (this project's profile)
+abbrev pub dry_row : LibraryValue → Cut → CaseValue → CaseRow
+dry_row library cut c = let e = happened cut (dry_events library c) in row_of_case c (dry_verdict e) e
+
+-- The result of a case. An unselected one is skipped, as in any run. (this project's profile)
+abbrev pub dry_case_of : LibraryValue → Cut → MemberValue → CaseRow
+dry_case_of library cut m = cond m.selected (dry_row library cut m.scenario) (unselected_row m.scenario)
+
+-- The results of a feature's cases in order.
+abbrev pub dry_cases_of : LibraryValue → List Cut → List MemberValue → List CaseRow
+dry_cases_of library cuts [] = []
+dry_cases_of library cuts (m ∷ ms) = dry_case_of library (first_or nowhere cuts) m ∷ dry_cases_of library (later cuts) ms
+
+-- The result of a feature. It isn't begun: its hooks don't run, so a cut in them is none. (this project's profile)
+abbrev pub dry_feature_of : LibraryValue → FeatureCuts → ChosenValue → FeatureRow
+dry_feature_of library cuts f = feature_row_of f statuses.Passed (dry_cases_of library cuts.cases f.members)
+
+-- The results of features in order, whatever the ones before them are. (this project's profile)
+abbrev pub dry_features_of : LibraryValue → List FeatureCuts → List ChosenValue → List FeatureRow
+dry_features_of library cuts [] = []
+dry_features_of library cuts (f ∷ fs) = dry_feature_of library (first_or uncut_feature cuts) f ∷ dry_features_of library (later cuts) fs
+
+-- The rows of features are those of some cuts.
+abbrev pub AreDryFeatures : LibraryValue → List ChosenValue → List FeatureRow → Type 0
+AreDryFeatures library features rows = (cuts : List FeatureCuts) × (rows ≡ dry_features_of library cuts features)
+
+-- Proof machinery, from here on: what the code's calls do.
+
+-- A step was looked up, or memory was refused in that.
+abbrev pub IsDryMark : LibraryValue → StepValue → Mark → Bool → Type 0
+IsDryMark library step mark true = mark ≡ Acted outcomes.Memory
+IsDryMark library step mark false = mark ≡ dry_mark library step
+
+-- The same, from where memory was refused already or not: where it was, the step is untested.
+abbrev pub IsDryStep : LibraryValue → Bool → StepValue → Mark → Bool → Type 0
+IsDryStep library true step mark refused = (mark ≡ Untested) × (refused ≡ true)
+IsDryStep library false step mark refused = IsDryMark library step mark refused
+
+-- Steps were looked up, from where memory was refused already or not, to where it was or not.
+abbrev pub AreDrySteps : LibraryValue → Bool → List StepValue → List StepRow → Bool → Type 0
+AreDrySteps library true steps rows refused = (rows ≡ rows_of_steps steps []) × (refused ≡ true)
+AreDrySteps library false steps rows true = (n : ℕ) × (is_place n (map (dry_mark library) steps) ≡ true) × (rows ≡ rows_of_steps steps (cut_marks n (map (dry_mark library) steps)))
+AreDrySteps library false steps rows false = rows ≡ rows_of_steps steps (map (dry_mark library) steps)

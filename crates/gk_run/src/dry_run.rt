@@ -1,0 +1,192 @@
+//! Dry runs.
+ghost use Rattle.std.specs.Prelude.{◌≡◌, ◌≤◌, false, cond, [], List, map, length, vec_capacity, IfOk};
+ghost use Rattle.gk_gherkin.specs.Feature.{step_value};
+ghost use Rattle.gk_select.specs.Case.{case_value};
+ghost use Rattle.gk_steps.specs.Finding.{library_value};
+ghost use Rattle.gk_run.specs.declared.results.Status.TheVariants as statuses;
+ghost use Rattle.gk_run.specs.Results.{step_row, case_row, feature_row};
+ghost use Rattle.gk_run.specs.Section.{Cut};
+ghost use Rattle.gk_run.specs.Chosen.{member_of, members_of, chosen_value, IsPaired};
+ghost use Rattle.gk_run.specs.Features.{FeatureCuts};
+ghost use Rattle.gk_run.specs.DryRun.{dry_row, dry_case_of, dry_cases_of, dry_feature_of, IsDryStep, AreDrySteps};
+
+use crate::chosen::Chosen;
+use crate::features::feature_status;
+use crate::results::{CaseResult, FeatureResult, Mark, NoRoom, Outcome, Status, StepResult};
+use crate::running::told_case;
+use crate::walk::row_of;
+use gk_gherkin::Step;
+use gk_select::Case;
+use gk_steps::Library;
+use std::alloc::{AllocError, Global};
+
+/// What becomes of a step, and whether memory was refused at it or at one before it.
+#[derive(Drop)]
+struct DryStep {
+    mark: Mark,
+    is_refused: bool,
+}
+
+// Looks a step up, unless memory was refused before it.
+fn dry_step(alloc: Global, library: &Library, is_refused: bool, step: &Step) -> DryStep
+    ensures { IsDryStep (library_value library.now) is_refused (step_value step.now) result.mark result.is_refused }
+{
+    if is_refused {
+        return DryStep {
+            mark: Mark::Untested,
+            is_refused: true,
+        };
+    }
+    match library.knows(alloc, step.step_type, step.text.as_str()) {
+        Ok(true) => DryStep {
+            mark: Mark::Untested,
+            is_refused: false,
+        },
+        Ok(false) => DryStep {
+            mark: Mark::Undefined,
+            is_refused: false,
+        },
+        Err(AllocError) => DryStep {
+            mark: Mark::Acted(Outcome::Memory),
+            is_refused: true,
+        },
+    }
+}
+
+/// The results of a case's steps, and whether memory was refused at one.
+#[derive(Drop)]
+struct DrySteps {
+    steps: Vec<StepResult>,
+    is_refused: bool,
+}
+
+// Looks the steps of a case up; `results` has room for theirs.
+fn dry_steps(
+    alloc: Global,
+    library: &Library,
+    steps: Vec<Step>,
+    results: Vec<StepResult>,
+) -> DrySteps
+    requires empty { results.items ≡ [] }
+    requires room { length steps.items ≤ vec_capacity results }
+    ensures { AreDrySteps (library_value library.now) false (map step_value steps.items) (map step_row result.steps.items) result.is_refused }
+{
+    let mut results = results;
+    let mut is_refused = false;
+    for step in steps {
+        let looked = dry_step(alloc, library, is_refused, &step);
+        is_refused = looked.is_refused;
+        results.push_reserved(row_of(step, looked.mark));
+    }
+    DrySteps {
+        steps: results,
+        is_refused,
+    }
+}
+
+fn dry_status(is_refused: bool) -> Status
+    ensures { result ≡ cond is_refused statuses.Memory statuses.Untested }
+{
+    if is_refused {
+        return Status::Memory;
+    }
+    Status::Untested
+}
+
+// The result of a selected case.
+fn dry_case(alloc: Global, library: &Library, case: Case) -> Result<CaseResult, NoRoom>
+    ensures { IfOk result (λ r. (cut : Cut) × (case_row r ≡ dry_row (library_value library.now) cut (case_value case))) }
+{
+    let Case {
+        keyword,
+        name,
+        line,
+        steps,
+        tags: _,
+        own_tags: _,
+    } = case;
+    let results = match Vec::with_capacity(alloc, steps.len()) {
+        Ok(results) => results,
+        Err(AllocError) => return Err(NoRoom),
+    };
+    let DrySteps { steps, is_refused } = dry_steps(alloc, library, steps, results);
+    Ok(CaseResult {
+        keyword,
+        name,
+        line,
+        status: dry_status(is_refused),
+        around: Status::Passed,
+        cleanups: Vec::new(alloc),
+        steps,
+    })
+}
+
+// The result of a case, selected or not.
+fn dry_member(
+    alloc: Global,
+    library: &Library,
+    case: Case,
+    selected: bool,
+) -> Result<CaseResult, NoRoom>
+    ensures { IfOk result (λ r. (cut : Cut) × (case_row r ≡ dry_case_of (library_value library.now) cut (member_of case selected))) }
+{
+    if !selected {
+        return told_case(alloc, case, Status::Skipped, Mark::Skipped);
+    }
+    dry_case(alloc, library, case)
+}
+
+// The results of a feature's cases.
+fn dry_cases(
+    alloc: Global,
+    library: &Library,
+    cases: Vec<Case>,
+    selected: &[bool],
+) -> Result<Vec<CaseResult>, NoRoom>
+    requires paired { length selected.now ≡ length cases.items }
+    ensures { IfOk result (λ rs. (cuts : List Cut) × (map case_row rs.items ≡ dry_cases_of (library_value library.now) cuts (members_of cases.items selected.now))) }
+{
+    let mut results = match Vec::with_capacity(alloc, cases.len()) {
+        Ok(results) => results,
+        Err(AllocError) => return Err(NoRoom),
+    };
+    let mut place = 0;
+    for case in cases {
+        results.push_reserved(dry_member(alloc, library, case, selected[place])?);
+        place += 1;
+    }
+    Ok(results)
+}
+
+/// The result of a feature in a dry run. No hook, no step and no cleanup runs: each step of a selected
+/// case is untested where the library matches it and undefined where it doesn't, and the case is
+/// untested. Where memory is refused while a step is looked up, that step and the case are `Memory`,
+/// and the steps after it are untested. The other cases and their steps are skipped. A dry run needs no
+/// `Suite`. `NoRoom` comes where results couldn't be reserved. (behave's documentation: `--dry-run`; this
+/// project's profile)
+pub fn dry_feature(
+    alloc: Global,
+    library: &Library,
+    chosen: Chosen,
+) -> Result<FeatureResult, NoRoom>
+    requires paired { IsPaired chosen }
+    ensures row { IfOk result (λ r. (cuts : FeatureCuts) × (feature_row r ≡ dry_feature_of (library_value library.now) cuts (chosen_value chosen))) }
+{
+    let Chosen {
+        source,
+        name,
+        line,
+        tags: _,
+        cases,
+        selected,
+    } = chosen;
+    let cases = dry_cases(alloc, library, cases, selected.as_slice())?;
+    Ok(FeatureResult {
+        source,
+        name,
+        line,
+        status: feature_status(Status::Passed, cases.as_slice()),
+        around: Status::Passed,
+        cases,
+    })
+}
