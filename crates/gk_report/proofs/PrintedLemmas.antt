@@ -42,12 +42,3 @@ items_by false c cs = refl
 pub items_next : (no_skipped : Bool) (c : CaseRow) (cs : List CaseRow) →
     items_of (map case_data (printed_cases no_skipped (c ∷ cs))) ≡ case_and no_skipped c (items_of (map case_data (printed_cases no_skipped cs)))
 items_next no_skipped c cs = items_by (is_hidden no_skipped c.status) c (printed_cases no_skipped cs)
-
-count_by_hidden : (hidden : Bool) (c : CaseRow) (cs : List CaseRow) → length (cond (not hidden) (c ∷ cs) cs) ≡ cond hidden 0 1 + length cs
-count_by_hidden true c cs = refl
-count_by_hidden false c cs = refl
-
--- The number of one scenario and of the others.
-pub count_next : (no_skipped : Bool) (c : CaseRow) (cs : List CaseRow) →
-    length (printed_cases no_skipped (c ∷ cs)) ≡ cond (is_hidden no_skipped c.status) 0 1 + length (printed_cases no_skipped cs)
-count_next no_skipped c cs = count_by_hidden (is_hidden no_skipped c.status) c (printed_cases no_skipped cs)

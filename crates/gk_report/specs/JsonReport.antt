@@ -120,6 +120,15 @@ AddsMembers add old new = (rest : Members) (end : Log) → SendsMembers rest new
 abbrev pub AddsItems : (Items → Items) → Log → Log → Type 0
 AddsItems add old new = (rest : Items) (end : Log) → SendsItems rest new end → SendsItems (add rest) old end
 
+-- How many members a step's object has.
+abbrev pub step_members : Option Reason → ℕ
+step_members None = 4
+step_members (Some why) = 5
+
+-- How many members an object of counts has.
+abbrev pub count_members : Bool → ℕ
+count_members of_steps = cond of_steps 6 5
+
 -- The item of a scenario, none where it is hidden.
 abbrev pub case_and : Bool → CaseRow → Items → Items
 case_and no_skipped c items = cond (is_hidden no_skipped c.status) items (item (case_data c) items)

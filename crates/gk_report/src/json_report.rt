@@ -78,11 +78,20 @@ fn write_reason<S: Serializer>(out: &mut S, reason: Option<Reason>) -> Result<()
     }
 }
 
+// How many members the object of a step has.
+fn step_members(reason: Option<Reason>) -> usize
+    ensures { result ≡ spec.step_members reason }
+{
+    match reason {
+        Some(_) => 5,
+        None => 4,
+    }
+}
+
 fn write_step<S: Serializer>(out: &mut S, step: &StepResult) -> Result<(), S::Error>
     ensures { OnOk result (SendsValue (step_data (step_row step.now)) (S.written out.old) (S.written out.new)) }
 {
-    let members = if step.reason.is_some() { 5 } else { 4 };
-    out.begin_map(Some(members))?;
+    out.begin_map(Some(step_members(step.reason)))?;
     write_text(out, "keyword", step.keyword.as_str())?;
     write_number(out, "line", u64::from(step.line))?;
     write_reason(out, step.reason)?;
@@ -184,6 +193,13 @@ fn write_undefined<S: Serializer>(out: &mut S, count: u64, of_steps: bool) -> Re
     write_number(out, "undefined", count)
 }
 
+// How many members the object of counts has.
+fn count_members(of_steps: bool) -> usize
+    ensures { result ≡ spec.count_members of_steps }
+{
+    if of_steps { 6 } else { 5 }
+}
+
 fn write_counts<S: Serializer>(
     out: &mut S,
     key: &str,
@@ -193,8 +209,7 @@ fn write_counts<S: Serializer>(
     ensures { OnOk result (AddsMembers (member key.now (counts_data_of of_steps counts.now)) (S.written out.old) (S.written out.new)) }
 {
     out.key(key)?;
-    let members = if of_steps { 6 } else { 5 };
-    out.begin_map(Some(members))?;
+    out.begin_map(Some(count_members(of_steps)))?;
     write_number(out, "failed", counts.failed)?;
     write_number(out, "memory", counts.memory)?;
     write_number(out, "passed", counts.passed)?;
@@ -290,5 +305,10 @@ pub fn json_tail(alloc: Global, summary: &Summary, around: Status) -> Result<Str
     let run = status_string(alloc, around)?;
     let status = status_by(summary, around);
     let counts = summary_text(alloc, summary)?;
-    format!(in alloc; "],\"run\":{run},\"status\":{status},\"summary\":{counts}}}\n")
+    let mut out = String::new(alloc);
+    write!(
+        out,
+        "],\"run\":{run},\"status\":{status},\"summary\":{counts}}}\n"
+    )?;
+    Ok(out)
 }

@@ -54,6 +54,7 @@ fn push_line(out: &mut String, no_skipped: bool, feature: &FeatureResult) -> Res
 
 /// The part of a feature: its line, or nothing where it is hidden. An error comes only where a growth was
 /// refused.
+#[tactic(auto, unfolding(crate::specs::ProgressReport::progress_part))]
 pub fn progress_part(
     alloc: Global,
     no_skipped: bool,
