@@ -1,16 +1,18 @@
 -- No value of the report has a float, and what writing one value after another gives.
-use Rattle.std.proofs.Common.{◌≡◌, ℕ, Bool, true, false, cond, ◌||◌, List, [], ◌∷◌, length, map, Option, Some, None, codes, refl, ap, sym, ◌∙◌, subst, suc}
+use Rattle.std.proofs.Common.{◌≡◌, ℕ, Bool, true, false, ◌||◌, List, [], ◌∷◌, length, map, Option, Some, None, codes, refl, ap, sym, ◌∙◌, subst, suc}
 use Rattle.serde.specs.Event.{Log, Logs, map_begins, map_ends}
-use Rattle.serde_json.specs.Data.{Data, string, object, Items, Members, no_members, member}
+use Rattle.serde_json.specs.Data.{Data, string, Items, Members, no_members, member}
 use Rattle.serde_json.specs.View.{items_of}
 use Rattle.serde_json.specs.Events.{items_len, members_len, SendsValue, SendsItems, SendsMembers}
-use Rattle.serde_json.specs.Written.{has_float, items_have_float, members_have_float}
+use Rattle.serde_json.specs.Written.{has_float, items_have_float, members_have_float, compact_text}
 use Rattle.gk_run.specs.declared.results.Reason.{Reason}
+use Rattle.gk_run.specs.declared.results.Status.{Status}
 use Rattle.gk_run.specs.Results.{StepRow, CaseRow, FeatureRow}
 use Rattle.gk_report.specs.declared.summary.Counts.{Counts}
 use Rattle.gk_report.specs.declared.summary.Summary.{Summary}
+use Rattle.gk_report.specs.Summary.{status_by}
 use Rattle.gk_report.specs.PlainReport.{printed_cases}
-use Rattle.gk_report.specs.JsonReport.{number_data, status_data, array_data, reason_and, step_data, case_data, feature_data, counts_data, step_counts_data, summary_data, AddsMembers, case_and, undefined_and, counts_data_of, step_members, count_members}
+use Rattle.gk_report.specs.JsonReport.{number_data, status_data, array_data, reason_and, step_data, case_data, feature_data, counts_data, step_counts_data, summary_data, AddsMembers, case_and, undefined_and, counts_data_of, step_members, count_members, tail_of, json_tail}
 use Rattle.gk_report.proofs.PrintedLemmas.{items_next}
 
 none_of_both : (a b : Bool) → a ≡ false → b ≡ false → (a || b) ≡ false
@@ -160,3 +162,11 @@ pub cases_on : (no_skipped : Bool) (all : Items) (old mid new : Log) (left more 
 cases_on no_skipped all old mid new left more c is sent inv end rest =
     inv end (subst (λ cs. SendsItems (items_of (map case_data (printed_cases no_skipped cs))) mid end) (sym is)
     (subst (λ items. SendsItems items mid end) (sym (items_next no_skipped c more)) (sent _ end rest)))
+
+-- What stands after the features, by the texts of its values.
+pub tail_from : (around : Status) (s : Summary) (text run counts : List ℕ) (number : ℕ) → text ≡ tail_of run number counts →
+    run ≡ compact_text (status_data around) → number ≡ status_by s around → counts ≡ compact_text (summary_data s) → text ≡ json_tail around (status_by s around) s
+unfolding tail_of json_tail
+tail_from around s text run counts number e a b c =
+    let done = compact_text (status_data around) in
+    e ∙ ap (λ xs. tail_of xs number counts) a ∙ ap (λ n. tail_of done n counts) b ∙ ap (λ xs. tail_of done (status_by s around) xs) c

@@ -1,5 +1,6 @@
 -- The JSON format: compact text, with the keys of each object in byte order.
 use Rattle.std.specs.Prelude.{ℕ, Bool, cond, not, List, [], ◌++◌, map, filter, Option, Some, None, codes}
+use Rattle.std.specs.Fmt.{decimal}
 use Rattle.serde.specs.Event.{Log}
 use Rattle.serde_json.specs.Data.{Data, number, unsigned, string, array, object, Items, item, Members, no_members, member}
 use Rattle.serde_json.specs.Events.{SendsItems, SendsMembers}
@@ -140,3 +141,7 @@ undefined_and of_steps n members = cond of_steps (member (codes "undefined") (nu
 -- The object of counts, of steps or not.
 abbrev pub counts_data_of : Bool → Counts → Data
 counts_data_of of_steps c = cond of_steps (step_counts_data c) (counts_data c)
+
+-- What stands after the features, by the texts of its values.
+unfoldable pub tail_of : List ℕ → ℕ → List ℕ → List ℕ
+tail_of run status counts = codes "],\"run\":" ++ run ++ codes ",\"status\":" ++ decimal status ++ codes ",\"summary\":" ++ counts ++ codes "}" ++ line_feed

@@ -7,7 +7,7 @@ ghost use Rattle.gk_run.specs.Results.{step_row, case_row, feature_row};
 ghost use Rattle.gk_report.specs.Summary.{status_by as number_of};
 ghost use Rattle.gk_report.specs.PlainReport.{printed_cases};
 ghost use Rattle.gk_report.specs.JsonReport as spec;
-ghost use Rattle.gk_report.specs.JsonReport.{number_data, status_data, array_data, reason_and, step_data, case_data, feature_data, summary_data, AddsMembers, AddsItems, case_and, undefined_and, counts_data_of};
+ghost use Rattle.gk_report.specs.JsonReport.{number_data, status_data, array_data, reason_and, step_data, case_data, feature_data, summary_data, AddsMembers, AddsItems, case_and, undefined_and, counts_data_of, tail_of};
 
 use crate::plain_report::{hides, reason_text, status_text};
 use crate::summary::{Counts, Summary, status_by};
@@ -296,19 +296,26 @@ pub fn json_part(
     Ok(out)
 }
 
+#[tactic(auto, unfolding(crate::specs::JsonReport::tail_of))]
+fn tail_text(alloc: Global, run: &str, status: u8, counts: &str) -> Result<String, AllocError>
+    ensures { IfOk result (λ text. string_bytes text ≡ tail_of run.now status counts.now) }
+{
+    let mut out = String::new(alloc);
+    out.push_str("],\"run\":")?;
+    out.push_str(run)?;
+    write!(out, ",\"status\":{status},\"summary\":")?;
+    out.push_str(counts)?;
+    out.push_str("}\n")?;
+    Ok(out)
+}
+
 /// What stands after the features: the counts of a summary, `around` being how the run's own hooks and
 /// cleanups ended, and the status that the run ends with. An error comes only where a growth was refused.
-#[tactic(auto, unfolding(crate::specs::JsonReport::json_tail))]
 pub fn json_tail(alloc: Global, summary: &Summary, around: Status) -> Result<String, AllocError>
     ensures { IfOk result (λ text. string_bytes text ≡ spec.json_tail around (number_of summary.now around) summary.now) }
 {
     let run = status_string(alloc, around)?;
-    let status = status_by(summary, around);
     let counts = summary_text(alloc, summary)?;
-    let mut out = String::new(alloc);
-    write!(
-        out,
-        "],\"run\":{run},\"status\":{status},\"summary\":{counts}}}\n"
-    )?;
-    Ok(out)
+    let status = status_by(summary, around);
+    tail_text(alloc, run.as_str(), status, counts.as_str())
 }

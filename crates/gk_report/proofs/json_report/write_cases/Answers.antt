@@ -1,4 +1,4 @@
-use Rattle.std.proofs.Common.{Some, map, drop, sym, ◌∙◌, subst}
+use Rattle.std.proofs.Common.{Some, map, sym, ◌∙◌, subst}
 use Rattle.std.proofs.lemmas.Result.{on_ok_weaker}
 use Rattle.serde.specs.Event.{Logs, seq_begins}
 use Rattle.serde_json.specs.View.{items_of}
