@@ -1,7 +1,9 @@
 //! The JSON report: one document, whose objects `serde_json` writes from the results where they lie.
-ghost use Rattle.std.specs.Prelude.{◌≡◌, [], ◌++◌, codes, map, length, IfOk, OnOk, string_bytes};
+ghost use Rattle.std.specs.Prelude.{◌≡◌, [], ◌++◌, codes, map, length, Some, IfOk, OnOk, string_bytes};
+ghost use Rattle.serde.specs.Event.{Log};
 ghost use Rattle.serde_json.specs.Data.{string, member};
 ghost use Rattle.serde_json.specs.Events.{SendsValue};
+ghost use Rattle.serde_json.specs.Sent.{IsTextOf};
 ghost use Rattle.serde_json.specs.Written.{compact_text};
 ghost use Rattle.gk_run.specs.Results.{step_row, case_row, feature_row};
 ghost use Rattle.gk_report.specs.Summary.{status_by as number_of};
@@ -229,6 +231,16 @@ fn write_summary<S: Serializer>(out: &mut S, summary: &Summary) -> Result<(), S:
     out.end_map()
 }
 
+// The text of a value. Writing one of those here fails only where a growth is refused.
+fn json_text<T: Serialize>(alloc: Global, value: &T) -> Result<String, AllocError>
+    ensures { IfOk result (λ text. (log : Log) × T.writes value.now (Some []) log × IsTextOf log (string_bytes text)) }
+{
+    match serde_json::to_string(alloc, value) {
+        Ok(text) => Ok(text),
+        Err(_) => Err(AllocError),
+    }
+}
+
 fn feature_text(
     alloc: Global,
     no_skipped: bool,
@@ -240,29 +252,19 @@ fn feature_text(
         no_skipped,
         feature,
     };
-    match serde_json::to_string(alloc, &object) {
-        Ok(text) => Ok(text),
-        Err(_) => Err(AllocError),
-    }
+    json_text(alloc, &object)
 }
 
 fn summary_text(alloc: Global, summary: &Summary) -> Result<String, AllocError>
     ensures { IfOk result (λ text. string_bytes text ≡ compact_text (summary_data summary.now)) }
 {
-    let object = SummaryObject { summary: *summary };
-    match serde_json::to_string(alloc, &object) {
-        Ok(text) => Ok(text),
-        Err(_) => Err(AllocError),
-    }
+    json_text(alloc, &SummaryObject { summary: *summary })
 }
 
 fn status_string(alloc: Global, status: Status) -> Result<String, AllocError>
     ensures { IfOk result (λ text. string_bytes text ≡ compact_text (status_data status)) }
 {
-    match serde_json::to_string(alloc, &status_text(status)) {
-        Ok(text) => Ok(text),
-        Err(_) => Err(AllocError),
-    }
+    json_text(alloc, &status_text(status))
 }
 
 /// What stands before the features. An error comes only where a growth was refused.
@@ -287,13 +289,11 @@ pub fn json_part(
     if hides(no_skipped, feature.status) {
         return Ok(String::new(alloc));
     }
-    let object = feature_text(alloc, no_skipped, feature)?;
-    if first {
-        return Ok(object);
+    let mut object = feature_text(alloc, no_skipped, feature)?;
+    if !first {
+        object.insert_str(0, ",")?;
     }
-    let mut out = String::from_str(alloc, ",")?;
-    out.push_str(object.as_str())?;
-    Ok(out)
+    Ok(object)
 }
 
 #[tactic(auto, unfolding(crate::specs::JsonReport::tail_of))]
