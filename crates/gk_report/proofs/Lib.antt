@@ -1,3 +1,6 @@
 pub mod SummaryLemmas
 pub mod PushLemmas
+pub mod PrintedLemmas
+pub mod JsonReportLemmas
+pub mod ReportLemmas
 pub mod WorkedReports

@@ -83,6 +83,11 @@ pub all_added : (rows : List FeatureRow) → fold one_feature_more (summary_of [
 unfolding over
 all_added rows = features_more [] [] [] rows
 
+-- One feature more.
+pub feature_added : (rows : List FeatureRow) (f : FeatureRow) → one_feature_more (summary_of rows) f ≡ summary_of (rows ++ f ∷ [])
+feature_added rows f =
+    ap (λ s. one_feature_more s f) (sym (all_added rows)) ∙ sym (fold-append one_feature_more (summary_of []) rows (f ∷ [])) ∙ all_added (rows ++ f ∷ [])
+
 both_ways : (a b : Bool) → (a ≡ true → b ≡ true) → (b ≡ true → a ≡ true) → a ≡ b
 both_ways true true f g = refl
 both_ways false false f g = refl

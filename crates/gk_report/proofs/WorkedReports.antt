@@ -1,15 +1,33 @@
 -- Worked reports, each with its status, by computation.
-use Rattle.std.specs.Prelude.{◌≡◌, ℕ, List, [], ◌∷◌, ◌++◌, replicate, Some, None, codes, refl}
+use Rattle.std.specs.Prelude.{◌≡◌, ℕ, true, false, List, [], ◌∷◌, ◌++◌, replicate, Some, None, codes, refl}
 use Rattle.std.specs.Fmt.{digits}
+use Rattle.serde_json.proofs.OnLiterals.{serde_json_on_literals}
 use Rattle.gk_run.specs.declared.results.Status.{Status}
 use Rattle.gk_run.specs.declared.results.Status.TheVariants.{Passed, Failed, Skipped, Undefined, Untested, Memory}
 use Rattle.gk_run.specs.declared.results.Reason.{Reason}
 use Rattle.gk_run.specs.declared.results.Reason.TheVariants as reasons
 use Rattle.gk_run.specs.declared.results.Outcome.TheVariants as outcomes
 use Rattle.gk_run.specs.Results.{StepRow, CaseRow, FeatureRow, Results}
+use Rattle.gk_report.specs.declared.report.Format.TheVariants as formats
+use Rattle.gk_report.specs.declared.report.Style.{Style}
 use Rattle.gk_report.specs.ReportTexts.{status_text, reason_text, one_line}
 use Rattle.gk_report.specs.Summary.{status}
-use Rattle.gk_report.specs.PlainReport.{status_line, step_line, case_line, around_line, feature_line, counted, count_line, closing_lines, report}
+use Rattle.gk_report.specs.PlainReport.{status_line, step_line, case_line, around_line, feature_line, plain_part, counted, count_line, closing_lines}
+use Rattle.gk_report.specs.ProgressReport.{progress_part}
+use Rattle.gk_report.specs.JsonReport.{json_head, json_part, json_tail}
+use Rattle.gk_report.specs.Report.{part, report}
+
+-- Plain, with all features and scenarios.
+abbrev plain : Style
+plain = record { format = formats.Plain; no_skipped = false }
+
+-- Progress.
+abbrev progress : Style
+progress = record { format = formats.Progress; no_skipped = false }
+
+-- JSON.
+abbrev json : Style
+json = record { format = formats.Json; no_skipped = false }
 
 -- A step with a keyword, a text and a status.
 abbrev step : List ℕ → List ℕ → Status → StepRow
@@ -44,8 +62,8 @@ abbrev nothing : Results
 nothing = run []
 
 -- Its report.
-nothing_report : report nothing ≡ codes "0 features passed, 0 failed, 0 skipped\n0 scenarios passed, 0 failed, 0 skipped\n0 steps passed, 0 failed, 0 skipped, 0 undefined\n"
-unfolding digits status_text reason_text one_line status_line step_line case_line around_line feature_line counted count_line closing_lines
+nothing_report : report plain nothing ≡ codes "0 features passed, 0 failed, 0 skipped\n0 scenarios passed, 0 failed, 0 skipped\n0 steps passed, 0 failed, 0 skipped, 0 undefined\n"
+unfolding digits status_text reason_text one_line status_line step_line case_line around_line feature_line plain_part counted count_line closing_lines
 nothing_report = refl
 
 -- Its status.
@@ -57,8 +75,8 @@ abbrev bare : Results
 bare = run (feature (codes "f") Skipped [] ∷ [])
 
 -- Its report.
-bare_report : report bare ≡ codes "Feature: f ... skipped\n\n0 features passed, 0 failed, 1 skipped\n0 scenarios passed, 0 failed, 0 skipped\n0 steps passed, 0 failed, 0 skipped, 0 undefined\n"
-unfolding digits status_text reason_text one_line status_line step_line case_line around_line feature_line counted count_line closing_lines
+bare_report : report plain bare ≡ codes "Feature: f ... skipped\n\n0 features passed, 0 failed, 1 skipped\n0 scenarios passed, 0 failed, 0 skipped\n0 steps passed, 0 failed, 0 skipped, 0 undefined\n"
+unfolding digits status_text reason_text one_line status_line step_line case_line around_line feature_line plain_part counted count_line closing_lines
 bare_report = refl
 
 -- Its status.
@@ -70,8 +88,8 @@ abbrev passed : Results
 passed = one_scenario Passed (step (codes "Given") (codes "a") Passed ∷ [])
 
 -- Its report.
-passed_report : report passed ≡ codes "Feature: f ... passed\n  Scenario: s ... passed\n    Given a ... passed\n\n1 feature passed, 0 failed, 0 skipped\n1 scenario passed, 0 failed, 0 skipped\n1 step passed, 0 failed, 0 skipped, 0 undefined\n"
-unfolding digits status_text reason_text one_line status_line step_line case_line around_line feature_line counted count_line closing_lines
+passed_report : report plain passed ≡ codes "Feature: f ... passed\n  Scenario: s ... passed\n    Given a ... passed\n\n1 feature passed, 0 failed, 0 skipped\n1 scenario passed, 0 failed, 0 skipped\n1 step passed, 0 failed, 0 skipped, 0 undefined\n"
+unfolding digits status_text reason_text one_line status_line step_line case_line around_line feature_line plain_part counted count_line closing_lines
 passed_report = refl
 
 -- Its status.
@@ -83,8 +101,8 @@ abbrev skipped : Results
 skipped = one_scenario Skipped (step (codes "Given") (codes "a") Skipped ∷ [])
 
 -- Its report.
-skipped_report : report skipped ≡ codes "Feature: f ... skipped\n  Scenario: s ... skipped\n    Given a ... skipped\n\n0 features passed, 0 failed, 1 skipped\n0 scenarios passed, 0 failed, 1 skipped\n0 steps passed, 0 failed, 1 skipped, 0 undefined\n"
-unfolding digits status_text reason_text one_line status_line step_line case_line around_line feature_line counted count_line closing_lines
+skipped_report : report plain skipped ≡ codes "Feature: f ... skipped\n  Scenario: s ... skipped\n    Given a ... skipped\n\n0 features passed, 0 failed, 1 skipped\n0 scenarios passed, 0 failed, 1 skipped\n0 steps passed, 0 failed, 1 skipped, 0 undefined\n"
+unfolding digits status_text reason_text one_line status_line step_line case_line around_line feature_line plain_part counted count_line closing_lines
 skipped_report = refl
 
 -- Its status.
@@ -96,8 +114,8 @@ abbrev undefined : Results
 undefined = one_scenario Failed (step (codes "Given") (codes "a") Undefined ∷ [])
 
 -- Its report.
-undefined_report : report undefined ≡ codes "Feature: f ... failed\n  Scenario: s ... failed\n    Given a ... undefined\n\n0 features passed, 1 failed, 0 skipped\n0 scenarios passed, 1 failed, 0 skipped\n0 steps passed, 0 failed, 0 skipped, 1 undefined\n"
-unfolding digits status_text reason_text one_line status_line step_line case_line around_line feature_line counted count_line closing_lines
+undefined_report : report plain undefined ≡ codes "Feature: f ... failed\n  Scenario: s ... failed\n    Given a ... undefined\n\n0 features passed, 1 failed, 0 skipped\n0 scenarios passed, 1 failed, 0 skipped\n0 steps passed, 0 failed, 0 skipped, 1 undefined\n"
+unfolding digits status_text reason_text one_line status_line step_line case_line around_line feature_line plain_part counted count_line closing_lines
 undefined_report = refl
 
 -- Its status.
@@ -109,8 +127,8 @@ abbrev after_failure : Results
 after_failure = one_scenario Failed (step (codes "Given") (codes "a") Passed ∷ failed_step reasons.Asked ∷ step (codes "When") (codes "b") Skipped ∷ step (codes "Then") (codes "c") Undefined ∷ [])
 
 -- Its report.
-after_failure_report : report after_failure ≡ codes "Feature: f ... failed\n  Scenario: s ... failed\n    Given a ... passed\n    Given a ... failed: fail step\n    When b ... skipped\n    Then c ... undefined\n\n0 features passed, 1 failed, 0 skipped\n0 scenarios passed, 1 failed, 0 skipped\n1 step passed, 1 failed, 1 skipped, 1 undefined\n"
-unfolding digits status_text reason_text one_line status_line step_line case_line around_line feature_line counted count_line closing_lines
+after_failure_report : report plain after_failure ≡ codes "Feature: f ... failed\n  Scenario: s ... failed\n    Given a ... passed\n    Given a ... failed: fail step\n    When b ... skipped\n    Then c ... undefined\n\n0 features passed, 1 failed, 0 skipped\n0 scenarios passed, 1 failed, 0 skipped\n1 step passed, 1 failed, 1 skipped, 1 undefined\n"
+unfolding digits status_text reason_text one_line status_line step_line case_line around_line feature_line plain_part counted count_line closing_lines
 after_failure_report = refl
 
 -- Its status.
@@ -122,8 +140,8 @@ abbrev memory : Results
 memory = one_scenario Memory (step (codes "Given") (codes "a") Passed ∷ step (codes "When") (codes "b") Memory ∷ step (codes "Then") (codes "c") Untested ∷ [])
 
 -- Its report.
-memory_report : report memory ≡ codes "Feature: f ... memory\n  Scenario: s ... memory\n    Given a ... passed\n    When b ... memory\n    Then c ... untested\n\n0 features passed, 0 failed, 0 skipped, 1 memory\n0 scenarios passed, 0 failed, 0 skipped, 1 memory\n1 step passed, 0 failed, 0 skipped, 0 undefined, 1 untested, 1 memory\n"
-unfolding digits status_text reason_text one_line status_line step_line case_line around_line feature_line counted count_line closing_lines
+memory_report : report plain memory ≡ codes "Feature: f ... memory\n  Scenario: s ... memory\n    Given a ... passed\n    When b ... memory\n    Then c ... untested\n\n0 features passed, 0 failed, 0 skipped, 1 memory\n0 scenarios passed, 0 failed, 0 skipped, 1 memory\n1 step passed, 0 failed, 0 skipped, 0 undefined, 1 untested, 1 memory\n"
+unfolding digits status_text reason_text one_line status_line step_line case_line around_line feature_line plain_part counted count_line closing_lines
 memory_report = refl
 
 -- Its status.
@@ -135,8 +153,8 @@ abbrev memory_and_failed : Results
 memory_and_failed = run (feature (codes "f") Memory (scenario (codes "s") Failed (failed_step reasons.Absent ∷ []) ∷ scenario (codes "t") Memory (step (codes "Given") (codes "a") Memory ∷ []) ∷ []) ∷ [])
 
 -- Its report.
-memory_and_failed_report : report memory_and_failed ≡ codes "Feature: f ... memory\n  Scenario: s ... failed\n    Given a ... failed: absent\n  Scenario: t ... memory\n    Given a ... memory\n\n0 features passed, 0 failed, 0 skipped, 1 memory\n0 scenarios passed, 1 failed, 0 skipped, 1 memory\n0 steps passed, 1 failed, 0 skipped, 0 undefined, 1 memory\n"
-unfolding digits status_text reason_text one_line status_line step_line case_line around_line feature_line counted count_line closing_lines
+memory_and_failed_report : report plain memory_and_failed ≡ codes "Feature: f ... memory\n  Scenario: s ... failed\n    Given a ... failed: absent\n  Scenario: t ... memory\n    Given a ... memory\n\n0 features passed, 0 failed, 0 skipped, 1 memory\n0 scenarios passed, 1 failed, 0 skipped, 1 memory\n0 steps passed, 1 failed, 0 skipped, 0 undefined, 1 memory\n"
+unfolding digits status_text reason_text one_line status_line step_line case_line around_line feature_line plain_part counted count_line closing_lines
 memory_and_failed_report = refl
 
 -- Its status.
@@ -149,7 +167,7 @@ report_with text = codes "Feature: f ... failed\n  Scenario: s ... failed\n    G
 
 -- A reason is printed so, and the status is 1.
 abbrev IsPrintedAs : Reason → List ℕ → Type 0
-IsPrintedAs reason text = (report (failed_for reason) ≡ report_with text) × (status (failed_for reason) ≡ 1)
+IsPrintedAs reason text = (report plain (failed_for reason) ≡ report_with text) × (status (failed_for reason) ≡ 1)
 
 -- Each reason.
 each_reason : IsPrintedAs reasons.Absent (codes "absent")
@@ -166,7 +184,7 @@ each_reason : IsPrintedAs reasons.Absent (codes "absent")
     × IsPrintedAs reasons.NoStep (codes "no such step")
     × IsPrintedAs reasons.NotHere (codes "not allowed here")
     × IsPrintedAs reasons.Asked (codes "fail step")
-unfolding digits status_text reason_text one_line status_line step_line case_line around_line feature_line counted count_line closing_lines
+unfolding digits status_text reason_text one_line status_line step_line case_line around_line feature_line plain_part counted count_line closing_lines
 each_reason = ((refl, refl), (refl, refl), (refl, refl), (refl, refl), (refl, refl), (refl, refl), (refl, refl), (refl, refl), (refl, refl), (refl, refl), (refl, refl), (refl, refl), (refl, refl), (refl, refl))
 
 -- Line feeds in names and in a text, which stay on one line.
@@ -174,8 +192,8 @@ abbrev line_feeds : Results
 line_feeds = run (feature (codes "f\ng") Passed (scenario (codes "\ns") Passed (step (codes "*") (codes "a\n\nb\\n") Passed ∷ []) ∷ []) ∷ [])
 
 -- Its report.
-line_feeds_report : report line_feeds ≡ codes "Feature: f\\ng ... passed\n  Scenario: \\ns ... passed\n    * a\\n\\nb\\n ... passed\n\n1 feature passed, 0 failed, 0 skipped\n1 scenario passed, 0 failed, 0 skipped\n1 step passed, 0 failed, 0 skipped, 0 undefined\n"
-unfolding digits status_text reason_text one_line status_line step_line case_line around_line feature_line counted count_line closing_lines
+line_feeds_report : report plain line_feeds ≡ codes "Feature: f\\ng ... passed\n  Scenario: \\ns ... passed\n    * a\\n\\nb\\n ... passed\n\n1 feature passed, 0 failed, 0 skipped\n1 scenario passed, 0 failed, 0 skipped\n1 step passed, 0 failed, 0 skipped, 0 undefined\n"
+unfolding digits status_text reason_text one_line status_line step_line case_line around_line feature_line plain_part counted count_line closing_lines
 line_feeds_report = refl
 
 -- Its status.
@@ -187,8 +205,8 @@ abbrev many : Results
 many = run (feature (codes "f") Passed (scenario (codes "s") Passed (replicate 10 (step (codes "*") (codes "a") Passed)) ∷ []) ∷ feature (codes "g") Passed (scenario (codes "t") Skipped [] ∷ scenario (codes "u") Passed (step (codes "*") (codes "b") Passed ∷ step (codes "*") (codes "c") Passed ∷ []) ∷ []) ∷ [])
 
 -- Its report.
-many_report : report many ≡ codes "Feature: f ... passed\n  Scenario: s ... passed\n    * a ... passed\n    * a ... passed\n    * a ... passed\n    * a ... passed\n    * a ... passed\n    * a ... passed\n    * a ... passed\n    * a ... passed\n    * a ... passed\n    * a ... passed\n\nFeature: g ... passed\n  Scenario: t ... skipped\n  Scenario: u ... passed\n    * b ... passed\n    * c ... passed\n\n2 features passed, 0 failed, 0 skipped\n2 scenarios passed, 0 failed, 1 skipped\n12 steps passed, 0 failed, 0 skipped, 0 undefined\n"
-unfolding digits status_text reason_text one_line status_line step_line case_line around_line feature_line counted count_line closing_lines
+many_report : report plain many ≡ codes "Feature: f ... passed\n  Scenario: s ... passed\n    * a ... passed\n    * a ... passed\n    * a ... passed\n    * a ... passed\n    * a ... passed\n    * a ... passed\n    * a ... passed\n    * a ... passed\n    * a ... passed\n    * a ... passed\n\nFeature: g ... passed\n  Scenario: t ... skipped\n  Scenario: u ... passed\n    * b ... passed\n    * c ... passed\n\n2 features passed, 0 failed, 0 skipped\n2 scenarios passed, 0 failed, 1 skipped\n12 steps passed, 0 failed, 0 skipped, 0 undefined\n"
+unfolding digits status_text reason_text one_line status_line step_line case_line around_line feature_line plain_part counted count_line closing_lines
 many_report = refl
 
 -- Its status.
@@ -213,8 +231,8 @@ failed_cleanup =
     run (feature (codes "f") Failed (cleaned ∷ []) ∷ [])
 
 -- Its report.
-failed_cleanup_report : report failed_cleanup ≡ codes "Feature: f ... failed\n  Scenario: s ... failed\n    Given at cleanup the file \"log\" should be \"rp\" ... passed\n    And at cleanup the file \"log\" is extended with \"p\" ... passed\n    And at cleanup it fails ... passed\n    And at cleanup a file named \"log\" containing \"r\" ... passed\n    (hooks and cleanups) ... failed\n\n0 features passed, 1 failed, 0 skipped\n0 scenarios passed, 1 failed, 0 skipped\n4 steps passed, 0 failed, 0 skipped, 0 undefined\n"
-unfolding digits status_text reason_text one_line status_line step_line case_line around_line feature_line counted count_line closing_lines
+failed_cleanup_report : report plain failed_cleanup ≡ codes "Feature: f ... failed\n  Scenario: s ... failed\n    Given at cleanup the file \"log\" should be \"rp\" ... passed\n    And at cleanup the file \"log\" is extended with \"p\" ... passed\n    And at cleanup it fails ... passed\n    And at cleanup a file named \"log\" containing \"r\" ... passed\n    (hooks and cleanups) ... failed\n\n0 features passed, 1 failed, 0 skipped\n0 scenarios passed, 1 failed, 0 skipped\n4 steps passed, 0 failed, 0 skipped, 0 undefined\n"
+unfolding digits status_text reason_text one_line status_line step_line case_line around_line feature_line plain_part counted count_line closing_lines
 failed_cleanup_report = refl
 
 -- Its status.
@@ -228,8 +246,8 @@ memory_in_cleanup =
     run (feature (codes "f") Memory (cleaned ∷ scenario (codes "t") Passed [] ∷ []) ∷ [])
 
 -- Its report.
-memory_in_cleanup_report : report memory_in_cleanup ≡ codes "Feature: f ... memory\n  Scenario: s ... memory\n    Given a ... passed\n    (hooks and cleanups) ... memory\n  Scenario: t ... passed\n\n0 features passed, 0 failed, 0 skipped, 1 memory\n1 scenario passed, 0 failed, 0 skipped, 1 memory\n1 step passed, 0 failed, 0 skipped, 0 undefined\n"
-unfolding digits status_text reason_text one_line status_line step_line case_line around_line feature_line counted count_line closing_lines
+memory_in_cleanup_report : report plain memory_in_cleanup ≡ codes "Feature: f ... memory\n  Scenario: s ... memory\n    Given a ... passed\n    (hooks and cleanups) ... memory\n  Scenario: t ... passed\n\n0 features passed, 0 failed, 0 skipped, 1 memory\n1 scenario passed, 0 failed, 0 skipped, 1 memory\n1 step passed, 0 failed, 0 skipped, 0 undefined\n"
+unfolding digits status_text reason_text one_line status_line step_line case_line around_line feature_line plain_part counted count_line closing_lines
 memory_in_cleanup_report = refl
 
 -- Its status.
@@ -243,8 +261,8 @@ failed_feature_hook =
     run (record (feature (codes "f") Failed (unreached ∷ [])) { around = Failed } ∷ [])
 
 -- Its report.
-failed_feature_hook_report : report failed_feature_hook ≡ codes "Feature: f ... failed\n  Scenario: s ... untested\n    Given at cleanup the file \"log\" should be \"absSB\" ... untested\n    Then the file \"log\" should be \"abs\" ... untested\n  (hooks and cleanups) ... failed\n\n0 features passed, 1 failed, 0 skipped\n0 scenarios passed, 0 failed, 0 skipped, 1 untested\n0 steps passed, 0 failed, 0 skipped, 0 undefined, 2 untested\n"
-unfolding digits status_text reason_text one_line status_line step_line case_line around_line feature_line counted count_line closing_lines
+failed_feature_hook_report : report plain failed_feature_hook ≡ codes "Feature: f ... failed\n  Scenario: s ... untested\n    Given at cleanup the file \"log\" should be \"absSB\" ... untested\n    Then the file \"log\" should be \"abs\" ... untested\n  (hooks and cleanups) ... failed\n\n0 features passed, 1 failed, 0 skipped\n0 scenarios passed, 0 failed, 0 skipped, 1 untested\n0 steps passed, 0 failed, 0 skipped, 0 undefined, 2 untested\n"
+unfolding digits status_text reason_text one_line status_line step_line case_line around_line feature_line plain_part counted count_line closing_lines
 failed_feature_hook_report = refl
 
 -- Its status.
@@ -256,8 +274,8 @@ abbrev failed_run_hook : Results
 failed_run_hook = record { features = feature (codes "f") Untested (scenario (codes "s") Untested (step (codes "Given") (codes "a") Untested ∷ []) ∷ []) ∷ []; around = Failed }
 
 -- Its report.
-failed_run_hook_report : report failed_run_hook ≡ codes "Feature: f ... untested\n  Scenario: s ... untested\n    Given a ... untested\n\n(hooks and cleanups) ... failed\n0 features passed, 0 failed, 0 skipped, 1 untested\n0 scenarios passed, 0 failed, 0 skipped, 1 untested\n0 steps passed, 0 failed, 0 skipped, 0 undefined, 1 untested\n"
-unfolding digits status_text reason_text one_line status_line step_line case_line around_line feature_line counted count_line closing_lines
+failed_run_hook_report : report plain failed_run_hook ≡ codes "Feature: f ... untested\n  Scenario: s ... untested\n    Given a ... untested\n\n(hooks and cleanups) ... failed\n0 features passed, 0 failed, 0 skipped, 1 untested\n0 scenarios passed, 0 failed, 0 skipped, 1 untested\n0 steps passed, 0 failed, 0 skipped, 0 undefined, 1 untested\n"
+unfolding digits status_text reason_text one_line status_line step_line case_line around_line feature_line plain_part counted count_line closing_lines
 failed_run_hook_report = refl
 
 -- Its status.
@@ -269,10 +287,116 @@ abbrev memory_around_run : Results
 memory_around_run = record (failed_for reasons.Asked) { around = Memory }
 
 -- Its report.
-memory_around_run_report : report memory_around_run ≡ codes "Feature: f ... failed\n  Scenario: s ... failed\n    Given a ... failed: fail step\n\n(hooks and cleanups) ... memory\n0 features passed, 1 failed, 0 skipped\n0 scenarios passed, 1 failed, 0 skipped\n0 steps passed, 1 failed, 0 skipped, 0 undefined\n"
-unfolding digits status_text reason_text one_line status_line step_line case_line around_line feature_line counted count_line closing_lines
+memory_around_run_report : report plain memory_around_run ≡ codes "Feature: f ... failed\n  Scenario: s ... failed\n    Given a ... failed: fail step\n\n(hooks and cleanups) ... memory\n0 features passed, 1 failed, 0 skipped\n0 scenarios passed, 1 failed, 0 skipped\n0 steps passed, 1 failed, 0 skipped, 0 undefined\n"
+unfolding digits status_text reason_text one_line status_line step_line case_line around_line feature_line plain_part counted count_line closing_lines
 memory_around_run_report = refl
 
 -- Its status.
 memory_around_run_status : status memory_around_run ≡ 4
 memory_around_run_status = refl
+
+-- A step on a line.
+abbrev step_on : ℕ → List ℕ → Status → StepRow
+step_on line text status = record (step (codes "Given") text status) { line = line }
+
+-- A scenario on a line.
+abbrev scenario_on : ℕ → List ℕ → Status → List StepRow → CaseRow
+scenario_on line name status steps = record (scenario name status steps) { line = line }
+
+-- One feature with one scenario and one step, all of which passed.
+abbrev one : Results
+one = run (record (feature (codes "one") Passed (scenario_on 2 (codes "first") Passed (step_on 3 (codes "it passes") Passed ∷ []) ∷ [])) { source = codes "a.feature" } ∷ [])
+
+-- Its plain report.
+one_as_plain : report plain one ≡ codes "Feature: one ... passed\n  Scenario: first ... passed\n    Given it passes ... passed\n\n1 feature passed, 0 failed, 0 skipped\n1 scenario passed, 0 failed, 0 skipped\n1 step passed, 0 failed, 0 skipped, 0 undefined\n"
+unfolding digits status_text reason_text one_line status_line step_line case_line around_line feature_line plain_part counted count_line closing_lines
+one_as_plain = refl
+
+-- Its progress report.
+one_as_progress : report progress one ≡ codes "a.feature  .  passed\n1 feature passed, 0 failed, 0 skipped\n1 scenario passed, 0 failed, 0 skipped\n1 step passed, 0 failed, 0 skipped, 0 undefined\n"
+unfolding digits status_text one_line status_line around_line progress_part counted count_line closing_lines
+one_as_progress = refl
+
+-- Its JSON report.
+one_as_json : report json one ≡ codes "{\"features\":[{\"around\":\"passed\",\"line\":1,\"name\":\"one\",\"scenarios\":[{\"around\":\"passed\",\"keyword\":\"Scenario\",\"line\":2,\"name\":\"first\",\"status\":\"passed\",\"steps\":[{\"keyword\":\"Given\",\"line\":3,\"status\":\"passed\",\"text\":\"it passes\"}]}],\"source\":\"a.feature\",\"status\":\"passed\"}],\"run\":\"passed\",\"status\":0,\"summary\":{\"features\":{\"failed\":0,\"memory\":0,\"passed\":1,\"skipped\":0,\"untested\":0},\"scenarios\":{\"failed\":0,\"memory\":0,\"passed\":1,\"skipped\":0,\"untested\":0},\"steps\":{\"failed\":0,\"memory\":0,\"passed\":1,\"skipped\":0,\"undefined\":0,\"untested\":0}}}\n"
+unfolding digits status_text reason_text json_head json_part json_tail serde_json_on_literals
+one_as_json = refl
+
+-- Four scenarios, of which the second fails and the run stops there.
+abbrev stopped : Results
+stopped =
+    let cases = scenario_on 2 (codes "1") Passed (step_on 3 (codes "it passes") Passed ∷ [])
+    ∷ scenario_on 4 (codes "2") Failed (failed_step reasons.Asked ∷ [])
+    ∷ scenario_on 6 (codes "3") Untested (step_on 7 (codes "it passes") Untested ∷ [])
+    ∷ scenario_on 8 (codes "4") Untested (step_on 9 (codes "it passes") Untested ∷ []) ∷ [] in
+    run (record (feature (codes "s") Failed cases) { source = codes "s.feature" } ∷ [])
+
+-- Its progress report.
+stopped_as_progress : report progress stopped ≡ codes "s.feature  .FUU  failed\n0 features passed, 1 failed, 0 skipped\n1 scenario passed, 1 failed, 0 skipped, 2 untested\n1 step passed, 1 failed, 0 skipped, 0 undefined, 2 untested\n"
+unfolding digits status_text one_line status_line around_line progress_part counted count_line closing_lines
+stopped_as_progress = refl
+
+-- Its status.
+stopped_status : status stopped ≡ 1
+stopped_status = refl
+
+-- Four scenarios, of which the second is skipped.
+abbrev one_skipped : Results
+one_skipped = run (feature (codes "f") Passed (scenario (codes "1") Passed [] ∷ scenario (codes "2") Skipped [] ∷ scenario (codes "3") Passed [] ∷ scenario (codes "4") Passed [] ∷ []) ∷ [])
+
+-- Its counts, with hidden scenarios or without.
+abbrev one_skipped_counts : List ℕ
+one_skipped_counts = codes "1 feature passed, 0 failed, 0 skipped\n3 scenarios passed, 0 failed, 1 skipped\n0 steps passed, 0 failed, 0 skipped, 0 undefined\n"
+
+-- Its progress report, and the one without skipped scenarios.
+one_skipped_as_progress : (report progress one_skipped ≡ codes "f.feature  .S..  passed\n" ++ one_skipped_counts) × (report (record progress { no_skipped = true }) one_skipped ≡ codes "f.feature  ...  passed\n" ++ one_skipped_counts)
+unfolding digits status_text one_line status_line around_line progress_part counted count_line closing_lines
+one_skipped_as_progress = (refl, refl)
+
+-- Its plain report without skipped scenarios.
+one_skipped_as_plain : report (record plain { no_skipped = true }) one_skipped ≡ codes "Feature: f ... passed\n  Scenario: 1 ... passed\n  Scenario: 3 ... passed\n  Scenario: 4 ... passed\n\n" ++ one_skipped_counts
+unfolding digits status_text reason_text one_line status_line step_line case_line around_line feature_line plain_part counted count_line closing_lines
+one_skipped_as_plain = refl
+
+-- A skipped feature, one that passed, and another skipped one.
+abbrev between_skipped : Results
+between_skipped = run (feature (codes "a") Skipped [] ∷ feature (codes "b") Passed (scenario (codes "s") Passed [] ∷ scenario (codes "t") Skipped [] ∷ []) ∷ feature (codes "c") Skipped [] ∷ [])
+
+-- Its JSON report without skipped features and scenarios: no comma, and all counts.
+between_skipped_as_json : report (record json { no_skipped = true }) between_skipped ≡ codes "{\"features\":[{\"around\":\"passed\",\"line\":1,\"name\":\"b\",\"scenarios\":[{\"around\":\"passed\",\"keyword\":\"Scenario\",\"line\":2,\"name\":\"s\",\"status\":\"passed\",\"steps\":[]}],\"source\":\"f.feature\",\"status\":\"passed\"}],\"run\":\"passed\",\"status\":0,\"summary\":{\"features\":{\"failed\":0,\"memory\":0,\"passed\":1,\"skipped\":2,\"untested\":0},\"scenarios\":{\"failed\":0,\"memory\":0,\"passed\":1,\"skipped\":1,\"untested\":0},\"steps\":{\"failed\":0,\"memory\":0,\"passed\":0,\"skipped\":0,\"undefined\":0,\"untested\":0}}}\n"
+unfolding digits status_text reason_text json_head json_part json_tail serde_json_on_literals
+between_skipped_as_json = refl
+
+-- All of them: a comma between two.
+between_skipped_whole : report json between_skipped ≡ codes "{\"features\":[{\"around\":\"passed\",\"line\":1,\"name\":\"a\",\"scenarios\":[],\"source\":\"f.feature\",\"status\":\"skipped\"},{\"around\":\"passed\",\"line\":1,\"name\":\"b\",\"scenarios\":[{\"around\":\"passed\",\"keyword\":\"Scenario\",\"line\":2,\"name\":\"s\",\"status\":\"passed\",\"steps\":[]},{\"around\":\"passed\",\"keyword\":\"Scenario\",\"line\":2,\"name\":\"t\",\"status\":\"skipped\",\"steps\":[]}],\"source\":\"f.feature\",\"status\":\"passed\"},{\"around\":\"passed\",\"line\":1,\"name\":\"c\",\"scenarios\":[],\"source\":\"f.feature\",\"status\":\"skipped\"}],\"run\":\"passed\",\"status\":0,\"summary\":{\"features\":{\"failed\":0,\"memory\":0,\"passed\":1,\"skipped\":2,\"untested\":0},\"scenarios\":{\"failed\":0,\"memory\":0,\"passed\":1,\"skipped\":1,\"untested\":0},\"steps\":{\"failed\":0,\"memory\":0,\"passed\":0,\"skipped\":0,\"undefined\":0,\"untested\":0}}}\n"
+unfolding digits status_text reason_text json_head json_part json_tail serde_json_on_literals
+between_skipped_whole = refl
+
+-- No feature, as JSON.
+nothing_as_json : report json nothing ≡ codes "{\"features\":[],\"run\":\"passed\",\"status\":0,\"summary\":{\"features\":{\"failed\":0,\"memory\":0,\"passed\":0,\"skipped\":0,\"untested\":0},\"scenarios\":{\"failed\":0,\"memory\":0,\"passed\":0,\"skipped\":0,\"untested\":0},\"steps\":{\"failed\":0,\"memory\":0,\"passed\":0,\"skipped\":0,\"undefined\":0,\"untested\":0}}}\n"
+unfolding digits status_text reason_text json_head json_part json_tail serde_json_on_literals
+nothing_as_json = refl
+
+-- A step that failed, in JSON: its reason stands between its line and its status.
+failed_as_json : part json true (feature (codes "f") Failed (scenario (codes "s") Failed (failed_step reasons.Asked ∷ []) ∷ [])) ≡ codes "{\"around\":\"passed\",\"line\":1,\"name\":\"f\",\"scenarios\":[{\"around\":\"passed\",\"keyword\":\"Scenario\",\"line\":2,\"name\":\"s\",\"status\":\"failed\",\"steps\":[{\"keyword\":\"Given\",\"line\":3,\"reason\":\"fail step\",\"status\":\"failed\",\"text\":\"a\"}]}],\"source\":\"f.feature\",\"status\":\"failed\"}"
+unfolding digits status_text reason_text json_part serde_json_on_literals
+failed_as_json = refl
+
+-- A line feed and a quotation mark in a source's name, which progress and JSON write each in its own way; no scenario is printed.
+abbrev odd_source : FeatureRow
+odd_source = record (feature [] Skipped []) { source = codes "a\n\"b" }
+
+-- Its parts in progress and JSON.
+odd_source_parts : (part progress true odd_source ≡ codes "a\\n\"b    skipped\n") × (part json false odd_source ≡ codes ",{\"around\":\"passed\",\"line\":1,\"name\":\"\",\"scenarios\":[],\"source\":\"a\\n\\\"b\",\"status\":\"skipped\"}")
+unfolding digits status_text reason_text one_line progress_part json_part serde_json_on_literals
+odd_source_parts = (refl, refl)
+
+-- The run whose hook before all features fails, as progress.
+failed_run_hook_as_progress : report progress failed_run_hook ≡ codes "f.feature  U  untested\n(hooks and cleanups) ... failed\n0 features passed, 0 failed, 0 skipped, 1 untested\n0 scenarios passed, 0 failed, 0 skipped, 1 untested\n0 steps passed, 0 failed, 0 skipped, 0 undefined, 1 untested\n"
+unfolding digits status_text one_line status_line around_line progress_part counted count_line closing_lines
+failed_run_hook_as_progress = refl
+
+-- Memory was refused in the run's own hooks or cleanups, and no feature: as JSON.
+memory_as_json : report json (record nothing { around = Memory }) ≡ codes "{\"features\":[],\"run\":\"memory\",\"status\":4,\"summary\":{\"features\":{\"failed\":0,\"memory\":0,\"passed\":0,\"skipped\":0,\"untested\":0},\"scenarios\":{\"failed\":0,\"memory\":0,\"passed\":0,\"skipped\":0,\"untested\":0},\"steps\":{\"failed\":0,\"memory\":0,\"passed\":0,\"skipped\":0,\"undefined\":0,\"untested\":0}}}\n"
+unfolding digits status_text reason_text json_head json_part json_tail serde_json_on_literals
+memory_as_json = refl

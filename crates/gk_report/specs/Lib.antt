@@ -2,3 +2,6 @@
 pub mod ReportTexts
 pub mod Summary
 pub mod PlainReport
+pub mod ProgressReport
+pub mod JsonReport
+pub mod Report

@@ -1,13 +1,20 @@
--- The lines of the report.
-use Rattle.std.specs.Prelude.{ℕ, Bool, cond, ◌==◌, List, [], ◌++◌, flat_map, Option, Some, None, codes}
+-- The plain format, and the closing lines that it shares with progress.
+use Rattle.std.specs.Prelude.{ℕ, Bool, cond, not, ◌&&◌, ◌==◌, List, [], ◌++◌, filter, flat_map, Option, Some, None, codes}
 use Rattle.std.specs.Fmt.{decimal}
 use Rattle.gk_run.specs.declared.results.Status.{Status}
 use Rattle.gk_run.specs.declared.results.Reason.{Reason}
 use Rattle.gk_report.specs.declared.summary.Counts.{Counts}
 use Rattle.gk_report.specs.declared.summary.Summary.{Summary}
-use Rattle.gk_run.specs.Results.{StepRow, CaseRow, FeatureRow, Results, is_passed}
-use Rattle.gk_report.specs.Summary.{summary_of}
+use Rattle.gk_run.specs.Results.{StepRow, CaseRow, FeatureRow, is_passed, is_skipped}
 use Rattle.gk_report.specs.ReportTexts.{status_text, reason_text, one_line, line_feed}
+
+-- Where skipped ones are left out, what is skipped isn't printed. (behave's documentation: `--no-skipped`)
+abbrev pub is_hidden : Bool → Status → Bool
+is_hidden no_skipped status = no_skipped && is_skipped status
+
+-- The scenarios of a feature that are printed. (behave's documentation: `--no-skipped`)
+abbrev pub printed_cases : Bool → List CaseRow → List CaseRow
+printed_cases no_skipped cases = filter (λ c. not (is_hidden no_skipped c.status)) cases
 
 -- A line's text, three dots, and a status.
 unfoldable pub status_line : List ℕ → List ℕ → List ℕ
@@ -38,9 +45,13 @@ case_lines c = case_line c ++ flat_map step_line c.steps ++ around_line (codes "
 unfoldable pub feature_line : FeatureRow → List ℕ
 feature_line f = status_line (codes "Feature: " ++ one_line f.name) (status_text f.status)
 
--- The part of a feature: its line, its scenarios, its own hooks and cleanups, an empty line. (this project's profile)
-abbrev pub plain_part : FeatureRow → List ℕ
-plain_part f = feature_line f ++ flat_map case_lines f.cases ++ around_line (codes "  ") f.around ++ line_feed
+-- The lines of a feature: its line, its printed scenarios, its own hooks and cleanups, an empty line. (this project's profile)
+abbrev pub feature_lines : Bool → FeatureRow → List ℕ
+feature_lines no_skipped f = feature_line f ++ flat_map case_lines (printed_cases no_skipped f.cases) ++ around_line (codes "  ") f.around ++ line_feed
+
+-- The part of a feature: its lines, none where it is hidden. (this project's profile)
+unfoldable pub plain_part : Bool → FeatureRow → List ℕ
+plain_part no_skipped f = cond (is_hidden no_skipped f.status) [] (feature_lines no_skipped f)
 
 -- The plural's `s`, which one doesn't have.
 abbrev pub plural : ℕ → List ℕ
@@ -75,7 +86,3 @@ closing_lines s around =
     ++ count_line (codes "feature") s.features []
     ++ count_line (codes "scenario") s.scenarios []
     ++ count_line (codes "step") s.steps (counted s.steps.undefined (codes "undefined"))
-
--- The report of a run's results: the parts of the features in order, and the closing lines. (this project's profile)
-abbrev pub report : Results → List ℕ
-report results = flat_map plain_part results.features ++ closing_lines (summary_of results.features) results.around

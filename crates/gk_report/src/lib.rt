@@ -1,9 +1,14 @@
-//! The report of a run. The results of its features come in, and how its own hooks and cleanups ended;
-//! the report's text and the status that the run ends with go out.
+//! The report of a run. A style and the results of the run's features come in, and how its own hooks and
+//! cleanups ended; the report's text goes out piece by piece, and the status that the run ends with.
 #![tactic(auto)]
 
+mod json_report;
 mod plain_report;
+mod progress_report;
+mod report;
 mod summary;
 
-pub use plain_report::report_of;
-pub use summary::{Counts, Summary, summarize};
+pub use report::{
+    Format, Style, head, json_reports_are_documents, part, reports_grow_by_parts, tail,
+};
+pub use summary::{Counts, Summary};

@@ -1,16 +1,25 @@
-//! The plain report: a part for each feature, and the closing lines.
+//! The plain report: a part for each feature, and the closing lines, which it shares with progress.
 ghost use Rattle.std.specs.Prelude.{◌≡◌, [], ◌++◌, map, flat_map, codes, cond, IfOk, OnOk, string_bytes};
 ghost use Rattle.gk_run.specs.Results.{step_row, case_row, feature_row};
 ghost use Rattle.gk_report.specs.ReportTexts as words;
 ghost use Rattle.gk_report.specs.ReportTexts.{one_line};
-ghost use Rattle.gk_report.specs.PlainReport.{step_verdict, step_line, status_line, case_line, around_line, case_lines, feature_line, plain_part, counted, counted_if_any, passed_part, undefined_part, count_line, closing_lines};
+ghost use Rattle.gk_report.specs.PlainReport as spec;
+ghost use Rattle.gk_report.specs.PlainReport.{is_hidden, printed_cases, step_verdict, step_line, status_line, case_line, around_line, case_lines, feature_line, feature_lines, counted, counted_if_any, passed_part, undefined_part, count_line, closing_lines};
 
 use crate::summary::{Counts, Summary};
 use gk_run::{CaseResult, FeatureResult, Reason, Status, StepResult};
 use std::alloc::{AllocError, Global};
 
+/// Whether a feature or a scenario with this verdict is left out.
+pub fn hides(no_skipped: bool, status: Status) -> bool
+    ensures { result ≡ is_hidden no_skipped status }
+{
+    no_skipped && status == Status::Skipped
+}
+
+/// A status as it is printed.
 #[tactic(auto, unfolding(crate::specs::ReportTexts::status_text))]
-fn status_text(status: Status) -> &'static str
+pub fn status_text(status: Status) -> &'static str
     ensures { result.now ≡ words.status_text status }
 {
     match status {
@@ -23,8 +32,9 @@ fn status_text(status: Status) -> &'static str
     }
 }
 
+/// A reason as it is printed.
 #[tactic(auto, unfolding(crate::specs::ReportTexts::reason_text))]
-fn reason_text(reason: Reason) -> &'static str
+pub fn reason_text(reason: Reason) -> &'static str
     ensures { result.now ≡ words.reason_text reason }
 {
     match reason {
@@ -45,8 +55,8 @@ fn reason_text(reason: Reason) -> &'static str
     }
 }
 
-// A name or a text, with a backslash and `n` in place of each line feed.
-fn push_one_line(out: &mut String, text: &str) -> Result<(), AllocError>
+/// Pushes a name or a text, with a backslash and `n` in place of each line feed.
+pub fn push_one_line(out: &mut String, text: &str) -> Result<(), AllocError>
     ensures { OnOk result (string_bytes out.new ≡ string_bytes out.old ++ one_line text.now) }
 {
     let mut rest = text;
@@ -129,17 +139,54 @@ fn push_feature_line(out: &mut String, feature: &FeatureResult) -> Result<(), Al
     Ok(())
 }
 
-// Pushes the part of a feature.
-fn push_part(out: &mut String, feature: &FeatureResult) -> Result<(), AllocError>
-    ensures { OnOk result (string_bytes out.new ≡ string_bytes out.old ++ plain_part (feature_row feature.now)) }
+// The lines of a scenario, unless it is hidden.
+fn push_printed(out: &mut String, no_skipped: bool, case: &CaseResult) -> Result<(), AllocError>
+    ensures { OnOk result (string_bytes out.new ≡ string_bytes out.old ++ cond (is_hidden no_skipped case.now.status) [] (case_lines (case_row case.now))) }
 {
-    push_feature_line(out, feature)?;
-    for case in &feature.cases {
+    if !hides(no_skipped, case.status) {
         push_case(out, case)?;
     }
+    Ok(())
+}
+
+fn push_cases(out: &mut String, no_skipped: bool, cases: &[CaseResult]) -> Result<(), AllocError>
+    ensures { OnOk result (string_bytes out.new ≡ string_bytes out.old ++ flat_map case_lines (printed_cases no_skipped (map case_row cases.now))) }
+{
+    for case in cases {
+        push_printed(out, no_skipped, case)?;
+    }
+    Ok(())
+}
+
+fn push_feature(
+    out: &mut String,
+    no_skipped: bool,
+    feature: &FeatureResult,
+) -> Result<(), AllocError>
+    ensures { OnOk result (string_bytes out.new ≡ string_bytes out.old ++ feature_lines no_skipped (feature_row feature.now)) }
+{
+    push_feature_line(out, feature)?;
+    push_cases(out, no_skipped, feature.cases.as_slice())?;
     push_around(out, "  ", feature.around)?;
     out.push_str("\n")?;
     Ok(())
+}
+
+/// The part of a feature: its lines, or nothing where it is hidden. An error comes only where a growth was
+/// refused.
+#[tactic(auto, unfolding(crate::specs::PlainReport::plain_part))]
+pub fn plain_part(
+    alloc: Global,
+    no_skipped: bool,
+    feature: &FeatureResult,
+) -> Result<String, AllocError>
+    ensures { IfOk result (λ text. string_bytes text ≡ spec.plain_part no_skipped (feature_row feature.now)) }
+{
+    let mut out = String::new(alloc);
+    if !hides(no_skipped, feature.status) {
+        push_feature(&mut out, no_skipped, feature)?;
+    }
+    Ok(out)
 }
 
 #[tactic(auto, unfolding(crate::specs::PlainReport::counted))]
@@ -196,33 +243,16 @@ fn push_count_line(
     Ok(())
 }
 
-// Pushes the closing lines.
+/// The closing lines: the counts of a summary, `around` being how the run's own hooks and cleanups ended. An
+/// error comes only where a growth was refused.
 #[tactic(auto, unfolding(crate::specs::PlainReport::closing_lines))]
-fn push_closing(out: &mut String, summary: &Summary, around: Status) -> Result<(), AllocError>
-    ensures { OnOk result (string_bytes out.new ≡ string_bytes out.old ++ closing_lines summary.now around) }
-{
-    push_around(out, "", around)?;
-    push_count_line(out, "feature", &summary.features, false)?;
-    push_count_line(out, "scenario", &summary.scenarios, false)?;
-    push_count_line(out, "step", &summary.steps, true)?;
-    Ok(())
-}
-
-/// The plain report of a list of results, `around` being how the run's own hooks and cleanups ended, with
-/// the counts of a summary: that of the list, as `summarize` answers it, for the report of a run. An error
-/// comes only where a growth was refused. (behave's documentation: summary; this project's profile)
-pub fn report_of(
-    alloc: Global,
-    results: &[FeatureResult],
-    around: Status,
-    summary: &Summary,
-) -> Result<String, AllocError>
-    ensures { IfOk result (λ text. string_bytes text ≡ flat_map plain_part (map feature_row results.now) ++ closing_lines summary.now around) }
+pub fn closing_text(alloc: Global, summary: &Summary, around: Status) -> Result<String, AllocError>
+    ensures { IfOk result (λ text. string_bytes text ≡ closing_lines summary.now around) }
 {
     let mut out = String::new(alloc);
-    for feature in results {
-        push_part(&mut out, feature)?;
-    }
-    push_closing(&mut out, summary, around)?;
+    push_around(&mut out, "", around)?;
+    push_count_line(&mut out, "feature", &summary.features, false)?;
+    push_count_line(&mut out, "scenario", &summary.scenarios, false)?;
+    push_count_line(&mut out, "step", &summary.steps, true)?;
     Ok(out)
 }

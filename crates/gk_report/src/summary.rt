@@ -1,6 +1,6 @@
 //! What the report counts, and the status that a run ends with.
-ghost use Rattle.std.specs.Prelude.{◌≡◌, [], map, fold};
-ghost use Rattle.gk_run.specs.Results.{step_row, case_row, feature_row};
+ghost use Rattle.std.specs.Prelude.{◌≡◌, List, [], ◌∷◌, ◌++◌, map, fold};
+ghost use Rattle.gk_run.specs.Results.{FeatureRow, step_row, case_row, feature_row};
 ghost use Rattle.gk_report.specs.Summary as spec;
 ghost use Rattle.gk_report.specs.Summary.{summary_of, one_status_more, one_case_more};
 
@@ -60,8 +60,8 @@ pub struct Summary {
 impl Summary {
     ghost use Rattle.gk_report.specs.Summary.{summary_of, one_feature_more, IsStatusOf};
 
-    // Nothing yet.
-    fn new() -> Summary
+    /// The counts over no feature. Takes no memory.
+    pub fn new() -> Summary
         ensures { result ≡ summary_of [] }
     {
         Summary {
@@ -71,9 +71,11 @@ impl Summary {
         }
     }
 
-    // One feature more, with its scenarios and their steps.
-    fn add(&mut self, feature: &FeatureResult)
-        ensures { self.new ≡ one_feature_more self.old (feature_row feature.now) }
+    /// Counts one feature more, with its scenarios and their steps. Takes no memory. (behave's
+    /// documentation: summary)
+    pub fn add(&mut self, feature: &FeatureResult)
+        ensures counts { self.new ≡ one_feature_more self.old (feature_row feature.now) }
+        ensures added { (rows : List FeatureRow) → self.old ≡ summary_of rows → self.new ≡ summary_of (rows ++ feature_row feature.now ∷ []) }
     {
         self.features.add(feature.status);
         add_cases(self, feature.cases.as_slice());
@@ -89,7 +91,8 @@ impl Summary {
     }
 }
 
-fn status_by(summary: &Summary, around: Status) -> u8
+/// The status that the run ends with, by the counts.
+pub fn status_by(summary: &Summary, around: Status) -> u8
     ensures { result ≡ spec.status_by summary.now around }
 {
     if around == Status::Memory || summary.features.memory > 0 || summary.scenarios.memory > 0 {
@@ -120,15 +123,4 @@ fn add_cases(summary: &mut Summary, cases: &[CaseResult])
         summary.scenarios.add(case.status);
         add_steps(&mut summary.steps, case.steps.as_slice());
     }
-}
-
-/// The counts over a list of results. Takes no memory. (behave's documentation: summary)
-pub fn summarize(results: &[FeatureResult]) -> Summary
-    ensures { result ≡ summary_of (map feature_row results.now) }
-{
-    let mut summary = Summary::new();
-    for feature in results {
-        summary.add(feature);
-    }
-    summary
 }

@@ -1,0 +1,172 @@
+-- No value of the report has a float, and what writing one value after another gives.
+use Rattle.std.proofs.Common.{◌≡◌, ℕ, Bool, true, false, ◌||◌, List, [], ◌∷◌, length, map, Option, Some, None, codes, refl, ap, sym, ◌∙◌, subst, suc}
+use Rattle.serde.specs.Event.{Log, Logs, map_begins, map_ends}
+use Rattle.serde_json.specs.Data.{Data, string, Items, Members, no_members, member}
+use Rattle.serde_json.specs.View.{items_of}
+use Rattle.serde_json.specs.Events.{items_len, members_len, SendsValue, SendsItems, SendsMembers}
+use Rattle.serde_json.specs.Written.{has_float, items_have_float, members_have_float, compact_text}
+use Rattle.gk_run.specs.declared.results.Reason.{Reason}
+use Rattle.gk_run.specs.declared.results.Status.{Status}
+use Rattle.gk_run.specs.Results.{StepRow, CaseRow, FeatureRow}
+use Rattle.gk_report.specs.declared.summary.Counts.{Counts}
+use Rattle.gk_report.specs.declared.summary.Summary.{Summary}
+use Rattle.gk_report.specs.Summary.{status_by}
+use Rattle.gk_report.specs.PlainReport.{printed_cases}
+use Rattle.gk_report.specs.JsonReport.{number_data, status_data, array_data, reason_and, step_data, case_data, feature_data, counts_data, step_counts_data, summary_data, AddsMembers, case_and, undefined_and, counts_data_of, step_members, count_members, tail_of, json_tail}
+use Rattle.gk_report.proofs.PrintedLemmas.{items_next}
+
+none_of_both : (a b : Bool) → a ≡ false → b ≡ false → (a || b) ≡ false
+none_of_both false b p q = q
+none_of_both true b p q = p
+
+reason_whole : (why : Option Reason) (ms : Members) → members_have_float ms ≡ false → members_have_float (reason_and why ms) ≡ false
+reason_whole None ms h = h
+reason_whole (Some why) ms h = h
+
+step_whole : (s : StepRow) → has_float (step_data s) ≡ false
+step_whole s = reason_whole s.reason _ refl
+
+steps_whole : (ss : List StepRow) → items_have_float (items_of (map step_data ss)) ≡ false
+steps_whole [] = refl
+steps_whole (s ∷ ss) = none_of_both _ _ (step_whole s) (steps_whole ss)
+
+case_whole : (c : CaseRow) → has_float (case_data c) ≡ false
+case_whole c = none_of_both _ _ (steps_whole c.steps) refl
+
+cases_whole : (cs : List CaseRow) → items_have_float (items_of (map case_data cs)) ≡ false
+cases_whole [] = refl
+cases_whole (c ∷ cs) = none_of_both _ _ (case_whole c) (cases_whole cs)
+
+pub feature_whole : (no_skipped : Bool) (f : FeatureRow) → has_float (feature_data no_skipped f) ≡ false
+feature_whole no_skipped f = none_of_both _ _ (cases_whole (printed_cases no_skipped f.cases)) refl
+
+pub summary_whole : (s : Summary) → has_float (summary_data s) ≡ false
+summary_whole s = refl
+
+-- The length of an array.
+pub items_len_of : {A : Type 0} (f : A → Data) (xs : List A) → items_len (items_of (map f xs)) ≡ length xs
+items_len_of f [] = refl
+items_len_of f (x ∷ xs) = ap suc (items_len_of f xs)
+
+-- The length of an array of what a view shows.
+pub items_len_by : {A B : Type 0} (f : B → Data) (view : A → B) (xs : List A) → items_len (items_of (map f (map view xs))) ≡ length xs
+items_len_by f view [] = refl
+items_len_by f view (x ∷ xs) = ap suc (items_len_by f view xs)
+
+step_len : (why : Option Reason) (k l : List ℕ) (d e : Data) → step_members why ≡ suc (suc (members_len (reason_and why (member k d (member l e no_members)))))
+step_len None k l d e = refl
+step_len (Some r) k l d e = refl
+
+-- A step's object, written member by member.
+pub step_sent : (s : StepRow) (old first one two three four five end : Log) (n : ℕ) → n ≡ step_members s.reason → Logs old first (map_begins (Some n)) →
+    AddsMembers (member (codes "keyword") (string s.keyword)) first one →
+    AddsMembers (member (codes "line") (number_data s.line)) one two →
+    AddsMembers (reason_and s.reason) two three →
+    AddsMembers (member (codes "status") (status_data s.status)) three four →
+    AddsMembers (member (codes "text") (string s.text)) four five →
+    Logs five end map_ends → SendsValue (step_data s) old end
+step_sent s old first one two three four five end n is begun keyword line reason status text e =
+    let last = member (codes "text") (string s.text) no_members in
+    let later = member (codes "status") (status_data s.status) last in
+    let others = reason_and s.reason later in (
+      first,
+      subst (λ k. Logs old first (map_begins (Some k))) (is ∙ step_len s.reason (codes "status") (codes "text") (status_data s.status) (string s.text)) begun,
+      keyword (member (codes "line") (number_data s.line) others) end (line others end (reason later end (status last end (text no_members end e)))),
+    )
+
+-- A scenario's object, written member by member.
+pub case_sent : (c : CaseRow) (old first one two three four five six end : Log) → Logs old first (map_begins (Some 6)) →
+    AddsMembers (member (codes "around") (status_data c.around)) first one →
+    AddsMembers (member (codes "keyword") (string c.keyword)) one two →
+    AddsMembers (member (codes "line") (number_data c.line)) two three →
+    AddsMembers (member (codes "name") (string c.name)) three four →
+    AddsMembers (member (codes "status") (status_data c.status)) four five →
+    AddsMembers (member (codes "steps") (array_data (map step_data c.steps))) five six →
+    Logs six end map_ends → SendsValue (case_data c) old end
+case_sent c old first one two three four five six end begun around keyword line name status steps e =
+    let last = member (codes "steps") (array_data (map step_data c.steps)) no_members in
+    let fifth = member (codes "status") (status_data c.status) last in
+    let fourth = member (codes "name") (string c.name) fifth in
+    let third = member (codes "line") (number_data c.line) fourth in
+    let second = member (codes "keyword") (string c.keyword) third in
+    (first, begun, around second end (keyword third end (line fourth end (name fifth end (status last end (steps no_members end e))))))
+
+-- A feature's object, written member by member.
+pub feature_sent : (no_skipped : Bool) (f : FeatureRow) (old first one two three four five six end : Log) → Logs old first (map_begins (Some 6)) →
+    AddsMembers (member (codes "around") (status_data f.around)) first one →
+    AddsMembers (member (codes "line") (number_data f.line)) one two →
+    AddsMembers (member (codes "name") (string f.name)) two three →
+    AddsMembers (member (codes "scenarios") (array_data (map case_data (printed_cases no_skipped f.cases)))) three four →
+    AddsMembers (member (codes "source") (string f.source)) four five →
+    AddsMembers (member (codes "status") (status_data f.status)) five six →
+    Logs six end map_ends → SendsValue (feature_data no_skipped f) old end
+feature_sent no_skipped f old first one two three four five six end begun around line name cases source status e =
+    let last = member (codes "status") (status_data f.status) no_members in
+    let fifth = member (codes "source") (string f.source) last in
+    let fourth = member (codes "scenarios") (array_data (map case_data (printed_cases no_skipped f.cases))) fifth in
+    let third = member (codes "name") (string f.name) fourth in
+    let second = member (codes "line") (number_data f.line) third in
+    (first, begun, around second end (line third end (name fourth end (cases fifth end (source last end (status no_members end e))))))
+
+counts_by : (of_steps : Bool) (c : Counts) (old first end : Log) (n : ℕ) → n ≡ count_members of_steps → Logs old first (map_begins (Some n)) →
+    SendsMembers (
+    member (codes "failed") (number_data c.failed) (
+    member (codes "memory") (number_data c.memory) (
+    member (codes "passed") (number_data c.passed) (
+    member (codes "skipped") (number_data c.skipped) (
+    undefined_and of_steps c.undefined (
+    member (codes "untested") (number_data c.untested) no_members)))))) first end →
+    SendsValue (counts_data_of of_steps c) old end
+counts_by true c old first end n is begun sent = (first, subst (λ k. Logs old first (map_begins (Some k))) is begun, sent)
+counts_by false c old first end n is begun sent = (first, subst (λ k. Logs old first (map_begins (Some k))) is begun, sent)
+
+-- An object of counts, of steps or not, written member by member.
+pub counts_sent : (of_steps : Bool) (c : Counts) (old first one two three four five six end : Log) (n : ℕ) → n ≡ count_members of_steps → Logs old first (map_begins (Some n)) →
+    AddsMembers (member (codes "failed") (number_data c.failed)) first one →
+    AddsMembers (member (codes "memory") (number_data c.memory)) one two →
+    AddsMembers (member (codes "passed") (number_data c.passed)) two three →
+    AddsMembers (member (codes "skipped") (number_data c.skipped)) three four →
+    AddsMembers (undefined_and of_steps c.undefined) four five →
+    AddsMembers (member (codes "untested") (number_data c.untested)) five six →
+    Logs six end map_ends → SendsValue (counts_data_of of_steps c) old end
+counts_sent of_steps c old first one two three four five six end n is begun failed memory passed skipped undefined untested e =
+    let last = member (codes "untested") (number_data c.untested) no_members in
+    let fifth = undefined_and of_steps c.undefined last in
+    let fourth = member (codes "skipped") (number_data c.skipped) fifth in
+    let third = member (codes "passed") (number_data c.passed) fourth in
+    let second = member (codes "memory") (number_data c.memory) third in
+    counts_by of_steps c old first end n is begun (failed second end (memory third end (passed fourth end (skipped fifth end (undefined last end (untested no_members end e))))))
+
+-- The object of all counts, written member by member.
+pub summary_sent : (s : Summary) (old first one two three end : Log) → Logs old first (map_begins (Some 3)) →
+    AddsMembers (member (codes "features") (counts_data_of false s.features)) first one →
+    AddsMembers (member (codes "scenarios") (counts_data_of false s.scenarios)) one two →
+    AddsMembers (member (codes "steps") (counts_data_of true s.steps)) two three →
+    Logs three end map_ends → SendsValue (summary_data s) old end
+summary_sent s old first one two three end begun features scenarios steps e =
+    let last = member (codes "steps") (step_counts_data s.steps) no_members in
+    let second = member (codes "scenarios") (counts_data s.scenarios) last in
+    (first, begun, features second end (scenarios last end (steps no_members end e)))
+
+-- One step more of those that are left.
+pub steps_on : (all : Items) (old mid new : Log) (left more : List StepRow) (s : StepRow) → left ≡ s ∷ more → SendsValue (step_data s) mid new →
+    ((end : Log) → SendsItems (items_of (map step_data left)) mid end → SendsItems all old end) →
+    (end : Log) → SendsItems (items_of (map step_data more)) new end → SendsItems all old end
+steps_on all old mid new left more s is sent inv end rest = inv end (subst (λ ss. SendsItems (items_of (map step_data ss)) mid end) (sym is) (new, sent, rest))
+
+-- One scenario more of those that are left, or none where it is hidden.
+pub cases_on : (no_skipped : Bool) (all : Items) (old mid new : Log) (left more : List CaseRow) (c : CaseRow) → left ≡ c ∷ more →
+    ((items : Items) (end : Log) → SendsItems items new end → SendsItems (case_and no_skipped c items) mid end) →
+    ((end : Log) → SendsItems (items_of (map case_data (printed_cases no_skipped left))) mid end → SendsItems all old end) →
+    (end : Log) → SendsItems (items_of (map case_data (printed_cases no_skipped more))) new end → SendsItems all old end
+cases_on no_skipped all old mid new left more c is sent inv end rest =
+    inv end (subst (λ cs. SendsItems (items_of (map case_data (printed_cases no_skipped cs))) mid end) (sym is)
+    (subst (λ items. SendsItems items mid end) (sym (items_next no_skipped c more)) (sent _ end rest)))
+
+-- What stands after the features, by the texts of its values.
+pub tail_from : (around : Status) (s : Summary) (text run counts : List ℕ) (number : ℕ) → text ≡ tail_of run number counts →
+    run ≡ compact_text (status_data around) → number ≡ status_by s around → counts ≡ compact_text (summary_data s) → text ≡ json_tail around (status_by s around) s
+unfolding tail_of json_tail
+tail_from around s text run counts number e a b c =
+    let done = compact_text (status_data around) in
+    e ∙ ap (λ xs. tail_of xs number counts) a ∙ ap (λ n. tail_of done n counts) b ∙ ap (λ xs. tail_of done (status_by s around) xs) c

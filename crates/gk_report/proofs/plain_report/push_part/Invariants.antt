@@ -1,7 +1,0 @@
-use Rattle.std.proofs.Common.{◌≡◌, ◌++◌, drop, map, string_bytes, flat_map}
-use Rattle.gk_report.specs.PlainReport.{case_lines}
-use Rattle.gk_run.specs.Results.{case_row}
-use Rattle.gk_report.proofs.plain_report.push_part.Given as goal
-
-abbrev pub invariant-loop-case : goal.invariant-loop-case
-invariant-loop-case l = string_bytes l.out ++ flat_map case_lines (map case_row (drop l.case-index l.feature.cases.items)) ≡ string_bytes l.initial.out ++ flat_map case_lines (map case_row l.feature.cases.items)

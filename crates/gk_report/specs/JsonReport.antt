@@ -1,0 +1,147 @@
+-- The JSON format: compact text, with the keys of each object in byte order.
+use Rattle.std.specs.Prelude.{ℕ, Bool, cond, not, List, [], ◌++◌, map, filter, Option, Some, None, codes}
+use Rattle.std.specs.Fmt.{decimal}
+use Rattle.serde.specs.Event.{Log}
+use Rattle.serde_json.specs.Data.{Data, number, unsigned, string, array, object, Items, item, Members, no_members, member}
+use Rattle.serde_json.specs.Events.{SendsItems, SendsMembers}
+use Rattle.serde_json.specs.View.{items_of}
+use Rattle.serde_json.specs.Written.{compact_text}
+use Rattle.gk_run.specs.declared.results.Status.{Status}
+use Rattle.gk_run.specs.declared.results.Reason.{Reason}
+use Rattle.gk_run.specs.Results.{StepRow, CaseRow, FeatureRow}
+use Rattle.gk_report.specs.declared.summary.Counts.{Counts}
+use Rattle.gk_report.specs.declared.summary.Summary.{Summary}
+use Rattle.gk_report.specs.ReportTexts.{status_text, reason_text, line_feed}
+use Rattle.gk_report.specs.PlainReport.{is_hidden, printed_cases}
+
+-- A number.
+abbrev pub number_data : ℕ → Data
+number_data n = number (unsigned n)
+
+-- A status as a string.
+abbrev pub status_data : Status → Data
+status_data status = string (status_text status)
+
+-- An array of values.
+abbrev pub array_data : List Data → Data
+array_data values = array (items_of values)
+
+-- The members of a step after its line: a failed one has its reason. (this project's profile)
+abbrev pub reason_and : Option Reason → Members → Members
+reason_and None members = members
+reason_and (Some why) members = member (codes "reason") (string (reason_text why)) members
+
+-- A step's object. (this project's profile)
+abbrev pub step_data : StepRow → Data
+step_data s = object (
+    member (codes "keyword") (string s.keyword) (
+    member (codes "line") (number_data s.line) (
+    reason_and s.reason (
+    member (codes "status") (status_data s.status) (
+    member (codes "text") (string s.text) no_members)))))
+
+-- A scenario's object. (this project's profile)
+abbrev pub case_data : CaseRow → Data
+case_data c = object (
+    member (codes "around") (status_data c.around) (
+    member (codes "keyword") (string c.keyword) (
+    member (codes "line") (number_data c.line) (
+    member (codes "name") (string c.name) (
+    member (codes "status") (status_data c.status) (
+    member (codes "steps") (array_data (map step_data c.steps)) no_members))))))
+
+-- A feature's object, with its printed scenarios. (this project's profile)
+abbrev pub feature_data : Bool → FeatureRow → Data
+feature_data no_skipped f = object (
+    member (codes "around") (status_data f.around) (
+    member (codes "line") (number_data f.line) (
+    member (codes "name") (string f.name) (
+    member (codes "scenarios") (array_data (map case_data (printed_cases no_skipped f.cases))) (
+    member (codes "source") (string f.source) (
+    member (codes "status") (status_data f.status) no_members))))))
+
+-- The object of counts without undefined ones, of which features and scenarios have none. (this project's profile)
+abbrev pub counts_data : Counts → Data
+counts_data c = object (
+    member (codes "failed") (number_data c.failed) (
+    member (codes "memory") (number_data c.memory) (
+    member (codes "passed") (number_data c.passed) (
+    member (codes "skipped") (number_data c.skipped) (
+    member (codes "untested") (number_data c.untested) no_members)))))
+
+-- The object of the steps' counts. (this project's profile)
+abbrev pub step_counts_data : Counts → Data
+step_counts_data c = object (
+    member (codes "failed") (number_data c.failed) (
+    member (codes "memory") (number_data c.memory) (
+    member (codes "passed") (number_data c.passed) (
+    member (codes "skipped") (number_data c.skipped) (
+    member (codes "undefined") (number_data c.undefined) (
+    member (codes "untested") (number_data c.untested) no_members))))))
+
+-- The object of all counts. (this project's profile)
+abbrev pub summary_data : Summary → Data
+summary_data s = object (
+    member (codes "features") (counts_data s.features) (
+    member (codes "scenarios") (counts_data s.scenarios) (
+    member (codes "steps") (step_counts_data s.steps) no_members)))
+
+-- The features that are printed. (behave's documentation: `--no-skipped`)
+abbrev pub printed_features : Bool → List FeatureRow → List FeatureRow
+printed_features no_skipped rows = filter (λ f. not (is_hidden no_skipped f.status)) rows
+
+-- The report as one document: its printed features, how the run's own hooks and cleanups ended, the status that the run ends with, the counts. (this project's profile)
+abbrev pub document : Bool → List FeatureRow → Status → ℕ → Summary → Data
+document no_skipped rows around status summary = object (
+    member (codes "features") (array_data (map (feature_data no_skipped) (printed_features no_skipped rows))) (
+    member (codes "run") (status_data around) (
+    member (codes "status") (number_data status) (
+    member (codes "summary") (summary_data summary) no_members))))
+
+-- What stands before the features.
+unfoldable pub json_head : List ℕ
+json_head = codes "{\"features\":["
+
+-- The part of a feature: its object, after a comma where it isn't the first that is printed; nothing where it is hidden. (this project's profile)
+unfoldable pub json_part : Bool → Bool → FeatureRow → List ℕ
+json_part no_skipped first f = cond (is_hidden no_skipped f.status) [] (
+    cond first [] (codes ",") ++ compact_text (feature_data no_skipped f))
+
+-- What stands after the features. (this project's profile)
+unfoldable pub json_tail : Status → ℕ → Summary → List ℕ
+json_tail around status summary =
+    codes "],\"run\":" ++ compact_text (status_data around) ++ codes ",\"status\":" ++ compact_text (number_data status)
+    ++ codes ",\"summary\":" ++ compact_text (summary_data summary) ++ codes "}" ++ line_feed
+
+-- Proof machinery from here on: writing an object member by member. What ends it well from the new events, with these members before, ends it well from the old ones.
+abbrev pub AddsMembers : (Members → Members) → Log → Log → Type 0
+AddsMembers add old new = (rest : Members) (end : Log) → SendsMembers rest new end → SendsMembers (add rest) old end
+
+-- The same of the values of an array.
+abbrev pub AddsItems : (Items → Items) → Log → Log → Type 0
+AddsItems add old new = (rest : Items) (end : Log) → SendsItems rest new end → SendsItems (add rest) old end
+
+-- How many members a step's object has.
+abbrev pub step_members : Option Reason → ℕ
+step_members None = 4
+step_members (Some why) = 5
+
+-- How many members an object of counts has.
+abbrev pub count_members : Bool → ℕ
+count_members of_steps = cond of_steps 6 5
+
+-- The item of a scenario, none where it is hidden.
+abbrev pub case_and : Bool → CaseRow → Items → Items
+case_and no_skipped c items = cond (is_hidden no_skipped c.status) items (item (case_data c) items)
+
+-- The member of undefined ones, which the counts of steps alone have.
+abbrev pub undefined_and : Bool → ℕ → Members → Members
+undefined_and of_steps n members = cond of_steps (member (codes "undefined") (number_data n) members) members
+
+-- The object of counts, of steps or not.
+abbrev pub counts_data_of : Bool → Counts → Data
+counts_data_of of_steps c = cond of_steps (step_counts_data c) (counts_data c)
+
+-- What stands after the features, by the texts of its values.
+unfoldable pub tail_of : List ℕ → ℕ → List ℕ → List ℕ
+tail_of run status counts = codes "],\"run\":" ++ run ++ codes ",\"status\":" ++ decimal status ++ codes ",\"summary\":" ++ counts ++ codes "}" ++ line_feed

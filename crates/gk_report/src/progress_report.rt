@@ -1,0 +1,70 @@
+//! The progress report: a line for each feature.
+ghost use Rattle.std.specs.Prelude.{◌≡◌, [], ◌∷◌, ◌++◌, map, cond, IfOk, OnOk, string_bytes};
+ghost use Rattle.gk_run.specs.Results.{case_row, feature_row};
+ghost use Rattle.gk_report.specs.PlainReport.{is_hidden};
+ghost use Rattle.gk_report.specs.ProgressReport as spec;
+ghost use Rattle.gk_report.specs.ProgressReport.{status_mark, case_marks, progress_line};
+
+use crate::plain_report::{hides, push_one_line, status_text};
+use gk_run::{CaseResult, FeatureResult, Status};
+use std::alloc::{AllocError, Global};
+
+fn mark_text(status: Status) -> &'static str
+    ensures { result.now ≡ status_mark status ∷ [] }
+{
+    match status {
+        Status::Passed => ".",
+        Status::Failed | Status::Undefined => "F",
+        Status::Skipped => "S",
+        Status::Untested => "U",
+        Status::Memory => "M",
+    }
+}
+
+// The character of a scenario, unless it is hidden.
+fn push_mark(out: &mut String, no_skipped: bool, status: Status) -> Result<(), AllocError>
+    ensures { OnOk result (string_bytes out.new ≡ string_bytes out.old ++ cond (is_hidden no_skipped status) [] (status_mark status ∷ [])) }
+{
+    if !hides(no_skipped, status) {
+        out.push_str(mark_text(status))?;
+    }
+    Ok(())
+}
+
+fn push_marks(out: &mut String, no_skipped: bool, cases: &[CaseResult]) -> Result<(), AllocError>
+    ensures { OnOk result (string_bytes out.new ≡ string_bytes out.old ++ case_marks no_skipped (map case_row cases.now)) }
+{
+    for case in cases {
+        push_mark(out, no_skipped, case.status)?;
+    }
+    Ok(())
+}
+
+fn push_line(out: &mut String, no_skipped: bool, feature: &FeatureResult) -> Result<(), AllocError>
+    ensures { OnOk result (string_bytes out.new ≡ string_bytes out.old ++ progress_line no_skipped (feature_row feature.now)) }
+{
+    push_one_line(out, feature.source.as_str())?;
+    out.push_str("  ")?;
+    push_marks(out, no_skipped, feature.cases.as_slice())?;
+    out.push_str("  ")?;
+    out.push_str(status_text(feature.status))?;
+    out.push_str("\n")?;
+    Ok(())
+}
+
+/// The part of a feature: its line, or nothing where it is hidden. An error comes only where a growth was
+/// refused.
+#[tactic(auto, unfolding(crate::specs::ProgressReport::progress_part))]
+pub fn progress_part(
+    alloc: Global,
+    no_skipped: bool,
+    feature: &FeatureResult,
+) -> Result<String, AllocError>
+    ensures { IfOk result (λ text. string_bytes text ≡ spec.progress_part no_skipped (feature_row feature.now)) }
+{
+    let mut out = String::new(alloc);
+    if !hides(no_skipped, feature.status) {
+        push_line(&mut out, no_skipped, feature)?;
+    }
+    Ok(out)
+}

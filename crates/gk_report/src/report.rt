@@ -1,0 +1,93 @@
+//! The report of a run in a style: its head, the part of each feature, its tail.
+ghost use Rattle.std.specs.Prelude.{◌≡◌, List, IfOk, string_bytes};
+ghost use Rattle.gk_run.specs.Results.{FeatureRow, feature_row};
+ghost use Rattle.gk_report.specs.Summary.{summary_of};
+ghost use Rattle.gk_report.specs.Report as spec;
+ghost use Rattle.gk_report.specs.Report.{IsOneDocument, ReportsGrowByParts};
+
+use crate::json_report::{json_head, json_part, json_tail};
+use crate::plain_report::{closing_text, plain_part};
+use crate::progress_report::progress_part;
+use crate::summary::Summary;
+use gk_run::{FeatureResult, Status};
+use std::alloc::{AllocError, Global};
+
+/// The format of a report.
+#[derive(Clone, Copy, Debug, PartialEq, Eq)]
+pub enum Format {
+    /// A line for each feature, scenario and step, and lines of counts. (behave's documentation: the plain
+    /// formatter; this project's profile)
+    Plain,
+    /// A line for each feature with a character for each scenario, and lines of counts. (behave's
+    /// documentation: the progress formatter; this project's profile)
+    Progress,
+    /// One JSON document on one line. (this project's profile)
+    Json,
+}
+
+/// How a report is written.
+#[derive(Clone, Copy, Debug, PartialEq, Eq)]
+pub struct Style {
+    pub format: Format,
+    /// Skipped features and scenarios are left out; they still count. (behave's documentation:
+    /// `--no-skipped`)
+    pub no_skipped: bool,
+}
+
+/// What a report begins with: nothing in plain and progress. An error comes only where a growth was refused.
+/// (this project's profile)
+pub fn head(alloc: Global, style: Style) -> Result<String, AllocError>
+    ensures { IfOk result (λ text. string_bytes text ≡ spec.head style) }
+{
+    match style.format {
+        Format::Plain | Format::Progress => Ok(String::new(alloc)),
+        Format::Json => json_head(alloc),
+    }
+}
+
+/// The part of a feature, `first` being true as long as each earlier part of the report was empty. The text
+/// is empty where the style hides the feature. An error comes only where a growth was refused. (behave's
+/// documentation: `--no-skipped`; this project's profile)
+pub fn part(
+    alloc: Global,
+    style: Style,
+    first: bool,
+    feature: &FeatureResult,
+) -> Result<String, AllocError>
+    ensures { IfOk result (λ text. string_bytes text ≡ spec.part style first (feature_row feature.now)) }
+{
+    match style.format {
+        Format::Plain => plain_part(alloc, style.no_skipped, feature),
+        Format::Progress => progress_part(alloc, style.no_skipped, feature),
+        Format::Json => json_part(alloc, style.no_skipped, first, feature),
+    }
+}
+
+/// What a report ends with: the counts of a summary, `around` being how the run's own hooks and cleanups
+/// ended. For the report of a run the summary is that of all its features, hidden ones too. An error comes
+/// only where a growth was refused. (behave's documentation: summary; this project's profile)
+pub fn tail(
+    alloc: Global,
+    style: Style,
+    summary: &Summary,
+    around: Status,
+) -> Result<String, AllocError>
+    ensures counts { IfOk result (λ text. string_bytes text ≡ spec.tail_by style summary.now around) }
+    ensures tail { IfOk result (λ text. (rows : List FeatureRow) → summary.now ≡ summary_of rows → string_bytes text ≡ spec.tail style rows around) }
+{
+    match style.format {
+        Format::Plain | Format::Progress => closing_text(alloc, summary, around),
+        Format::Json => json_tail(alloc, summary, around),
+    }
+}
+
+/// Each JSON report is the compact text of one document, and a line feed. (this project's profile)
+pub fn json_reports_are_documents()
+    ensures { IsOneDocument }
+{}
+
+/// The head, the parts in order and the tail make up the report, and what is written after some features
+/// begins the report of whatever results begin with them. (this project's profile)
+pub fn reports_grow_by_parts()
+    ensures { ReportsGrowByParts }
+{}
