@@ -3,7 +3,9 @@
 #![tactic(auto)]
 
 mod plain_report;
+mod report;
 mod summary;
 
 pub use plain_report::report_of;
+pub use report::{Format, Style};
 pub use summary::{Counts, Summary, summarize};
