@@ -3,7 +3,7 @@ use Rattle.std.proofs.Common.{◌≡◌, ◌∙◌, ◌+◌, ◌-◌, ◌^◌, �
 use Rattle.std.specs.Prelude.{IfErr, IfOk, IsSome, String, is_some, option_map, string_bytes}
 use Rattle.std.specs.declared.alloc.Global.{Global}
 use Rattle.std.specs.List.{All, Any}
-use Rattle.std.specs.Io.KnownBytes.{Appends, Keeps}
+use Rattle.std.specs.Io.KnownBytes.{Appends}
 use Rattle.std.proofs.lemmas.Option.{slice_get-map, slice_get_read, slice_get_within}
 use Rattle.std.proofs.lemmas.List.{append-nil, drop_all, get_or-map, length-map, map_push, take_all}
 use Rattle.std.proofs.lemmas.List.Elements.{All-push}
@@ -19,41 +19,15 @@ use Rattle.gk_cli.specs.Counted.{one_more}
 use Rattle.gk_cli.specs.Inputs.{Request, request_of}
 use Rattle.gk_cli.specs.Source.{SourceValue, source_value}
 use Rattle.gk_cli.specs.declared.source.Source.{Source}
-use Rattle.gk_cli.specs.Suite.{Device, IsUntouched, JudgedReport, Plain, SaysFault}
+use Rattle.gk_cli.specs.Suite.{Device, IsUntouched, SaysFault}
 use Rattle.gk_cli.specs.declared.arguments.Options.{Options}
 use Rattle.gk_cli.specs.declared.arguments.Words.{Words}
 use Rattle.gk_cli.specs.declared.run_fault.RunFault.{RunFault}
 use Rattle.gk_cli.specs.declared.run_fault.RunFault.TheVariants as run
 use Rattle.gherkin_run.specs.Files.{IsFileFault, name_of}
-use Rattle.gherkin_run.specs.Program.{AreGiven, IsFaultOfGiven, IsFaultOfRun, IsFaultOfVariable, IsNamed, IsRefused, IsRun, IsWithin, SaysCalls, SaysProgram, SaysSuite, SaysVariables, contents_given, bytes_given, request_given, with_variables}
+use Rattle.gherkin_run.specs.Program.{AreGiven, IsFaultOfGiven, IsFaultOfRun, IsFaultOfVariable, IsFlushedRun, IsNamed, IsRefused, IsRun, IsWithin, SaysCalls, SaysProgram, SaysSuite, SaysVariables, contents_given, bytes_given, request_given, with_variables}
 use Rattle.gherkin_run.specs.declared.fault.Fault.{Fault}
 use Rattle.gherkin_run.specs.declared.fault.Fault.TheVariants.{NotUtf8, Usage, Env, CannotRead, TooLong, Library, Hooks, Read, TooMany, BadTags, Write, Memory}
-
--- ---- a flush after a run
-
-kept : (a b c : Option (List ℕ)) (bytes : List ℕ) → Appends a b bytes → Keeps b c → Appends a c bytes
-kept None b c bytes h k = tt
-kept (Some x) None c bytes h k = absurd h
-kept (Some x) (Some y) None bytes h k = absurd k
-kept (Some x) (Some y) (Some z) bytes h k = k ∙ h
-
-pub judged_kept : (r : Request) (c : Contents) (old mid new : Device) (answer : ℕ) → JudgedReport r c old mid answer → Keeps mid.bytes new.bytes → JudgedReport r c old new answer
-judged_kept r c old mid new answer judged k = (
-  judged.0,
-  record { written = kept old.bytes mid.bytes new.bytes _ judged.1.written k; answered = judged.1.answered },
-  judged.2,
-)
-
-pub plain_kept : (r : Request) (c : Contents) (old mid new : Device) (answer : ℕ) → Plain r c old mid answer → Keeps mid.bytes new.bytes → Plain r c old new answer
-plain_kept r c old mid new answer plain k other =
-    let p = plain other in
-    record {
-      inputs = p.inputs;
-      read = p.read;
-      reported = record { written = kept old.bytes mid.bytes new.bytes _ p.reported.written k; answered = p.reported.answered };
-      unmarked = p.unmarked;
-      only = p.only;
-    }
 
 -- a device that isn't called
 pub untouched : (d : Device) → IsUntouched d d
@@ -217,15 +191,14 @@ put_in w start c variables put new same =
     put ∙ ap (λ s. with_variables s.now (map pair_value variables)) new ∙ ap (λ xs. with_variables nothing_yet (map pair_value xs)) same
 
 pub runs : (w : Words) (library hooks : Option SourceValue) (sources : List SourceValue) (old new : Device) (c : Contents) (r : Result ℕ Fault) → AreGiven w library hooks sources → c ≡ contents_given w
-    → IfOk r (λ status. JudgedReport (request_given w library hooks sources) c old new status) → IfOk r (λ status. Plain (request_given w library hooks sources) c old new status) → IfOk r (IsRun w old new)
-runs w library hooks sources old new c (Err e) given is judged plain = tt
-runs w library hooks sources old new c (Ok status) given is judged plain = record {
+    → IfOk r (IsFlushedRun (request_given w library hooks sources) c old new) → IfOk r (IsRun w old new)
+runs w library hooks sources old new c (Err e) given is run = tt
+runs w library hooks sources old new c (Ok status) given is run = record {
   library = library;
   hooks = hooks;
   sources = sources;
   given = given;
-  judged = subst (λ x. JudgedReport (request_given w library hooks sources) x old new status) is judged;
-  plain = subst (λ x. Plain (request_given w library hooks sources) x old new status) is plain;
+  run = subst (λ x. IsFlushedRun (request_given w library hooks sources) x old new status) is run;
 }
 
 pub fails : (w : Words) (library hooks : Option SourceValue) (sources : List SourceValue) (old new : Device) (c : Contents) (r : Result ℕ Fault) → AreGiven w library hooks sources → c ≡ contents_given w

@@ -1,5 +1,6 @@
 -- What the program answers and writes.
 use Rattle.std.specs.Prelude.{◌≡◌, ◌⊎◌, ◌<◌, ℕ, List, [], ◌∷◌, length, map, Option, Some, None, Result, Ok, Err, IsSome, IsSomeAnd, option_map, slice_get, string_bytes}
+use Rattle.std.specs.Io.KnownBytes.{Keeps}
 use Rattle.std.specs.List.{All, Any}
 use Rattle.clap.specs.Words.{IsAmong, Text, kind_of}
 use Rattle.clap.specs.declared.error.Error.{Error}
@@ -114,11 +115,26 @@ IsFaultOfRun library hooks sources run.Write Write = Unit {0}
 IsFaultOfRun library hooks sources run.Memory Memory = Unit {0}
 IsFaultOfRun library hooks sources fault other = ⊥
 
+-- Standard output was flushed once, and took nothing more. (this project's profile)
+pub record IsFlushed (old new : Device) : Type 0 where
+  pub written : Keeps old.bytes new.bytes
+  pub calls : new.calls ≡ old.calls
+  pub flushes : new.flushes ≡ one_more old.flushes
+
+-- The report of a judged list was written and flushed, and its status is answered; at each status other than 4 that list is the one that plain maps give. (this project's profile)
+pub record IsFlushedRun (request : Request) (contents : Contents) (old new : Device) (status : ℕ) : Type 0 where
+  pub written : Device
+  pub judged : JudgedReport request contents old written status
+  pub plain : Plain request contents old written status
+  pub flushed : IsFlushed written new
+
 -- The report was written whole, and then the flush failed. (this project's profile)
 pub record IsUnflushed (request : Request) (contents : Contents) (old new : Device) (fault : Fault) : Type 0 where
   pub named : fault ≡ Write
   pub status : ℕ
-  pub written : JudgedReport request contents old new status
+  pub written : Device
+  pub judged : JudgedReport request contents old written status
+  pub flushed : IsFlushed written new
   pub failed : new.failures ≡ one_more old.failures
 
 -- A fault after the files are read: that of the run, or of the flush. (this project's profile)
@@ -156,8 +172,7 @@ pub record IsRun (w : Words) (old new : Device) (status : ℕ) : Type 0 where
   pub hooks : Option SourceValue
   pub sources : List SourceValue
   pub given : AreGiven w library hooks sources
-  pub judged : JudgedReport (request_given w library hooks sources) (contents_given w) old new status
-  pub plain : Plain (request_given w library hooks sources) (contents_given w) old new status
+  pub run : IsFlushedRun (request_given w library hooks sources) (contents_given w) old new status
 
 -- A file of this name was given. (this project's profile)
 abbrev pub IsGiven : Words → List ℕ → Type 0

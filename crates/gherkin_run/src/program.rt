@@ -3,9 +3,9 @@ ghost use Rattle.std.specs.Prelude.{◌≡◌, ◌<◌, ◌-◌, ◌^◌, map, I
 ghost use Rattle.gk_world.specs.Sandbox.{depth};
 ghost use Rattle.gk_cli.specs.Arguments.{pair_value};
 ghost use Rattle.gk_cli.specs.Counted.{flushes_of, failures_of, one_more};
-ghost use Rattle.gk_cli.specs.Suite.{device_of, JudgedReport, Plain};
+ghost use Rattle.gk_cli.specs.Suite.{device_of};
 ghost use Rattle.gk_cli.specs.Source.{source_value};
-ghost use Rattle.gherkin_run.specs.Program.{SaysAsked, SaysError, IsHelpFault, IsArgumentsFault, IsFaultOfVariable, SaysVariables, IsWithin, IsFaultOfRun, bytes_given, request, SaysRun, SaysCalls, SaysProgram, IsRun, IsDoneForSome};
+ghost use Rattle.gherkin_run.specs.Program.{SaysAsked, SaysError, IsHelpFault, IsArgumentsFault, IsFaultOfVariable, SaysVariables, IsWithin, IsFaultOfRun, bytes_given, request, IsFlushedRun, SaysRun, SaysCalls, SaysProgram, IsRun, IsDoneForSome};
 
 use crate::fault::Fault;
 use crate::files::{read_files, read_named_file};
@@ -175,8 +175,7 @@ pub fn run_sources<W: Write>(
     requires room { failures_of out.old < 2 ^ 64 - 1 }
     requires outside { depth sandbox.old ≡ 0 }
     // What was written and the status are those of one run of these inputs.
-    ensures judged { IfOk result (JudgedReport (request options.now library hooks sources.items) sandbox.old.now (device_of W.contents out.old) (device_of W.contents out.new)) }
-    ensures plain { IfOk result (Plain (request options.now library hooks sources.items) sandbox.old.now (device_of W.contents out.old) (device_of W.contents out.new)) }
+    ensures run { IfOk result (IsFlushedRun (request options.now library hooks sources.items) sandbox.old.now (device_of W.contents out.old) (device_of W.contents out.new)) }
     // A status comes only where the writer did not fail, and was flushed once.
     ensures quiet { OnOk result (failures_of out.new ≡ failures_of out.old) }
     ensures flushed { OnOk result (flushes_of out.new ≡ one_more (flushes_of out.old)) }

@@ -1,22 +1,25 @@
 -- The command that reads the arguments, and what its matches hold.
 use Rattle.std.proofs.Common.{◌≡◌, ◌≢◌, ◌⊎◌, ◌∙◌, ◌<◌, ◌≤◌, ◌&&◌, ◌||◌, ◌==◌, ◌+◌, ◌++◌, ap, ap₂, sym, subst, refl, inl, inr, arith, zero, suc, ℕ, Bool, true, false, not, List, [], ◌∷◌, length, map, codes, drop, take, is_some, get_or, Option, Some, None, Result, Ok, Err}
-use Rattle.std.specs.Prelude.{cond, find, option_map, unwrap_or, IsErrAnd, IsSomeAnd}
+use Rattle.std.specs.Prelude.{cond, find, if◌then◌else◌, option_map, unwrap_or, IsErrAnd, IsSomeAnd}
+use Rattle.std.specs.Option.{option_map_or}
 use Rattle.std.specs.List.{All, Any, slice_index_or, list_all}
 use Rattle.std.specs.Str.{bytes_eq}
-use Rattle.std.specs.Str.Parse.{ParsesUnsigned}
+use Rattle.std.specs.Str.Parse.{ParsesBool, ParsesUnsigned}
 use Rattle.std.specs.Borrow.{Bor}
 use Rattle.std.proofs.lemmas.List.{append-nil, append_assoc, drop_all, get_or-map, length-map, map_push, take_all}
 use Rattle.std.proofs.lemmas.List.Elements.{All-nil, All-map, All-push}
 use Rattle.std.proofs.lemmas.Bool.Decides.{nat_tests}
 use Rattle.std.proofs.lemmas.Grind.{common_steps}
 use Rattle.std.proofs.lemmas.Slice.Eq.{bytes_eq-Decides}
-use Rattle.clap.specs.Words.{Accepts, AddsArg, App, BuildsOrBreaks, BuildsTo, HasKind, HasMatchesOf, IsAmong, IsParsed, IsParsedFrom, IsPlainArg, IsUnsignedIn, Row, Rule, Text, app_of, args_of, fault_of, found_of, groups_of, has_subcommand, is_broken, is_present, is_simple, is_simple_and_free, kind_of, matched_of, matches_of, new_app, raw_values, rows_of, rule_of, with_rule}
+use Rattle.clap.specs.Words.{Accepts, AddsArg, App, BuildsOrBreaks, BuildsTo, HasKind, HasMatchesOf, IsAmong, IsParsed, IsParsedFrom, IsPlainArg, IsUnsignedIn, Kinds, ReadsOne, Row, Rule, Text, app_of, args_of, fault_of, first_value, found_of, groups_of, has_subcommand, is_broken, is_present, is_simple, is_simple_and_free, kind_of, matched_of, matches_of, new_app, raw_values, rows_of, rule_of, with_rule}
 use Rattle.clap.specs.Facts.{Entry, EntryPasses, IsFilledEntry, PassesArg, ValuesPass, least_values, parser_of_value, unwrap_or_range}
 use Rattle.clap.specs.Walk.{action_of, is_append, is_empty, is_simple_arg, row_of}
-use Rattle.clap.specs.Simple.{built, is_buildable}
+use Rattle.clap.specs.Kinds.{or_else}
+use Rattle.clap.specs.Simple.{app_of_fields, built, is_buildable}
 use Rattle.clap.specs.declared.builder.action.ArgAction.TheVariants.{Set}
 use Rattle.clap.specs.declared.builder.arg.Arg.{Arg}
 use Rattle.clap.specs.declared.builder.command.Command.{Command}
+use Rattle.clap.specs.declared.builder.command.Command.TheOpen.{Command-F}
 use Rattle.clap.specs.declared.builder.command.Command.TheViews.{out-Command as fields_of}
 use Rattle.clap.specs.declared.builder.value_parser.ValueParser.{ValueParser}
 use Rattle.clap.specs.declared.builder.value_parser.ValueParser.TheVariants.{Unsigned}
@@ -24,8 +27,13 @@ use Rattle.clap.specs.declared.parser.matches.ArgMatches.{ArgMatches}
 use Rattle.clap.specs.declared.parser.matches.Found.{Found}
 use Rattle.clap.specs.declared.parser.matches.MatchedArg.{MatchedArg}
 use Rattle.clap.proofs.CallerLemmas.{added_plain, entry_by_id, present_has_entry, required_present}
+use Rattle.clap.proofs.WalkLemmas.{first_value-rows}
 use Rattle.clap.specs.declared.error.Error.{Error}
-use Rattle.gk_cli.specs.Arguments.{HasRule, IsAskedBy, IsCommand, IsFaultBy, IsLineNumber, PairValue, SaysArguments, SaysMatches, SaysVariables, command, cut_at_equals, faults_in, files_rule, found_in, has_equals, line_number, values_of}
+use Rattle.clap.specs.declared.error.kind.ErrorKind.{ErrorKind}
+use Rattle.clap.specs.declared.error.kind.ErrorKind.TheVariants.{InvalidValue}
+use Rattle.gk_report.specs.declared.report.Format.{Format}
+use Rattle.gk_report.specs.declared.report.Format.TheVariants.{Plain, Progress, Json}
+use Rattle.gk_cli.specs.Arguments.{HasRule, IsAskedBy, IsCommand, IsFaultBy, IsLineNumber, PairValue, SaysArguments, SaysMatches, SaysVariables, command, cut_at_equals, faults_in, files_rule, format_asked, format_name, found_in, has_equals, is_format, line_number, values_of}
 use Rattle.gk_cli.specs.declared.arguments.Words.{Words}
 use Rattle.gk_cli.specs.declared.arguments.WordsFault.{WordsFault}
 use Rattle.gk_cli.specs.declared.arguments.WordsFault.TheVariants.{Usage, Env, Memory}
@@ -54,6 +62,20 @@ adds a r old new x is has added = record {
   plain = added_plain old new x added is.plain has.plain;
   local = added.globals ∙ (ap (λ b. b || x.global) is.local ∙ ap (λ b. false || b) has.local);
   demands = added.negates ∙ is.demands;
+}
+
+-- the texts of the help change nothing else
+pub texts_apart : (a : App) (old new : Command) (f : Command-F Command) → IsCommand a old → fields_of new ≡ f
+    → app_of_fields f ≡ app_of_fields (fields_of old) → f.args ≡ (fields_of old).args → f.groups ≡ (fields_of old).groups
+    → f.has_globals ≡ (fields_of old).has_globals → f.subcommand_negates_reqs ≡ (fields_of old).subcommand_negates_reqs → IsCommand a new
+texts_apart a old new f is with app args groups globals negates = record {
+  app = ap app_of_fields with ∙ (app ∙ is.app);
+  plain = (
+    subst (All IsPlainArg) (sym (ap (λ (g : Command-F Command). g.args.items) with ∙ ap (λ v. v.items) args)) is.plain.0,
+    ap (λ (g : Command-F Command). g.groups.items) with ∙ (ap (λ v. v.items) groups ∙ is.plain.1),
+  );
+  local = ap (λ (g : Command-F Command). g.has_globals) with ∙ (globals ∙ is.local);
+  demands = ap (λ (g : Command-F Command). g.subcommand_negates_reqs) with ∙ (negates ∙ is.demands);
 }
 
 -- the command as clap leaves it: as it was, or filled in
@@ -197,6 +219,41 @@ pub taken : (f : Found) (id : Text) (o : Option (Bor (List (Bor Text)))) (d r : 
     → option_map (λ s. map (λ v. v.now) s.now) o ≡ option_map raw_values (matched_of f id) → map (λ v. v.now) r.now ≡ values_of id (rows_of f)
 taken f id o d r e none got = read_out o d r e none ∙ ap (λ x. unwrap_or x []) got ∙ sym (values_are f id)
 
+-- ---- the flags and the format
+
+-- a text is `true`, as a test
+spelled : (t : Text) → t ≡ codes "true" → true ≡ bytes_eq t (codes "true")
+spelled t e = sym ((bytes_eq-Decides t (codes "true")).1 e)
+
+unspelled : (t : Text) → (t ≡ codes "true" → ⊥) → false ≡ bytes_eq t (codes "true")
+unspelled t other = go (bytes_eq t (codes "true")) refl
+  where
+    go : (b : Bool) → bytes_eq t (codes "true") ≡ b → false ≡ b
+    go true e = absurd (other ((bytes_eq-Decides t (codes "true")).0 e))
+    go false e = refl
+
+-- what a flag reads as
+pub flag_read : (E : Type 0) (o : Option Text) (r : Option Bool) (b : Bool) → (o ≡ None → r ≡ None)
+    → ((t : Text) → o ≡ Some t → ReadsOne {T = Bool} {E = E} ParsesBool t r) → b ≡ unwrap_or r false
+    → b ≡ option_map_or (λ v. bytes_eq v (codes "true")) o false
+flag_read E None r b none some is = is ∙ ap (λ x. unwrap_or x false) (none refl)
+flag_read E (Some t) r b none some is = is ∙ go r (some t refl)
+  where
+    go : (r : Option Bool) → ReadsOne {T = Bool} {E = E} ParsesBool t r → unwrap_or r false ≡ bytes_eq t (codes "true")
+    go (Some true) reads = spelled t reads
+    go (Some false) reads = unspelled t (λ e. let bad : codes "true" ≡ codes "false" = sym e ∙ reads in absurd cc)
+    go None reads = unspelled t reads.1.0
+
+-- the name of the format
+name_read : (o : Option (Bor Text)) (d r : Bor Text) → r ≡ unwrap_or o d → r.now ≡ unwrap_or (option_map (λ s. s.now) o) d.now
+name_read None d r e = ap (λ (b : Bor Text). b.now) e
+name_read (Some x) d r e = ap (λ (b : Bor Text). b.now) e
+
+pub format_read : (f : Found) (o : Option (Bor Text)) (d r : Bor Text) → r ≡ unwrap_or o d → d.now ≡ codes "plain"
+    → option_map (λ s. s.now) o ≡ first_value f (codes "format") → r.now ≡ format_asked (rows_of f)
+format_read f o d r e plain got =
+    name_read o d r e ∙ ap₂ unwrap_or (got ∙ first_value-rows f (codes "format")) plain
+
 -- ---- the lines
 
 abbrev is_line_parser : ValueParser → Bool
@@ -338,33 +395,68 @@ simple = refl
 simple_and_free : is_simple_and_free command ≡ true
 simple_and_free = refl
 
+known : (format : Format) → is_format (format_name format) ≡ true
+known Plain = refl
+known Progress = refl
+known Json = refl
+
+-- what follows where clap finds no fault
+after_none : (kinds next : Kinds) → kinds ≡ [] → or_else kinds next ≡ next
+after_none kinds next none = ap (λ k. or_else k next) none
+
+stays_among : (k : ErrorKind) (kinds next : Kinds) → IsAmong k kinds → IsAmong k (or_else kinds next)
+stays_among k [] next among = absurd among
+stays_among k (x ∷ xs) next among = among
+
+-- clap finds no fault where the parse succeeds, and the matches are the command's
+module _ (arguments : List Text) (old : Command) (m : ArgMatches) (is : IsCommand command old)
+    (matches : HasMatchesOf (app_of old) arguments m)
+    (kinds : is_simple_and_free (app_of old) ≡ true → fault_of (app_of old) arguments ≡ []) where
+  passed : fault_of command arguments ≡ []
+  passed = ap (λ a. fault_of a arguments) (sym is.app) ∙ kinds (ap is_simple_and_free is.app ∙ simple_and_free)
+
+  rows : rows_of (found_of m) ≡ found_in arguments
+  rows = (matches (ap is_simple is.app ∙ simple)).0 ∙ ap (λ a. matches_of a arguments) is.app
+
+  faults : (known : Bool) → is_format (format_asked (rows_of (found_of m))) ≡ known → faults_in arguments ≡ (if known then [] else (InvalidValue ∷ []))
+  faults known e = after_none _ _ passed ∙ ap (λ b. if b then [] else (InvalidValue ∷ [])) (ap (λ r. is_format (format_asked r)) (sym rows) ∙ e)
+
 -- what a parse that succeeds says of the answer that was made of it
-pub says_found : (arguments : List Text) (old new : Command) (m : ArgMatches) (r : Result Words WordsFault) → IsCommand command old
+pub says_found : (arguments : List Text) (old new : Command) (m : ArgMatches) (format : Format) (r : Result Words WordsFault) → IsCommand command old
     → (is_broken new ≡ true → ⊥) → BuildsOrBreaks old new → BuildsTo old new
     → ((fields_of new).has_globals ≡ false → IsParsed new (found_of m) (has_subcommand m))
     → HasMatchesOf (app_of old) arguments m
     → (is_simple_and_free (app_of old) ≡ true → fault_of (app_of old) arguments ≡ [])
+    → format_name format ≡ format_asked (rows_of (found_of m))
     → SaysMatches (rows_of (found_of m)) r → SaysArguments arguments r
-says_found arguments old new m r is whole after from parsed matches kinds says = go r says
+says_found arguments old new m format r is whole after from parsed matches kinds named says = go r says
   where
     faultless : faults_in arguments ≡ []
-    faultless = ap (λ a. fault_of a arguments) (sym is.app) ∙ kinds (ap is_simple_and_free is.app ∙ simple_and_free)
+    faultless = faults arguments old m is matches kinds true (ap is_format (sym named) ∙ known format)
 
-    rows : rows_of (found_of m) ≡ found_in arguments
-    rows = (matches (ap is_simple is.app ∙ simple)).0 ∙ ap (λ a. matches_of a arguments) is.app
+    same : rows_of (found_of m) ≡ found_in arguments
+    same = rows arguments old m is matches kinds
 
     go : (r : Result Words WordsFault) → SaysMatches (rows_of (found_of m)) r → SaysArguments arguments r
     go (Ok w) says =
         let some = some_files old new m is (left_of old new is after whole) from parsed in
         let lines = found_lines old new m is whole after from parsed in (
           faultless,
-          subst (λ x. IsAskedBy x w) rows says,
+          subst (λ x. IsAskedBy x w) same says,
           λ none. some (sym says.files ∙ ap (map _) none),
-          subst (All (λ n. 1 ≤ n)) (sym says.lines) (positive _ lines),
+          subst (All (λ n. 1 ≤ n)) (sym says.options.lines) (positive _ lines),
         )
     go (Err (Usage e)) says = absurd says
-    go (Err Env) says = (faultless, subst (λ x. SaysMatches x (Err Env)) rows says)
+    go (Err Env) says = (faultless, subst (λ x. SaysMatches x (Err Env)) same says)
     go (Err Memory) says = tt
+
+-- what a parse that succeeds says of an unknown format
+pub says_unknown : (arguments : List Text) (old : Command) (m : ArgMatches) (e : Error) → IsCommand command old
+    → HasMatchesOf (app_of old) arguments m
+    → (is_simple_and_free (app_of old) ≡ true → fault_of (app_of old) arguments ≡ [])
+    → is_format (format_asked (rows_of (found_of m))) ≡ false → kind_of e ≡ InvalidValue → SaysArguments arguments (Err (Usage e))
+says_unknown arguments old m e is matches kinds unknown kind =
+    subst (IsAmong (kind_of e)) (sym (faults arguments old m is matches kinds false unknown)) (inl kind)
 
 -- what a parse that fails says of the answer that it leads to
 pub says_fault : (arguments : List Text) (old : Command) (e : Error) (r : Result Words WordsFault) → IsCommand command old
@@ -372,10 +464,10 @@ pub says_fault : (arguments : List Text) (old : Command) (e : Error) (r : Result
     → IsErrAnd r (λ f. IsFaultBy e f) → SaysArguments arguments r
 says_fault arguments old e (Ok w) is kinds by = absurd by
 says_fault arguments old e (Err (Usage f)) is kinds by =
-    let kind : HasKind (faults_in arguments) e = subst (λ a. HasKind (fault_of a arguments) e) is.app (kinds (ap is_simple_and_free is.app ∙ simple_and_free)) in
+    let kind : HasKind (fault_of command arguments) e = subst (λ a. HasKind (fault_of a arguments) e) is.app (kinds (ap is_simple_and_free is.app ∙ simple_and_free)) in
     elim kind [
       | inl memory ↦ absurd (by.1 memory)
-      | inr among ↦ subst (λ (x : Error). IsAmong (kind_of x) (faults_in arguments)) (sym by.0) among
+      | inr among ↦ stays_among _ _ _ (subst (λ (x : Error). IsAmong (kind_of x) (fault_of command arguments)) (sym by.0) among)
     ]
 says_fault arguments old e (Err Env) is kinds by = absurd by
 says_fault arguments old e (Err Memory) is kinds by = tt

@@ -1,9 +1,9 @@
 -- What clap's definitions say of arguments that are written out.
-use Rattle.std.proofs.Common.{◌≡◌, List, [], ◌∷◌, Some, codes, refl}
+use Rattle.std.proofs.Common.{◌≡◌, List, [], ◌∷◌, Some, codes, map, true, false, refl}
 use Rattle.clap.specs.Words.{Text, first_of}
 use Rattle.clap.specs.declared.error.kind.ErrorKind.TheVariants as kind
 use Rattle.clap.proofs.OnLiterals.{clap_on_literals}
-use Rattle.gk_cli.specs.Arguments.{cut_at_equals, faults_in, found_in, line_number, values_of}
+use Rattle.gk_cli.specs.Arguments.{cut_at_equals, faults_in, format_asked, found_in, is_set, line_number, values_of}
 
 abbrev program : Text
 program = codes "gherkin_run"
@@ -58,10 +58,112 @@ two_hooks_files : faults_in (program ∷ codes "--hooks=h" ∷ codes "--hooks=h"
 unfolding clap_on_literals
 two_hooks_files = refl
 
-no_option : faults_in (program ∷ codes "--stop" ∷ codes "a" ∷ []) ≡ kind.UnknownArgument ∷ []
+no_option : faults_in (program ∷ codes "--start" ∷ codes "a" ∷ []) ≡ kind.UnknownArgument ∷ []
 unfolding clap_on_literals
 no_option = refl
 
 help : faults_in (program ∷ codes "a" ∷ codes "-h" ∷ []) ≡ kind.DisplayHelp ∷ []
 unfolding clap_on_literals
 help = refl
+
+-- one flag among other options, and the same line twice
+abbrev stopping : List Text
+stopping =
+    program ∷ codes "--line" ∷ codes "3" ∷ codes "--line" ∷ codes "3" ∷ codes "--env" ∷ codes "A=b=c" ∷ codes "--stop" ∷ codes "f.feature" ∷ codes "g.feature" ∷ []
+
+stopping_is_taken : faults_in stopping ≡ []
+unfolding clap_on_literals
+stopping_is_taken = refl
+
+stopping_lines : map line_number (values_of (codes "line") (found_in stopping)) ≡ 3 ∷ 3 ∷ []
+unfolding clap_on_literals
+stopping_lines = refl
+
+stopping_variables : map cut_at_equals (values_of (codes "env") (found_in stopping)) ≡ record { name = codes "A"; text = codes "b=c" } ∷ []
+unfolding clap_on_literals
+stopping_variables = refl
+
+stopping_stops : is_set (codes "stop") (found_in stopping) ≡ true
+unfolding clap_on_literals
+stopping_stops = refl
+
+stopping_is_no_dry_run : is_set (codes "dry-run") (found_in stopping) ≡ false
+unfolding clap_on_literals
+stopping_is_no_dry_run = refl
+
+stopping_shows_skipped : is_set (codes "no-skipped") (found_in stopping) ≡ false
+unfolding clap_on_literals
+stopping_shows_skipped = refl
+
+stopping_format : format_asked (found_in stopping) ≡ codes "plain"
+unfolding clap_on_literals
+stopping_format = refl
+
+stopping_files : values_of (codes "files") (found_in stopping) ≡ codes "f.feature" ∷ codes "g.feature" ∷ []
+unfolding clap_on_literals
+stopping_files = refl
+
+-- the other flags, and a format
+abbrev dry : List Text
+dry = program ∷ codes "a" ∷ codes "--no-skipped" ∷ codes "--format=json" ∷ codes "--dry-run" ∷ []
+
+dry_is_taken : faults_in dry ≡ []
+unfolding clap_on_literals
+dry_is_taken = refl
+
+dry_runs_nothing : is_set (codes "dry-run") (found_in dry) ≡ true
+unfolding clap_on_literals
+dry_runs_nothing = refl
+
+dry_hides_skipped : is_set (codes "no-skipped") (found_in dry) ≡ true
+unfolding clap_on_literals
+dry_hides_skipped = refl
+
+dry_does_not_stop : is_set (codes "stop") (found_in dry) ≡ false
+unfolding clap_on_literals
+dry_does_not_stop = refl
+
+dry_format : format_asked (found_in dry) ≡ codes "json"
+unfolding clap_on_literals
+dry_format = refl
+
+-- after `--` a flag is a file
+flag_as_file : is_set (codes "stop") (found_in (program ∷ codes "--" ∷ codes "--stop" ∷ [])) ≡ false
+unfolding clap_on_literals
+flag_as_file = refl
+
+progress_is_taken : faults_in (program ∷ codes "--format" ∷ codes "progress" ∷ codes "a" ∷ []) ≡ []
+unfolding clap_on_literals
+progress_is_taken = refl
+
+unknown_format : faults_in (program ∷ codes "--format" ∷ codes "xml" ∷ codes "a" ∷ []) ≡ kind.InvalidValue ∷ []
+unfolding clap_on_literals
+unknown_format = refl
+
+capital_format : faults_in (program ∷ codes "--format=JSON" ∷ codes "a" ∷ []) ≡ kind.InvalidValue ∷ []
+unfolding clap_on_literals
+capital_format = refl
+
+help_before_unknown_format : faults_in (program ∷ codes "--format=xml" ∷ codes "--help" ∷ []) ≡ kind.DisplayHelp ∷ []
+unfolding clap_on_literals
+help_before_unknown_format = refl
+
+two_formats : faults_in (program ∷ codes "--format=json" ∷ codes "--format=json" ∷ codes "a" ∷ []) ≡ kind.ArgumentConflict ∷ []
+unfolding clap_on_literals
+two_formats = refl
+
+two_stops : faults_in (program ∷ codes "--stop" ∷ codes "a" ∷ codes "--stop" ∷ []) ≡ kind.ArgumentConflict ∷ []
+unfolding clap_on_literals
+two_stops = refl
+
+two_dry_runs : faults_in (program ∷ codes "--dry-run" ∷ codes "--dry-run" ∷ codes "a" ∷ []) ≡ kind.ArgumentConflict ∷ []
+unfolding clap_on_literals
+two_dry_runs = refl
+
+two_no_skipped : faults_in (program ∷ codes "--no-skipped" ∷ codes "--no-skipped" ∷ codes "a" ∷ []) ≡ kind.ArgumentConflict ∷ []
+unfolding clap_on_literals
+two_no_skipped = refl
+
+flag_with_value : faults_in (program ∷ codes "--stop=true" ∷ codes "a" ∷ []) ≡ kind.TooManyValues ∷ []
+unfolding clap_on_literals
+flag_with_value = refl

@@ -1,18 +1,25 @@
 -- What the arguments of the command line ask for.
-use Rattle.std.specs.Prelude.{◌≡◌, ◌≢◌, ◌≤◌, ◌==◌, ℕ, Bool, List, [], true, false, Some, Result, Ok, Err, codes, string_bytes, map, option_map, unwrap_or}
-use Rattle.std.specs.List.{All, Any, after_first, before_first}
+use Rattle.std.specs.Prelude.{◌≡◌, ◌≢◌, ◌≤◌, ◌==◌, ℕ, Bool, List, [], ◌∷◌, true, false, Option, Some, None, Result, Ok, Err, if◌then◌else◌, codes, string_bytes, map, fold, option_map, unwrap_or}
+use Rattle.std.specs.List.{All, Any, after_first, before_first, list_any}
+use Rattle.std.specs.Option.{option_map_or}
+use Rattle.std.specs.Str.{bytes_eq}
 use Rattle.std.specs.Str.Parse.{digits_value, without_leading_plus}
 use Rattle.std.specs.Prelude.{String, Vec}
 use Rattle.std.specs.declared.alloc.Global.{Global}
+use Rattle.clap.specs.Kinds.{or_else}
 use Rattle.clap.specs.Lexer.{has_byte, usize_max}
+use Rattle.clap.specs.Walk.{one_of}
 use Rattle.clap.specs.Words.{IsPlainArg, IsUnsignedIn, Kinds, IsAmong, App, IsPlain, Row, Rule, Text, all_of, app_of, fault_of, first_of, kind_of, matches_of, new_app, new_rule, rule_of, with_rule}
-use Rattle.clap.specs.declared.builder.action.ArgAction.TheVariants.{Append, Set}
+use Rattle.clap.specs.declared.builder.action.ArgAction.TheVariants.{Append, Set, SetTrue}
 use Rattle.clap.specs.declared.builder.arg.Arg.{Arg}
 use Rattle.clap.specs.declared.builder.command.Command.{Command}
 use Rattle.clap.specs.declared.builder.command.Command.TheViews.{out-Command as fields_of}
 use Rattle.clap.specs.declared.builder.value_parser.ValueParser.TheVariants.{Unsigned}
 use Rattle.clap.specs.declared.error.Error.{Error}
-use Rattle.clap.specs.declared.error.kind.ErrorKind.TheVariants.{OutOfMemory}
+use Rattle.clap.specs.declared.error.kind.ErrorKind.TheVariants.{InvalidValue, OutOfMemory}
+use Rattle.gk_report.specs.declared.report.Format.{Format}
+use Rattle.gk_report.specs.declared.report.Format.TheVariants.{Plain, Progress, Json}
+use Rattle.gk_cli.specs.declared.arguments.Options.{Options}
 use Rattle.gk_cli.specs.declared.arguments.Words.{Words}
 use Rattle.gk_cli.specs.declared.arguments.WordsFault.{WordsFault}
 use Rattle.gk_cli.specs.declared.arguments.WordsFault.TheVariants.{Usage, Env, Memory}
@@ -51,17 +58,49 @@ hooks_rule = record (new_rule (codes "hooks")) { long = Some (codes "hooks"); ac
 abbrev pub env_rule : Rule
 env_rule = record (new_rule (codes "env")) { long = Some (codes "env"); action = Some Append; value_names = 1 }
 
--- The command: its name, the files and the options. Help is clap's own. (this project's profile)
-abbrev pub command : App
-command = with_rule (with_rule (with_rule (with_rule (with_rule (with_rule (new_app (codes "gherkin_run")) files_rule) tags_rule) line_rule) library_rule) hooks_rule) env_rule
+-- The option `--format F`, once at most. (behave's documentation: command line arguments)
+abbrev pub format_rule : Rule
+format_rule = record (new_rule (codes "format")) { long = Some (codes "format"); action = Some Set; value_names = 1 }
 
--- The faults that clap finds in the arguments, a request for help among them: those of the first step that fails. (this project's profile)
-abbrev pub faults_in : List Text → Kinds
-faults_in arguments = fault_of command arguments
+-- A flag, once at most: clap finds `true` for it where it stands among the arguments, and `false` where it doesn't. (this project's profile)
+abbrev pub flag_rule : Text → Rule
+flag_rule name = record (new_rule name) { long = Some name; action = Some SetTrue }
+
+-- The files, the options and the flags. (this project's profile)
+abbrev pub rules : List Rule
+rules =
+    files_rule ∷ tags_rule ∷ line_rule ∷ library_rule ∷ hooks_rule ∷ env_rule
+    ∷ flag_rule (codes "dry-run") ∷ flag_rule (codes "stop") ∷ format_rule ∷ flag_rule (codes "no-skipped") ∷ []
+
+-- The command: its name and its rules. Help is clap's own. (this project's profile)
+abbrev pub command : App
+command = fold with_rule (new_app (codes "gherkin_run")) rules
 
 -- What clap finds in the arguments, of which the first is the program's name. (this project's profile)
 abbrev pub found_in : List Text → List Row
 found_in arguments = matches_of command arguments
+
+-- The name of a format. (behave's documentation: formatters)
+abbrev pub format_name : Format → Text
+format_name Plain = codes "plain"
+format_name Progress = codes "progress"
+format_name Json = codes "json"
+
+-- A format has this name. (this project's profile)
+abbrev pub is_format : Text → Bool
+is_format name = list_any (λ format. bytes_eq (format_name format) name) (Plain ∷ Progress ∷ Json ∷ [])
+
+-- The format that `--format` asks for, by its name; plain where there is none. (behave's documentation: command line arguments)
+abbrev pub format_asked : List Row → Text
+format_asked rows = unwrap_or (first_of (codes "format") rows) (codes "plain")
+
+-- The faults in the arguments, a request for help among them: those of the first step at which clap fails; where there are none, a format of an unknown name. (this project's profile)
+abbrev pub faults_in : List Text → Kinds
+faults_in arguments = or_else (fault_of command arguments) (if is_format (format_asked (found_in arguments)) then [] else (InvalidValue ∷ []))
+
+-- Whether a flag stands among the arguments. (this project's profile)
+abbrev pub is_set : Text → List Row → Bool
+is_set name rows = option_map_or (λ text. bytes_eq text (codes "true")) (one_of name rows) false
 
 -- The values of one option or of the files, in order. (this project's profile)
 abbrev pub values_of : Text → List Row → List Text
@@ -74,6 +113,11 @@ IsLineNumber text = IsUnsignedIn 1 4294967295 text
 -- The number that it spells, in decimal digits after a plus or none. (this project's profile)
 abbrev pub line_number : Text → ℕ
 line_number text = digits_value 10 (without_leading_plus text)
+
+-- The format of a name; an unknown name has none. (this project's profile)
+abbrev pub SaysFormat : Text → Option Format → Type 0
+SaysFormat name (Some format) = format_name format ≡ name
+SaysFormat name None = is_format name ≡ false
 
 -- A name and a text. (this project's profile)
 pub record PairValue : Type 0 where
@@ -106,11 +150,19 @@ SaysVariables texts (Err Env) = Any (λ text. has_equals text ≡ false) texts
 SaysVariables texts (Err Memory) = Unit {0}
 SaysVariables texts (Err (Usage e)) = ⊥
 
+-- The options are those that clap found. (this project's profile)
+pub record AreAsked (rows : List Row) (options : Options) : Type 0 where
+  pub tags : map string_bytes options.tags.items ≡ values_of (codes "tags") rows
+  pub lines : options.lines.items ≡ map line_number (values_of (codes "line") rows)
+  pub dry_run : options.dry_run ≡ is_set (codes "dry-run") rows
+  pub stop : options.stop ≡ is_set (codes "stop") rows
+  pub format : format_name options.style.format ≡ format_asked rows
+  pub no_skipped : options.style.no_skipped ≡ is_set (codes "no-skipped") rows
+
 -- What is asked for is what clap found. (this project's profile)
 pub record IsAskedBy (rows : List Row) (w : Words) : Type 0 where
   pub files : map string_bytes w.files.items ≡ values_of (codes "files") rows
-  pub tags : map string_bytes w.options.tags.items ≡ values_of (codes "tags") rows
-  pub lines : w.options.lines.items ≡ map line_number (values_of (codes "line") rows)
+  pub options : AreAsked rows w.options
   pub library : option_map string_bytes w.library ≡ first_of (codes "library") rows
   pub hooks : option_map string_bytes w.hooks ≡ first_of (codes "hooks") rows
   pub variables : map pair_value w.env.items ≡ map cut_at_equals (values_of (codes "env") rows)
@@ -123,7 +175,7 @@ SaysMatches rows (Err (Usage e)) = ⊥
 SaysMatches rows (Err Env) = Any (λ text. has_equals text ≡ false) (values_of (codes "env") rows)
 SaysMatches rows (Err Memory) = Unit {0}
 
--- Arguments without a fault give what clap finds in them, a file at least and no line 0; `Usage` has one of clap's faults and comes before `Env`; `Memory` may come in place of any answer. (this project's profile)
+-- Arguments without a fault give what clap finds in them, a file at least and no line 0; `Usage` has one of their faults and comes before `Env`; `Memory` may come in place of any answer. (this project's profile)
 abbrev pub SaysArguments : List Text → Result Words WordsFault → Type 0
 SaysArguments arguments (Ok w) = (faults_in arguments ≡ []) × IsAskedBy (found_in arguments) w × (w.files.items ≢ []) × All (λ n. 1 ≤ n) w.options.lines.items
 SaysArguments arguments (Err (Usage e)) = IsAmong (kind_of e) (faults_in arguments)

@@ -1,8 +1,9 @@
 //! The arguments of the command line.
 ghost use Rattle.std.specs.Prelude.{◌≡◌, map, IfOk, codes, option_map, string_bytes};
 ghost use Rattle.std.specs.List.{All};
-ghost use Rattle.clap.specs.Words.{found_of, rows_of};
-ghost use Rattle.gk_cli.specs.Arguments.{files_rule, tags_rule, line_rule, library_rule, hooks_rule, env_rule, command, HasRule, IsCommand, values_of, IsLineNumber, line_number, SaysVariable, SaysVariables, SaysMatches, SaysArguments};
+ghost use Rattle.clap.specs.Words.{found_of, kind_of, rows_of};
+ghost use Rattle.clap.specs.declared.error.kind.ErrorKind.TheVariants.{InvalidValue};
+ghost use Rattle.gk_cli.specs.Arguments.{files_rule, tags_rule, line_rule, library_rule, hooks_rule, env_rule, format_rule, flag_rule, command, HasRule, IsCommand, values_of, is_set, IsLineNumber, line_number, format_name, format_asked, SaysFormat, SaysVariable, SaysVariables, AreAsked, SaysMatches, SaysArguments};
 
 use clap::builder::ValueParser;
 use clap::error::ErrorKind;
@@ -10,6 +11,15 @@ use clap::{Arg, ArgAction, ArgMatches, Command};
 use gk_report::{Format, Style};
 use std::alloc::{AllocError, AllocFailed, Global};
 use thiserror::Error;
+
+const EXAMPLE: &str =
+    "Example:\n  gherkin_run --tags @smoke --stop --format progress login.feature cart.feature";
+
+const DRY_RUN_HELP: &str = "Look up the steps in the library, and run no step, hook or cleanup";
+
+const STOP_HELP: &str = "Stop at the first failure, and leave later scenarios untested";
+
+const NO_SKIPPED_HELP: &str = "Leave skipped features and scenarios out of the report";
 
 /// Which scenarios run, how they run, and how the report is written.
 #[derive(Debug, Drop)]
@@ -19,11 +29,14 @@ pub struct Options {
     /// The numbers of `--line`, in order, each at least 1. One of them has to be a scenario's; none chooses
     /// every scenario.
     pub lines: Vec<u32>,
-    /// No feature is begun: each step of a selected scenario is only looked up in the library.
+    /// Steps are looked up in the library, and no step, hook or cleanup runs. (behave's documentation:
+    /// command line arguments)
     pub dry_run: bool,
-    /// What comes after the first scenario or feature that is failed or memory isn't run.
+    /// After a scenario or a feature that failed or was refused memory, later scenarios are untested and
+    /// later features are not begun. (behave's documentation: command line arguments)
     pub stop: bool,
-    /// How the report is written.
+    /// The format of the report, and whether it leaves out what was skipped. (behave's documentation:
+    /// command line arguments)
     pub style: Style,
 }
 
@@ -153,18 +166,46 @@ fn env_arg<'a>(alloc: Global) -> Arg<'a>
         .action(ArgAction::Append)
 }
 
+fn format_arg<'a>(alloc: Global) -> Arg<'a>
+    ensures { HasRule format_rule result }
+{
+    Arg::new(alloc, "format")
+        .long("format")
+        .value_name("F")
+        .help("Write the report as plain, progress or json [default: plain]")
+        .action(ArgAction::Set)
+}
+
+// A flag, which stands once at most.
+fn flag_arg<'a>(alloc: Global, name: &'a str, help: &'a str) -> Arg<'a>
+    ensures { HasRule (flag_rule name.entry.now) result }
+{
+    Arg::new(alloc, name)
+        .long(name)
+        .help(help)
+        .action(ArgAction::SetTrue)
+}
+
 // The command that reads the arguments.
 fn command_of<'a>(alloc: Global) -> Result<Command<'a>, AllocError>
     ensures { IfOk result (IsCommand command) }
 {
     Command::new(alloc, "gherkin_run")
         .about("Runs the scenarios of feature files")
+        .after_help(EXAMPLE)
         .arg(files_arg(alloc))?
+        .next_help_heading("Which scenarios run")
         .arg(tags_arg(alloc))?
         .arg(line_arg(alloc))?
+        .next_help_heading("How they run")
         .arg(library_arg(alloc))?
         .arg(hooks_arg(alloc))?
-        .arg(env_arg(alloc))
+        .arg(env_arg(alloc))?
+        .arg(flag_arg(alloc, "dry-run", DRY_RUN_HELP))?
+        .arg(flag_arg(alloc, "stop", STOP_HELP))?
+        .next_help_heading("Report")
+        .arg(format_arg(alloc))?
+        .arg(flag_arg(alloc, "no-skipped", NO_SKIPPED_HELP))
 }
 
 fn copied(alloc: Global, texts: &[&str]) -> Result<Vec<String>, AllocError>
@@ -223,26 +264,66 @@ fn copied_text(alloc: Global, text: Option<&str>) -> Result<Option<String>, Allo
     }
 }
 
-fn words_of(alloc: Global, matches: &ArgMatches) -> Result<Words, WordsFault>
-    requires { All IsLineNumber (values_of (codes "line") (rows_of (found_of matches.now))) }
+// Whether a flag stands among the arguments.
+fn flag(matches: &ArgMatches, name: &str) -> bool
+    ensures { result ≡ is_set name.now (rows_of (found_of matches.now)) }
+{
+    matches.get_one::<bool>(name).unwrap_or(false)
+}
+
+// The format of this name, if there is one.
+fn format_of(name: &str) -> Option<Format>
+    ensures { SaysFormat name.now result }
+{
+    match name {
+        "plain" => Some(Format::Plain),
+        "progress" => Some(Format::Progress),
+        "json" => Some(Format::Json),
+        _ => None,
+    }
+}
+
+// The mistake of a format that isn't known, in clap's words.
+fn unknown_format(
+    alloc: Global,
+    command: &mut Command,
+    name: &str,
+) -> Result<clap::Error, AllocError>
+    ensures { IfOk result (λ error. kind_of error ≡ InvalidValue) }
+{
+    let message = format!(in alloc;
+        "invalid value '{name}' for '--format <F>'\n  [possible values: plain, progress, json]"
+    )?;
+    command.error(ErrorKind::InvalidValue, message.as_str())
+}
+
+fn options_of(alloc: Global, matches: &ArgMatches, format: Format) -> Result<Options, AllocError>
+    requires lines { All IsLineNumber (values_of (codes "line") (rows_of (found_of matches.now))) }
+    requires format { format_name format ≡ format_asked (rows_of (found_of matches.now)) }
+    ensures { IfOk result (AreAsked (rows_of (found_of matches.now))) }
+{
+    let tags = copied(alloc, matches.get_strs("tags").unwrap_or(&[]))?;
+    let lines = numbers(alloc, matches.get_strs("line").unwrap_or(&[]))?;
+    let no_skipped = flag(matches, "no-skipped");
+    Ok(Options {
+        tags,
+        lines,
+        dry_run: flag(matches, "dry-run"),
+        stop: flag(matches, "stop"),
+        style: Style { format, no_skipped },
+    })
+}
+
+fn words_of(alloc: Global, matches: &ArgMatches, format: Format) -> Result<Words, WordsFault>
+    requires lines { All IsLineNumber (values_of (codes "line") (rows_of (found_of matches.now))) }
+    requires format { format_name format ≡ format_asked (rows_of (found_of matches.now)) }
     ensures { SaysMatches (rows_of (found_of matches.now)) result }
 {
     let files = copied(alloc, matches.get_strs("files").unwrap_or(&[]))?;
-    let tags = copied(alloc, matches.get_strs("tags").unwrap_or(&[]))?;
-    let lines = numbers(alloc, matches.get_strs("line").unwrap_or(&[]))?;
+    let options = options_of(alloc, matches, format)?;
     let library = copied_text(alloc, matches.get_str("library"))?;
     let hooks = copied_text(alloc, matches.get_str("hooks"))?;
     let env = variables(alloc, matches.get_strs("env").unwrap_or(&[]))?;
-    let options = Options {
-        tags,
-        lines,
-        dry_run: false,
-        stop: false,
-        style: Style {
-            format: Format::Plain,
-            no_skipped: false,
-        },
-    };
     Ok(Words {
         options,
         library,
@@ -253,15 +334,21 @@ fn words_of(alloc: Global, matches: &ArgMatches) -> Result<Words, WordsFault>
 }
 
 /// Reads the arguments of the command line, of which the first is the program's name. `--tags T`,
-/// `--line N` (1 to 4,294,967,295) and `--env NAME=VALUE` may stand several times, `--library FILE` and
-/// `--hooks FILE` once each. Every other argument that begins with no `-` or is `-` alone, and every argument after the first `--`, is
-/// a feature file; there has to be one. Options and files stand in any order, and `--opt=value` is the same
-/// as `--opt value`. `--help` and `-h` ask for help, and answer `Usage` with the exit code 0. A mistake is
-/// `Usage`, and comes before `Env`; `Memory` may come in place of any answer. (this project's profile)
+/// `--line N` (1 to 4,294,967,295) and `--env NAME=VALUE` may stand several times. `--library FILE`,
+/// `--hooks FILE`, `--format F` (`plain`, `progress` or `json`; `plain` if it is left out), `--dry-run`,
+/// `--stop` and `--no-skipped` stand once at most. Every other argument that begins with no `-` or is `-`
+/// alone, and every argument after the first `--`, is a feature file; there has to be one. Options and files
+/// stand in any order, and `--opt=value` is the same as `--opt value`. `--help` and `-h` ask for help, and
+/// answer `Usage` with the exit code 0. A mistake is `Usage`, and comes before `Env`; `Memory` may come in
+/// place of any answer. (this project's profile)
 pub fn read_words(alloc: Global, words: &[String]) -> Result<Words, WordsFault>
     ensures { SaysArguments (map string_bytes words.now) result }
 {
     let mut command = command_of(alloc)?;
     let matches = command.try_get_matches_from_mut(words)?;
-    words_of(alloc, &matches)
+    let name = matches.get_str("format").unwrap_or("plain");
+    match format_of(name) {
+        Some(format) => words_of(alloc, &matches, format),
+        None => Err(WordsFault::Usage(unknown_format(alloc, &mut command, name)?)),
+    }
 }

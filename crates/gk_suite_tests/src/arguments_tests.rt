@@ -55,6 +55,47 @@ const READ: [(&[&str], &str); 6] = [
     ),
 ];
 
+// Arguments; whether the run is dry, whether it stops, the style of the report.
+const STYLED: [(&[&str], &str); 4] = [
+    (
+        &["gherkin_run", "a"],
+        "false false Style { format: Plain, no_skipped: false }",
+    ),
+    (
+        &["gherkin_run", "--stop", "a", "--format=json"],
+        "false true Style { format: Json, no_skipped: false }",
+    ),
+    (
+        &["gherkin_run", "--no-skipped", "--format", "progress", "a"],
+        "false false Style { format: Progress, no_skipped: true }",
+    ),
+    (
+        &[
+            "gherkin_run",
+            "--dry-run",
+            "--format",
+            "plain",
+            "--",
+            "a",
+            "--stop",
+        ],
+        "true false Style { format: Plain, no_skipped: false }",
+    ),
+];
+
+#[test]
+fn reads_flags_and_formats(rt: HostRuntime) -> Result<(), Fail> {
+    for (arguments, wanted) in STYLED {
+        let options = read(rt.alloc(), arguments)??.options;
+        let text = format!(in rt.alloc();
+            "{:?} {:?} {:?}",
+            options.dry_run, options.stop, options.style
+        )?;
+        assert_eq!(rt; text.as_str(), wanted);
+    }
+    Ok(())
+}
+
 #[test]
 fn reads_options_and_files_in_any_order(rt: HostRuntime) -> Result<(), Fail> {
     for (arguments, wanted) in READ {
@@ -69,7 +110,7 @@ fn reads_options_and_files_in_any_order(rt: HostRuntime) -> Result<(), Fail> {
 }
 
 // Arguments; clap's kind and exit code, or none for `Env`.
-const REFUSED: [(&[&str], Option<(ErrorKind, i32)>); 16] = [
+const REFUSED: [(&[&str], Option<(ErrorKind, i32)>); 19] = [
     (&[], Some((ErrorKind::MissingRequiredArgument, 2))),
     (
         &["gherkin_run"],
@@ -80,8 +121,20 @@ const REFUSED: [(&[&str], Option<(ErrorKind, i32)>); 16] = [
         Some((ErrorKind::MissingRequiredArgument, 2)),
     ),
     (
-        &["gherkin_run", "--stop", "a"],
+        &["gherkin_run", "--start", "a"],
         Some((ErrorKind::UnknownArgument, 2)),
+    ),
+    (
+        &["gherkin_run", "--stop", "--stop", "a"],
+        Some((ErrorKind::ArgumentConflict, 2)),
+    ),
+    (
+        &["gherkin_run", "--format", "json", "--format", "json", "a"],
+        Some((ErrorKind::ArgumentConflict, 2)),
+    ),
+    (
+        &["gherkin_run", "--format", "xml", "--env", "A", "a"],
+        Some((ErrorKind::InvalidValue, 2)),
     ),
     (
         &["gherkin_run", "-x", "a"],

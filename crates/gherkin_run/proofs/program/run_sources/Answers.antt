@@ -3,28 +3,26 @@ use Rattle.std.specs.Prelude.{option_map}
 use Rattle.gk_cli.specs.Counted.{one_more}
 use Rattle.gk_cli.specs.Source.{source_value}
 use Rattle.gk_cli.specs.Suite.{device_of}
-use Rattle.gherkin_run.proofs.ProgramLemmas.{calls_of_run, judged_kept, plain_kept, within}
+use Rattle.gherkin_run.proofs.ProgramLemmas.{calls_of_run, within}
 use Rattle.gherkin_run.proofs.program.run_sources.Goals as goal
 
-pub returns-in-Ok-flush-clause-judged : goal.returns-in-Ok-flush-clause-judged
-returns-in-Ok-flush-clause-judged g c =
-    let judged = rw (c.bytes_of-steps.ensures, c.bytes_of-around.ensures, c.as_slice.ensures.value) at c.in-Ok.ensures.judged in
-    judged_kept _ _ _ (device_of (λ w. g.W.Write.contents w) c.run_suite.new.out) _ c.in-Ok.status judged c.flush.ensures.bytes
-
-pub returns-in-Ok-flush-clause-plain : goal.returns-in-Ok-flush-clause-plain
-returns-in-Ok-flush-clause-plain g c =
-    let plain = rw (c.bytes_of-steps.ensures, c.bytes_of-around.ensures, c.as_slice.ensures.value) at c.in-Ok.ensures.plain in
-    plain_kept _ _ _ (device_of (λ w. g.W.Write.contents w) c.run_suite.new.out) _ c.in-Ok.status plain c.flush.ensures.bytes
+pub returns-in-Ok-flush-clause-run : goal.returns-in-Ok-flush-clause-run
+returns-in-Ok-flush-clause-run g c = record {
+  written = device_of (λ w. g.W.Write.contents w) c.run_suite.new.out;
+  judged = rw (c.bytes_of-steps.ensures, c.bytes_of-around.ensures, c.as_slice.ensures.value) at c.in-Ok.ensures.judged;
+  plain = rw (c.bytes_of-steps.ensures, c.bytes_of-around.ensures, c.as_slice.ensures.value) at c.in-Ok.ensures.plain;
+  flushed = record { written = c.flush.ensures.bytes; calls = c.flush.ensures.calls; flushes = c.flush.ensures.flushes };
+}
 
 pub returns-in-Ok-clause-fault : goal.returns-in-Ok-clause-fault
-returns-in-Ok-clause-fault g c =
-    let judged = rw (c.bytes_of-steps.ensures, c.bytes_of-around.ensures, c.as_slice.ensures.value) at c.in-Ok.ensures.judged in
-    inr record {
-      named = refl;
-      status = c.in-Ok.status;
-      written = judged_kept _ _ _ (device_of (λ w. g.W.Write.contents w) c.run_suite.new.out) _ c.in-Ok.status judged c.flush.ensures.bytes;
-      failed = c.in-Err-flush.ensures.failures ∙ ap one_more c.in-Ok.ensures.quiet;
-    }
+returns-in-Ok-clause-fault g c = inr record {
+  named = refl;
+  status = c.in-Ok.status;
+  written = device_of (λ w. g.W.Write.contents w) c.run_suite.new.out;
+  judged = rw (c.bytes_of-steps.ensures, c.bytes_of-around.ensures, c.as_slice.ensures.value) at c.in-Ok.ensures.judged;
+  flushed = record { written = c.flush.ensures.bytes; calls = c.flush.ensures.calls; flushes = c.flush.ensures.flushes };
+  failed = c.in-Err-flush.ensures.failures ∙ ap one_more c.in-Ok.ensures.quiet;
+}
 
 pub fault_of_run-requires : goal.fault_of_run-requires
 fault_of_run-requires g c =

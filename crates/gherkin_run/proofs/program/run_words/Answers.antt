@@ -19,7 +19,7 @@ returns-clause-run g c =
     let sources = c.in_ok-sources.sources.items in
     let given = are_given c.args.words library hooks sources c.in_ok-library.ensures.named c.in_ok-hooks.ensures.named c.in_ok-sources.ensures.named in
     let put = put_in c.args.words c.new-sandbox.result c.put_variables.new.sandbox.now c.as_slice.result.now c.in_ok-put_variables.ensures.0 c.new-sandbox.ensures c.as_slice.ensures.value in
-    runs c.args.words (option_map source_value library) (option_map source_value hooks) (map source_value sources) _ _ c.put_variables.new.sandbox.now c.run_sources.result given put c.run_sources.ensures.judged c.run_sources.ensures.plain
+    runs c.args.words (option_map source_value library) (option_map source_value hooks) (map source_value sources) _ _ c.put_variables.new.sandbox.now c.run_sources.result given put c.run_sources.ensures.run
 
 pub returns-clause-fault : goal.returns-clause-fault
 returns-clause-fault g c =

@@ -1,0 +1,12 @@
+use Rattle.std.proofs.Common.{◌∙◌, ap, codes, false}
+use Rattle.std.specs.Option.{option_map_or}
+use Rattle.std.specs.Str.{bytes_eq}
+use Rattle.clap.specs.Words.{found_of}
+use Rattle.clap.proofs.WalkLemmas.{one_text-rows}
+use Rattle.gk_cli.proofs.ArgumentsLemmas.{flag_read}
+use Rattle.gk_cli.proofs.arguments.flag.Goals as goal
+
+pub returns : goal.returns
+returns c =
+    flag_read _ _ c.get_one.result c.unwrap_or.result c.get_one.ensures.none c.get_one.ensures.value c.unwrap_or.ensures
+    ∙ ap (λ o. option_map_or (λ v. bytes_eq v (codes "true")) o false) (one_text-rows (found_of c.args.matches.now) c.args.name.now)
