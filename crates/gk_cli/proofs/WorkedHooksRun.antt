@@ -28,7 +28,7 @@ use Rattle.gk_run.specs.Results.{Results}
 use Rattle.gk_run.specs.Judged.{plain_results}
 use Rattle.gk_report.specs.ReportTexts.{status_text, reason_text, one_line}
 use Rattle.gk_report.specs.Summary.{status}
-use Rattle.gk_report.specs.PlainReport.{status_line, step_line, case_line, around_line, feature_line, counted, count_line, closing_lines}
+use Rattle.gk_report.specs.PlainReport.{status_line, step_line, case_line, around_line, feature_line, counted, count_line, closing_lines, plain_part}
 use Rattle.gk_report.specs.Report.{report}
 use Rattle.gk_cli.specs.Inputs.{Request, Inputs, AreInputs}
 use Rattle.gk_cli.specs.Suite.{Device, Plain, InputsAreUnique, run_with}
@@ -146,7 +146,7 @@ hooks_report = codes "Feature: one ... passed\n  Scenario: first ... passed\n   
 
 -- The results have that report.
 hooks_reports : report plain_style hooks_results ≡ hooks_report
-unfolding digits status_text reason_text one_line status_line step_line case_line around_line feature_line counted count_line closing_lines
+unfolding digits status_text reason_text one_line status_line step_line case_line around_line feature_line counted count_line closing_lines plain_part
 hooks_reports = refl
 
 -- The results have that status.

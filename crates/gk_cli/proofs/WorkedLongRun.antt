@@ -37,7 +37,7 @@ use Rattle.gk_run.specs.Results.{StepRow, CaseRow, Results}
 use Rattle.gk_run.specs.Judged.{uncut, plain_results}
 use Rattle.gk_report.specs.ReportTexts.{status_text, reason_text, one_line}
 use Rattle.gk_report.specs.Summary.{status}
-use Rattle.gk_report.specs.PlainReport.{status_line, step_line, case_line, around_line, feature_line, counted, count_line, closing_lines}
+use Rattle.gk_report.specs.PlainReport.{status_line, step_line, case_line, around_line, feature_line, counted, count_line, closing_lines, plain_part}
 use Rattle.gk_report.specs.Report.{report}
 use Rattle.gk_cli.specs.Source.{SourceValue}
 use Rattle.gk_cli.specs.Inputs.{Request, Inputs, AreInputs, HasRoom, chosen_of}
@@ -522,7 +522,7 @@ results = record {
 -- They are those of the inputs.
 is_plain : plain_results (run_with request inputs) nothing_yet inputs.features ≡ results
 unfolding cases filled filled_from cell_under digits is_chosen found match_of is_utf8 chars lib.Utf8.encode act
-is_plain = same_from_bare (run_with request inputs) uncut inputs.features ∙ refl
+is_plain = same_from_bare (run_with request inputs) uncut inputs.features refl ∙ refl
 
 -- Their report and their status.
 abbrev text : List ℕ
@@ -543,7 +543,7 @@ text = codes "Feature: mixed ... failed\n"
 
 -- The results have that report.
 reports : report plain_style results ≡ text
-unfolding digits status_text reason_text one_line status_line step_line case_line around_line feature_line counted count_line closing_lines
+unfolding digits status_text reason_text one_line status_line step_line case_line around_line feature_line counted count_line closing_lines plain_part
 reports = refl
 
 -- The results have that status.

@@ -24,7 +24,7 @@ use Rattle.gk_run.specs.Chosen.{MemberValue, ChosenValue}
 use Rattle.gk_run.specs.Judged.{Cuts, FeatureCuts, uncut_feature, first_or, later, section_state, feature_verdict, Judged}
 use Rattle.gk_report.specs.ReportTexts.{status_text, reason_text, one_line}
 use Rattle.gk_report.specs.Summary.{status}
-use Rattle.gk_report.specs.PlainReport.{status_line, step_line, case_line, around_line, feature_line, counted, count_line, closing_lines}
+use Rattle.gk_report.specs.PlainReport.{status_line, step_line, case_line, around_line, feature_line, counted, count_line, closing_lines, plain_part}
 use Rattle.gk_report.specs.Report.{report}
 use Rattle.gk_cli.specs.Inputs.{Request, Inputs, AreInputs, member_by}
 use Rattle.gk_cli.specs.Suite.{Device, IsReported, JudgedReport, InputsAreUnique, run_with}
@@ -40,11 +40,11 @@ answered old new answer results known text number are reports ends r =
     (subst (λ (bytes : List ℕ). Appends old.bytes new.bytes bytes) (ap (report plain_style) are ∙ reports) r.written, r.answered ∙ ap status are ∙ ends)
 
 -- A run of a request whose inputs are known writes and answers what some cuts give.
-judged_ends : (r : Request) (inputs : Inputs) → AreInputs r inputs → InputsAreUnique → (old new : Device) (answer : ℕ) → JudgedReport r nothing_yet old new answer → (cuts : Cuts) × IsReported r.style old new answer (results_from_bare (run_with r inputs) cuts inputs.features)
-judged_ends r inputs read unique old new answer (results, reported, are) =
+judged_ends : (r : Request) (inputs : Inputs) → r.dry_run ≡ false → AreInputs r inputs → InputsAreUnique → (old new : Device) (answer : ℕ) → JudgedReport r nothing_yet old new answer → (cuts : Cuts) × IsReported r.style old new answer (results_from_bare (run_with r inputs) cuts inputs.features)
+judged_ends r inputs runs read unique old new answer (results, reported, are) =
     let same : are.inputs ≡ inputs = unique r are.inputs inputs are.read read in
     let judged : Judged (run_with r inputs) nothing_yet inputs.features results = subst (λ (i : Inputs). Judged (run_with r i) nothing_yet i.features results) same are.judged in
-    (judged.0, subst (λ (x : Results). IsReported r.style old new answer x) (judged.1 ∙ same_from_bare (run_with r inputs) judged.0 inputs.features) reported)
+    (judged.0, subst (λ (x : Results). IsReported r.style old new answer x) (judged.1 ∙ same_from_bare (run_with r inputs) judged.0 inputs.features runs) reported)
 
 -- The cuts of a run of one feature, in its scenarios alone.
 abbrev cuts_of : List Cut → Cuts
@@ -112,7 +112,7 @@ one_memory_report = codes "Feature: one ... memory\n  Scenario: first ... memory
 
 -- The results have that report.
 one_memory_reports : report plain_style one_memory ≡ one_memory_report
-unfolding digits status_text reason_text one_line status_line step_line case_line around_line feature_line counted count_line closing_lines
+unfolding digits status_text reason_text one_line status_line step_line case_line around_line feature_line counted count_line closing_lines plain_part
 one_memory_reports = refl
 
 -- The results of that scenario, by its cut: a cut at an event that it doesn't have is none.
@@ -139,7 +139,7 @@ one_by_cuts cuts =
 pub one_judged : InputsAreUnique → (old new : Device) (answer : ℕ) → JudgedReport one_request nothing_yet old new answer →
     IsAnswered old new answer one_report 0 ⊎ IsAnswered old new answer one_memory_report 4
 one_judged unique old new answer judged =
-    let (cuts, reported) = judged_ends one_request one_inputs one_inputs_read unique old new answer judged in
+    let (cuts, reported) = judged_ends one_request one_inputs refl one_inputs_read unique old new answer judged in
     let results : Results = results_from_bare (run_with one_request one_inputs) cuts one_inputs.features in
     elim (one_by_cuts cuts) [
       | inl is ↦ inl (answered old new answer results one_results one_report 0 is one_reports one_status reported)
@@ -192,7 +192,7 @@ memory_in_A_report = codes "Feature: two ... memory\n  Scenario: A ... memory\n 
 
 -- The results have that report.
 memory_in_A_reports : report plain_style memory_in_A ≡ memory_in_A_report
-unfolding digits status_text reason_text one_line status_line step_line case_line around_line feature_line counted count_line closing_lines
+unfolding digits status_text reason_text one_line status_line step_line case_line around_line feature_line counted count_line closing_lines plain_part
 memory_in_A_reports = refl
 
 -- The report of the second case.
@@ -201,7 +201,7 @@ memory_in_B_report = codes "Feature: two ... memory\n  Scenario: A ... passed\n 
 
 -- The results have that report.
 memory_in_B_reports : report plain_style memory_in_B ≡ memory_in_B_report
-unfolding digits status_text reason_text one_line status_line step_line case_line around_line feature_line counted count_line closing_lines
+unfolding digits status_text reason_text one_line status_line step_line case_line around_line feature_line counted count_line closing_lines plain_part
 memory_in_B_reports = refl
 
 -- The report of the third case.
@@ -210,7 +210,7 @@ memory_in_both_report = codes "Feature: two ... memory\n  Scenario: A ... memory
 
 -- The results have that report.
 memory_in_both_reports : report plain_style memory_in_both ≡ memory_in_both_report
-unfolding digits status_text reason_text one_line status_line step_line case_line around_line feature_line counted count_line closing_lines
+unfolding digits status_text reason_text one_line status_line step_line case_line around_line feature_line counted count_line closing_lines plain_part
 memory_in_both_reports = refl
 
 -- Results are one of four.
@@ -286,7 +286,7 @@ two_by_cuts cuts =
 pub two_judged : InputsAreUnique → (old new : Device) (answer : ℕ) → JudgedReport two_request nothing_yet old new answer →
     IsAnswered old new answer two_report 1 ⊎ (IsAnswered old new answer memory_in_A_report 4 ⊎ (IsAnswered old new answer memory_in_B_report 4 ⊎ IsAnswered old new answer memory_in_both_report 4))
 two_judged unique old new answer judged =
-    let (cuts, reported) = judged_ends two_request two_inputs two_inputs_read unique old new answer judged in
+    let (cuts, reported) = judged_ends two_request two_inputs refl two_inputs_read unique old new answer judged in
     let results : Results = results_from_bare (run_with two_request two_inputs) cuts two_inputs.features in
     elim (two_by_cuts cuts) [
       | inl is ↦ inl (answered old new answer results two_results two_report 1 is two_reports two_status reported)

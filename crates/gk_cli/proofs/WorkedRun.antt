@@ -1,5 +1,5 @@
 -- Whole runs by computation: from the bytes of a feature file to the report's bytes and the status.
-use Rattle.std.specs.Prelude.{◌≡◌, ◌≢◌, ℕ, Bool, false, not, List, [], ◌∷◌, slice_index, filter, Some, None, codes}
+use Rattle.std.specs.Prelude.{◌≡◌, ◌≢◌, ℕ, Bool, false, cond, not, List, [], ◌∷◌, slice_index, filter, Some, None, codes}
 use Rattle.std.specs.Io.KnownBytes.{Appends}
 use Rattle.std.specs.Fmt.{digits}
 use Rattle.std.specs.FinMap.{get-empty}
@@ -27,17 +27,17 @@ use Rattle.gk_steps.specs.Finding.{EntryValue, found}
 use Rattle.gk_steps.specs.LibraryFile.{is_ignored, type_of, sides_of, last_arrow, SpellsEntry, SpellEntries, ReadsLibrary}
 use Rattle.gk_steps.specs.DefaultFile.{default_entries}
 use Rattle.gk_world.specs.Contents.{nothing_yet}
-use Rattle.gk_world.specs.State.{State, Map, nothing}
+use Rattle.gk_world.specs.State.{State, Map, nothing, state_of}
 use Rattle.gk_run.specs.declared.results.Status.TheVariants as statuses
 use Rattle.gk_run.specs.declared.results.Reason.TheVariants as reasons
 use Rattle.gk_run.specs.Acting.{act}
 use Rattle.gk_run.specs.Results.{FeatureRow, Results}
 use Rattle.gk_run.specs.Alone.{Run}
 use Rattle.gk_run.specs.Chosen.{ChosenValue}
-use Rattle.gk_run.specs.Judged.{Cuts, uncut, results_from, results_of, plain_results}
+use Rattle.gk_run.specs.Judged.{Cuts, uncut, dry_results, results_from, results_of, plain_results}
 use Rattle.gk_report.specs.ReportTexts.{status_text, reason_text, one_line}
 use Rattle.gk_report.specs.Summary.{status}
-use Rattle.gk_report.specs.PlainReport.{status_line, step_line, case_line, around_line, feature_line, counted, count_line, closing_lines}
+use Rattle.gk_report.specs.PlainReport.{status_line, step_line, case_line, around_line, feature_line, counted, count_line, closing_lines, plain_part}
 use Rattle.gk_report.specs.declared.report.Style.{Style}
 use Rattle.gk_report.specs.declared.report.Format.TheVariants as formats
 use Rattle.gk_report.specs.Report.{report}
@@ -66,10 +66,11 @@ bare_state = record { files = nothing; env = nothing; outer = nothing; own = not
 abbrev pub results_from_bare : Run → Cuts → List ChosenValue → Results
 results_from_bare run cuts features = results_from run bare_state cuts features
 
--- The results of a run of a new sandbox are those from that state.
-pub same_from_bare : (run : Run) (cuts : Cuts) (features : List ChosenValue) → results_of run nothing_yet cuts features ≡ results_from_bare run cuts features
-same_from_bare run cuts features =
-    ap (λ (m : Map). let section : State = record { files = m; env = m; outer = nothing; own = nothing } in results_from run section cuts features) (fun_ext (get-empty _))
+-- The results of a run of a new sandbox that isn't dry are those from that state.
+pub same_from_bare : (run : Run) (cuts : Cuts) (features : List ChosenValue) → run.dry_run ≡ false → results_of run nothing_yet cuts features ≡ results_from_bare run cuts features
+same_from_bare run cuts features runs =
+    ap (λ (b : Bool). let r : Results = cond b (dry_results run cuts features) (results_from run (state_of nothing_yet) cuts features) in r) runs
+    ∙ ap (λ (m : Map). let section : State = record { files = m; env = m; outer = nothing; own = nothing } in results_from run section cuts features) (fun_ext (get-empty _))
 
 -- A feature with one scenario and one step.
 abbrev pub one_bytes : List ℕ
@@ -251,7 +252,7 @@ one_report = codes "Feature: one ... passed\n  Scenario: first ... passed\n    G
 
 -- The results have that report.
 pub one_reports : report plain_style one_results ≡ one_report
-unfolding digits status_text reason_text one_line status_line step_line case_line around_line feature_line counted count_line closing_lines
+unfolding digits status_text reason_text one_line status_line step_line case_line around_line feature_line counted count_line closing_lines plain_part
 one_reports = refl
 
 -- The results have that status.
@@ -517,7 +518,7 @@ two_results = record {
 -- They are those of the inputs.
 two_is_plain : plain_results (run_with two_request two_inputs) nothing_yet two_inputs.features ≡ two_results
 unfolding cases is_chosen found match_of is_utf8 chars lib.Utf8.encode act
-two_is_plain = same_from_bare (run_with two_request two_inputs) uncut two_inputs.features ∙ refl
+two_is_plain = same_from_bare (run_with two_request two_inputs) uncut two_inputs.features refl ∙ refl
 
 -- Their report and their status.
 abbrev pub two_report : List ℕ
@@ -525,7 +526,7 @@ two_report = codes "Feature: two ... failed\n  Scenario: A ... passed\n    When 
 
 -- The results have that report.
 pub two_reports : report plain_style two_results ≡ two_report
-unfolding digits status_text reason_text one_line status_line step_line case_line around_line feature_line counted count_line closing_lines
+unfolding digits status_text reason_text one_line status_line step_line case_line around_line feature_line counted count_line closing_lines plain_part
 two_reports = refl
 
 -- The results have that status.
@@ -549,9 +550,9 @@ default_inputs_read : IsLibrary None default_entries → AreInputs default_reque
 default_inputs_read spelled = record { rules = []; tags = refl; library = spelled; hooks = refl; features = two_is_read (is_chosen [] []) }
 
 -- The results are those of the run with the library file.
-default_is_plain : plain_results (run_with default_inputs) nothing_yet default_inputs.features ≡ two_results
+default_is_plain : plain_results (run_with default_request default_inputs) nothing_yet default_inputs.features ≡ two_results
 unfolding cases is_chosen found match_of is_utf8 chars lib.Utf8.encode act
-default_is_plain = same_from_bare (run_with default_inputs) uncut default_inputs.features ∙ refl
+default_is_plain = same_from_bare (run_with default_request default_inputs) uncut default_inputs.features refl ∙ refl
 
 -- A run of that request that doesn't end with 4 writes the same report and ends with 1.
 pub default_run : IsLibrary None default_entries → InputsAreUnique → (old new : Device) (answer : ℕ) → Plain default_request nothing_yet old new answer → answer ≢ 4 → Appends old.bytes new.bytes two_report × (answer ≡ 1)
@@ -600,9 +601,9 @@ line_results = record {
 }
 
 -- They are those of the inputs.
-line_is_plain : plain_results (run_with line_inputs) nothing_yet line_inputs.features ≡ line_results
+line_is_plain : plain_results (run_with line_request line_inputs) nothing_yet line_inputs.features ≡ line_results
 unfolding cases is_chosen found match_of is_utf8 chars lib.Utf8.encode act
-line_is_plain = same_from_bare (run_with line_inputs) uncut line_inputs.features ∙ refl
+line_is_plain = same_from_bare (run_with line_request line_inputs) uncut line_inputs.features refl ∙ refl
 
 -- Their report and their status.
 abbrev line_report : List ℕ
@@ -610,7 +611,7 @@ line_report = codes "Feature: two ... passed\n  Scenario: A ... passed\n    When
 
 -- The results have that report.
 line_reports : report plain_style line_results ≡ line_report
-unfolding digits status_text reason_text one_line status_line step_line case_line around_line feature_line counted count_line closing_lines
+unfolding digits status_text reason_text one_line status_line step_line case_line around_line feature_line counted count_line closing_lines plain_part
 line_reports = refl
 
 -- The results have that status.
@@ -691,7 +692,7 @@ abbrev several_results : Results
 several_results = record { features = one_row (codes "one.feature") ∷ one_row (codes "again.feature") ∷ []; around = statuses.Passed }
 
 -- They are those of the inputs.
-several_is_plain : plain_results (run_with several_inputs) nothing_yet several_inputs.features ≡ several_results
+several_is_plain : plain_results (run_with several_request several_inputs) nothing_yet several_inputs.features ≡ several_results
 unfolding cases is_chosen found match_of act
 several_is_plain = refl
 
@@ -701,7 +702,7 @@ several_report = codes "Feature: one ... passed\n  Scenario: first ... passed\n 
 
 -- The results have that report.
 several_reports : report plain_style several_results ≡ several_report
-unfolding digits status_text reason_text one_line status_line step_line case_line around_line feature_line counted count_line closing_lines
+unfolding digits status_text reason_text one_line status_line step_line case_line around_line feature_line counted count_line closing_lines plain_part
 several_reports = refl
 
 -- The results have that status.
