@@ -25,6 +25,7 @@ fn sources(alloc: Global, texts: &[&str]) -> Result<Vec<Source>, AllocError> {
 }
 
 // How a run is asked for, beside its sources.
+#[derive(Clone, Copy)]
 struct Asked {
     tags: &'static str,
     dry_run: bool,
@@ -78,7 +79,11 @@ fn run(alloc: Global, asked: &Asked, texts: &[&str]) -> Result<String, AllocErro
         &mut out,
     );
     let report = str::from_utf8(out.inner().as_slice()).unwrap_or("not UTF-8");
-    format!(in alloc; "{answer:?} {} {:?} {report}", sandbox.depth(), sandbox.env("X"))
+    format!(in alloc;
+        "{answer:?} {} {:?} {report}",
+        sandbox.depth(),
+        sandbox.env("X")
+    )
 }
 
 const TAGGED: &str =
