@@ -66,8 +66,11 @@ pub stopped_after : (a b d : Device) (xs ys : List ℕ) (fault : RunFault) → I
 stopped_after a b d xs ys fault p q =
     let n = q.written.0 in
     record {
-      written = (length xs + n, (let e = length-append xs ys in let le = q.written.1 in omega arith),
-        subst (Appends a.bytes d.bytes) (sym (take_after xs ys n)) (Appends-trans a.bytes b.bytes d.bytes xs (take n ys) p.written q.written.2));
+      written = (
+        length xs + n,
+        (let e = length-append xs ys in let le = q.written.1 in omega arith),
+        subst (Appends a.bytes d.bytes) (sym (take_after xs ys n)) (Appends-trans a.bytes b.bytes d.bytes xs (take n ys) p.written q.written.2),
+      );
       why = stops_after a b d fault p.quiet q.why;
       unflushed = q.unflushed ∙ p.unflushed;
     }
@@ -163,5 +166,5 @@ pub tail_written : ReportsGrowByParts → (g : GrowingReport) (old new before : 
     IsWritten old new text → IsStatusOf g.summary around answer → IsGrown before old g rows → IsReported g.style before new answer (results_with rows around)
 tail_written law g old new before rows around text answer is written status grown =
     let whole = subst (IsWritten before new) (ap (λ (xs : List ℕ). so_far g.style rows ++ xs) (is rows grown.counted) ∙ sym (law.whole g.style (results_with rows around)))
-        (written_more before old new (so_far g.style rows) text grown.written written) in
+    (written_more before old new (so_far g.style rows) text grown.written written) in
     record { written = whole.written; answered = status rows grown.counted; turns = whole.turns; quiet = whole.quiet; unflushed = whole.unflushed }

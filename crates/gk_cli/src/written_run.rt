@@ -76,9 +76,7 @@ fn run_features<W: Write>(
     ensures same { IsSame sandbox.old sandbox.new }
 {
     for feature in features {
-        run_next(
-            alloc, sandbox, library, hooks, suite, feature, report, out,
-        )?;
+        run_next(alloc, sandbox, library, hooks, suite, feature, report, out)?;
     }
     Ok(())
 }
@@ -109,7 +107,14 @@ fn run_all<W: Write>(
     let mut report = report;
     let mut suite = Suite::start(alloc, sandbox, library, hooks, stop);
     let written = run_features(
-        alloc, sandbox, library, hooks, &mut suite, features, &mut report, out,
+        alloc,
+        sandbox,
+        library,
+        hooks,
+        &mut suite,
+        features,
+        &mut report,
+        out,
     );
     let around = suite.finish(alloc, sandbox, library, hooks);
     match written {
@@ -206,15 +211,7 @@ pub fn write_run<W: Write>(
     } = inputs;
     let report = GrowingReport::start(alloc, options.style, out)?;
     if options.dry_run {
-        return dry_all(
-            alloc,
-            &library,
-            &hooks,
-            options.stop,
-            features,
-            report,
-            out,
-        );
+        return dry_all(alloc, &library, &hooks, options.stop, features, report, out);
     }
     run_all(
         alloc,

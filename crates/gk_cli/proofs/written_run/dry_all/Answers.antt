@@ -16,8 +16,8 @@ returns-in-Ok-clause-ok g c =
     let there = device_of g.W.Write.contents c.dry_features.new.out in
     let new = device_of g.W.Write.contents c.finish.new.out in
     if_ok c.finish.result (λ status report. λ contents.
-        finished (AreDryFeatures (library_value c.args.library.now)) run contents features Passed old c.args.report there c.dry_features.new.report new status
-        (λ rows are. c.dry_runs_are_judged.ensures run contents features rows refl are) c.dry_features.ensures.style c.in-Ok.ensures.ok report) c.finish.ensures.ok
+    finished (AreDryFeatures (library_value c.args.library.now)) run contents features Passed old c.args.report there c.dry_features.new.report new status
+    (λ rows are. c.dry_runs_are_judged.ensures run contents features rows refl are) c.dry_features.ensures.style c.in-Ok.ensures.ok report) c.finish.ensures.ok
 
 pub returns-in-Ok-clause-err : goal.returns-in-Ok-clause-err
 returns-in-Ok-clause-err g c =
@@ -27,8 +27,8 @@ returns-in-Ok-clause-err g c =
     let there = device_of g.W.Write.contents c.dry_features.new.out in
     let new = device_of g.W.Write.contents c.finish.new.out in
     if_err c.finish.result (λ fault stops. λ contents.
-        finished_short (AreDryFeatures (library_value c.args.library.now)) run contents features Passed old c.args.report there c.dry_features.new.report new fault
-        (λ rows are. c.dry_runs_are_judged.ensures run contents features rows refl are) c.dry_features.ensures.style c.in-Ok.ensures.ok stops) c.finish.ensures.err
+    finished_short (AreDryFeatures (library_value c.args.library.now)) run contents features Passed old c.args.report there c.dry_features.new.report new fault
+    (λ rows are. c.dry_runs_are_judged.ensures run contents features rows refl are) c.dry_features.ensures.style c.in-Ok.ensures.ok stops) c.finish.ensures.err
 
 pub returns-in-Err-clause-err : goal.returns-in-Err-clause-err
 returns-in-Err-clause-err g c = λ contents.

@@ -61,8 +61,8 @@ returns-in_err-dry_next-clause-err g c =
     let new = device_of g.W.Write.contents c.dry_next.new.out in
     let before = subst (λ (ls : List ChosenValue). DryRunning library all old c.args.report.now ls there c.loop-feature.report) (ap (map chosen_value) c.in-Some.ensures.steps.0) c.loop-feature.invariant.goes in
     passed_on c.from_residual.result c.from_residual.ensures.1 (λ fault same.
-        subst (AreWrittenUpTo (AreDryFeatures library) all old c.args.report.now new) (sym same)
-        (dry_running_stopped library all old c.args.report.now this left there c.loop-feature.report new c.in_err-dry_next.field-0.0 c.loop-feature.invariant.style c.in_err-dry_next.ensures.err before))
+    subst (AreWrittenUpTo (AreDryFeatures library) all old c.args.report.now new) (sym same)
+    (dry_running_stopped library all old c.args.report.now this left there c.loop-feature.report new c.in_err-dry_next.field-0.0 c.loop-feature.invariant.style c.in_err-dry_next.ensures.err before))
 
 pub returns-in_err-dry_next-clause-style : goal.returns-in_err-dry_next-clause-style
 returns-in_err-dry_next-clause-style g c = c.dry_next.ensures.style ∙ c.loop-feature.invariant.style

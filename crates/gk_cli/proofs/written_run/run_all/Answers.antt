@@ -23,10 +23,10 @@ returns-in-Ok-clause-ok g c =
     let written : AreWritten Give features old c.args.report there c.run_features-written.new.report =
     subst (λ (stop : Bool). AreWritten (AreFeatures (run_of c.args.library.now c.args.hooks.now stop) (state_of c.start-suite.new.sandbox.now) suite.is_open) features old c.args.report there c.run_features-written.new.report) c.start-suite.ensures.stops c.in-Ok.ensures.ok in
     if_ok c.finish.result (λ status report.
-        finished Give run c.args.sandbox.now.now features around old c.args.report there c.run_features-written.new.report new status
-        (λ rows are. judged_by c.finished_runs_are_judged.ensures run c.args.sandbox.now c.start-suite.new.sandbox c.run_features-written.new.sandbox suite c.run_features-written.new.suite around features rows
-            c.start-suite.ensures c.run_features-written.ensures.kept c.run_features-written.ensures.same are (λ outside walked. c.finish-around.ensures.around outside c.args.stop walked))
-        c.run_features-written.ensures.style written report) c.finish.ensures.ok
+    finished Give run c.args.sandbox.now.now features around old c.args.report there c.run_features-written.new.report new status
+    (λ rows are. judged_by c.finished_runs_are_judged.ensures run c.args.sandbox.now c.start-suite.new.sandbox c.run_features-written.new.sandbox suite c.run_features-written.new.suite around features rows
+    c.start-suite.ensures c.run_features-written.ensures.kept c.run_features-written.ensures.same are (λ outside walked. c.finish-around.ensures.around outside c.args.stop walked))
+    c.run_features-written.ensures.style written report) c.finish.ensures.ok
 
 pub returns-in-Ok-clause-err : goal.returns-in-Ok-clause-err
 returns-in-Ok-clause-err g c =
@@ -41,10 +41,10 @@ returns-in-Ok-clause-err g c =
     let written : AreWritten Give features old c.args.report there c.run_features-written.new.report =
     subst (λ (stop : Bool). AreWritten (AreFeatures (run_of c.args.library.now c.args.hooks.now stop) (state_of c.start-suite.new.sandbox.now) suite.is_open) features old c.args.report there c.run_features-written.new.report) c.start-suite.ensures.stops c.in-Ok.ensures.ok in
     if_err c.finish.result (λ fault stops.
-        finished_short Give run c.args.sandbox.now.now features around old c.args.report there c.run_features-written.new.report new fault
-        (λ rows are. judged_by c.finished_runs_are_judged.ensures run c.args.sandbox.now c.start-suite.new.sandbox c.run_features-written.new.sandbox suite c.run_features-written.new.suite around features rows
-            c.start-suite.ensures c.run_features-written.ensures.kept c.run_features-written.ensures.same are (λ outside walked. c.finish-around.ensures.around outside c.args.stop walked))
-        c.run_features-written.ensures.style written stops) c.finish.ensures.err
+    finished_short Give run c.args.sandbox.now.now features around old c.args.report there c.run_features-written.new.report new fault
+    (λ rows are. judged_by c.finished_runs_are_judged.ensures run c.args.sandbox.now c.start-suite.new.sandbox c.run_features-written.new.sandbox suite c.run_features-written.new.suite around features rows
+    c.start-suite.ensures c.run_features-written.ensures.kept c.run_features-written.ensures.same are (λ outside walked. c.finish-around.ensures.around outside c.args.stop walked))
+    c.run_features-written.ensures.style written stops) c.finish.ensures.err
 
 pub returns-in-Err-clause-err : goal.returns-in-Err-clause-err
 returns-in-Err-clause-err g c =

@@ -91,9 +91,9 @@ returns-in_err-run_next-clause-err g c =
     let ended : EndsNext run now is_open this there c.loop-feature.report new c.in_err-run_next.field-0.0 =
     subst (λ (x : Bool). EndsNext (run_of c.args.library.now c.args.hooks.now x) now is_open this there c.loop-feature.report new c.in_err-run_next.field-0.0) stops c.in_err-run_next.ensures.err in
     passed_on c.from_residual.result c.from_residual.ensures.1 (λ fault same.
-        subst (AreWrittenUpTo (AreFeatures run first was_open) all old c.args.report.now new) (sym same)
-        (running_stopped run first now was_open all old c.args.report.now this left is_open there c.loop-feature.report new c.in_err-run_next.field-0.0 (ap state_of c.loop-feature.invariant.same.contents) c.loop-feature.invariant.earlier c.loop-feature.invariant.style
-        ended before))
+    subst (AreWrittenUpTo (AreFeatures run first was_open) all old c.args.report.now new) (sym same)
+    (running_stopped run first now was_open all old c.args.report.now this left is_open there c.loop-feature.report new c.in_err-run_next.field-0.0 (ap state_of c.loop-feature.invariant.same.contents) c.loop-feature.invariant.earlier c.loop-feature.invariant.style
+    ended before))
 
 pub returns-in_err-run_next-clause-style : goal.returns-in_err-run_next-clause-style
 returns-in_err-run_next-clause-style g c = c.run_next.ensures.style ∙ c.loop-feature.invariant.style

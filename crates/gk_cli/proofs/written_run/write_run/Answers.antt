@@ -15,8 +15,8 @@ returns-in_err-report-clause-err g c =
     let old = device_of g.W.Write.contents c.args.out.now in
     let new = device_of g.W.Write.contents c.start.new.out in
     passed_on c.from_residual.result c.from_residual.ensures.1 (λ fault same.
-        subst (IsPart run c.args.sandbox.now.now features c.args.options.now.style old new) (sym same)
-        (head_stopped c.reports_grow_by_parts.ensures run c.args.sandbox.now.now features c.args.options.now.style old new c.in_err-report.field-0.0 c.in_err-report.ensures.err))
+    subst (IsPart run c.args.sandbox.now.now features c.args.options.now.style old new) (sym same)
+    (head_stopped c.reports_grow_by_parts.ensures run c.args.sandbox.now.now features c.args.options.now.style old new c.in_err-report.field-0.0 c.in_err-report.ensures.err))
 
 pub returns-then-options-clause-ok : goal.returns-then-options-clause-ok
 returns-then-options-clause-ok g c =
@@ -73,4 +73,3 @@ returns-clause-err g c =
     let run = run_of c.args.inputs.library c.args.inputs.hooks c.args.options.now.stop in
     let same : run ≡ wanted = ap (λ (b : Bool). let r : Run = record { library = inputs.library; hooks = inputs.hooks; dry_run = b; stop = c.args.options.now.stop } in r) (sym c.if-options.false) in
     if_err c.run_all.result (λ fault ends. as_part run wanted contents features style old there c.in_ok-report.report new fault same c.in_ok-report.ensures.style c.in_ok-report.ensures.ok (ends)) c.run_all.ensures.err
-
