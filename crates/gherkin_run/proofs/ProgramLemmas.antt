@@ -25,7 +25,7 @@ use Rattle.gk_cli.specs.declared.arguments.Words.{Words}
 use Rattle.gk_cli.specs.declared.run_fault.RunFault.{RunFault}
 use Rattle.gk_cli.specs.declared.run_fault.RunFault.TheVariants as run
 use Rattle.gherkin_run.specs.Files.{IsFileFault, name_of}
-use Rattle.gherkin_run.specs.Program.{AreGiven, IsFaultOfGiven, IsFaultOfRun, IsFaultOfVariable, IsFlushedRun, IsNamed, IsRefused, IsRun, IsWithin, SaysCalls, SaysProgram, SaysSuite, SaysVariables, contents_given, bytes_given, request_given, with_variables}
+use Rattle.gherkin_run.specs.Program.{AreGiven, IsFaultOfGiven, IsFaultOfRun, IsFaultOfVariable, IsFlushedRun, IsNamed, IsRefused, IsRun, IsWithin, SaysCallsOfRun, SaysProgram, SaysSuite, SaysVariables, contents_given, bytes_given, request_given, with_variables}
 use Rattle.gherkin_run.specs.declared.fault.Fault.{Fault}
 use Rattle.gherkin_run.specs.declared.fault.Fault.TheVariants.{NotUtf8, Usage, Env, CannotRead, TooLong, Library, Hooks, Read, TooMany, BadTags, Write, Memory}
 
@@ -68,10 +68,11 @@ pub fewer : (a b : ℕ) → a < 2 ^ 64 - 1 → b ≡ one_more a → a < b
 fewer a b room e = omega (arith, e)
 
 pub calls_of_run : (r : Request) (c : Contents) (old new : Device) (library hooks : Option SourceValue) (sources : List SourceValue) (by : RunFault) (fault : Fault)
-    → old.failures < 2 ^ 64 - 1 → IsFaultOfRun library hooks sources by fault → SaysFault r c old new by → SaysCalls old new fault
-calls_of_run r c old new library hooks sources run.Write Write room is says = fewer old.failures new.failures room says.1.failed
+    → old.failures < 2 ^ 64 - 1 → IsFaultOfRun library hooks sources by fault → SaysFault r c old new by → SaysCallsOfRun old new fault
+calls_of_run r c old new library hooks sources run.Write Write room is says = fewer old.failures new.failures room says.1
 calls_of_run r c old new library hooks sources run.Write _ room is says = absurd is
-calls_of_run r c old new library hooks sources run.Memory Memory room is says = says.1
+calls_of_run r c old new library hooks sources run.Memory Memory room is (inl nothing) = inl nothing
+calls_of_run r c old new library hooks sources run.Memory Memory room is (inr cut) = inr (r, c, cut.0, cut.1)
 calls_of_run r c old new library hooks sources run.Memory _ room is says = absurd is
 calls_of_run r c old new library hooks sources (run.Read input f) (Read name g) room is says = says.1
 calls_of_run r c old new library hooks sources (run.Read input f) _ room is says = absurd is
@@ -117,13 +118,24 @@ bad_here P f xs i x lt is here =
     let less : i < length (map f xs) = rw length-map lt in
     (i, f x, less, get_or-map f xs i x (f x) lt ∙ ap f (sym is), here)
 
+pub of_variables : (w : Words) (d : Device) (variables : List (String Global × String Global)) (old new : SandboxValue) (fault : Fault) → variables ≡ w.env.items
+    → SaysVariables (map pair_value variables) old new (Err fault) → SaysProgram w d d fault
+of_variables w d variables old new Env same says = subst (λ xs. Any IsRefused (map pair_value xs)) same says
+of_variables w d variables old new Memory same says = inl (untouched d)
+of_variables w d variables old new _ same says = absurd says
+
+pub calls_of_variables : (d : Device) (variables : List PairValue) (old new : SandboxValue) (fault : Fault) → SaysVariables variables old new (Err fault) → SaysCallsOfRun d d fault
+calls_of_variables d variables old new Env says = untouched d
+calls_of_variables d variables old new Memory says = inl (untouched d)
+calls_of_variables d variables old new _ says = absurd says
+
 -- ---- a fault of a file
 
-pub from_files : (w : Words) (old new : Device) (fault : Fault) → Any (λ name. IsFileFault (string_bytes name) fault) w.files.items → SaysProgram w old new fault
-from_files w old new (CannotRead other) h = inr (inr h)
-from_files w old new (TooLong other) h = inr (inr h)
-from_files w old new Memory h = tt
-from_files w old new _ h = absurd h.4
+pub from_files : (w : Words) (d : Device) (fault : Fault) → Any (λ name. IsFileFault (string_bytes name) fault) w.files.items → SaysProgram w d d fault
+from_files w d (CannotRead other) h = inr (inr h)
+from_files w d (TooLong other) h = inr (inr h)
+from_files w d Memory h = inl (untouched d)
+from_files w d _ h = absurd h.4
 
 -- ---- a fault of the run of the files
 
@@ -162,7 +174,7 @@ of_given w old new (Read name f) is h = h
 of_given w old new (TooMany name) is h = h
 of_given w old new BadTags is h = h
 of_given w old new Write is h = h
-of_given w old new Memory is h = tt
+of_given w old new Memory is h = inr h
 of_given w old new _ is h = absurd is
 
 pub of_suite : (w : Words) (library hooks : Option SourceValue) (sources : List SourceValue) (old new : Device) (fault : Fault) → AreGiven w library hooks sources

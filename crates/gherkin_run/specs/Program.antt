@@ -17,7 +17,7 @@ use Rattle.gk_cli.specs.Inputs.{Request, request_of}
 use Rattle.gk_cli.specs.Source.{SourceValue, source_value}
 use Rattle.gk_cli.specs.declared.arguments.Options.{Options}
 use Rattle.gk_cli.specs.declared.source.Source.{Source}
-use Rattle.gk_cli.specs.Suite.{Device, IsUntouched, JudgedReport, Plain, SaysFault}
+use Rattle.gk_cli.specs.Suite.{Cut, Device, IsUntouched, JudgedReport, Plain, SaysFault}
 use Rattle.gk_cli.specs.declared.arguments.Words.{Words}
 use Rattle.gk_cli.specs.declared.arguments.WordsFault.TheVariants as words
 use Rattle.gk_cli.specs.declared.run_fault.RunFault.{RunFault}
@@ -57,6 +57,15 @@ IsArgumentsFault _ = ⊥
 abbrev pub SaysCalls : Device → Device → Fault → Type 0
 SaysCalls old new Write = old.failures < new.failures
 SaysCalls old new _ = IsUntouched old new
+
+-- A prefix of the report of some run was written, and standard output neither failed nor was flushed. (this project's profile)
+abbrev pub IsCutForSome : Device → Device → Type 0
+IsCutForSome old new = (request : Request) × (contents : Contents) × Cut request contents old new × (new.failures ≡ old.failures)
+
+-- Standard output failed, or it was not called at all, or memory was refused after a prefix of the report was written. (this project's profile)
+abbrev pub SaysCallsOfRun : Device → Device → Fault → Type 0
+SaysCallsOfRun old new Memory = IsUntouched old new ⊎ IsCutForSome old new
+SaysCallsOfRun old new fault = SaysCalls old new fault
 
 -- Why help was not written whole. (this project's profile)
 abbrev pub IsHelpFault : Fault → Type 0
@@ -186,14 +195,14 @@ pub record IsFaultOfGiven (w : Words) (old new : Device) (fault : Fault) : Type 
   pub given : AreGiven w library hooks sources
   pub says : SaysSuite library hooks sources (request_given w library hooks sources) (contents_given w) old new fault
 
--- What each fault says of what was asked for. (this project's profile)
+-- What each fault says of what was asked for: where memory was refused, nothing was written, or a prefix of the report was. (this project's profile)
 abbrev pub SaysProgram : Words → Device → Device → Fault → Type 0
 SaysProgram w old new NotUtf8 = ⊥
 SaysProgram w old new (Usage e) = ⊥
 SaysProgram w old new Env = Any IsRefused (map pair_value w.env.items)
 SaysProgram w old new (CannotRead name) = IsGiven w (string_bytes name)
 SaysProgram w old new (TooLong name) = IsGiven w (string_bytes name)
-SaysProgram w old new Memory = Unit {0}
+SaysProgram w old new Memory = IsUntouched old new ⊎ IsFaultOfGiven w old new Memory
 SaysProgram w old new fault = IsFaultOfGiven w old new fault
 
 -- What was asked for was done: help was shown with status 0, or there was a run. (this project's profile)

@@ -31,9 +31,9 @@ pub enum Fault {
     TooMany { name: String },
     /// A text of `--tags` is no rule of tags.
     BadTags,
-    /// Standard output took no more.
+    /// Standard output took no more. A prefix of the report was written.
     Write,
-    /// A growth of memory was refused.
+    /// A growth of memory was refused. Nothing or a prefix of the report was written.
     Memory,
 }
 

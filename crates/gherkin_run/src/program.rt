@@ -5,7 +5,7 @@ ghost use Rattle.gk_cli.specs.Arguments.{pair_value};
 ghost use Rattle.gk_cli.specs.Counted.{flushes_of, failures_of, one_more};
 ghost use Rattle.gk_cli.specs.Suite.{device_of};
 ghost use Rattle.gk_cli.specs.Source.{source_value};
-ghost use Rattle.gherkin_run.specs.Program.{SaysAsked, SaysError, IsHelpFault, IsArgumentsFault, IsFaultOfVariable, SaysVariables, IsWithin, IsFaultOfRun, bytes_given, request, IsFlushedRun, SaysRun, SaysCalls, SaysProgram, IsRun, IsDoneForSome};
+ghost use Rattle.gherkin_run.specs.Program.{SaysAsked, SaysError, IsHelpFault, IsArgumentsFault, IsFaultOfVariable, SaysVariables, IsWithin, IsFaultOfRun, bytes_given, request, IsFlushedRun, SaysRun, SaysCalls, SaysCallsOfRun, SaysProgram, IsRun, IsDoneForSome};
 
 use crate::fault::Fault;
 use crate::files::{read_files, read_named_file};
@@ -162,7 +162,8 @@ fn bytes_of(file: &Option<Source>) -> Option<&[u8]>
 }
 
 /// Runs the suite, and flushes the report. A fault names the file that it comes from. `Write` comes where a
-/// write or the flush failed; then a prefix of the report, or all of it, was written.
+/// write or the flush failed; then a prefix of the report, or all of it, was written. At `Memory` nothing or a
+/// prefix of the report was written. At any other fault nothing was.
 pub fn run_sources<W: Write>(
     alloc: Global,
     sandbox: &mut Sandbox,
@@ -181,8 +182,8 @@ pub fn run_sources<W: Write>(
     ensures flushed { OnOk result (flushes_of out.new ≡ one_more (flushes_of out.old)) }
     // A fault is that of the run, or the flush failed.
     ensures fault { IfErr result (SaysRun options.now library hooks sources.items sandbox.old.now (device_of W.contents out.old) (device_of W.contents out.new)) }
-    // Where standard output isn't at fault, it was not called.
-    ensures calls { IfErr result (SaysCalls (device_of W.contents out.old) (device_of W.contents out.new)) }
+    // Where standard output isn't at fault, it was not called, or memory was refused after a prefix of the report.
+    ensures calls { IfErr result (SaysCallsOfRun (device_of W.contents out.old) (device_of W.contents out.new)) }
 {
     let steps = bytes_of(&library);
     let around = bytes_of(&hooks);
@@ -216,7 +217,7 @@ pub fn run_words<R: Files + AllocGlobal, W: Write>(
     ensures quiet { OnOk result (failures_of out.new ≡ failures_of out.old) }
     ensures flushed { OnOk result (flushes_of out.new ≡ one_more (flushes_of out.old)) }
     ensures fault { IfErr result (SaysProgram words (device_of W.contents out.old) (device_of W.contents out.new)) }
-    ensures calls { IfErr result (SaysCalls (device_of W.contents out.old) (device_of W.contents out.new)) }
+    ensures calls { IfErr result (SaysCallsOfRun (device_of W.contents out.old) (device_of W.contents out.new)) }
 {
     let mut sandbox = Sandbox::new(rt.alloc());
     put_variables(&mut sandbox, words.env.as_slice())?;
@@ -243,8 +244,8 @@ pub fn run<R: Env + Files + AllocGlobal, W: Write>(
     ensures done { IfOk result (IsDoneForSome (device_of W.contents out.old) (device_of W.contents out.new)) }
     ensures quiet { OnOk result (failures_of out.new ≡ failures_of out.old) }
     ensures flushed { OnOk result (flushes_of out.new ≡ one_more (flushes_of out.old)) }
-    // Where standard output isn't at fault, it was not called.
-    ensures calls { IfErr result (SaysCalls (device_of W.contents out.old) (device_of W.contents out.new)) }
+    // Where standard output isn't at fault, it was not called, or memory was refused after a prefix of the report.
+    ensures calls { IfErr result (SaysCallsOfRun (device_of W.contents out.old) (device_of W.contents out.new)) }
 {
     let arguments = arguments_of(rt)?;
     match asked_by(rt.alloc(), arguments.as_slice())? {

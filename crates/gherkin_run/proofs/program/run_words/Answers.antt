@@ -1,16 +1,27 @@
 use Rattle.std.proofs.Common.{map, subst, sym}
 use Rattle.std.specs.Prelude.{option_map}
+use Rattle.gk_cli.specs.Arguments.{pair_value}
 use Rattle.gk_cli.specs.Source.{source_value}
 use Rattle.gk_cli.specs.Suite.{device_of}
-use Rattle.gherkin_run.specs.Program.{SaysProgram}
+use Rattle.gherkin_run.specs.Program.{SaysCallsOfRun, SaysProgram}
 use Rattle.gherkin_run.proofs.FilesLemmas.{passed_on}
-use Rattle.gherkin_run.proofs.ProgramLemmas.{are_given, fails, from_files, put_in, runs}
+use Rattle.gherkin_run.proofs.ProgramLemmas.{are_given, calls_of_variables, fails, from_files, of_variables, put_in, runs}
 use Rattle.gherkin_run.proofs.program.run_words.Goals as goal
+
+pub returns-in_err-put_variables-clause-fault : goal.returns-in_err-put_variables-clause-fault
+returns-in_err-put_variables-clause-fault g c =
+    let d = device_of (λ w. g.W.Write.contents w) c.args.out.now in
+    passed_on c.from_residual.result c.from_residual.ensures.1 (λ fault same. subst (SaysProgram c.args.words d d) (sym same) (of_variables c.args.words d c.as_slice.result.now c.new-sandbox.result c.put_variables.new.sandbox c.in_err-put_variables.field-0.0 c.as_slice.ensures.value c.in_err-put_variables.ensures))
+
+pub returns-in_err-put_variables-clause-calls : goal.returns-in_err-put_variables-clause-calls
+returns-in_err-put_variables-clause-calls g c =
+    let d = device_of (λ w. g.W.Write.contents w) c.args.out.now in
+    passed_on c.from_residual.result c.from_residual.ensures.1 (λ fault same. subst (SaysCallsOfRun d d) (sym same) (calls_of_variables d (map pair_value c.as_slice.result.now) c.new-sandbox.result c.put_variables.new.sandbox c.in_err-put_variables.field-0.0 c.in_err-put_variables.ensures))
 
 pub returns-in_err-sources-clause-fault : goal.returns-in_err-sources-clause-fault
 returns-in_err-sources-clause-fault g c =
     let d = device_of (λ w. g.W.Write.contents w) c.args.out.now in
-    passed_on c.from_residual-in_err-sources.result c.from_residual-in_err-sources.ensures.1 (λ fault same. subst (SaysProgram c.args.words d d) (sym same) (from_files c.args.words d d c.in_err-sources.field-0.0 c.in_err-sources.ensures.fault))
+    passed_on c.from_residual-in_err-sources.result c.from_residual-in_err-sources.ensures.1 (λ fault same. subst (SaysProgram c.args.words d d) (sym same) (from_files c.args.words d c.in_err-sources.field-0.0 c.in_err-sources.ensures.fault))
 
 pub returns-clause-run : goal.returns-clause-run
 returns-clause-run g c =
