@@ -2,7 +2,6 @@
 use Rattle.std.proofs.Common.{◌≡◌, ◌≢◌, ℕ, Bool, true, false, cond, ◌&&◌, ◌||◌, List, [], ◌∷◌, ◌++◌, map, refl, ap, sym, subst, ◌∙◌, inl, inr, length, arith}
 use Rattle.std.specs.List.{AllByRecursion, list_any}
 use Rattle.std.proofs.lemmas.Bool.{true≢false}
-use Rattle.std.proofs.lemmas.List.{append-nil}
 use Rattle.std.proofs.lemmas.List.Folds.{list_any-append}
 use Rattle.gk_world.specs.Contents.{Contents}
 use Rattle.gk_world.specs.State.{State, state_of}
@@ -26,12 +25,11 @@ use Rattle.gk_run.specs.OpenRun.{IsStarted, IsKept, AreFeatures, FinishedRunsAre
 use Rattle.gk_run.specs.DryRun.{dry_features_of}
 use Rattle.gk_steps.specs.Finding.{LibraryValue}
 use Rattle.gk_report.specs.Summary.{feature_statuses, scenario_statuses, step_statuses, status}
-use Rattle.gk_report.specs.Report.{report}
 use Rattle.gk_cli.specs.declared.run_fault.RunFault.{RunFault}
 use Rattle.gk_cli.specs.declared.run_fault.RunFault.TheVariants.{Read, Library, Hooks, Select, Write, Memory}
 use Rattle.gk_cli.specs.Inputs.{Request, Inputs, AreInputs}
 use Rattle.gk_cli.specs.RunFault.{IsUnread}
-use Rattle.gk_cli.specs.Suite.{Device, IsReported, JudgedReport, IsPlain, Plain, AreJudged, IsUntouched, Cut, SaysFault, InputsAreUnique, run_with}
+use Rattle.gk_cli.specs.Suite.{Device, IsReported, JudgedReport, Plain, AreJudged, IsUntouched, SaysFault, InputsAreUnique, run_with}
 use Rattle.gk_cli.specs.WrittenRun.{IsWhole, IsPart}
 
 -- A list without length.

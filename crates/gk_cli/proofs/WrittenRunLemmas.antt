@@ -1,5 +1,5 @@
 -- Features, one after another, and the report that grows by their parts.
-use Rattle.std.proofs.Common.{◌≡◌, ◌⊎◌, ℕ, Bool, true, false, ◌&&◌, List, [], ◌∷◌, ◌++◌, inl, inr, refl, ap, sym, subst, ◌∙◌, append_assoc}
+use Rattle.std.proofs.Common.{◌≡◌, ℕ, Bool, true, ◌&&◌, List, [], ◌∷◌, ◌++◌, inl, inr, refl, ap, sym, subst, ◌∙◌, append_assoc}
 use Rattle.std.specs.Prelude.{Result, Ok, Err, IfOk, IfErr, OnOk}
 use Rattle.std.proofs.lemmas.List.{append-nil}
 use Rattle.gk_world.specs.Contents.{Contents}
@@ -8,7 +8,7 @@ use Rattle.gk_run.specs.declared.results.Status.{Status}
 use Rattle.gk_run.specs.Results.{FeatureRow, Results}
 use Rattle.gk_run.specs.Alone.{Run}
 use Rattle.gk_run.specs.Chosen.{ChosenValue}
-use Rattle.gk_run.specs.Features.{FeatureCuts, feature_of, features_of, stays_open}
+use Rattle.gk_run.specs.Features.{FeatureCuts, features_of, stays_open}
 use Rattle.gk_run.specs.Judged.{Judged, BeginsJudged, uncut, plain_results}
 use Rattle.gk_run.specs.Running.{IsFeatureResult}
 use Rattle.gk_run.specs.OpenRun.{AreFeatures}
@@ -19,7 +19,7 @@ use Rattle.gk_report.specs.Report.{report, ReportsGrowByParts}
 use Rattle.gk_cli.specs.declared.growing_report.GrowingReport.{GrowingReport}
 use Rattle.gk_cli.specs.declared.run_fault.RunFault.{RunFault}
 use Rattle.gk_cli.specs.Suite.{Device, IsReported}
-use Rattle.gk_cli.specs.GrowingReport.{style_of, so_far, results_with, IsStopped, IsGrown, Stops}
+use Rattle.gk_cli.specs.GrowingReport.{style_of, so_far, results_with, IsStopped, IsGrown}
 use Rattle.gk_cli.specs.WrittenRun.{IsWhole, IsPart, Finishes, Ends, IsRunNext, EndsNext, IsDryNext, EndsDryNext, StopsHere, AreWritten, AreWrittenUpTo}
 use Rattle.gk_cli.specs.declared.run_fault.RunFault.TheVariants.{Memory}
 use Rattle.gk_cli.proofs.GrowingReportLemmas.{stopped_here, stopped_within}

@@ -1,5 +1,4 @@
 use Rattle.std.proofs.Common.{inl, inr, subst}
-use Rattle.gk_run.specs.Results.{feature_row}
 use Rattle.gk_cli.specs.Suite.{device_of}
 use Rattle.gk_cli.specs.GrowingReport.{Grows, Stops}
 use Rattle.gk_cli.proofs.WrittenRunLemmas.{on_ok, if_err, stops_here}

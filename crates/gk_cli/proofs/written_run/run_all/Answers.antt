@@ -1,4 +1,4 @@
-use Rattle.std.proofs.Common.{◌≡◌, Bool, List, map, refl, ap, sym, subst, ◌∙◌}
+use Rattle.std.proofs.Common.{Bool, List, map, subst}
 use Rattle.gk_world.specs.State.{state_of}
 use Rattle.gk_run.specs.Alone.{run_of}
 use Rattle.gk_run.specs.Results.{FeatureRow}

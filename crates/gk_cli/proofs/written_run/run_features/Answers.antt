@@ -1,4 +1,4 @@
-use Rattle.std.proofs.Common.{◌≡◌, ◌<◌, ◌∷◌, [], ◌&&◌, ◌∙◌, Bool, List, suc, length, map, arith, ap, sym, subst, refl}
+use Rattle.std.proofs.Common.{◌≡◌, ◌<◌, ◌∷◌, [], ◌∙◌, Bool, List, suc, length, map, arith, ap, sym, subst, refl}
 use Rattle.std.specs.List.{AllByRecursion}
 use Rattle.std.specs.Vec.Iter.{into_iter_items}
 use Rattle.gk_world.specs.State.{state_of}
