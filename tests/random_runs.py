@@ -12,7 +12,7 @@ import several
 from reports import Feature, Report, Scenario, Style, verdict
 
 TAGS = ["@a", "@b", "@c"]
-TEXTS = ["x", "yy", "1", "-7", "", "9223372036854775807"]
+TEXTS = ["x", "x", "yy", "1", "-7", "9223372036854775807"]
 FILES = ["f", "g"]
 VALUES = ["v", "w"]
 
@@ -23,10 +23,11 @@ the variable "V" is unset|the variable "V" should be "T"|the variable "V" should
 the value "V" should be "T"|the value "V" should be absent|the number "V" is set to N|the number "V" grows by N|the number "V" should be N|
 it passes|it passes|it passes|it fails|the scenario is skipped|nothing knows F|at cleanup STEP|at cleanup STEP"""
 LIBRARY = """given put {name} as {text} => write_file
+step put {name} as {text} => write_file
+step put {text} on {name} => append_file
 step put {name} => write_file
-when put {text} on {name} => append_file
 when drop {name} => remove_file
-then see {name} as {text} => file_is
+step see {name} as {text} => file_is
 then see {name} => file_exists
 step no {name} => file_absent
 given count {name} {n:d} => set_number
@@ -40,6 +41,10 @@ step leave => skip_scenario
 step ok => pass
 when bad => fail
 """
+# Texts of both that mostly pass, and make what others work on.
+BUILT_IN_CHANGES = """a file named "F" containing "T"|the variable "V" is set to "T"|the value "V" is set to "T"|the number "V" is set to N|
+it passes|the file "f" should exist|the file "f" should contain "x"|at cleanup STEP"""
+OWN_CHANGES = """put F as T|keep V T|ok|ok|see f as x|later STEP"""
 OWN = """put F as T|put T on F|drop F|see F as T|see F|no F|count V N|more V N|count V N|keep V T|lose V|leave|ok|ok|ok|bad|later STEP|later STEP|what F"""
 
 
@@ -50,11 +55,12 @@ class Maker:
         self.chance = random.Random(seed)
         self.is_own = seed % 2 == 1
         self.texts = [it.strip() for it in (OWN if self.is_own else BUILT_IN).split("|")]
+        self.changes = [it.strip() for it in (OWN_CHANGES if self.is_own else BUILT_IN_CHANGES).split("|")]
 
     def text(self):
         """A step's text."""
         chance = self.chance
-        text = chance.choice(self.texts)
+        text = chance.choice(self.texts if chance.random() < 0.3 else self.changes)
         words = {"STEP": lambda: self.text(), "F": lambda: chance.choice(FILES), "V": lambda: chance.choice(VALUES),
                  "T": lambda: chance.choice(TEXTS), "N": lambda: str(chance.choice([0, 1, -3, 7, 2**63 - 1]))}
         for word, made in words.items():
@@ -99,7 +105,7 @@ class Maker:
         """A feature's heading and background, its scenarios, and its rules, each with the like."""
         def part(heading, own):
             background = ["Background:", *self.steps(2)] if self.chance.random() < 0.4 else []
-            scenarios = [self.scenario(f"{own}{number}") for number in range(self.chance.randrange(4))]
+            scenarios = [self.scenario(f"{own}{number}") for number in range(self.chance.randrange(5))]
             return [*self.tags(), heading, *background], scenarios
         rules = [part(f"Rule: r{number}", f"{name} r{number} ") for number in range(self.chance.choice([0, 0, 0, 1, 2]))]
         return [part(f"Feature: {name}", f"{name} "), *rules]
@@ -109,11 +115,11 @@ class Maker:
         kinds = ["all", "feature", "scenario", *(f"tag {it}" for it in TAGS)]
         headings = [f"{when}_{kind}:" for when in ("before", "after") for kind in kinds]
         chosen = [it for it in headings if self.chance.random() < 0.3]
-        return [line for it in chosen for line in [it, *self.hook_step(), *self.steps(1)]]
+        return [line for it in chosen for line in [it, *self.hook_step(), *self.hook_step()]]
 
     def hook_step(self):
         """Mostly a step that passes, so that something runs."""
-        if self.chance.random() < 0.25:
+        if self.chance.random() < 0.1:
             return self.step()
         return ["Given " + self.chance.choice(["put f as x", "keep v 1", "ok"] if self.is_own
                                                else ['a file named "f" containing "x"', 'the number "v" is set to 1', "it passes"])]
