@@ -119,7 +119,7 @@ class Maker:
 
     def hook_step(self):
         """Mostly a step that passes, so that something runs."""
-        if self.chance.random() < 0.1:
+        if self.chance.random() < 0.2:
             return self.step()
         return ["Given " + self.chance.choice(["put f as x", "keep v 1", "ok"] if self.is_own
                                                else ['a file named "f" containing "x"', 'the number "v" is set to 1', "it passes"])]

@@ -4,7 +4,8 @@
 # For each example, and for each stored run with a JSON report, jq makes the plain report of the JSON one, which
 # has to be what the program prints as plain; it counts the features, scenarios and steps, which has to give the
 # summary; and the status has to be the one that the program ends with. Then runs over several files are
-# compared with the reports of runs over a part of them each, added up by examples/add_reports.sh. PROGRAM is
+# compared with the reports of runs over a part of them each, added up by examples/add_reports.sh; and the
+# commands with jq in docs/GUIDE.md are tried. PROGRAM is
 # the built program; without it, the one that ./run builds. jq is needed, so ./test doesn't run this script.
 # Closes with one line 'N passed, M failed'.
 set -eu
@@ -132,6 +133,34 @@ add_up "a dry run" --dry-run -- $features
 add_up "hooks that fail" --hooks examples/failing_hooks.hooks -- examples/failing_hooks.feature $features
 add_up "cleanups" --hooks examples/cleanups.hooks -- examples/cleanups.feature examples/first.feature
 add_up "a library" --library examples/default.steps --env A=b -- examples/default.feature $features
+# The commands of the guide, in a folder with some features: a line of the page that begins with a text.
+command_of() {
+    grep --max-count=1 --fixed-strings -- "$1" docs/GUIDE.md
+}
+share=$(command_of './run --format json $(ls')
+add=$(command_of 'examples/add_reports.sh report.*.json')
+list=$(command_of "jq -r '.features[]")
+mkdir "$room/suite" "$room/suite/features"
+cp $features "$room/suite/features"
+ln -s "$home/examples" "$room/suite/examples"
+printf '#!/bin/sh\nexec "%s" "$@"\n' "$program" > "$room/suite/run"
+chmod +x "$room/suite/run"
+cd "$room/suite"
+PARTS=3
+for PART in 0 1 2; do
+    check "the guide's command for machine $PART: its status" sh -c "
+        PART=$PART PARTS=$PARTS
+        $share"' || [ $? -le 1 ]'
+done
+check "the guide's sum: its status" sh -c "$add"'; [ $? -eq 1 ]'
+order=$(for part in 0 1 2; do ls features/*.feature | awk "NR % 3 == $part"; done)
+run "$room/all" --format json $order
+check "the guide's sum: another report" cmp "$room/all" report.json
+sh -c "$list" > listed || true
+run "$room/plain" $order
+check "the guide's list of failed scenarios" [ "$(wc -l < listed)" -eq "$(grep -cE '^  [A-Z].* \.\.\. failed$' "$room/plain")" ]
+check "the guide's list has scenarios" [ -s listed ]
+cd "$home"
 : > "$room/empty"
 run "$room/json" --format json examples/first.feature
 head -c 100 "$room/json" > "$room/cut"
