@@ -133,6 +133,9 @@ def differences(run, status, stdout, stderr):
         wanted = content(run, name) if beginning is None else beginning
         if printed != wanted and (beginning is None or not printed.startswith(beginning)):
             found.append(f"  {name} {shown(printed)}\n    and not {shown(wanted)}")
+        for part in content(run, name + "_holds").split(b"\n")[:-1]:
+            if part not in printed:
+                found.append(f"  {name} without {shown(part)}")
     return found
 
 
