@@ -6,6 +6,9 @@
 - The lines of all examples, libraries and hooks files mixed: two files' lines in turn, and random lines of all of them.
 - Random bytes, and random lines that look like Gherkin, like a library or like a hooks file.
 - Random options.
+
+Each of these runs is made with a report of one format, plain, as progress or as JSON, and some with --no-skipped,
+--dry-run or --stop.
 """
 
 import itertools
@@ -16,7 +19,7 @@ import sys
 import threading
 
 import several
-from reports import Report
+from reports import FORMATS, Report, style_of
 
 # The bytes that stand in place of others: no text, line ends, blanks, the marks of Gherkin and of patterns,
 # and the beginnings and middles of longer characters.
@@ -40,7 +43,8 @@ Given at cleanup it passes|And at cleanup at cleanup it passes|Given a file name
 /| f /| x /||# c||@a|Feature: f|stray"""
 OPTIONS = ["--hooks", "--hooks=h.hooks", "h.hooks", "--tags", "--line", "--env", "--library", "--", "-", "@a", "~@a,b", "@", ",", "a b", "0", "1", "4294967295", "4294967296",
            "A=b", "=", "A", "a.feature", "l.steps", "no", "", "--tags=@a", "--tags=", "--env=A=b=c", "--line=3", "--help", "--x", "\u00e9",
-           "--library=l.steps", "\udcff"]
+           "--library=l.steps", "\udcff", "--dry-run", "--stop", "--no-skipped", "--format", "json", "progress", "plain", "xml",
+           "--format=json", "--format=progress", "--format=", "--stop=x"]
 
 
 def lines_of(table):
@@ -129,6 +133,18 @@ def option_cases(chance):
         yield case
 
 
+def with_styles(cases):
+    """The cases, each with options for the report and the run in turn. Where options are hostile, or an example
+    has such of its own, none are added."""
+    formats = [["--format", it] for it in FORMATS] + [[]]
+    others = [[], [], ["--no-skipped"], ["--dry-run"], ["--stop"], ["--no-skipped", "--dry-run", "--stop"], []]
+    own = {"--format", "--no-skipped", "--dry-run", "--stop"}
+    for case, one, other in zip(cases, itertools.cycle(formats), itertools.cycle(others)):
+        if not case.may_be_refused and not own & set(case.arguments):
+            case.arguments = [*one, *other, *case.arguments]
+        yield case
+
+
 class Runner:
     def __init__(self, program, room):
         self.program, self.room = program, room
@@ -156,25 +172,26 @@ class Runner:
         if status in (0, 1):
             if case.may_be_refused and status == 0 and b"Usage:" in out:
                 return not err
-            return not err and bool(out) and is_report(out)
+            return not err and bool(out) and is_report(out, status, style_of(case.arguments))
         if status == 3:
             return not out and re.fullmatch(rb"gherkin_run: [^\n]*\n", err) is not None
         return case.may_be_refused and status == 2 and not out and bool(err)
 
 
-def is_report(text):
-    """Whether a text is a report whose closing lines are the counts of its rows. A line feed in a file's
-    name or text is printed as two characters, so each row is one line."""
+def is_report(text, status, style):
+    """Whether a text is a report whose counts are those of its rows, with that status. A line feed in a file's
+    name or text is printed as two characters, so each row of a plain report is one line."""
     try:
-        return Report.of(text).is_read_well()
-    except (ValueError, StopIteration, IndexError):
+        report = Report.of(text, style)
+    except ValueError:
         return False
+    return report.is_read_well() and report.status() == status
 
 
 def main():
     runner = Runner(sys.argv[1], sys.argv[2])
     chance = random.Random(1)
-    cases = itertools.chain(example_cases(), mixed_cases(chance), random_cases(chance), option_cases(chance))
+    cases = with_styles(itertools.chain(example_cases(), mixed_cases(chance), random_cases(chance), option_cases(chance)))
     passed = failed = 0
     while chunk := list(itertools.islice(cases, CHUNK)):
         for trouble in several.on_all_processors(runner.trouble, chunk):

@@ -57,6 +57,62 @@ def many_scenarios():
     return Run({"a.feature": text}, 0, passing("many", names, steps) + closing(1, 100_000, 200_000))
 
 
+def json_row(number):
+    """The object of a scenario of the runs of many scenarios."""
+    def step(keyword, line, text):
+        return f'{{"keyword":"{keyword}","line":{line},"status":"passed","text":"{text}"}}'
+    line = 2 + 3 * number
+    steps = [step("Given", line + 1, 'the variable \\"A\\" is set to \\"x\\"'), step("Then", line + 2, 'the variable \\"A\\" should be \\"x\\"')]
+    return (f'{{"around":"passed","keyword":"Scenario","line":{line},"name":"s{number}","status":"passed","steps":[{",".join(steps)}]}}')
+
+
+def json_counts(passed, undefined=False):
+    names = ["failed", "memory", "passed", "skipped", *(["undefined"] if undefined else []), "untested"]
+    return "{" + ",".join(f'"{it}":{passed if it == "passed" else 0}' for it in names) + "}"
+
+
+def many_scenarios_as_json():
+    rows = ",".join(json_row(number) for number in range(100_000))
+    report = (f'{{"features":[{{"around":"passed","line":1,"name":"many","scenarios":[{rows}],"source":"a.feature","status":"passed"}}],'
+              f'"run":"passed","status":0,"summary":{{"features":{json_counts(1)},"scenarios":{json_counts(100_000)},'
+              f'"steps":{json_counts(200_000, True)}}}}}\n')
+    return Run(many_scenarios().files, 0, report, arguments=["--format", "json", "a.feature"])
+
+
+def many_scenarios_as_progress():
+    return Run(many_scenarios().files, 0, f"a.feature  {'.' * 100_000}  passed\n" + closing(1, 100_000, 200_000),
+               arguments=["--format", "progress", "a.feature"])
+
+
+def many_scenarios_after_the_one_that_stops_the_run():
+    run = many_scenarios()
+    files = {"0.feature": "Feature: f\nScenario: s\nGiven it fails\n", **run.files}
+    report = f"0.feature  F  failed\na.feature  {'U' * 100_000}  untested\n" + counted("feature", 0, 1).replace("\n", ", 1 untested\n")
+    report += counted("scenario", 0, 1).replace("\n", ", 100000 untested\n") + counted("step", 0, 1, 0, 0).replace("\n", ", 200000 untested\n")
+    return Run(files, 1, report, arguments=["--stop", "--format", "progress", *files])
+
+
+def many_files_as_json():
+    files = {f"{number}.feature": "Feature: f\n" for number in range(300)}
+    rows = ",".join(f'{{"around":"passed","line":1,"name":"f","scenarios":[],"source":"{it}","status":"skipped"}}' for it in files)
+    counts = json_counts(0).replace('"skipped":0', '"skipped":300')
+    report = (f'{{"features":[{rows}],"run":"passed","status":0,"summary":{{"features":{counts},"scenarios":{json_counts(0)},'
+              f'"steps":{json_counts(0, True)}}}}}\n')
+    return Run(files, 0, report, arguments=["--format", "json", *files])
+
+
+def long_names_as_json():
+    name = '\u00e9"\\' * 100_000
+    written = '\u00e9\\"\\\\' * 100_000
+    step = f'{{"keyword":"Given","line":3,"status":"undefined","text":"{written}"}}'
+    scenario = f'{{"around":"passed","keyword":"Scenario","line":2,"name":"{written}","status":"failed","steps":[{step}]}}'
+    failed = json_counts(0).replace('"failed":0', '"failed":1')
+    undefined = json_counts(0, True).replace('"undefined":0', '"undefined":1')
+    report = (f'{{"features":[{{"around":"passed","line":1,"name":"{written}","scenarios":[{scenario}],"source":"a.feature","status":"failed"}}],'
+              f'"run":"passed","status":1,"summary":{{"features":{failed},"scenarios":{failed},"steps":{undefined}}}}}\n')
+    return Run({"a.feature": f"Feature: {name}\nScenario: {name}\nGiven {name}\n"}, 1, report, arguments=["--format", "json", "a.feature"])
+
+
 def many_files():
     files = {f"{number}.feature": f"Feature: f{number}\nScenario: s{number}\nGiven the variable \"V{number}\" should be unset\n"
              f"And the variable \"V{number}\" is set to \"x\"\n" for number in range(100)}
@@ -394,7 +450,8 @@ def hopeless_pattern_of_numbers():
                1, report + closing((0, 1), (0, 1), (0, 0, 0, 1)), arguments=["--library", "l.steps", "a.feature"])
 
 
-RUNS = (many_scenarios, many_files, many_files_backwards, fault_of_the_last_of_many_files,
+RUNS = (many_scenarios, many_scenarios_as_json, many_scenarios_as_progress, many_scenarios_after_the_one_that_stops_the_run,
+        many_files_as_json, long_names_as_json, many_files, many_files_backwards, fault_of_the_last_of_many_files,
         many_rules_examples_and_rows, late_line, chosen_line_65535, chosen_line_65536, chosen_line_1000000,
         longest_file_of_a_comment, longest_file_of_a_scenario, file_one_byte_too_long, second_file_one_byte_too_long,
         too_long_before_not_utf8, longest_file_not_utf8, longest_library, library_one_byte_too_long, longest_texts,

@@ -6,7 +6,7 @@ import random
 import sys
 
 import several
-from reports import Report
+from reports import FORMATS, PLAIN, Ample, Feature, Report, Scenario
 
 FEATURES = 120
 SCENARIOS = 20
@@ -125,48 +125,38 @@ class World:
 
 
 def scenario(chance, number):
-    """A scenario's lines, and its rows in the report. It begins with nothing, whatever the others did."""
+    """A scenario's lines, and the scenario in the report. It begins with nothing, whatever the others did."""
     world, lines, rows, reason = World(), [f"Scenario: s{number}"], [], None
     for step, block in world.checks():
         lines += [f"Given {step}", *block]
-        rows.append(f"    Given {step} ... passed")
+        rows.append((f"Given {step}", "passed"))
     for _ in range(chance.randrange(CHANGES)):
         step, block, found = chance.choice(World.CHANGES)(world, chance)
         lines += [f"When {step}", *block]
-        status = "skipped" if reason else f"failed: {found}" if found else "passed"
-        rows.append(f"    When {step} ... {status}")
+        rows.append((f"When {step}", "skipped" if reason else f"failed: {found}" if found else "passed"))
         if reason:
             break
         reason = found
         for step, block in world.checks():
             lines += [f"Then {step}", *block]
-            rows.append(f"    Then {step} ... {'skipped' if reason else 'passed'}")
-    return lines, [f"  Scenario: s{number} ... {'failed' if reason else 'passed'}", *rows]
+            rows.append((f"Then {step}", "skipped" if reason else "passed"))
+    return lines, Scenario(f"Scenario: s{number}", "failed" if reason else "passed", rows)
 
 
 def feature(seed):
-    """A feature's text, its report and its status."""
+    """A feature's text, and its plain report."""
     chance = random.Random(seed)
     scenarios = [scenario(chance, number) for number in range(SCENARIOS)]
     lines = [line for own, _ in scenarios for line in own]
-    rows = [row for _, own in scenarios for row in own]
-    failed = any(row.endswith(" ... failed") for row in rows if row.startswith("  Scenario"))
-    rows = [f"Feature: f ... {'failed' if failed else 'passed'}", *rows, ""]
-    return "\n".join(["Feature: f", *lines]) + "\n", Report(rows, []).text(), 1 if failed else 0
+    rows = [row for _, row in scenarios]
+    status = "failed" if any(it.status == "failed" for it in rows) else "passed"
+    return "\n".join(["Feature: f", *lines]) + "\n", Report(PLAIN, [Feature("Feature: f", status, rows)])
 
 
-def ended_well(ample, ended):
-    """Whether a run with a refused growth ended in one of the three ways."""
-    if ended in (ample, (4, b"", b"gherkin_run: out of memory\n")):
-        return True
-    status, printed, err = ended
-    if status != 4 or err:
-        return False
-    try:
-        report = Report.of(printed)
-    except (ValueError, IndexError):
-        return False
-    return report.is_read_well() and report.is_marked(Report.of(ample[1]))
+def ample_of(program, folder, seed):
+    """The same run in one of the formats, as the seed has it."""
+    arguments = ["--format", FORMATS[seed % len(FORMATS)], "a.feature"]
+    return arguments, Ample(arguments, several.start(program, arguments, folder))
 
 
 def main():
@@ -176,17 +166,19 @@ def main():
         """What is wrong with the runs of a feature."""
         folder = os.path.join(room, f"feature{seed}")
         os.makedirs(folder)
-        text, report, status = feature(seed)
+        text, report = feature(seed)
         with open(os.path.join(folder, "a.feature"), "w", encoding="utf-8") as file:
             file.write(text)
-        ample = several.start(program, ["a.feature"], folder)
-        yield "" if ample == (status, report, b"") else f"feature of seed {seed}: status {ample[0]}, {ample[2]}, or another report"
+        plain = several.start(program, ["a.feature"], folder)
+        yield "" if plain == (report.status(), report.text(), b"") else f"feature of seed {seed}: status {plain[0]}, {plain[2]}, or another report"
+        arguments, ample = ample_of(program, folder, seed)
+        yield "" if ample.is_read_well() and ample.report.counts == report.counts else f"feature of seed {seed}, {arguments}: other counts"
         chance = random.Random(seed)
         for _ in range(REFUSALS):
             number = int(10 ** chance.uniform(0, 4.5))
-            ended = several.start(program, ["a.feature"], folder,
+            ended = several.start(program, arguments, folder,
                                   {**os.environ, "REFUSE": str(number), "LD_PRELOAD": os.path.join(room, "refuse.so")})
-            yield "" if ended_well(ample, ended) else f"feature of seed {seed}, growth {number} refused: {ended[0]}, {ended[2]}"
+            yield "" if ample.ending(ended) else f"feature of seed {seed}, {arguments}, growth {number} refused: {ended[0]}, {ended[2]}"
         os.remove(os.path.join(folder, "a.feature"))
 
     passed = failed = 0

@@ -10,10 +10,5 @@
 set -eu
 
 . "$(dirname -- "$(readlink -f -- "$0")")/setup.sh"
-if ! command -v cc > /dev/null; then
-    echo "tests/random_changes.sh needs a C compiler, cc, and there is none here"
-    echo "0 passed, 1 failed"
-    exit 1
-fi
-cc -shared -fPIC -O2 -o "$room/refuse.so" "$home/tests/refuse.c"
+build_shim random_changes
 python3 "$home/tests/random_changes.py" "$program" "$room"

@@ -1,13 +1,22 @@
-/* Refuses one growth of memory of a program: the one whose number, from 1, is in the environment's
- * variable REFUSE. Loaded before the C library, by LD_PRELOAD.
+/* Refuses one growth of memory of a program, or limits what it writes to standard output. Loaded before
+ * the C library, by LD_PRELOAD. What it does is in variables of the environment:
  *
- * A growth is a call of malloc, calloc or realloc. At the end of the program, where the variable
- * REFUSE_LOG names a file, it is written there whether the refused growth was met: "met" or "unmet".
- * A program that ends by a signal writes nothing there. */
+ *   REFUSE        the number, from 1, of the growth that is refused. A growth is a call of malloc, calloc or
+ *                 realloc
+ *   REFUSE_LOG    a file to which is written, at the end of the program, whether that growth was met: "met"
+ *                 or "unmet". A program that ends by a signal writes nothing there
+ *   WRITE_PIECE   how many bytes a call of write takes at most
+ *   WRITE_FAILS   the number, from 1, of the call of write that fails
+ *   WRITE_ERROR   the error of that call, a number of errno; without it the call takes no byte and has none
+ *
+ * Only the calls of write to standard output are counted and limited; those after the one that fails are
+ * passed on again, so that a program that goes on is seen. */
 #include <errno.h>
 #include <fcntl.h>
 #include <stdlib.h>
 #include <string.h>
+#include <sys/syscall.h>
+#include <sys/uio.h>
 #include <unistd.h>
 
 /* The C library's own functions, under the names by which it lets them be reached. */
@@ -36,6 +45,29 @@ void *malloc(size_t size) { return is_refused() ? NULL : __libc_malloc(size); }
 void *calloc(size_t count, size_t size) { return is_refused() ? NULL : __libc_calloc(count, size); }
 
 void *realloc(void *place, size_t size) { return is_refused() ? NULL : __libc_realloc(place, size); }
+
+static long number_of(const char *name) {
+  const char *text = getenv(name);
+  return text ? atol(text) : 0;
+}
+
+ssize_t write(int file, const void *bytes, size_t count) {
+  static long calls;
+  if (file != 1) return syscall(SYS_write, file, bytes, count);
+  long piece = number_of("WRITE_PIECE");
+  if (++calls == number_of("WRITE_FAILS")) {
+    errno = (int)number_of("WRITE_ERROR");
+    return errno ? -1 : 0;
+  }
+  return syscall(SYS_write, file, bytes, piece && (size_t)piece < count ? (size_t)piece : count);
+}
+
+/* Several pieces in one call are a call for the first that isn't empty. */
+ssize_t writev(int file, const struct iovec *pieces, int count) {
+  int first = 0;
+  while (first + 1 < count && pieces[first].iov_len == 0) first++;
+  return count < 1 ? 0 : write(file, pieces[first].iov_base, pieces[first].iov_len);
+}
 
 __attribute__((destructor)) static void tell(void) {
   const char *name = getenv("REFUSE_LOG");

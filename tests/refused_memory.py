@@ -5,7 +5,32 @@ import os
 import sys
 
 import several
-from reports import Report
+from reports import Ample, Report, Style, style_of
+
+# One feature, twice.
+ONE = "Feature: one\n  Scenario: first\n    Given it passes\n"
+TWO_FILES = {"a.feature": ONE, "b.feature": ONE}
+# Scenarios and a feature that aren't chosen.
+CHOSEN_FILES = ["--tags", "@a", "a.feature", "b.feature", "c.feature"]
+THREE_FILES = {
+    "a.feature": 'Feature: a\nScenario: left out\nGiven it fails\n@a\nScenario: chosen\nGiven a file named "f" containing "x"\nAnd it fails\n',
+    "b.feature": "Feature: b\nScenario: left out, too\nGiven it fails\n",
+    "c.feature": '@a\nFeature: c "in\\out" \u00e9\nScenario: first\nGiven the number "n" is set to 1\nScenario: second\nGiven nothing knows this\n',
+}
+# A file whose scenarios and whose hooks fail.
+FAILING_HOOKS = {
+    "h.hooks": "before_tag @broken:\nGiven it fails\nafter_all:\nGiven at cleanup it fails\n",
+    "a.feature": "@broken\nFeature: a\nScenario: s\nGiven it passes\n",
+    "b.feature": "Feature: b\n@broken\nScenario: s\nGiven it passes\nAnd nobody knows\nScenario: t\nGiven at cleanup it fails\n",
+}
+# A run that may end early, with hooks after its sections.
+STOPPING = {
+    "h.hooks": 'before_feature:\nGiven a file named "f" containing "x"\nafter_feature:\nThen the file "f" should be "x"\n'
+               'after_all:\nThen the file "f" should not exist\n',
+    "a.feature": 'Feature: a\nScenario: s\nGiven the value "v" is set to "1"\nScenario: t\nGiven it passes\nAnd it passes\n',
+    "b.feature": 'Feature: b\nScenario: s\nGiven the file "f" is extended with "y"\nScenario: t\nGiven it fails\nScenario: u\nGiven it passes\n',
+    "c.feature": "Feature: c\nScenario: s\nGiven it passes\n",
+}
 
 # Runs beside the examples, so that each kind of input and of step meets refusals: arguments, and files.
 RUNS = {
@@ -193,6 +218,20 @@ Then the file "log" should be "abs"
         ["--hooks", "h.hooks", "a.feature"],
         {"h.hooks": "before_all:\nGiven nothing knows this\n", "a.feature": "Feature: f\nScenario: s\nGiven it passes\n"},
     ),
+    "two files, as progress": (["--format", "progress", "a.feature", "b.feature"], TWO_FILES),
+    "two files, as JSON": (["--format", "json", "a.feature", "b.feature"], TWO_FILES),
+    "two files": (["a.feature", "b.feature"], TWO_FILES),
+    "nothing, as JSON": (["--format", "json", "a.feature"], {"a.feature": "# nothing\n"}),
+    "three files without what is skipped": (["--no-skipped", *CHOSEN_FILES], THREE_FILES),
+    "three files without what is skipped, as progress": (["--no-skipped", "--format", "progress", *CHOSEN_FILES], THREE_FILES),
+    "three files without what is skipped, as JSON": (["--no-skipped", "--format", "json", *CHOSEN_FILES], THREE_FILES),
+    "hooks that fail, as JSON": (["--format", "json", "--hooks", "h.hooks", "a.feature", "b.feature"], FAILING_HOOKS),
+    "hooks that fail, as progress": (["--format", "progress", "--hooks", "h.hooks", "a.feature", "b.feature"], FAILING_HOOKS),
+    "a run that stops": (["--stop", "--hooks", "h.hooks", "a.feature", "b.feature", "c.feature"], STOPPING),
+    "a run that stops, as JSON": (["--stop", "--format", "json", "--hooks", "h.hooks", "a.feature", "b.feature", "c.feature"], STOPPING),
+    "a dry run": (["--dry-run", "--stop", "--hooks", "h.hooks", "a.feature", "b.feature", "c.feature"], STOPPING),
+    "a dry run, as progress": (["--dry-run", "--format", "progress", "a.feature", "b.feature", "c.feature"], STOPPING),
+    "a dry run, as JSON, without what is skipped": (["--dry-run", "--no-skipped", "--format", "json", *CHOSEN_FILES], THREE_FILES),
     "a faulty hooks file": (["--hooks", "h.hooks", "a.feature"], {"h.hooks": "before_tag @:\n", "a.feature": ""}),
     "faults": (["--library", "l.steps", "a.feature"], {"l.steps": "step a {x} => pass\nstep a b => fail\n", "a.feature": "stray\n"}),
     "bad tags": (["--tags", "@a,,", "a.feature"], {"a.feature": ""}),
@@ -206,13 +245,19 @@ class Refusals:
     def __init__(self, program, room, name, arguments, folder):
         self.program, self.room, self.name = program, room, name
         self.arguments, self.folder = arguments, folder
-        self.ample = several.start(program, arguments, folder)
-        self.report = Report.of(self.ample[1]) if self.ample[1] else None
-        self.is_read_well = self.report is None or self.report.is_read_well()
+        self.ample = Ample(arguments, several.start(program, arguments, folder), self.whole())
+
+    def whole(self):
+        """The report of the same run that leaves nothing out."""
+        if "--no-skipped" not in self.arguments:
+            return None
+        arguments = [it for it in self.arguments if it != "--no-skipped"]
+        _, printed, _ = several.start(self.program, arguments, self.folder)
+        return Report.of(printed, Style(style_of(arguments).format, False))
 
     def ending(self, number):
-        """How the run ends whose growth of a number is refused: `met` and one of `stopped`, `marked`, `unharmed`,
-        or `unmet`, or what is wrong."""
+        """How the run ends whose growth of a number is refused, one of ENDINGS, and what was written. An ending
+        that isn't allowed is said in words."""
         log = os.path.join(self.room, f"met.{number % 64}.{os.getpid()}")
         if os.path.exists(log):
             os.remove(log)
@@ -220,21 +265,12 @@ class Refusals:
                               {**os.environ, "REFUSE": str(number), "REFUSE_LOG": log,
                                "LD_PRELOAD": os.path.join(self.room, "refuse.so")})
         met = several.read(log).strip() if os.path.exists(log) else b"ended by a signal"
-        if ended == self.ample and met in (b"met", b"unmet"):
-            return "unharmed" if met == b"met" else "unmet"
-        if met == b"met" and ended == (4, b"", b"gherkin_run: out of memory\n"):
-            return "stopped"
-        if met == b"met" and ended[0] == 4 and not ended[2] and self.is_marked(ended[1]):
-            return "marked"
-        return f"{self.name}, growth {number} refused: {met.decode()}, {ended}"
-
-    def is_marked(self, text):
-        """Whether a report is the one with ample memory but for one mark of memory."""
-        try:
-            report = Report.of(text)
-        except (ValueError, IndexError):
-            return False
-        return report.is_read_well() and self.report is not None and report.is_marked(self.report)
+        ending = self.ample.ending(ended)
+        if met == b"unmet" and ending == "unharmed":
+            return "unmet", ended[1]
+        if met == b"met" and ending:
+            return ending, ended[1]
+        return f"{self.name}, growth {number} refused: {met.decode()}, {ended}", ended[1]
 
     def endings(self):
         """How each run ends, up to the first that meets no refusal."""
@@ -243,9 +279,49 @@ class Refusals:
             numbers = range(number, number + 64)
             for ending in several.on_all_processors(self.ending, numbers):
                 yield ending
-                if ending == "unmet":
+                if ending[0] == "unmet":
                     return
             number += 64
+
+
+ENDINGS = ("stopped", "marked", "unharmed", "unmet")
+
+
+class Counts:
+    """How many runs ended how, and how many of them badly."""
+
+    def __init__(self):
+        self.passed = self.failed = self.pieces = 0
+        self.endings = dict.fromkeys(ENDINGS, 0)
+
+    def check(self, is_well, name):
+        if is_well:
+            self.passed += 1
+        else:
+            self.failed += 1
+            print(name)
+
+    def add(self, case):
+        """Makes all runs of a case."""
+        if not case.ample.is_read_well():
+            self.check(False, f"{case.name}: the counts and statuses of its report aren't those of its rows")
+            return
+        written = set()
+        for ending, printed in case.endings():
+            self.check(ending in ENDINGS, ending)
+            if ending in ENDINGS:
+                self.endings[ending] += 1
+            if ending == "stopped":
+                written.add(printed)
+                self.pieces += printed != b""
+        if case.ample.report is not None:
+            self.check_pieces(case, written)
+
+    def check_pieces(self, case, written):
+        """Each piece is made when those before it are written, so for each of them a run ends there."""
+        for before, piece in zip(case.ample.beginnings, case.ample.report.pieces()):
+            if piece:
+                self.check(before in written, f"{case.name}: no run stopped after {len(before)} bytes, where a piece is made")
 
 
 def cases(program, room):
@@ -262,27 +338,16 @@ def cases(program, room):
 
 def main():
     program, room = sys.argv[1], sys.argv[2]
-    passed = failed = 0
-    counts = {"stopped": 0, "marked": 0, "unharmed": 0, "unmet": 0}
+    counts = Counts()
     for case in cases(program, room):
-        if not case.is_read_well:
-            failed += 1
-            print(f"{case.name}: the closing lines of its report aren't those of its rows")
-            continue
-        for ending in case.endings():
-            if ending in counts:
-                counts[ending] += 1
-                passed += 1
-            else:
-                failed += 1
-                print(ending)
-    print(f"where a growth was refused: {counts['stopped']} runs ended with nothing printed, "
-          f"{counts['marked']} with one mark of memory, {counts['unharmed']} as with ample memory")
+        counts.add(case)
+    ended = counts.endings
+    print(f"where a growth was refused: {ended['stopped']} runs stopped, {counts.pieces} of them after whole pieces of the report, "
+          f"{ended['marked']} ended with one mark of memory, {ended['unharmed']} as with ample memory")
     # Growths were really refused, outside of what is marked and in it.
-    for seen in (counts["stopped"], counts["marked"]):
-        passed, failed = (passed + 1, failed) if seen else (passed, failed + 1)
-    print(f"{passed} passed, {failed} failed")
-    return 1 if failed else 0
+    counts.check(ended["stopped"] and ended["marked"] and counts.pieces, "no run ended in one of these ways")
+    print(f"{counts.passed} passed, {counts.failed} failed")
+    return 1 if counts.failed else 0
 
 
 if __name__ == "__main__":

@@ -1,126 +1,217 @@
-"""The program's report, read back: what the drivers of tests/ ask of it."""
+"""The program's report in each format, read back: what the drivers of tests/ ask of it.
 
+`Report.of(text, style)` reads a report, plain, as progress or as JSON, into the same features and scenarios.
+A progress report has no steps, so those of its scenarios are None, and a feature's own hooks aren't seen.
+JSON is read by Python's own reader. What was read is written again in the same format: a report is read
+well only where this gives its very bytes. For JSON that is the compact text of one document with its keys
+sorted, and a line feed.
+"""
+
+import collections
+import json
 import re
 
 AROUND = "(hooks and cleanups)"
+FORMATS = ("plain", "progress", "json")
+CHARACTERS = {"passed": ".", "failed": "F", "skipped": "S", "untested": "U", "memory": "M"}
+VERDICTS = ("passed", "failed", "skipped", "untested", "memory")
+STEP_STATUSES = ("passed", "failed", "skipped", "undefined", "untested", "memory")
+COUNTED = {"feature": VERDICTS, "scenario": VERDICTS, "step": STEP_STATUSES}
+# The keys of each JSON object.
+DOCUMENT = {"features", "run", "status", "summary"}
+FEATURE = {"around", "line", "name", "scenarios", "source", "status"}
+SCENARIO = {"around", "keyword", "line", "name", "status", "steps"}
+STEP = {"keyword", "line", "status", "text"}
+
+# How a report is asked for: its format, and whether what is skipped is left out.
+Style = collections.namedtuple("Style", "format no_skipped")
+PLAIN = Style("plain", False)
+
+
+def style_of(arguments):
+    """The style that arguments ask for."""
+    known = [it.removeprefix("--format=") for it in arguments if it.startswith("--format=")]
+    known += [following for it, following in zip(arguments, arguments[1:]) if it == "--format"]
+    return Style(known[0] if known else "plain", "--no-skipped" in arguments)
 
 
 class Scenario:
-    """A scenario's line, its status, those of its steps, and the status of its hooks and cleanups."""
+    """What a report calls a scenario, its status, those of its steps, and that of its hooks and cleanups."""
 
-    def __init__(self, head, status):
-        self.head, self.status, self.steps, self.around = head, status, [], "passed"
+    def __init__(self, head, status, steps=None, around="passed"):
+        self.head, self.status, self.steps, self.around = head, status, steps, around
 
-    def untold(self):
+    def unreached(self):
         """The same scenario, not reached."""
-        other = Scenario(self.head, "untested")
-        other.steps = [(head, "untested") for head, _ in self.steps]
-        return other
+        steps = None if self.steps is None else [(head, "untested") for head, _ in self.steps]
+        return Scenario(self.head, "untested", steps)
 
-    def rows(self):
-        yield f"  {self.head} ... {self.status}"
-        for head, status in self.steps:
-            yield f"    {head} ... {status}"
-        if self.around != "passed":
-            yield f"    {AROUND} ... {self.around}"
+    def row(self):
+        return self.head, self.status, self.steps, self.around
+
+    def statuses(self):
+        """The statuses of its steps, without reasons."""
+        return [status.split(":")[0] for _, status in self.steps or []]
+
+    def is_unchosen(self):
+        """Whether all of it is skipped. Of a progress report nobody can say why a scenario is skipped."""
+        return self.status == "skipped" and all(it == "skipped" for it in self.statuses())
+
+    def is_judged_well(self):
+        """Whether its status follows from those of its parts."""
+        statuses = self.statuses()
+        if self.steps is None:
+            return True
+        if "memory" in (self.around, *statuses):
+            return self.status == "memory"
+        if self.status == "untested":
+            return self.around == "passed" and set(statuses) <= {"untested", "undefined"}
+        if self.around == "failed" or "failed" in statuses or "undefined" in statuses:
+            return self.status == "failed" and "untested" not in statuses
+        if self.status == "passed":
+            return set(statuses) <= {"passed"}
+        return self.status == "skipped" and set(statuses) <= {"passed", "skipped"} and statuses[-1:] != ["passed"]
 
 
 class Feature:
-    """A feature's line, its status, its scenarios, and the status of its own hooks and cleanups."""
+    """What a report calls a feature, its status, its scenarios, and the status of its own hooks and cleanups,
+    which is None where the report doesn't say."""
 
-    def __init__(self, head, status):
-        self.head, self.status, self.scenarios, self.around = head, status, [], "passed"
+    def __init__(self, head, status, scenarios, around="passed"):
+        self.head, self.status, self.scenarios, self.around = head, status, scenarios, around
 
-    def rows(self):
-        yield f"{self.head} ... {self.status}"
-        for scenario in self.scenarios:
-            yield from scenario.rows()
-        if self.around != "passed":
-            yield f"  {AROUND} ... {self.around}"
-        yield ""
+    def row(self):
+        return self.head, self.status, [it.row() for it in self.scenarios], self.around
 
     def is_begun(self):
         """Whether a scenario of it was chosen."""
-        return any(it.status != "skipped" or any(s != "skipped" for _, s in it.steps) for it in self.scenarios)
+        return not all(it.is_unchosen() for it in self.scenarios)
 
-    def verdict(self):
-        """Its status, by those of its parts."""
-        statuses = [self.around] + [it.status for it in self.scenarios]
-        for status in ("memory", "failed", "untested"):
-            if status in statuses:
-                return status
-        return "passed" if "passed" in statuses[1:] else "skipped"
+    def cut_after(self, place):
+        """The same feature, where no scenario after a place is reached; before place 0 it isn't begun."""
+        scenarios = [it if at <= place or it.is_unchosen() else it.unreached() for at, it in enumerate(self.scenarios)]
+        around = self.around if place >= 0 or self.around is None else "passed"
+        statuses = [it.status for it in scenarios]
+        return Feature(self.head, verdict([around, *statuses], statuses), scenarios, around)
+
+    def is_judged_well(self):
+        """Whether its status follows from those of its parts."""
+        statuses = [it.status for it in self.scenarios]
+        allowed = [verdict([around, *statuses], statuses)
+                   for around in ([self.around] if self.around else ["passed", "failed", "memory"])]
+        return self.status in allowed and all(it.is_judged_well() for it in self.scenarios)
 
 
-def split(line):
-    """A line's text and its status, with the reason."""
-    head, _, status = line.rpartition(" ... ")
-    if not head:
-        raise ValueError(line)
-    return head.lstrip(" "), status
+def verdict(statuses, scenarios):
+    """A feature's status, by those of its own hooks and its scenarios, and by those of its scenarios alone."""
+    for status in ("memory", "failed", "untested"):
+        if status in statuses:
+            return status
+    return "passed" if "passed" in scenarios else "skipped"
 
 
 class Report:
-    """A report as its features, and the status of the run's own hooks and cleanups."""
+    """A report as its features, the status of the run's own hooks and cleanups, and its counts."""
 
-    def __init__(self, rows, closing_lines):
-        self.closing = closing_lines
-        self.features, self.around = [], "passed"
-        for row in rows:
-            self.read(row)
+    def __init__(self, style, features, around="passed", counts=None):
+        """A report of these features. Where no counts are given, they are those of its rows."""
+        self.style, self.features, self.around = style, features, around
+        self.counts = counts or self.counted()
 
     @staticmethod
-    def of(text):
-        """What a text says that a run printed."""
-        lines = text.decode().split("\n")
-        if lines.pop() != "":
-            raise ValueError("no line feed at the end")
-        return Report(lines[:-3], lines[-3:])
+    def of(text, style=PLAIN):
+        """What a text says that a run printed. Any kind of ValueError where it is no report."""
+        try:
+            report = READERS[style.format](text.decode(), style)
+        except (IndexError, KeyError, TypeError, AttributeError) as trouble:
+            raise ValueError(repr(trouble)) from trouble
+        if report.text() != text:
+            raise ValueError("it isn't written as such a report is")
+        return report
 
-    def read(self, line):
-        if line == "":
-            return
-        head, status = split(line)
-        depth = len(line) - len(line.lstrip(" "))
-        if depth == 0 and head == AROUND:
-            self.around = status
-        elif depth == 0:
-            self.features.append(Feature(head, status))
-        elif depth == 2 and head == AROUND:
-            self.features[-1].around = status
-        elif depth == 2:
-            self.features[-1].scenarios.append(Scenario(head, status))
-        elif head == AROUND:
-            self.features[-1].scenarios[-1].around = status
-        else:
-            self.features[-1].scenarios[-1].steps.append((head, status))
-
-    def rows(self):
-        """All lines but the closing ones."""
+    def pieces(self):
+        """What is written one after another: the beginning, each feature's part, and the end."""
+        head, part, tail = WRITERS[self.style.format]
+        written, is_first = [head], True
         for feature in self.features:
-            yield from feature.rows()
-        if self.around != "passed":
-            yield f"{AROUND} ... {self.around}"
+            written.append(part(feature, is_first))
+            is_first = False
+        return [it.encode() for it in (*written, tail(self))]
 
     def text(self):
-        return "\n".join([*self.rows(), *self.counted(), ""]).encode()
+        return b"".join(self.pieces())
+
+    def beginnings(self):
+        """What was written after each piece but the last, and before the first."""
+        pieces = self.pieces()
+        return [b"".join(pieces[:count]) for count in range(len(pieces))]
+
+    def status(self):
+        """The status of the run, by the counts."""
+        def counted(status):
+            return self.around == status or any(self.counts[noun][status] for noun in ("feature", "scenario"))
+        return 4 if counted("memory") else 1 if counted("failed") or self.counts["step"]["undefined"] else 0
 
     def counted(self):
-        """The three closing lines, by the rows."""
+        """The counts, by what is printed. Steps that aren't printed aren't counted."""
         scenarios = [it for feature in self.features for it in feature.scenarios]
-        steps = [status.split(":")[0] for it in scenarios for _, status in it.steps]
-        return [closing("feature", [it.status for it in self.features], 3),
-                closing("scenario", [it.status for it in scenarios], 3),
-                closing("step", steps, 4)]
+        steps = [status for it in scenarios for status in it.statuses()]
+        return {"feature": count([it.status for it in self.features], VERDICTS),
+                "scenario": count([it.status for it in scenarios], VERDICTS),
+                "step": count(steps, STEP_STATUSES)}
 
     def is_read_well(self):
-        """Whether its closing lines are the counts of its rows, and the features' statuses go by their parts."""
-        return self.closing == self.counted() and all(it.status == it.verdict() for it in self.features)
+        """Whether its counts are those of its rows, and each status follows from those of its parts. What is
+        left out as skipped is counted: features and scenarios that are skipped, and their steps."""
+        return self.has_counts() and all(it.is_judged_well() for it in self.features)
+
+    def has_counts(self):
+        printed = self.counted()
+        for noun, statuses in COUNTED.items():
+            for status in statuses:
+                may_be_more = self.style.no_skipped and (status == "skipped" or (noun, status) == ("step", "passed"))
+                if noun == "step" and self.style.format == "progress":
+                    continue
+                number, shown = self.counts[noun][status], printed[noun][status]
+                if number < shown or (number > shown and not may_be_more):
+                    return False
+        return not self.style.no_skipped or all(it.status != "skipped" for it in self.all_rows())
+
+    def all_rows(self):
+        for feature in self.features:
+            yield feature
+            yield from feature.scenarios
+
+    def completed(self, whole):
+        """The report with what is left out as skipped, as it stands in the whole report of a run that may have
+        a mark of memory less."""
+        if not self.style.no_skipped:
+            return self
+        features = []
+        for feature, found in aligned(self.features, whole.features):
+            if found is not None and found is not feature:
+                scenarios = [own or other for other, own in aligned(found.scenarios, feature.scenarios)]
+                found = Feature(found.head, found.status, scenarios, found.around)
+            features.append(found or feature)
+        return Report(Style(self.style.format, False), features, self.around, self.counts)
+
+    def stopped_by(self, other):
+        """The report of a run that ends where the other report has its first mark of memory: what comes after
+        the scenario or the feature with that mark isn't reached."""
+        features, is_over = [], False
+        for own, marked in zip(self.features, other.features):
+            features.append(own.cut_after(-1) if is_over else own)
+            if marked.status == "memory" and not is_over:
+                at = [it.status for it in marked.scenarios].index("memory") if marked.around != "memory" else len(own.scenarios)
+                features[-1], is_over = own.cut_after(at), True
+        return Report(self.style, features, self.around)
 
     def is_marked(self, ample):
         """Whether it is the report with ample memory but for one mark of memory, and what wasn't reached then:
         in a scenario, in a feature's own hooks and cleanups, or in the run's."""
         if [it.head for it in self.features] != [it.head for it in ample.features]:
+            return False
+        if sum(self.counts["step"].values()) != sum(ample.counts["step"].values()):
             return False
         if self.around == "memory":
             whole = all(same(a, b) for a, b in zip(self.features, ample.features))
@@ -129,26 +220,78 @@ class Report:
         return self.around == ample.around and len(others) == 1 and is_marked_feature(*others[0])
 
 
+MEMORY = b"gherkin_run: out of memory\n"
+
+
+class Ample:
+    """A run with ample memory and what it printed: the measure of the same run with one growth refused. Where
+    what is skipped is left out, `whole` is the report of the same run that prints it."""
+
+    def __init__(self, arguments, ended, whole=None):
+        self.style, self.stops = style_of(arguments), "--stop" in arguments
+        self.ended = ended
+        self.report = Report.of(ended[1], self.style) if ended[1] else None
+        self.whole = whole or self.report
+        self.beginnings = self.report.beginnings() if self.report else [b""]
+
+    def is_read_well(self):
+        return self.report is None or (self.report.is_read_well() and self.report.status() == self.ended[0])
+
+    def ending(self, ended):
+        """How a run with one growth refused has ended: `unharmed`, as with ample memory; `stopped`, with the
+        fault, after some whole pieces of this report; `marked`, with one mark of memory in it. Else None."""
+        status, printed, err = ended
+        if ended == self.ended:
+            return "unharmed"
+        if (status, err) == (4, MEMORY):
+            return "stopped" if printed in self.beginnings else None
+        return "marked" if (status, err) == (4, b"") and self.is_marked(printed) else None
+
+    def is_marked(self, printed):
+        """Whether what was printed is a report of its own that differs from this one by one mark of memory."""
+        if self.report is None:
+            return False
+        try:
+            report = Report.of(printed, self.style)
+            completed = report.completed(self.whole)
+        except ValueError:
+            return False
+        ample = self.whole.stopped_by(completed) if self.stops else self.whole
+        return report.is_read_well() and completed.is_read_well() and report.status() == 4 and completed.is_marked(ample)
+
+
+def aligned(rows, whole):
+    """Each row of the whole list, with the row of the other that stands for it, or None where it is left out.
+    Which it is follows from what the report calls it; where it has no name for it, from whether it is skipped."""
+    rest = list(rows)
+    for row in whole:
+        is_there = bool(rest) and (rest[0].head == row.head if row.head is not None else row.status != "skipped")
+        yield row, rest.pop(0) if is_there else None
+    if rest:
+        raise ValueError("a row that the whole report lacks")
+
+
+def count(statuses, names):
+    return {it: statuses.count(it) for it in names}
+
+
 def same(one, other):
     """Two features, or two scenarios, have the same rows."""
-    return list(one.rows()) == list(other.rows())
+    return one.row() == other.row()
 
 
 def is_unreached(feature, ample):
     """A feature of a run that began none: its chosen scenarios are untested."""
-    if not ample.is_begun():
-        return same(feature, ample)
-    return feature.around == "passed" and are_unreached(feature.scenarios, ample.scenarios)
+    if not ample.is_begun() and same(feature, ample):
+        return True
+    return feature.around in (None, "passed") and are_unreached(feature.scenarios, ample.scenarios)
 
 
 def are_unreached(scenarios, ample):
     """Scenarios as with ample memory where these weren't chosen, and else untested with all their steps."""
     return len(scenarios) == len(ample) and all(
-        same(a, b) if is_unchosen(b) else same(a, b.untold()) for a, b in zip(scenarios, ample))
-
-
-def is_unchosen(scenario):
-    return scenario.status == "skipped" and all(status == "skipped" for _, status in scenario.steps)
+        (b.is_unchosen() and same(a, b)) or ((b.steps is None or not b.is_unchosen()) and same(a, b.unreached()))
+        for a, b in zip(scenarios, ample))
 
 
 def is_marked_feature(feature, ample):
@@ -156,16 +299,23 @@ def is_marked_feature(feature, ample):
     if feature.status != "memory" or len(feature.scenarios) != len(ample.scenarios):
         return False
     others = [(a, b) for a, b in zip(feature.scenarios, ample.scenarios) if not same(a, b)]
+    in_hooks = not others or are_unreached(feature.scenarios, ample.scenarios)
     if feature.around == "memory":
-        return not others or are_unreached(feature.scenarios, ample.scenarios)
-    return feature.around == ample.around and len(others) == 1 and is_marked_scenario(*others[0])
+        return in_hooks
+    in_scenario = len(others) == 1 and is_marked_scenario(*others[0])
+    if feature.around is None:
+        return in_scenario or in_hooks
+    return feature.around == ample.around and in_scenario
 
 
 def is_marked_scenario(scenario, ample):
     """A scenario in which memory was refused once: in a before hook, where its steps are untested; in a step,
     with those before it as they were and those after it untested; or in an after hook or a cleanup."""
-    heads = [head for head, _ in scenario.steps]
-    if scenario.head != ample.head or scenario.status != "memory" or heads != [head for head, _ in ample.steps]:
+    if scenario.head != ample.head or scenario.status != "memory":
+        return False
+    if scenario.steps is None or ample.steps is None:
+        return scenario.steps is ample.steps
+    if [head for head, _ in scenario.steps] != [head for head, _ in ample.steps]:
         return False
     statuses = [status for _, status in scenario.steps]
     before = [status for _, status in ample.steps]
@@ -177,11 +327,163 @@ def is_marked_scenario(scenario, ample):
     return statuses == before[:at] + ["memory"] + ["untested"] * (len(before) - at - 1)
 
 
-def closing(noun, statuses, shown):
-    """A closing line."""
-    names = ["passed", "failed", "skipped", "undefined"][:shown]
-    counts = {name: statuses.count(name) for name in [*names, "untested", "memory"]}
-    plural = "" if counts["passed"] == 1 else "s"
-    parts = [f"{counts['passed']} {noun}{plural} passed"]
-    parts += [f"{count} {name}" for name, count in counts.items() if name != "passed" and (name in names or count)]
-    return ", ".join(parts)
+# ---- plain
+
+def split(line):
+    """A line's text and its status, with the reason."""
+    head, _, status = line.rpartition(" ... ")
+    if not head:
+        raise ValueError(line)
+    return head.lstrip(" "), status
+
+
+def read_plain(text, style):
+    lines, counts = without_counts(text)
+    features, around = [], "passed"
+    for line in lines:
+        if line == "":
+            continue
+        head, status = split(line)
+        depth = len(line) - len(line.lstrip(" "))
+        if depth == 0 and head == AROUND:
+            around = status
+        elif depth == 0:
+            features.append(Feature(head, status, []))
+        elif depth == 2 and head == AROUND:
+            features[-1].around = status
+        elif depth == 2:
+            features[-1].scenarios.append(Scenario(head, status, []))
+        elif head == AROUND:
+            features[-1].scenarios[-1].around = status
+        else:
+            features[-1].scenarios[-1].steps.append((head, status))
+    return Report(style, features, around, counts)
+
+
+def plain_part(feature, _):
+    lines = [f"{feature.head} ... {feature.status}"]
+    for scenario in feature.scenarios:
+        lines.append(f"  {scenario.head} ... {scenario.status}")
+        lines += [f"    {head} ... {status}" for head, status in scenario.steps]
+        if scenario.around != "passed":
+            lines.append(f"    {AROUND} ... {scenario.around}")
+    if feature.around != "passed":
+        lines.append(f"  {AROUND} ... {feature.around}")
+    return "\n".join([*lines, "", ""])
+
+
+# ---- progress
+
+def read_progress(text, style):
+    lines, counts = without_counts(text)
+    features, around = [], "passed"
+    statuses = {character: status for status, character in CHARACTERS.items()}
+    for line in lines:
+        if line.startswith(AROUND + " ... "):
+            around = split(line)[1]
+            continue
+        source, characters, status = re.fullmatch(r"(.*)  ([.FSUM]*)  ([a-z]+)", line).groups()
+        features.append(Feature(source, status, [Scenario(None, statuses[it]) for it in characters], None))
+    return Report(style, features, around, counts)
+
+
+def progress_part(feature, _):
+    return f"{feature.head}  {''.join(CHARACTERS[it.status] for it in feature.scenarios)}  {feature.status}\n"
+
+
+# ---- the end of both
+
+def without_counts(text):
+    """The lines above the counts, and the counts."""
+    lines = text.split("\n")
+    if lines.pop() != "":
+        raise ValueError("no line feed at the end")
+    return lines[:-3], {noun: read_counts(noun, line) for noun, line in zip(COUNTED, lines[-3:], strict=True)}
+
+
+def read_counts(noun, line):
+    numbers = dict.fromkeys(COUNTED[noun], 0)
+    for part in line.split(", "):
+        number, status = re.fullmatch(rf"(\d+) (?:{noun}s? )?([a-z]+)", part).groups()
+        numbers[status] = int(number)
+    if set(numbers) != set(COUNTED[noun]):
+        raise ValueError(line)
+    return numbers
+
+
+def closing(noun, numbers):
+    """A line of counts."""
+    always = [it for it in COUNTED[noun] if it not in ("passed", "untested", "memory")]
+    plural = "" if numbers["passed"] == 1 else "s"
+    parts = [f"{numbers['passed']} {noun}{plural} passed", *(f"{numbers[it]} {it}" for it in always)]
+    return ", ".join(parts + [f"{numbers[it]} {it}" for it in ("untested", "memory") if numbers[it]])
+
+
+def plain_tail(report):
+    around = [f"{AROUND} ... {report.around}"] if report.around != "passed" else []
+    return "\n".join([*around, *(closing(noun, report.counts[noun]) for noun in COUNTED), ""])
+
+
+# ---- JSON
+
+def read_json(text, style):
+    document = json.loads(text)
+    if set(document) != DOCUMENT or set(document["summary"]) != {noun + "s" for noun in COUNTED}:
+        raise ValueError("other keys")
+    counts = {noun: {it: document["summary"][noun + "s"][it] for it in names} for noun, names in COUNTED.items()}
+    report = Report(style, [read_json_feature(it) for it in document["features"]], document["run"], counts)
+    if report.status() != document["status"]:
+        raise ValueError("another status")
+    return report
+
+
+def read_json_feature(row):
+    if set(row) != FEATURE:
+        raise ValueError("other keys")
+    head = (row["source"], row["name"], row["line"])
+    return Feature(head, row["status"], [read_json_scenario(it) for it in row["scenarios"]], row["around"])
+
+
+def read_json_scenario(row):
+    if set(row) != SCENARIO:
+        raise ValueError("other keys")
+    steps = [((it["keyword"], it["text"], it["line"]), read_json_status(it)) for it in row["steps"]]
+    return Scenario((row["keyword"], row["name"], row["line"]), row["status"], steps, row["around"])
+
+
+def read_json_status(step):
+    if set(step) != STEP | ({"reason"} if step["status"] == "failed" else set()):
+        raise ValueError("other keys")
+    return step["status"] + (f": {step['reason']}" if "reason" in step else "")
+
+
+def compact(value):
+    return json.dumps(value, ensure_ascii=False, separators=(",", ":"), sort_keys=True)
+
+
+def json_part(feature, is_first):
+    source, name, line = feature.head
+    return ("" if is_first else ",") + compact({"around": feature.around, "line": line, "name": name, "source": source,
+                    "status": feature.status, "scenarios": [json_scenario(it) for it in feature.scenarios]})
+
+
+def json_scenario(scenario):
+    keyword, name, line = scenario.head
+    return {"around": scenario.around, "keyword": keyword, "line": line, "name": name, "status": scenario.status,
+            "steps": [json_step(*it) for it in scenario.steps]}
+
+
+def json_step(head, status):
+    keyword, text, line = head
+    status, _, reason = status.partition(": ")
+    return {"keyword": keyword, "line": line, "status": status, "text": text, **({"reason": reason} if reason else {})}
+
+
+def json_tail(report):
+    summary = {noun + "s": numbers for noun, numbers in report.counts.items()}
+    return f'],"run":{compact(report.around)},"status":{report.status()},"summary":{compact(summary)}}}\n'
+
+
+READERS = {"plain": read_plain, "progress": read_progress, "json": read_json}
+WRITERS = {"plain": ("", plain_part, plain_tail), "progress": ("", progress_part, plain_tail),
+           "json": ('{"features":[', json_part, json_tail)}

@@ -36,3 +36,13 @@ run_example() (
     fi
     exec "$program" "$@" "$feature" < /dev/null
 )
+
+# Builds the library that refuses memory and fails writes, for the script of that name.
+build_shim() {
+    if ! command -v cc > /dev/null; then
+        echo "tests/$1.sh needs a C compiler, cc, and there is none here"
+        echo "0 passed, 1 failed"
+        exit 1
+    fi
+    cc -shared -fPIC -O2 -o "$room/refuse.so" "$home/tests/refuse.c"
+}

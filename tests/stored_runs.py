@@ -5,8 +5,11 @@ tests/runs/README.md says what each file of a stored run means.
 """
 
 import os
+import resource
+import signal
 import subprocess
 import sys
+import tempfile
 
 import large_runs
 
@@ -32,12 +35,14 @@ def arguments_of(run):
 class Stream:
     """Standard output or standard error of a run, as the file `standard_output` or `standard_error` says:
     without it the stream is kept, to be compared; `full` is a device without room, `pipe` a pipe that
-    nobody reads any more, `closed` a stream that isn't open."""
+    nobody reads any more, `closed` a stream that isn't open, `room N` a file that takes N bytes and no
+    more, which is kept, too."""
 
     def __init__(self, kind):
         self.kind = kind
         self.closed_in_child = kind == b"closed"
         self.number = subprocess.PIPE
+        self.file = None
         if kind == b"full":
             self.number = os.open("/dev/full", os.O_WRONLY)
         elif kind == b"pipe":
@@ -45,9 +50,28 @@ class Stream:
             os.close(reader)
         elif kind == b"closed":
             self.number = subprocess.DEVNULL
+        elif kind.startswith(b"room "):
+            self.file = tempfile.TemporaryFile()
+            self.number = self.file.fileno()
+
+    def limit(self):
+        """Limits the files of a process that is about to run the program."""
+        if self.file:
+            room = int(self.kind.removeprefix(b"room "))
+            signal.signal(signal.SIGXFSZ, signal.SIG_IGN)
+            resource.setrlimit(resource.RLIMIT_FSIZE, (room, room))
+
+    def kept(self, printed):
+        """What was printed there, as far as it is kept."""
+        if not self.file:
+            return printed or b""
+        self.file.seek(0)
+        return self.file.read()
 
     def close(self):
-        if self.number >= 0:
+        if self.file:
+            self.file.close()
+        elif self.number >= 0:
             os.close(self.number)
 
 
@@ -76,6 +100,7 @@ def start(program, run):
 
     def close_streams():
         for number, stream in ((1, out), (2, err)):
+            stream.limit()
             if stream.closed_in_child:
                 os.close(number)
 
@@ -83,12 +108,12 @@ def start(program, run):
         done = subprocess.run([program, *arguments_of(run)], cwd=os.path.join(RUNS, run), stdin=subprocess.DEVNULL,
                               stdout=out.number, stderr=err.number, preexec_fn=close_streams, timeout=PATIENCE,
                               check=False)
+        return done.returncode, out.kept(done.stdout), err.kept(done.stderr)
     except subprocess.TimeoutExpired:
         return f"not ended after {PATIENCE} seconds", b"", b""
     finally:
         out.close()
         err.close()
-    return done.returncode, done.stdout or b"", done.stderr or b""
 
 
 def shown(text):
@@ -108,6 +133,9 @@ def differences(run, status, stdout, stderr):
         wanted = content(run, name) if beginning is None else beginning
         if printed != wanted and (beginning is None or not printed.startswith(beginning)):
             found.append(f"  {name} {shown(printed)}\n    and not {shown(wanted)}")
+        for part in content(run, name + "_holds").split(b"\n")[:-1]:
+            if part not in printed:
+                found.append(f"  {name} without {shown(part)}")
     return found
 
 

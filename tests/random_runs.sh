@@ -1,0 +1,20 @@
+#!/bin/sh
+# Makes random suites and compares runs of them with each other: tests/random_runs.sh [PROGRAM [SEED [COUNT]]]
+#
+# A suite has some feature files, with tags, backgrounds, rules and outlines, and maybe hooks, a library, a
+# variable and a choice by tags. Nothing but the program says what has to come out:
+#
+# - a scenario has the same rows alone, chosen by its line, as in the suite;
+# - the scenarios of a file in another order have the same rows;
+# - a run over several files has the rows, counts and status of the runs over each of them;
+# - a dry run calls undefined what the run does, and nothing that the run carried out;
+# - a run that stops has the rows of the whole run up to the first failure, and after it none;
+# - the three formats say the same, with --no-skipped and without, and each counts its own rows.
+#
+# Where something differs, the suite's files and what differs are kept in out/random_runs/SEED. PROGRAM is the
+# built program; without it, or where it is empty, the one that ./run builds. Closes with one line 'N passed,
+# M failed'; a suite is one test, of some 35 runs. ./test doesn't run this script.
+set -eu
+
+. "$(dirname -- "$(readlink -f -- "$0")")/setup.sh"
+python3 "$home/tests/random_runs.py" "$program" "$room" "$home/out/random_runs" "${2:-1}" "${3:-120}"

@@ -1,0 +1,4 @@
+Feature: f
+  Scenario: s
+    Given it fails
+    And nothing knows this

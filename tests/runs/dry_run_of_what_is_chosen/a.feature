@@ -1,0 +1,6 @@
+Feature: a
+  Scenario: left out
+    Given nothing knows this
+  @a
+  Scenario: chosen
+    Given it passes

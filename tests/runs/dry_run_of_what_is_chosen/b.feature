@@ -1,0 +1,3 @@
+Feature: b
+  Scenario: left out
+    Given it fails

@@ -1,0 +1,2 @@
+@a
+Feature: c

@@ -1,0 +1,5 @@
+@broken
+Feature: b
+  Scenario: is not reached
+    Given it passes
+    And nothing knows this

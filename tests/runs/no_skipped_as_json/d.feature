@@ -1,0 +1,4 @@
+@ui
+Feature: all of this one
+  Scenario: three
+    Given it fails

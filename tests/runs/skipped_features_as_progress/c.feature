@@ -1,0 +1,2 @@
+@ui
+Feature: without scenarios

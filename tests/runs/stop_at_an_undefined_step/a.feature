@@ -1,0 +1,5 @@
+Feature: f
+  Scenario: s
+    Given nothing knows this
+  Scenario: t
+    Given nothing knows this

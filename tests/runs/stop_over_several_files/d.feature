@@ -1,0 +1,4 @@
+@no
+Feature: nothing of this one is chosen
+  Scenario: s
+    Given it fails

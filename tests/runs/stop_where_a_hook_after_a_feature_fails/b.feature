@@ -1,0 +1,4 @@
+@broken
+Feature: b
+  Scenario: s
+    Given it passes

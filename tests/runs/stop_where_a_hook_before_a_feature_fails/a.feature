@@ -1,0 +1,4 @@
+@broken
+Feature: a
+  Scenario: s
+    Given it passes

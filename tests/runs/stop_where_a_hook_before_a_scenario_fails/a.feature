@@ -1,0 +1,6 @@
+Feature: a
+  @broken
+  Scenario: s
+    Given it passes
+  Scenario: t
+    Given it passes

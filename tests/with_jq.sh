@@ -1,0 +1,175 @@
+#!/bin/sh
+# Reads JSON reports with jq, as another program would: tests/with_jq.sh [PROGRAM]
+#
+# For each example, and for each stored run with a JSON report, jq makes the plain report of the JSON one, which
+# has to be what the program prints as plain; it counts the features, scenarios and steps, which has to give the
+# summary; and the status has to be the one that the program ends with. Then runs over several files are
+# compared with the reports of runs over a part of them each, added up by examples/add_reports.sh; and the
+# commands with jq in docs/GUIDE.md are tried. PROGRAM is
+# the built program; without it, the one that ./run builds. jq is needed, so ./test doesn't run this script.
+# Closes with one line 'N passed, M failed'.
+set -eu
+
+. "$(dirname -- "$(readlink -f -- "$0")")/setup.sh"
+if ! command -v jq > /dev/null; then
+    echo "tests/with_jq.sh needs jq, and there is none here"
+    echo "0 passed, 1 failed"
+    exit 1
+fi
+
+# Counts one test, which has passed where the rest of the arguments is a command that ends with 0.
+check() {
+    claim=$1
+    shift
+    if "$@" > "$room/log" 2>&1; then
+        passed=$((passed + 1))
+    else
+        failed=$((failed + 1))
+        echo "$claim"
+        cat "$room/log"
+    fi
+}
+
+# The status of the program's last run is kept in $status, what it printed in the first argument.
+run() {
+    printed=$1
+    shift
+    status=0
+    "$program" "$@" < /dev/null > "$printed" 2> "$room/fault" || status=$?
+}
+
+# Whether a JSON report counts its own rows well; of steps and rows that are left out it can't say how many.
+counts_itself() {
+    jq --exit-status 'def tally(rows): reduce rows as $it ({}; .[$it] += 1);
+        def counted($noun; $counts): .summary[$noun] | with_entries(select(.value != 0)) == $counts;
+        counted("features"; tally(.features[].status))
+        and counted("scenarios"; tally(.features[].scenarios[].status))
+        and counted("steps"; tally(.features[].scenarios[].steps[].status))' "$1"
+}
+
+# Compares the JSON report of a run with its plain one. The arguments are a name, and those of the run.
+compare() {
+    name=$1
+    shift
+    run "$room/plain" --format plain "$@"
+    wanted=$status
+    run "$room/json" --format json "$@"
+    check "$name: another status as JSON" [ "$status" -eq "$wanted" ]
+    if [ ! -s "$room/plain" ]; then
+        check "$name: a report as JSON and none as plain" [ ! -s "$room/json" ]
+        return
+    fi
+    jq --raw-output --from-file "$home/tests/plain.jq" "$room/json" > "$room/made" || true
+    check "$name: another plain report" cmp "$room/plain" "$room/made"
+    check "$name: another status inside" [ "$(jq .status "$room/json")" = "$status" ]
+    case " $* " in
+    *" --no-skipped "*) ;;
+    *) check "$name: other counts" counts_itself "$room/json" ;;
+    esac
+}
+
+# Calls a command with the lines of a file as its last arguments, but for the choice of a format.
+with_arguments() {
+    list=$1
+    shift
+    is_format=
+    while IFS= read -r argument; do
+        case $is_format$argument in
+        --format) is_format=yes ;;
+        yes* | --format=*) is_format= ;;
+        *) set -- "$@" "$argument" ;;
+        esac
+    done < "$list"
+    "$@"
+}
+
+# Compares one run over files with the sum of runs over each of them. The arguments are a name, the options, `--`
+# and the files.
+add_up() {
+    name=$1
+    shift
+    options=
+    while [ "$1" != -- ]; do
+        options="$options $1"
+        shift
+    done
+    shift
+    run "$room/all" --format json $options "$@"
+    wanted=$status
+    number=100
+    for file in "$@"; do
+        number=$((number + 1))
+        run "$room/part$number" --format json $options "$file"
+    done
+    status=0
+    examples/add_reports.sh "$room"/part* > "$room/sum" || status=$?
+    rm "$room"/part*
+    check "$name: the sum has another status" [ "$status" -eq "$wanted" ]
+    check "$name: the sum is another report" cmp "$room/all" "$room/sum"
+}
+
+cd "$home"
+for feature in examples/*.feature; do
+    list=${feature%.feature}.arguments
+    [ -e "$list" ] && cat "$list" > "$room/list" || : > "$room/list"
+    echo "$feature" >> "$room/list"
+    with_arguments "$room/list" compare "$feature"
+done
+for folder in tests/runs/*json*; do
+    case $(head -c 1 "$folder/stdout" 2> /dev/null) in
+    "{")
+        cd "$folder"
+        with_arguments arguments compare "$folder"
+        cd "$home"
+        ;;
+    esac
+done
+features="examples/first.feature examples/failing.feature examples/tags.feature examples/undefined.feature examples/sums.feature
+    examples/isolation.feature"
+add_up "all that pass" -- examples/first.feature examples/sums.feature examples/settings.feature
+add_up "some that fail" -- $features
+add_up "the same, without what is skipped" --no-skipped --tags ~@slow -- $features
+add_up "a dry run" --dry-run -- $features
+add_up "hooks that fail" --hooks examples/failing_hooks.hooks -- examples/failing_hooks.feature $features
+add_up "cleanups" --hooks examples/cleanups.hooks -- examples/cleanups.feature examples/first.feature
+add_up "a library" --library examples/default.steps --env A=b -- examples/default.feature $features
+# The commands of the guide, in a folder with some features: a line of the page that begins with a text.
+command_of() {
+    grep --max-count=1 --fixed-strings -- "$1" docs/GUIDE.md
+}
+share=$(command_of './run --format json $(ls')
+add=$(command_of 'examples/add_reports.sh report.*.json')
+list=$(command_of "jq -r '.features[]")
+mkdir "$room/suite" "$room/suite/features"
+cp $features "$room/suite/features"
+ln -s "$home/examples" "$room/suite/examples"
+printf '#!/bin/sh\nexec "%s" "$@"\n' "$program" > "$room/suite/run"
+chmod +x "$room/suite/run"
+cd "$room/suite"
+PARTS=3
+for PART in 0 1 2; do
+    check "the guide's command for machine $PART: its status" sh -c "
+        PART=$PART PARTS=$PARTS
+        $share"' || [ $? -le 1 ]'
+done
+check "the guide's sum: its status" sh -c "$add"'; [ $? -eq 1 ]'
+order=$(for part in 0 1 2; do ls features/*.feature | awk "NR % 3 == $part"; done)
+run "$room/all" --format json $order
+check "the guide's sum: another report" cmp "$room/all" report.json
+sh -c "$list" > listed || true
+run "$room/plain" $order
+check "the guide's list of failed scenarios" [ "$(wc -l < listed)" -eq "$(grep -cE '^  [A-Z].* \.\.\. failed$' "$room/plain")" ]
+check "the guide's list has scenarios" [ -s listed ]
+cd "$home"
+: > "$room/empty"
+run "$room/json" --format json examples/first.feature
+head -c 100 "$room/json" > "$room/cut"
+for broken in empty cut; do
+    status=0
+    examples/add_reports.sh "$room/json" "$room/$broken" > "$room/sum" 2> "$room/fault" || status=$?
+    check "a report that is $broken: another status" [ "$status" -eq 3 ]
+    check "a report that is $broken: something is printed" [ ! -s "$room/sum" ]
+done
+
+echo "$passed passed, $failed failed"
+[ "$failed" -eq 0 ]
