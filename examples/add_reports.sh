@@ -3,7 +3,7 @@
 #
 # Prints the report that one run over all these files gives, in the order of the reports, and ends with its
 # status. Each run judges its features alone, so what it says of them is what one run would say; only where
-# a run is to --stop it knows nothing of the others. An empty report, or one that is cut, is no report: the
+# a run is to --stop it knows nothing of the others. An empty report, or one that is no JSON, is no report: the
 # script then prints none and ends with status 3. It needs jq.
 set -eu
 

@@ -31,7 +31,7 @@ pub record Device : Type 0 where
 abbrev pub device_of : {W : Type 0} → (W → Option (List ℕ)) → Counted W → Device
 device_of bytes_of out = record { bytes = bytes_of (inner_of out); calls = calls_of out; flushes = flushes_of out; failures = failures_of out }
 
--- The report of these results was written, and their status is answered. The writer didn't fail, wasn't flushed, and was called no more often than there are bytes, so never for an empty piece.
+-- The report of these results was written, and their status is answered. The writer didn't fail, wasn't flushed, and was called no more often than there are bytes.
 pub record IsReported (style : Style) (old new : Device) (answer : ℕ) (results : Results) : Type 0 where
   pub written : Appends old.bytes new.bytes (report style results)
   pub answered : answer ≡ status results

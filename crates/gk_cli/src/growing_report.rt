@@ -46,7 +46,8 @@ impl GrowingReport {
     ghost use Rattle.gk_cli.specs.Suite.{Device, device_of, IsReported};
     ghost use Rattle.gk_cli.specs.GrowingReport.{so_far, IsStopped, IsGrown, Grows, Stops, style_of, results_with};
 
-    /// Writes the head.
+    /// Writes the head. `Memory` comes where it couldn't be made, and nothing was written; `Write` where the
+    /// writer failed, and a prefix of it was. (this project's profile)
     pub fn start<W: Write>(
         alloc: Global,
         style: Style,
@@ -65,7 +66,9 @@ impl GrowingReport {
         })
     }
 
-    /// Writes the part of a feature, and counts it.
+    /// Writes the part of a feature, and counts it. `Memory` comes where the part couldn't be made, and nothing
+    /// of it was written; `Write` where the writer failed, and a prefix of it was. At either the feature isn't
+    /// counted. (this project's profile)
     pub fn add<W: Write>(
         &mut self,
         alloc: Global,
@@ -86,6 +89,8 @@ impl GrowingReport {
     }
 
     /// Writes the tail. Answers the status of the run, `around` being how its own hooks and cleanups ended.
+    /// `Memory` comes where the tail couldn't be made, and nothing of it was written; `Write` where the writer
+    /// failed, and a prefix of it was. (this project's profile)
     pub fn finish<W: Write>(
         self,
         alloc: Global,

@@ -54,8 +54,8 @@ pub fn run_suite<W: Write>(
 
     // What was written and what is answered are the report and the status of one list of results.
     ensures reported { IfOk result (Reported options.now.style (device_of W.contents out.old) (device_of W.contents out.new)) }
-    // That list is judged: each selected scenario in it has the verdict and the step statuses that plain
-    // maps give it alone from its section's state, rows marked memory excepted.
+    // That list is judged: each selected scenario that was reached has in it the verdict and the step statuses
+    // that plain maps give it alone from its section's state, rows marked memory excepted.
     ensures judged { IfOk result (JudgedReport (asked options.now library.entry hooks.entry sources.now) sandbox.old.now (device_of W.contents out.old) (device_of W.contents out.new)) }
     // At each status but 4 that list is the one that plain maps give, and there is no other.
     ensures plain { IfOk result (Plain (asked options.now library.entry hooks.entry sources.now) sandbox.old.now (device_of W.contents out.old) (device_of W.contents out.new)) }

@@ -187,8 +187,9 @@ fn dry_all<W: Write>(
 }
 
 /// Runs what was read, and writes its report: the head before the run begins, the part of each feature when
-/// it has ended, and the tail when the run has. Where the report can't grow, the run is finished, its
-/// answer is given up, and nothing more is written. (this project's profile)
+/// it has ended, and the tail when the run has. `Memory` comes where a piece couldn't be made, or where a
+/// feature's results have no room; `Write` where the writer failed. Then the run is finished, its answer is
+/// given up, and nothing more is written. (this project's profile)
 pub fn write_run<W: Write>(
     alloc: Global,
     sandbox: &mut Sandbox,

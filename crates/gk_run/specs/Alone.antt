@@ -23,7 +23,7 @@ use Rattle.gk_run.specs.SectionHooks.{begun}
 use Rattle.gk_run.specs.Closing.{closing}
 use Rattle.gk_run.specs.Section.{Events, Cut, happened, around_of}
 
--- What stays the same during a run: the step library, the hooks, whether it is a dry run, in which nothing is carried out, and whether the first scenario or feature that fails stops it. (behave's documentation: `--dry-run`, `--stop`)
+-- What stays the same during a run: the step library, the hooks, whether it is a dry run, in which nothing is carried out, and whether the first scenario or feature that is failed or memory stops it. (behave's documentation: `--dry-run`, `--stop`)
 pub record Run : Type 0 where
   pub library : LibraryValue
   pub hooks : List HookValue

@@ -345,8 +345,8 @@ pub(crate) fn feature_in(
 
 /// Runs a feature in a layer of its own: its before hooks, its selected cases in order, each in a layer
 /// of its own, its after hooks and its cleanups. The other cases and their steps are skipped. Where its
-/// before hooks don't pass its selected cases are untested, and so they are after one that failed where
-/// the run is to `stop`. A feature without a selected case isn't begun. The sandbox is as it was,
+/// before hooks don't pass its selected cases are untested; with `stop`, so are those after one that is
+/// failed or memory. A feature without a selected case isn't begun. The sandbox is as it was,
 /// whatever is answered. `NoRoom` comes where results couldn't be reserved; the layers that were begun
 /// are ended. (behave's documentation: context layers, environment file functions, cleanups; this
 /// project's profile)

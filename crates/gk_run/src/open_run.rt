@@ -63,8 +63,8 @@ fn finish_in(
 
 impl Suite {
     /// Begins a run: its layer, and the before hook of all. Takes no memory but what the hook's steps
-    /// take. With `stop`, what comes after the first scenario or feature that is failed or memory isn't
-    /// run. (behave's documentation: context layers, environment file functions, `--stop`)
+    /// take. With `stop`, once a scenario or a feature is failed or memory, later scenarios are untested
+    /// and later features aren't begun; what was begun is ended as always. (behave's documentation: context layers, environment file functions, `--stop`)
     pub fn start(
         alloc: Global,
         sandbox: &mut Sandbox,

@@ -4,19 +4,20 @@
 /// never undefined. (behave's documentation: the statuses of steps; this project's profile: memory)
 #[derive(Clone, Copy, Debug, PartialEq, Eq)]
 pub enum Status {
-    /// A step passed; no step of a scenario failed or is undefined; a scenario of a feature passed and
-    /// none failed.
+    /// A step passed; no step of a scenario failed or is undefined; a scenario of a feature passed, and
+    /// none is failed, memory or untested.
     Passed,
     /// A step's action failed; a step of a scenario failed or is undefined; a scenario of a feature
     /// failed.
     Failed,
     /// A step comes after the one that ended its scenario, or its scenario skipped itself or isn't
-    /// selected; no scenario of a feature passed, and none failed.
+    /// selected; no scenario of a feature passed, and none is failed, memory or untested.
     Skipped,
     /// No entry of the library matches a step.
     Undefined,
     /// Memory was refused before a step was reached; a scenario wasn't reached; in a dry run, a step that
-    /// an entry of the library matches, and a scenario.
+    /// an entry of the library matches, and a scenario; a scenario of a feature is untested, and none is
+    /// failed or memory.
     Untested,
     /// Memory was refused.
     Memory,
