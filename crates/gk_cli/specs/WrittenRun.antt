@@ -31,11 +31,11 @@ IsPart run contents features style old new fault = (results : Results) × Judged
 abbrev pub dry_run_of : Library → HookFile → Bool → Run
 dry_run_of library hooks stop = record { library = library_value library; hooks = hooks_value hooks; dry_run = true; stop = stop }
 
--- `IsWhole`, from where the head was written.
+-- The run is whole, from where its head was written.
 abbrev pub Finishes : Run → Contents → List ChosenValue → Device → GrowingReport → Device → ℕ → Type 0
 Finishes run contents features old g new status = (before : Device) → IsGrown before old g [] → IsWhole run contents features (style_of g) before new status
 
--- `IsPart`, from where the head was written.
+-- The run ends in a part, from where its head was written.
 abbrev pub Ends : Run → Contents → List ChosenValue → Device → GrowingReport → Device → RunFault → Type 0
 Ends run contents features old g new fault = (before : Device) → IsGrown before old g [] → IsPart run contents features (style_of g) before new fault
 
