@@ -26,41 +26,33 @@ fn text(
     Ok(whole)
 }
 
-// Whether bytes have so many lines, of which the last has this text and begins at this column.
-fn are_lines(
-    alloc: Global,
-    bytes: &[u8],
-    count: usize,
-    text: &str,
-    column: u32,
-) -> Result<bool, ReadFault> {
+// How many lines bytes have, and the last one's text, number and column.
+fn lines_of(alloc: Global, bytes: &[u8]) -> Result<String, ReadFault> {
     let document = read_lines(alloc, bytes)?;
-    let is_last = match document.lines.as_slice().last() {
-        Some(line) => {
-            line.text.as_str() == text
-                && line.place.line as usize == count
-                && line.place.column == column
+    let count = document.lines.len();
+    let shown = match document.lines.as_slice().last() {
+        Some(last) => {
+            format!(in alloc; "{count}: {:?} {} {}", last.text, last.place.line, last.place.column)
         }
-        None => true,
+        None => format!(in alloc; "{count}"),
     };
-    Ok(is_last && document.lines.len() == count)
+    Ok(shown?)
 }
+
+// Bytes, and their lines.
+const LINES: [(&[u8], &str); 5] = [
+    (b"", "0"),
+    (b"\xEF\xBB\xBF", "0"),
+    (b"a\rb\n", "1: \"a\\rb\" 1 1"),
+    (b"a\n\nb\r\n", "3: \"b\" 3 1"),
+    (b"a\n \tb", "2: \" \\tb\" 2 3"),
+];
 
 #[test]
 fn lines_end_at_lf_or_crlf(rt: HostRuntime) -> Result<(), ReadFault> {
-    // Bytes, how many lines they are, and the last line's text and column.
-    let cases: [(&[u8], usize, &str, u32); 5] = [
-        (b"", 0, "", 0),
-        (b"\xEF\xBB\xBF", 0, "", 0),
-        (b"a\rb\n", 1, "a\rb", 1),
-        (b"a\n\nb\r\n", 3, "b", 1),
-        (b"a\n \tb", 2, " \tb", 3),
-    ];
-    for (bytes, count, text, column) in cases {
-        assert!(rt;
-            are_lines(rt.alloc(), bytes, count, text, column)?,
-            "at {text}"
-        );
+    for (bytes, wanted) in LINES {
+        let lines = lines_of(rt.alloc(), bytes)?;
+        assert_eq!(rt; lines.as_str(), wanted);
     }
     Ok(())
 }
@@ -77,112 +69,6 @@ fn reads_each_construct(rt: HostRuntime) -> Result<(), Fail> {
     Ok(())
 }
 
-// Bytes, and why they are refused.
-const REFUSED: [(&[u8], ReadFault); 11] = [
-    (b"a\n\xFF", ReadFault::NotUtf8 { line: 2 }),
-    (b"\xEF", ReadFault::NotUtf8 { line: 1 }),
-    (b"\nstray", ReadFault::Unexpected { line: 2 }),
-    (b"Feature: a\n@x y", ReadFault::BadTag { line: 2 }),
-    (
-        b"Feature: a\nExample:\n* x\n|a|\n|b|c|",
-        ReadFault::CellCount { line: 5 },
-    ),
-    (
-        b"Feature: a\nExample:\n* x\n|a|\n|b|c",
-        ReadFault::BadRow { line: 5 },
-    ),
-    (
-        b"Feature: a\nExample:\n* x\n```\n\"\"\"",
-        ReadFault::UnclosedText { line: 4 },
-    ),
-    (b"Feature: a\n@x\n# y", ReadFault::TagsAtEnd { line: 2 }),
-    (
-        b"# language: de\nFeature: a",
-        ReadFault::Language { line: 1 },
-    ),
-    (
-        b"Feature: a\nExample:\n@x\nGiven y",
-        ReadFault::Unexpected { line: 4 },
-    ),
-    (
-        b"Feature: a\nExample:\nBackground:",
-        ReadFault::Unexpected { line: 3 },
-    ),
-];
-
-// A fault, its line and its text.
-const FAULTS: [(ReadFault, Option<u32>, &str); 9] = [
-    (ReadFault::BadHook { line: 7 }, Some(7), "bad hook heading"),
-    (ReadFault::NotUtf8 { line: 2 }, Some(2), "not UTF-8"),
-    (
-        ReadFault::Unexpected { line: 2 },
-        Some(2),
-        "unexpected line",
-    ),
-    (ReadFault::BadTag { line: 2 }, Some(2), "bad tag"),
-    (
-        ReadFault::CellCount { line: 5 },
-        Some(5),
-        "row with another number of cells",
-    ),
-    (
-        ReadFault::BadRow { line: 5 },
-        Some(5),
-        "row without closing bar",
-    ),
-    (
-        ReadFault::UnclosedText { line: 4 },
-        Some(4),
-        "doc string without end",
-    ),
-    (
-        ReadFault::TagsAtEnd { line: 2 },
-        Some(2),
-        "tags before nothing",
-    ),
-    (
-        ReadFault::Language { line: 1 },
-        Some(1),
-        "language not known",
-    ),
-];
-
-#[test]
-fn refuses(rt: HostRuntime) -> Result<(), Fail> {
-    for (bytes, fault) in REFUSED {
-        assert_eq!(rt; read_feature(rt.alloc(), bytes).err(), Some(fault));
-    }
-    Ok(())
-}
-
-#[test]
-fn faults_have_texts(rt: HostRuntime) -> Result<(), AllocError> {
-    for (fault, _, text) in FAULTS {
-        let shown = format!(in rt.alloc(); "{fault}")?;
-        assert_eq!(rt; shown.as_str(), text);
-    }
-    Ok(())
-}
-
-#[test]
-fn faults_have_lines(rt: HostRuntime) {
-    for (fault, line, _) in FAULTS {
-        assert_eq!(rt; fault.line(), line);
-    }
-    assert_eq!(rt; ReadFault::TooLong.line(), None);
-}
-
-#[test]
-fn each_prefix_is_read_or_refused(rt: HostRuntime) -> Result<(), Fail> {
-    for end in 0..=WHOLE.len() {
-        if let Err(fault) = read_feature(rt.alloc(), &WHOLE.as_bytes()[..end]) {
-            assert_eq!(rt; fault == ReadFault::Memory, false);
-            assert_eq!(rt; fault.line().is_some(), true);
-        }
-    }
-    Ok(())
-}
-
 // A comment as long as a file may be, and what comes after it.
 fn comment(alloc: Global, tail: &str) -> Result<String, AllocError> {
     text(alloc, "", "################", LIMIT / 16, tail)
@@ -193,7 +79,7 @@ fn reads_up_to_the_limit(rt: HostRuntime) -> Result<(), Fail> {
     let comment = comment(rt.alloc(), "")?;
     assert_eq!(rt; comment.len(), LIMIT);
     assert!(rt; read_feature(rt.alloc(), comment.as_bytes())?.is_none());
-    assert!(rt; are_lines(rt.alloc(), comment.as_bytes(), 1, &comment, 1)?);
+    assert_eq!(rt; read_lines(rt.alloc(), comment.as_bytes())?.lines.len(), 1);
     Ok(())
 }
 
@@ -374,61 +260,6 @@ fn reads_each_hook(rt: HostRuntime) -> Result<(), Fail> {
     let shown = format!(in rt.alloc(); "{file:?}")?;
     assert_eq!(rt; shown.as_str(), SHOWN_HOOKS);
     assert_eq!(rt; read_hooks(rt.alloc(), b"")?.hooks.is_empty(), true);
-    Ok(())
-}
-
-// Bytes of hooks files, and why they are refused.
-const REFUSED_HOOKS: [(&[u8], ReadFault); 14] = [
-    (b"before_all:\n\xFF", ReadFault::NotUtf8 { line: 2 }),
-    (b"# c\nGiven x", ReadFault::Unexpected { line: 2 }),
-    (b"before_all:\n@a", ReadFault::Unexpected { line: 2 }),
-    (
-        b"before_all:\nFeature: a",
-        ReadFault::Unexpected { line: 2 },
-    ),
-    (b"before_all:\n|a|", ReadFault::Unexpected { line: 2 }),
-    (b"before_rule:", ReadFault::BadHook { line: 1 }),
-    (b"\nafter_step:", ReadFault::BadHook { line: 2 }),
-    (b"before_all :", ReadFault::BadHook { line: 1 }),
-    (b"before_tag @a @b:", ReadFault::BadHook { line: 1 }),
-    (
-        b"before_all:\nafter_all:\nbefore_all:",
-        ReadFault::BadHook { line: 3 },
-    ),
-    (
-        b"before_tag @a:\nGiven x\nbefore_tag\t@a:",
-        ReadFault::BadHook { line: 3 },
-    ),
-    (
-        b"before_all:\nGiven x\n|a|\n|b",
-        ReadFault::BadRow { line: 4 },
-    ),
-    (
-        b"before_all:\nGiven x\n|a|\n|b|c|",
-        ReadFault::CellCount { line: 4 },
-    ),
-    (
-        b"before_all:\nGiven x\n```\nafter_all:",
-        ReadFault::UnclosedText { line: 3 },
-    ),
-];
-
-#[test]
-fn refuses_hooks(rt: HostRuntime) -> Result<(), Fail> {
-    for (bytes, fault) in REFUSED_HOOKS {
-        assert_eq!(rt; read_hooks(rt.alloc(), bytes).err(), Some(fault));
-    }
-    Ok(())
-}
-
-#[test]
-fn each_prefix_of_hooks_is_read_or_refused(rt: HostRuntime) -> Result<(), Fail> {
-    for end in 0..=HOOKS.len() {
-        if let Err(fault) = read_hooks(rt.alloc(), &HOOKS.as_bytes()[..end]) {
-            assert_eq!(rt; fault == ReadFault::Memory, false);
-            assert_eq!(rt; fault.line().is_some(), true);
-        }
-    }
     Ok(())
 }
 

@@ -67,44 +67,6 @@ fn matched(alloc: Global, parts: &[Part], text: &str) -> Result<String, AllocErr
     format!(in alloc; "{found:?}")
 }
 
-const NUMBER: &[Part] = &[Part::Decimal("n")];
-
-// The pieces of a pattern, a text, and the pattern's match in it: the longest number first, and numbers at
-// the limits.
-const NUMBERS: [(&[Part], &str, &str); 7] = [
-    (
-        &[Part::Decimal("n"), Part::Decimal("m")],
-        "123",
-        "Some([Number(12), Number(3)])",
-    ),
-    (
-        NUMBER,
-        "9223372036854775807",
-        "Some([Number(9223372036854775807)])",
-    ),
-    (
-        NUMBER,
-        "-9223372036854775808",
-        "Some([Number(-9223372036854775808)])",
-    ),
-    (NUMBER, "9223372036854775808", "None"),
-    (NUMBER, "", "None"),
-    (NUMBER, "-", "None"),
-    (
-        NUMBER,
-        "+00000000000000000000000000007",
-        "Some([Number(7)])",
-    ),
-];
-
-#[test]
-fn longest_number_first(rt: HostRuntime) -> Result<(), AllocError> {
-    for (parts, text, wanted) in NUMBERS {
-        assert_eq!(rt; matched(rt.alloc(), parts, text)?.as_str(), wanted);
-    }
-    Ok(())
-}
-
 // A letter so many times, and another after them.
 fn repeated(alloc: Global, letter: char, count: usize, last: char) -> Result<String, AllocError> {
     let mut text = String::new(alloc);
@@ -156,66 +118,6 @@ fn the_longest_of_many_numbers(rt: HostRuntime) -> Result<(), AllocError> {
     Ok(())
 }
 
-fn entry(
-    alloc: Global,
-    step_type: Option<StepType>,
-    parts: &[Part],
-    action: Action,
-) -> Result<Entry, AllocError> {
-    Ok(Entry {
-        step_type,
-        pattern: pattern_of(alloc, parts)?,
-        action,
-    })
-}
-
-// A library of an entry for every step, and of one for steps of one type.
-fn two_entries(alloc: Global) -> Result<Library, AllocError> {
-    let mut entries = Vec::new(alloc);
-    entries.push(entry(alloc, None, &[A], Action::Pass)?)?;
-    let when = &[Part::Literal("it "), A];
-    entries.push(entry(alloc, Some(StepType::When), when, Action::Fail)?)?;
-    Ok(Library::new(entries))
-}
-
-// Shows what a step finds.
-fn found(
-    alloc: Global,
-    library: &Library,
-    step_type: StepType,
-    text: &str,
-) -> Result<String, AllocError> {
-    let found = library.find(alloc, step_type, text)?;
-    format!(in alloc; "{found:?}")
-}
-
-// A step's type and text, and what it finds in the library of two entries.
-const FOUND: [(StepType, &str, &str); 3] = [
-    (
-        StepType::When,
-        "it passes",
-        "Some(Found { entry: 1, fields: [Text(\"passes\")] })",
-    ),
-    (
-        StepType::Given,
-        "it passes",
-        "Some(Found { entry: 0, fields: [Text(\"it passes\")] })",
-    ),
-    (StepType::Then, "", "None"),
-];
-
-#[test]
-fn entries_of_the_type_first(rt: HostRuntime) -> Result<(), AllocError> {
-    let library = two_entries(rt.alloc())?;
-    for (step_type, text, wanted) in FOUND {
-        assert_eq!(rt;
-            found(rt.alloc(), &library, step_type, text)?.as_str(),
-            wanted
-        );
-    }
-    Ok(())
-}
-
 // Shows the match of the pattern that a text spells.
 fn read_and_matched(alloc: Global, spelled: &str, text: &str) -> Result<String, PatternFault> {
     let found = read_pattern(alloc, spelled)?.matches(alloc, text)?;
@@ -223,7 +125,7 @@ fn read_and_matched(alloc: Global, spelled: &str, text: &str) -> Result<String, 
 }
 
 // Texts that spell patterns, each with a text and the pattern's match in it.
-const SPELLED: [(&str, &str, &str); 3] = [
+const SPELLED: [(&str, &str, &str); 7] = [
     ("{{{a}}}", "{x}", "Some([Text(\"x\")])"),
     (
         "{a} and {b}",
@@ -231,6 +133,22 @@ const SPELLED: [(&str, &str, &str); 3] = [
         "Some([Text(\"x\"), Text(\"y and z\")])",
     ),
     ("{n:d}{m:d}", "123", "Some([Number(12), Number(3)])"),
+    (
+        "{n:d}",
+        "9223372036854775807",
+        "Some([Number(9223372036854775807)])",
+    ),
+    (
+        "{n:d}",
+        "-9223372036854775808",
+        "Some([Number(-9223372036854775808)])",
+    ),
+    ("{n:d}", "9223372036854775808", "None"),
+    (
+        "{n:d}",
+        "+00000000000000000000000000007",
+        "Some([Number(7)])",
+    ),
 ];
 
 #[test]
@@ -251,58 +169,6 @@ fn ends_of_texts_are_compared(rt: HostRuntime) -> Result<(), PatternFault> {
     Ok(())
 }
 
-// Texts that spell no pattern.
-const BAD_PATTERNS: [&str; 8] = ["", "{}", "a }", "{1a}", "{a b}", "{a:x}", "{a", "{a} {a:d}"];
-
-#[test]
-fn texts_that_spell_no_pattern(rt: HostRuntime) -> Result<(), Fail> {
-    for text in BAD_PATTERNS {
-        let fault = read_pattern(rt.alloc(), text).err();
-        assert_eq!(rt; fault, Some(PatternFault::BadPattern));
-    }
-    assert!(rt; read_pattern(rt.alloc(), "{_a1} {a}").is_ok());
-    Ok(())
-}
-
-// Texts of a library, and why they are refused.
-const REFUSED: [(&str, LibraryFault); 14] = [
-    (
-        "given a {x} => pass\ngiven a b => fail\n",
-        LibraryFault::Ambiguous { line: 2 },
-    ),
-    ("step x => dance", LibraryFault::UnknownAction { line: 1 }),
-    (
-        "\n# a\nstep {n} => set_number",
-        LibraryFault::MissingField { line: 3 },
-    ),
-    (
-        "step \"{name}\" is {n} => set_number",
-        LibraryFault::FieldKind { line: 1 },
-    ),
-    ("step {} => pass", LibraryFault::BadPattern { line: 1 }),
-    ("step a } => pass", LibraryFault::BadPattern { line: 1 }),
-    ("and a => pass", LibraryFault::BadType { line: 1 }),
-    (
-        "step {text} => set_env",
-        LibraryFault::MissingField { line: 1 },
-    ),
-    (
-        "step {name:d} => env_absent",
-        LibraryFault::FieldKind { line: 1 },
-    ),
-    (
-        "step at the end {text} => at_cleanup",
-        LibraryFault::MissingField { line: 1 },
-    ),
-    (
-        "step at the end {step:d} => at_cleanup",
-        LibraryFault::FieldKind { line: 1 },
-    ),
-    ("step", LibraryFault::BadPattern { line: 1 }),
-    ("step=>pass", LibraryFault::BadType { line: 1 }),
-    ("step a =>", LibraryFault::UnknownAction { line: 1 }),
-];
-
 // Texts of a library that are read.
 const READ: [&str; 2] = [
     "given a {x} => pass\nwhen a b => fail\n",
@@ -310,25 +176,10 @@ const READ: [&str; 2] = [
 ];
 
 #[test]
-fn libraries_are_refused(rt: HostRuntime) {
-    for (text, fault) in REFUSED {
-        let refused = read_library(rt.alloc(), text.as_bytes()).err();
-        assert_eq!(rt; refused, Some(fault));
-    }
-}
-
-#[test]
 fn libraries_are_read(rt: HostRuntime) {
     for text in READ {
         assert!(rt; read_library(rt.alloc(), text.as_bytes()).is_ok());
     }
-}
-
-#[test]
-fn faults_of_libraries_have_lines_and_texts(rt: HostRuntime) {
-    let ambiguous = LibraryFault::Ambiguous { line: 2 };
-    assert_eq!(rt; ambiguous.line(), Some(2));
-    assert_eq!(rt; ambiguous.text(), "ambiguous with an earlier line");
 }
 
 // A step's type and text; the action that it finds in the default library, and what a field of a name

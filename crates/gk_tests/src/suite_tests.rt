@@ -1,8 +1,5 @@
-use gk_cli::{Counted, Options, RunFault, Source, run_suite};
-use gk_gherkin::ReadFault;
+use gk_cli::{Counted, Options, Source, run_suite};
 use gk_report::{Format, Style};
-use gk_select::SelectFault;
-use gk_steps::LibraryFault;
 use gk_world::Sandbox;
 use std::alloc::{AllocError, Global};
 use std::test::Fail;
@@ -168,85 +165,6 @@ fn reports_whole_runs(rt: HostRuntime) -> Result<(), Fail> {
     for (asked, text, wanted) in &RUNS {
         let found = run(rt.alloc(), asked, &[text])?;
         assert_eq!(rt; found.as_str(), *wanted);
-    }
-    Ok(())
-}
-
-const STRAY: &str = "Feature: a\nstray\n";
-
-// The tags, the library, the hooks and the second source; the fault.
-const UNREAD: [(&str, &[u8], &[u8], &str, &str); 4] = [
-    (
-        "@",
-        b"x",
-        b"x",
-        STRAY,
-        "Err(Select { input: None, fault: BadTagText }) 0 None ",
-    ),
-    (
-        "",
-        b"x",
-        b"x",
-        STRAY,
-        "Err(Library(BadType { line: 1 })) 0 None ",
-    ),
-    (
-        "",
-        b"",
-        b"before_all:\nafter_each:\n",
-        STRAY,
-        "Err(Hooks(BadHook { line: 2 })) 0 None ",
-    ),
-    (
-        "",
-        b"",
-        b"",
-        "Feature: a\nScenario: b\n  Given c\n  stray\n",
-        "Err(Read { input: 1, fault: Unexpected { line: 4 } }) 0 None ",
-    ),
-];
-
-#[test]
-fn names_the_first_that_does_not_read(rt: HostRuntime) -> Result<(), Fail> {
-    for (tags, library, hooks, text, wanted) in UNREAD {
-        let asked = Asked {
-            tags,
-            library: Some(library),
-            hooks: Some(hooks),
-            ..USUAL
-        };
-        let found = run(rt.alloc(), &asked, &["Feature: one\n", text, "stray"])?;
-        assert_eq!(rt; found.as_str(), wanted);
-    }
-    Ok(())
-}
-
-// A fault, and its status.
-const STATUSES: [(RunFault, u8); 6] = [
-    (RunFault::Write, 3),
-    (RunFault::Memory, 4),
-    (RunFault::Library(LibraryFault::TooLong), 3),
-    (RunFault::Hooks(ReadFault::BadHook { line: 1 }), 3),
-    (
-        RunFault::Select {
-            input: None,
-            fault: SelectFault::BadTagText,
-        },
-        2,
-    ),
-    (
-        RunFault::Select {
-            input: Some(0),
-            fault: SelectFault::TooMany,
-        },
-        3,
-    ),
-];
-
-#[test]
-fn faults_have_statuses(rt: HostRuntime) -> Result<(), Fail> {
-    for (fault, status) in STATUSES {
-        assert_eq!(rt; fault.status(), status);
     }
     Ok(())
 }

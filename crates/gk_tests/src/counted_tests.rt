@@ -1,0 +1,98 @@
+use gk_cli::{Counted, write_whole};
+use std::alloc::{AllocError, Global};
+use std::io;
+use std::io::Write as _;
+use std::test::Fail;
+
+/// A writer that counts its own calls. It takes at most `most` bytes a call, and fails in one call alone.
+#[derive(Debug, Drop)]
+struct Writer {
+    most: usize,
+    fails_at: usize,
+    calls: usize,
+    offered: usize,
+    bytes: Vec<u8>,
+}
+
+impl io::Write for Writer {
+    fn write(&mut self, buf: &[u8]) -> io::Result<usize> {
+        self.calls = self.calls.saturating_add(1);
+        self.offered = self.offered.max(buf.len());
+        if self.calls == self.fails_at {
+            return Err(io::ErrorKind::Other.into());
+        }
+        let taken = buf.len().min(self.most);
+        self.bytes.extend_from_slice(&buf[..taken])?;
+        Ok(taken)
+    }
+
+    fn flush(&mut self) -> io::Result<()> {
+        self.calls = self.calls.saturating_add(1);
+        if self.calls == self.fails_at {
+            return Err(io::ErrorKind::Other.into());
+        }
+        Ok(())
+    }
+}
+
+// A counted writer with nothing written.
+fn writer(alloc: Global, most: usize, fails_at: usize) -> Counted<Writer> {
+    Counted::new(Writer {
+        most,
+        fails_at,
+        calls: 0,
+        offered: 0,
+        bytes: Vec::new(alloc),
+    })
+}
+
+// The calls of the writer, the most that it was offered, what was counted, and the bytes.
+fn shown(alloc: Global, out: &Counted<Writer>) -> Result<String, AllocError> {
+    let writer = out.inner();
+    format!(in alloc;
+        "{} of {}, counted {} {} {}, {:?}",
+        writer.calls,
+        writer.offered,
+        out.calls(),
+        out.failures(),
+        out.flushes(),
+        str::from_utf8(writer.bytes.as_slice())
+    )
+}
+
+// What it writes of seven bytes.
+fn written(alloc: Global, most: usize, fails_at: usize) -> Result<String, AllocError> {
+    let mut out = writer(alloc, most, fails_at);
+    let whole = write_whole(&mut out, b"1234567").is_ok();
+    let shown = shown(alloc, &out)?;
+    format!(in alloc; "{whole}: {shown}")
+}
+
+// How much the writer takes a call, the call that fails, and what becomes of it.
+const WRITTEN: [(usize, usize, &str); 6] = [
+    (100, 0, "true: 1 of 7, counted 1 0 0, Ok(\"1234567\")"),
+    (1, 0, "true: 7 of 7, counted 7 0 0, Ok(\"1234567\")"),
+    (3, 0, "true: 3 of 7, counted 3 0 0, Ok(\"1234567\")"),
+    (3, 1, "false: 1 of 7, counted 1 1 0, Ok(\"\")"),
+    (3, 3, "false: 3 of 7, counted 3 1 0, Ok(\"123456\")"),
+    (0, 0, "false: 1 of 7, counted 1 1 0, Ok(\"\")"),
+];
+
+#[test]
+fn writes_whole_and_asks_no_writer_again_that_failed(rt: HostRuntime) -> Result<(), Fail> {
+    for (most, fails_at, wanted) in WRITTEN {
+        let found = written(rt.alloc(), most, fails_at)?;
+        assert_eq!(rt; found.as_str(), wanted);
+    }
+    Ok(())
+}
+
+#[test]
+fn passes_each_flush_on_once(rt: HostRuntime) -> Result<(), Fail> {
+    let mut out = writer(rt.alloc(), 1, 2);
+    let flushed = (out.flush().is_ok(), out.flush().is_ok());
+    assert_eq!(rt; flushed, (true, false));
+    let shown = shown(rt.alloc(), &out)?;
+    assert_eq!(rt; shown.as_str(), "2 of 0, counted 0 1 2, Ok(\"\")");
+    Ok(())
+}
