@@ -35,8 +35,8 @@ impl io::Write for Writer {
     }
 }
 
-// A counted writer with nothing written.
-fn writer(alloc: Global, most: usize, fails_at: usize) -> Counted<Writer> {
+// A counted writer, to which nothing was written.
+fn counted(alloc: Global, most: usize, fails_at: usize) -> Counted<Writer> {
     Counted::new(Writer {
         most,
         fails_at,
@@ -62,7 +62,7 @@ fn shown(alloc: Global, out: &Counted<Writer>) -> Result<String, AllocError> {
 
 // What it writes of seven bytes.
 fn written(alloc: Global, most: usize, fails_at: usize) -> Result<String, AllocError> {
-    let mut out = writer(alloc, most, fails_at);
+    let mut out = counted(alloc, most, fails_at);
     let whole = write_whole(&mut out, b"1234567").is_ok();
     let shown = shown(alloc, &out)?;
     format!(in alloc; "{whole}: {shown}")
@@ -89,7 +89,7 @@ fn writes_whole_and_asks_no_writer_again_that_failed(rt: HostRuntime) -> Result<
 
 #[test]
 fn passes_each_flush_on_once(rt: HostRuntime) -> Result<(), Fail> {
-    let mut out = writer(rt.alloc(), 1, 2);
+    let mut out = counted(rt.alloc(), 1, 2);
     let flushed = (out.flush().is_ok(), out.flush().is_ok());
     assert_eq!(rt; flushed, (true, false));
     let shown = shown(rt.alloc(), &out)?;
