@@ -31,12 +31,19 @@ use gk_world::Sandbox;
 use std::alloc::Global;
 use std::io::Write;
 
+// What stays the same during a run, and where its memory comes from.
+#[derive(Clone, Copy)]
+struct Setup<'a> {
+    alloc: Global,
+    library: &'a Library,
+    hooks: &'a HookFile,
+    stop: bool,
+}
+
 // Runs the next feature of a run, and writes its part.
 fn run_next<W: Write>(
-    alloc: Global,
+    setup: &Setup<'_>,
     sandbox: &mut Sandbox,
-    library: &Library,
-    hooks: &HookFile,
     suite: &mut Suite,
     feature: Chosen,
     report: &mut GrowingReport,
@@ -44,24 +51,22 @@ fn run_next<W: Write>(
 ) -> Result<(), RunFault>
     requires layer { suc (depth sandbox.old) < layers }
     requires paired { IsPaired feature }
-    ensures ok { OnOk result (IsRunNext (run_of library.now hooks.now suite.old.stop) (state_of sandbox.old.now) suite.old.is_open suite.new.is_open (chosen_value feature) (device_of W.contents out.old) report.old (device_of W.contents out.new) report.new) }
-    ensures err { IfErr result (EndsNext (run_of library.now hooks.now suite.old.stop) (state_of sandbox.old.now) suite.old.is_open (chosen_value feature) (device_of W.contents out.old) report.old (device_of W.contents out.new)) }
+    ensures ok { OnOk result (IsRunNext (run_of setup.now.library.now setup.now.hooks.now suite.old.stop) (state_of sandbox.old.now) suite.old.is_open suite.new.is_open (chosen_value feature) (device_of W.contents out.old) report.old (device_of W.contents out.new) report.new) }
+    ensures err { IfErr result (EndsNext (run_of setup.now.library.now setup.now.hooks.now suite.old.stop) (state_of sandbox.old.now) suite.old.is_open (chosen_value feature) (device_of W.contents out.old) report.old (device_of W.contents out.new)) }
     ensures style { style_of report.new ≡ style_of report.old }
     ensures kept { IsKept suite.old suite.new }
     ensures same { IsSame sandbox.old sandbox.new }
 {
-    match suite.feature(alloc, sandbox, library, hooks, feature) {
-        Ok(result) => report.add(alloc, result, out),
+    match suite.feature(setup.alloc, sandbox, setup.library, setup.hooks, feature) {
+        Ok(result) => report.add(setup.alloc, result, out),
         Err(NoRoom) => Err(RunFault::Memory),
     }
 }
 
 // Runs the features of a run that was begun, one after another, and writes the part of each.
 fn run_features<W: Write>(
-    alloc: Global,
+    setup: &Setup<'_>,
     sandbox: &mut Sandbox,
-    library: &Library,
-    hooks: &HookFile,
     suite: &mut Suite,
     features: Vec<Chosen>,
     report: &mut GrowingReport,
@@ -69,14 +74,14 @@ fn run_features<W: Write>(
 ) -> Result<(), RunFault>
     requires layer { suc (depth sandbox.old) < layers }
     requires paired { AllByRecursion IsPaired features.items }
-    ensures ok { OnOk result (AreWritten (AreFeatures (run_of library.now hooks.now suite.old.stop) (state_of sandbox.old.now) suite.old.is_open) (map chosen_value features.items) (device_of W.contents out.old) report.old (device_of W.contents out.new) report.new) }
-    ensures err { IfErr result (AreWrittenUpTo (AreFeatures (run_of library.now hooks.now suite.old.stop) (state_of sandbox.old.now) suite.old.is_open) (map chosen_value features.items) (device_of W.contents out.old) report.old (device_of W.contents out.new)) }
+    ensures ok { OnOk result (AreWritten (AreFeatures (run_of setup.now.library.now setup.now.hooks.now suite.old.stop) (state_of sandbox.old.now) suite.old.is_open) (map chosen_value features.items) (device_of W.contents out.old) report.old (device_of W.contents out.new) report.new) }
+    ensures err { IfErr result (AreWrittenUpTo (AreFeatures (run_of setup.now.library.now setup.now.hooks.now suite.old.stop) (state_of sandbox.old.now) suite.old.is_open) (map chosen_value features.items) (device_of W.contents out.old) report.old (device_of W.contents out.new)) }
     ensures style { style_of report.new ≡ style_of report.old }
     ensures kept { IsKept suite.old suite.new }
     ensures same { IsSame sandbox.old sandbox.new }
 {
     for feature in features {
-        run_next(alloc, sandbox, library, hooks, suite, feature, report, out)?;
+        run_next(setup, sandbox, suite, feature, report, out)?;
     }
     Ok(())
 }
@@ -84,19 +89,16 @@ fn run_features<W: Write>(
 // Runs features as one run, of whose report the head is written. Where the report can't grow, the run is
 // finished, its answer is given up, and nothing more is written.
 fn run_all<W: Write>(
-    alloc: Global,
+    setup: &Setup<'_>,
     sandbox: &mut Sandbox,
-    library: &Library,
-    hooks: &HookFile,
-    stop: bool,
     features: Vec<Chosen>,
     report: GrowingReport,
     out: &mut Counted<W>,
 ) -> Result<u8, RunFault>
     requires outside { depth sandbox.old ≡ 0 }
     requires paired { AllByRecursion IsPaired features.items }
-    ensures ok { IfOk result (Finishes (run_of library.now hooks.now stop) sandbox.old.now (map chosen_value features.items) (device_of W.contents out.old) report (device_of W.contents out.new)) }
-    ensures err { IfErr result (Ends (run_of library.now hooks.now stop) sandbox.old.now (map chosen_value features.items) (device_of W.contents out.old) report (device_of W.contents out.new)) }
+    ensures ok { IfOk result (Finishes (run_of setup.now.library.now setup.now.hooks.now setup.now.stop) sandbox.old.now (map chosen_value features.items) (device_of W.contents out.old) report (device_of W.contents out.new)) }
+    ensures err { IfErr result (Ends (run_of setup.now.library.now setup.now.hooks.now setup.now.stop) sandbox.old.now (map chosen_value features.items) (device_of W.contents out.old) report (device_of W.contents out.new)) }
     ensures same { IsSame sandbox.old sandbox.new }
 {
     // No code runs in these three: the laws say that the results of a run are judged, that its results so far
@@ -105,20 +107,11 @@ fn run_all<W: Write>(
     unfinished_runs_are_judged();
     reports_grow_by_parts();
     let mut report = report;
-    let mut suite = Suite::start(alloc, sandbox, library, hooks, stop);
-    let written = run_features(
-        alloc,
-        sandbox,
-        library,
-        hooks,
-        &mut suite,
-        features,
-        &mut report,
-        out,
-    );
-    let around = suite.finish(alloc, sandbox, library, hooks);
+    let mut suite = Suite::start(setup.alloc, sandbox, setup.library, setup.hooks, setup.stop);
+    let written = run_features(setup, sandbox, &mut suite, features, &mut report, out);
+    let around = suite.finish(setup.alloc, sandbox, setup.library, setup.hooks);
     match written {
-        Ok(()) => report.finish(alloc, around, out),
+        Ok(()) => report.finish(setup.alloc, around, out),
         Err(fault) => Err(fault),
     }
 }
@@ -162,17 +155,14 @@ fn dry_features<W: Write>(
 
 // A dry run of features, of whose report the head is written.
 fn dry_all<W: Write>(
-    alloc: Global,
-    library: &Library,
-    hooks: &HookFile,
-    stop: bool,
+    setup: &Setup<'_>,
     features: Vec<Chosen>,
     report: GrowingReport,
     out: &mut Counted<W>,
 ) -> Result<u8, RunFault>
     requires paired { AllByRecursion IsPaired features.items }
-    ensures ok { IfOk result (λ status. (contents : Contents) → Finishes (dry_run_of library.now hooks.now stop) contents (map chosen_value features.items) (device_of W.contents out.old) report (device_of W.contents out.new) status) }
-    ensures err { IfErr result (λ fault. (contents : Contents) → Ends (dry_run_of library.now hooks.now stop) contents (map chosen_value features.items) (device_of W.contents out.old) report (device_of W.contents out.new) fault) }
+    ensures ok { IfOk result (λ status. (contents : Contents) → Finishes (dry_run_of setup.now.library.now setup.now.hooks.now setup.now.stop) contents (map chosen_value features.items) (device_of W.contents out.old) report (device_of W.contents out.new) status) }
+    ensures err { IfErr result (λ fault. (contents : Contents) → Ends (dry_run_of setup.now.library.now setup.now.hooks.now setup.now.stop) contents (map chosen_value features.items) (device_of W.contents out.old) report (device_of W.contents out.new) fault) }
 {
     // No code runs in these three: the laws say that the results of a dry run are judged, that its results so
     // far begin some judged list, and that their parts begin its report.
@@ -180,8 +170,8 @@ fn dry_all<W: Write>(
     unfinished_dry_runs_are_judged();
     reports_grow_by_parts();
     let mut report = report;
-    match dry_features(alloc, library, features, &mut report, out) {
-        Ok(()) => report.finish(alloc, Status::Passed, out),
+    match dry_features(setup.alloc, setup.library, features, &mut report, out) {
+        Ok(()) => report.finish(setup.alloc, Status::Passed, out),
         Err(fault) => Err(fault),
     }
 }
@@ -211,17 +201,14 @@ pub fn write_run<W: Write>(
         features,
     } = inputs;
     let report = GrowingReport::start(alloc, options.style, out)?;
-    if options.dry_run {
-        return dry_all(alloc, &library, &hooks, options.stop, features, report, out);
-    }
-    run_all(
+    let setup = Setup {
         alloc,
-        sandbox,
-        &library,
-        &hooks,
-        options.stop,
-        features,
-        report,
-        out,
-    )
+        library: &library,
+        hooks: &hooks,
+        stop: options.stop,
+    };
+    if options.dry_run {
+        return dry_all(&setup, features, report, out);
+    }
+    run_all(&setup, sandbox, features, report, out)
 }

@@ -13,7 +13,7 @@ use Rattle.gk_cli.proofs.written_run.run_features.Given as goal
 
 abbrev pub invariant-loop-feature : goal.invariant-loop-feature
 invariant-loop-feature g l = record {
-  goes : Running (run_of l.library l.hooks l.fn.suite.stop) (state_of l.fn.sandbox.now) l.fn.suite.is_open (map chosen_value l.fn.features.items) (device_of g.W.Write.contents l.fn.out) l.fn.report
+  goes : Running (run_of l.setup.library.now l.setup.hooks.now l.fn.suite.stop) (state_of l.fn.sandbox.now) l.fn.suite.is_open (map chosen_value l.fn.features.items) (device_of g.W.Write.contents l.fn.out) l.fn.report
       (map chosen_value (into_iter_items l.feature-iterator)) l.suite.is_open (device_of g.W.Write.contents l.out) l.report;
   style : style_of l.report ≡ style_of l.fn.report;
   same : IsSame l.fn.sandbox l.sandbox;
