@@ -1,5 +1,5 @@
 -- What a whole run may answer and write.
-use Rattle.std.specs.Prelude.{◌≡◌, ◌≢◌, ◌≤◌, ◌+◌, ◌⊎◌, ℕ, false, List, [], length, Option}
+use Rattle.std.specs.Prelude.{◌≡◌, ◌≢◌, ◌≤◌, ◌+◌, ◌⊎◌, ℕ, false, List, [], length, Option, None}
 use Rattle.std.specs.Io.KnownBytes.{Appends}
 use Rattle.gk_world.specs.Contents.{Contents}
 use Rattle.gk_run.specs.Results.{Results}
@@ -13,7 +13,7 @@ use Rattle.gk_cli.specs.declared.counted.Counted.{Counted}
 use Rattle.gk_cli.specs.declared.run_fault.RunFault.{RunFault}
 use Rattle.gk_cli.specs.declared.run_fault.RunFault.TheVariants.{Write, Memory}
 use Rattle.gk_cli.specs.Counted.{inner_of, calls_of, flushes_of, failures_of, one_more, IsPrefixWritten}
-use Rattle.gk_cli.specs.Inputs.{Request, Inputs, AreInputs}
+use Rattle.gk_cli.specs.Inputs.{Request, Inputs, request_of, AreInputs}
 use Rattle.gk_cli.specs.RunFault.{IsUnread}
 
 -- What stays the same during a run of these inputs.
@@ -92,6 +92,6 @@ SaysFault r contents old new fault = IsUnread r fault × IsUntouched old new
 abbrev pub InputsAreUnique : Type 0
 InputsAreUnique = (r : Request) (one other : Inputs) → AreInputs r one → AreInputs r other → one ≡ other
 
--- Proof machinery: what stays the same during a run with these options.
+-- Proof machinery: what stays the same during a run with these options, whatever files and sources are asked for.
 abbrev pub run_by : Options → Inputs → Run
-run_by options inputs = record { library = inputs.library; hooks = inputs.hooks; dry_run = options.dry_run; stop = options.stop }
+run_by options inputs = run_with (request_of options None None []) inputs
