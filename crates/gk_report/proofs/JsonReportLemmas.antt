@@ -11,7 +11,7 @@ use Rattle.gk_run.specs.Results.{StepRow, CaseRow, FeatureRow}
 use Rattle.gk_report.specs.declared.summary.Counts.{Counts}
 use Rattle.gk_report.specs.declared.summary.Summary.{Summary}
 use Rattle.gk_report.specs.Summary.{status_by}
-use Rattle.gk_report.specs.PlainReport.{printed_cases}
+use Rattle.gk_report.specs.ReportTexts.{printed_cases}
 use Rattle.gk_report.specs.JsonReport.{number_data, status_data, array_data, reason_and, step_data, case_data, feature_data, counts_data, step_counts_data, summary_data, AddsMembers, case_and, undefined_and, counts_data_of, step_members, count_members, tail_of, json_tail}
 use Rattle.gk_report.proofs.PrintedLemmas.{items_next}
 

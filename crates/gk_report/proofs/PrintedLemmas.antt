@@ -4,7 +4,8 @@ use Rattle.std.proofs.lemmas.List.{at_drop_all, at_drop_more}
 use Rattle.serde_json.specs.Data.{item}
 use Rattle.serde_json.specs.View.{items_of}
 use Rattle.gk_run.specs.Results.{CaseRow}
-use Rattle.gk_report.specs.PlainReport.{is_hidden, printed_cases, case_lines}
+use Rattle.gk_report.specs.ReportTexts.{is_hidden, printed_cases}
+use Rattle.gk_report.specs.PlainReport.{case_lines}
 use Rattle.gk_report.specs.ProgressReport.{status_mark, case_marks}
 use Rattle.gk_report.specs.JsonReport.{case_data, case_and}
 

@@ -7,7 +7,7 @@ use Rattle.serde_json.proofs.OnLiterals.{serde_json_on_literals}
 use Rattle.gk_run.specs.Results.{FeatureRow, Results}
 use Rattle.gk_report.specs.declared.report.Format.TheVariants as formats
 use Rattle.gk_report.specs.declared.report.Style.{Style}
-use Rattle.gk_report.specs.PlainReport.{is_hidden}
+use Rattle.gk_report.specs.ReportTexts.{is_hidden}
 use Rattle.gk_report.specs.JsonReport.{feature_data, printed_features, json_head, json_part, json_tail}
 use Rattle.gk_report.specs.Report.{head, part, is_empty, parts_from, parts, tail, report, IsOneDocument, ReportsGrowByParts}
 

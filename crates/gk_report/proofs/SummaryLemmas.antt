@@ -12,7 +12,7 @@ use Rattle.gk_run.specs.declared.results.Status.TheVariants as statuses
 use Rattle.gk_report.specs.declared.summary.Counts.{Counts}
 use Rattle.gk_report.specs.declared.summary.Summary.{Summary}
 use Rattle.gk_run.specs.Results.{CaseRow, FeatureRow, is_passed, is_failed, is_skipped, is_undefined, is_untested, is_memory}
-use Rattle.gk_report.specs.Summary.{greatest, count_of, counts_of, feature_statuses, case_statuses, scenario_statuses, statuses_of_case, statuses_of_feature, step_statuses, summary_of, verdicts, status_of, raised, one_status_more, one_case_more, one_feature_more, status_by}
+use Rattle.gk_report.specs.Summary.{greatest, count_of, counts_of, feature_statuses, case_statuses, scenario_statuses, statuses_of_case, statuses_of_feature, step_statuses, summary_of, verdicts, status_of, raised, one_status_more, one_case_more, one_feature_more, status_by, IsStatusOf}
 
 raised_least : (g n : ℕ) → min (min g n + 1) g ≡ min g (n + 1)
 raised_least g n = omega arith
@@ -134,3 +134,7 @@ status_counted rows around =
     ap (λ a. cond a 4 (cond (failed || nat_lt 0 counts.steps.undefined) 1 0)) (any_verdict is_memory rows around)
     ∙ ap (λ b. cond (list_any is_memory (verdicts rows around)) 4 (cond (b || nat_lt 0 counts.steps.undefined) 1 0)) (any_verdict is_failed rows around)
     ∙ ap (λ b. cond (list_any is_memory (verdicts rows around)) 4 (cond (list_any is_failed (verdicts rows around) || b) 1 0)) (any_count is_undefined (step_statuses rows))
+
+-- So a number that is the status by the counts is that of whatever rows they count.
+pub status_from : (s : Summary) (around : Status) (number : ℕ) → number ≡ status_by s around → IsStatusOf s around number
+status_from s around number e rows same = e ∙ ap (λ x. status_by x around) same ∙ status_counted rows around

@@ -11,8 +11,7 @@ use Rattle.gk_run.specs.declared.results.Reason.{Reason}
 use Rattle.gk_run.specs.Results.{StepRow, CaseRow, FeatureRow}
 use Rattle.gk_report.specs.declared.summary.Counts.{Counts}
 use Rattle.gk_report.specs.declared.summary.Summary.{Summary}
-use Rattle.gk_report.specs.ReportTexts.{status_text, reason_text, line_feed}
-use Rattle.gk_report.specs.PlainReport.{is_hidden, printed_cases}
+use Rattle.gk_report.specs.ReportTexts.{status_text, reason_text, line_feed, is_hidden, printed_cases}
 
 -- A number.
 abbrev pub number_data : ℕ → Data

@@ -1,20 +1,12 @@
 -- The plain format, and the closing lines that it shares with progress.
-use Rattle.std.specs.Prelude.{ℕ, Bool, cond, not, ◌&&◌, ◌==◌, List, [], ◌++◌, filter, flat_map, Option, Some, None, codes}
+use Rattle.std.specs.Prelude.{ℕ, Bool, cond, ◌==◌, List, [], ◌++◌, flat_map, Option, Some, None, codes}
 use Rattle.std.specs.Fmt.{decimal}
 use Rattle.gk_run.specs.declared.results.Status.{Status}
 use Rattle.gk_run.specs.declared.results.Reason.{Reason}
 use Rattle.gk_report.specs.declared.summary.Counts.{Counts}
 use Rattle.gk_report.specs.declared.summary.Summary.{Summary}
-use Rattle.gk_run.specs.Results.{StepRow, CaseRow, FeatureRow, is_passed, is_skipped}
-use Rattle.gk_report.specs.ReportTexts.{status_text, reason_text, one_line, line_feed}
-
--- Where skipped ones are left out, what is skipped isn't printed. (behave's documentation: `--no-skipped`)
-abbrev pub is_hidden : Bool → Status → Bool
-is_hidden no_skipped status = no_skipped && is_skipped status
-
--- The scenarios of a feature that are printed. (behave's documentation: `--no-skipped`)
-abbrev pub printed_cases : Bool → List CaseRow → List CaseRow
-printed_cases no_skipped cases = filter (λ c. not (is_hidden no_skipped c.status)) cases
+use Rattle.gk_run.specs.Results.{StepRow, CaseRow, FeatureRow, is_passed}
+use Rattle.gk_report.specs.ReportTexts.{status_text, reason_text, one_line, line_feed, is_hidden, printed_cases}
 
 -- A line's text, three dots, and a status.
 unfoldable pub status_line : List ℕ → List ℕ → List ℕ

@@ -3,8 +3,7 @@ use Rattle.std.specs.Prelude.{ℕ, Bool, cond, List, [], ◌++◌, map, codes}
 use Rattle.gk_run.specs.declared.results.Status.{Status}
 use Rattle.gk_run.specs.declared.results.Status.TheVariants as statuses
 use Rattle.gk_run.specs.Results.{CaseRow, FeatureRow}
-use Rattle.gk_report.specs.ReportTexts.{status_text, one_line, line_feed}
-use Rattle.gk_report.specs.PlainReport.{is_hidden, printed_cases}
+use Rattle.gk_report.specs.ReportTexts.{status_text, one_line, line_feed, is_hidden, printed_cases}
 
 -- The character of a scenario: `.`, `F`, `S`, `U` or `M`; no verdict is undefined. (behave's documentation: the progress formatter; this project's profile)
 abbrev pub status_mark : Status → ℕ

@@ -1,9 +1,10 @@
--- The texts of the report.
-use Rattle.std.specs.Prelude.{ℕ, cond, ◌==◌, List, [], ◌∷◌, codes, flat_map}
+-- The texts that the formats share, and what each of them leaves out.
+use Rattle.std.specs.Prelude.{ℕ, Bool, cond, not, ◌&&◌, ◌==◌, List, [], ◌∷◌, codes, filter, flat_map}
 use Rattle.gk_run.specs.declared.results.Status.{Status}
 use Rattle.gk_run.specs.declared.results.Status.TheVariants as statuses
 use Rattle.gk_run.specs.declared.results.Reason.{Reason}
 use Rattle.gk_run.specs.declared.results.Reason.TheVariants as reasons
+use Rattle.gk_run.specs.Results.{CaseRow, is_skipped}
 
 -- A status as it is printed. (behave's documentation: the statuses of steps; this project's profile: memory)
 unfoldable pub status_text : Status → List ℕ
@@ -42,3 +43,11 @@ one_line text = flat_map byte_text text
 -- The end of a line.
 abbrev pub line_feed : List ℕ
 line_feed = 10 ∷ []
+
+-- Where skipped ones are left out, what is skipped isn't printed. (behave's documentation: `--no-skipped`)
+abbrev pub is_hidden : Bool → Status → Bool
+is_hidden no_skipped status = no_skipped && is_skipped status
+
+-- The scenarios of a feature that are printed. (behave's documentation: `--no-skipped`)
+abbrev pub printed_cases : Bool → List CaseRow → List CaseRow
+printed_cases no_skipped cases = filter (λ c. not (is_hidden no_skipped c.status)) cases

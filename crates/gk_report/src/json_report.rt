@@ -6,13 +6,13 @@ ghost use Rattle.serde_json.specs.Events.{SendsValue};
 ghost use Rattle.serde_json.specs.Sent.{IsTextOf};
 ghost use Rattle.serde_json.specs.Written.{compact_text};
 ghost use Rattle.gk_run.specs.Results.{step_row, case_row, feature_row};
-ghost use Rattle.gk_report.specs.Summary.{status_by as number_of};
-ghost use Rattle.gk_report.specs.PlainReport.{printed_cases};
+ghost use Rattle.gk_report.specs.Summary.{status_by};
+ghost use Rattle.gk_report.specs.ReportTexts.{printed_cases};
 ghost use Rattle.gk_report.specs.JsonReport as spec;
 ghost use Rattle.gk_report.specs.JsonReport.{number_data, status_data, array_data, reason_and, step_data, case_data, feature_data, summary_data, AddsMembers, AddsItems, case_and, undefined_and, counts_data_of, tail_of};
 
-use crate::plain_report::{hides, reason_text, status_text};
-use crate::summary::{Counts, Summary, status_by};
+use crate::report_texts::{hides, reason_text, status_text};
+use crate::summary::{Counts, Summary};
 use gk_run::{CaseResult, FeatureResult, Reason, Status, StepResult};
 use serde::{Described, Serialize, Serializer};
 use std::alloc::{AllocError, Global};
@@ -312,10 +312,10 @@ fn tail_text(alloc: Global, run: &str, status: u8, counts: &str) -> Result<Strin
 /// What stands after the features: the counts of a summary, `around` being how the run's own hooks and
 /// cleanups ended, and the status that the run ends with. An error comes only where a growth was refused.
 pub fn json_tail(alloc: Global, summary: &Summary, around: Status) -> Result<String, AllocError>
-    ensures { IfOk result (λ text. string_bytes text ≡ spec.json_tail around (number_of summary.now around) summary.now) }
+    ensures { IfOk result (λ text. string_bytes text ≡ spec.json_tail around (status_by summary.now around) summary.now) }
 {
     let run = status_string(alloc, around)?;
     let counts = summary_text(alloc, summary)?;
-    let status = status_by(summary, around);
+    let status = summary.status(around);
     tail_text(alloc, run.as_str(), status, counts.as_str())
 }

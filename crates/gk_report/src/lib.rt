@@ -6,6 +6,7 @@ mod json_report;
 mod plain_report;
 mod progress_report;
 mod report;
+mod report_texts;
 mod summary;
 
 pub use report::{

@@ -1,73 +1,14 @@
 //! The plain report: a part for each feature, and the closing lines, which it shares with progress.
 ghost use Rattle.std.specs.Prelude.{◌≡◌, [], ◌++◌, map, flat_map, codes, cond, IfOk, OnOk, string_bytes};
 ghost use Rattle.gk_run.specs.Results.{step_row, case_row, feature_row};
-ghost use Rattle.gk_report.specs.ReportTexts as words;
-ghost use Rattle.gk_report.specs.ReportTexts.{one_line};
+ghost use Rattle.gk_report.specs.ReportTexts.{is_hidden, printed_cases};
 ghost use Rattle.gk_report.specs.PlainReport as spec;
-ghost use Rattle.gk_report.specs.PlainReport.{is_hidden, printed_cases, step_verdict, step_line, status_line, case_line, around_line, case_lines, feature_line, feature_lines, counted, counted_if_any, passed_part, undefined_part, count_line, closing_lines};
+ghost use Rattle.gk_report.specs.PlainReport.{step_verdict, step_line, status_line, case_line, around_line, case_lines, feature_line, feature_lines, counted, counted_if_any, passed_part, undefined_part, count_line, closing_lines};
 
+use crate::report_texts::{hides, push_one_line, reason_text, status_text};
 use crate::summary::{Counts, Summary};
 use gk_run::{CaseResult, FeatureResult, Reason, Status, StepResult};
 use std::alloc::{AllocError, Global};
-
-/// Whether a feature or a scenario with this verdict is left out.
-pub fn hides(no_skipped: bool, status: Status) -> bool
-    ensures { result ≡ is_hidden no_skipped status }
-{
-    no_skipped && status == Status::Skipped
-}
-
-/// A status as it is printed.
-#[tactic(auto, unfolding(crate::specs::ReportTexts::status_text))]
-pub fn status_text(status: Status) -> &'static str
-    ensures { result.now ≡ words.status_text status }
-{
-    match status {
-        Status::Passed => "passed",
-        Status::Failed => "failed",
-        Status::Skipped => "skipped",
-        Status::Undefined => "undefined",
-        Status::Untested => "untested",
-        Status::Memory => "memory",
-    }
-}
-
-/// A reason as it is printed.
-#[tactic(auto, unfolding(crate::specs::ReportTexts::reason_text))]
-pub fn reason_text(reason: Reason) -> &'static str
-    ensures { result.now ≡ words.reason_text reason }
-{
-    match reason {
-        Reason::Absent => "absent",
-        Reason::Present => "present",
-        Reason::Differs => "differs",
-        Reason::TextTooLong => "text too long",
-        Reason::BadName => "bad name",
-        Reason::OtherLayer => "other layer",
-        Reason::NoText => "no text",
-        Reason::NoTable => "no table",
-        Reason::BadTable => "bad table",
-        Reason::NotNumber => "not a number",
-        Reason::OutOfRange => "out of range",
-        Reason::NoStep => "no such step",
-        Reason::NotHere => "not allowed here",
-        Reason::Asked => "fail step",
-    }
-}
-
-/// Pushes a name or a text, with a backslash and `n` in place of each line feed.
-pub fn push_one_line(out: &mut String, text: &str) -> Result<(), AllocError>
-    ensures { OnOk result (string_bytes out.new ≡ string_bytes out.old ++ one_line text.now) }
-{
-    let mut rest = text;
-    while let Some((line, after)) = rest.split_once('\n') {
-        out.push_str(line)?;
-        out.push_str("\\n")?;
-        rest = after;
-    }
-    out.push_str(rest)?;
-    Ok(())
-}
 
 fn push_verdict(out: &mut String, status: Status, reason: Option<Reason>) -> Result<(), AllocError>
     ensures { OnOk result (string_bytes out.new ≡ string_bytes out.old ++ step_verdict status reason) }

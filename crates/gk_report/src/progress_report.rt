@@ -1,11 +1,11 @@
 //! The progress report: a line for each feature.
 ghost use Rattle.std.specs.Prelude.{◌≡◌, [], ◌∷◌, ◌++◌, map, cond, IfOk, OnOk, string_bytes};
 ghost use Rattle.gk_run.specs.Results.{case_row, feature_row};
-ghost use Rattle.gk_report.specs.PlainReport.{is_hidden};
+ghost use Rattle.gk_report.specs.ReportTexts.{is_hidden};
 ghost use Rattle.gk_report.specs.ProgressReport as spec;
 ghost use Rattle.gk_report.specs.ProgressReport.{status_mark, case_marks, progress_line};
 
-use crate::plain_report::{hides, push_one_line, status_text};
+use crate::report_texts::{hides, push_one_line, status_text};
 use gk_run::{CaseResult, FeatureResult, Status};
 use std::alloc::{AllocError, Global};
 

@@ -1,7 +1,6 @@
 //! What the report counts, and the status that a run ends with.
 ghost use Rattle.std.specs.Prelude.{◌≡◌, List, [], ◌∷◌, ◌++◌, map, fold};
 ghost use Rattle.gk_run.specs.Results.{FeatureRow, step_row, case_row, feature_row};
-ghost use Rattle.gk_report.specs.Summary as spec;
 ghost use Rattle.gk_report.specs.Summary.{summary_of, one_status_more, one_case_more};
 
 use gk_run::{CaseResult, FeatureResult, Status, StepResult};
@@ -58,7 +57,7 @@ pub struct Summary {
 }
 
 impl Summary {
-    ghost use Rattle.gk_report.specs.Summary.{summary_of, one_feature_more, IsStatusOf};
+    ghost use Rattle.gk_report.specs.Summary.{summary_of, one_feature_more, status_by, IsStatusOf};
 
     /// The counts over no feature. Takes no memory.
     pub fn new() -> Summary
@@ -85,27 +84,21 @@ impl Summary {
     /// that or a verdict is memory, else 1 where one of them is failed or a step is undefined, else 0.
     /// Takes no memory. (this project's profile)
     pub fn status(&self, around: Status) -> u8
-        ensures { IsStatusOf self.now around result }
+        ensures counts { result ≡ status_by self.now around }
+        ensures status { IsStatusOf self.now around result }
     {
-        status_by(self, around)
+        if around == Status::Memory || self.features.memory > 0 || self.scenarios.memory > 0 {
+            return 4;
+        }
+        if around == Status::Failed
+            || self.features.failed > 0
+            || self.scenarios.failed > 0
+            || self.steps.undefined > 0
+        {
+            return 1;
+        }
+        0
     }
-}
-
-/// The status that the run ends with, by the counts.
-pub fn status_by(summary: &Summary, around: Status) -> u8
-    ensures { result ≡ spec.status_by summary.now around }
-{
-    if around == Status::Memory || summary.features.memory > 0 || summary.scenarios.memory > 0 {
-        return 4;
-    }
-    if around == Status::Failed
-        || summary.features.failed > 0
-        || summary.scenarios.failed > 0
-        || summary.steps.undefined > 0
-    {
-        return 1;
-    }
-    0
 }
 
 fn add_steps(counts: &mut Counts, steps: &[StepResult])

@@ -5,4 +5,4 @@ use Rattle.gk_report.proofs.json_report.json_tail.Goals as goal
 
 pub returns : goal.returns
 returns c = IfOk-weaker c.tail_text.result _ _ (λ text e.
-    tail_from c.args.around c.args.summary.now _ _ _ _ e (c.as_str.ensures.value ∙ c.in_ok-run.ensures) c.status_by-status.ensures (c.as_str-2.ensures.value ∙ c.in_ok-counts.ensures)) c.tail_text.ensures
+    tail_from c.args.around c.args.summary.now _ _ _ _ e (c.as_str.ensures.value ∙ c.in_ok-run.ensures) c.status-status.ensures.counts (c.as_str-2.ensures.value ∙ c.in_ok-counts.ensures)) c.tail_text.ensures

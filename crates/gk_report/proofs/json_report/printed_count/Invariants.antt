@@ -1,6 +1,6 @@
 use Rattle.std.proofs.Common.{◌≡◌, ◌+◌, ◌≤◌, drop, map, length}
 use Rattle.gk_run.specs.Results.{case_row}
-use Rattle.gk_report.specs.PlainReport.{printed_cases}
+use Rattle.gk_report.specs.ReportTexts.{printed_cases}
 use Rattle.gk_report.proofs.json_report.printed_count.Given as goal
 
 abbrev pub invariant-loop-case : goal.invariant-loop-case

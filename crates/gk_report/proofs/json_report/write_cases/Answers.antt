@@ -4,7 +4,7 @@ use Rattle.serde.specs.Event.{Logs, seq_begins}
 use Rattle.serde_json.specs.View.{items_of}
 use Rattle.serde_json.specs.Events.{SendsItems}
 use Rattle.gk_run.specs.Results.{case_row}
-use Rattle.gk_report.specs.PlainReport.{printed_cases}
+use Rattle.gk_report.specs.ReportTexts.{printed_cases}
 use Rattle.gk_report.specs.JsonReport.{case_data}
 use Rattle.gk_report.proofs.PrintedLemmas.{left_none}
 use Rattle.gk_report.proofs.JsonReportLemmas.{items_len_of}

@@ -2,7 +2,7 @@ use Rattle.std.proofs.Common.{codes, map, subst}
 use Rattle.std.proofs.lemmas.Result.{on_ok_weaker}
 use Rattle.serde_json.specs.Data.{string, member}
 use Rattle.gk_run.specs.Results.{case_row, feature_row}
-use Rattle.gk_report.specs.PlainReport.{printed_cases}
+use Rattle.gk_report.specs.ReportTexts.{printed_cases}
 use Rattle.gk_report.specs.JsonReport.{number_data, array_data, case_data, AddsMembers}
 use Rattle.gk_report.proofs.JsonReportLemmas.{feature_sent}
 use Rattle.gk_report.proofs.json_report.write_feature.Goals as goal

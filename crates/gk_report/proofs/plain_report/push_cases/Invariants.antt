@@ -1,5 +1,6 @@
 use Rattle.std.proofs.Common.{◌≡◌, ◌++◌, drop, map, string_bytes, flat_map}
-use Rattle.gk_report.specs.PlainReport.{case_lines, printed_cases}
+use Rattle.gk_report.specs.ReportTexts.{printed_cases}
+use Rattle.gk_report.specs.PlainReport.{case_lines}
 use Rattle.gk_run.specs.Results.{case_row}
 use Rattle.gk_report.proofs.plain_report.push_cases.Given as goal
 

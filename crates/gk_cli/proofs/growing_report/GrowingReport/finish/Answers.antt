@@ -27,4 +27,4 @@ returns-clause-ok g c =
     let old = device_of g.W.Write.contents c.args.out.now in
     let new = device_of g.W.Write.contents c.write_piece.new.out in
     let is : (rows : List FeatureRow) → c.args.self.summary ≡ summary_of rows → c.as_str.result.now ≡ tail c.args.self.style rows c.args.around = λ rows counted. c.as_str.ensures.value ∙ c.in_ok-text.ensures.tail rows counted in
-    λ before rows grown. tail_written c.reports_grow_by_parts.ensures c.args.self old new before rows c.args.around c.as_str.result.now c.status.result is c.in_ok-write_piece.ensures.ok c.status.ensures grown
+    λ before rows grown. tail_written c.reports_grow_by_parts.ensures c.args.self old new before rows c.args.around c.as_str.result.now c.status.result is c.in_ok-write_piece.ensures.ok c.status.ensures.status grown

@@ -1,7 +1,12 @@
-use Rattle.std.proofs.Common.{ap, ◌∙◌}
-use Rattle.gk_report.specs.Summary.{status_by}
-use Rattle.gk_report.proofs.SummaryLemmas.{status_counted}
+use Rattle.std.proofs.Common.{rules}
+use Rattle.gk_report.proofs.SummaryLemmas.{status_from}
 use Rattle.gk_report.proofs.summary.Summary.status.Goals as goal
 
-pub returns : goal.returns
-returns c = λ rows e. c.status_by.ensures ∙ ap (λ s. status_by s c.args.around) e ∙ status_counted rows c.args.around
+pub returns-then-eq-clause-status : goal.returns-then-eq-clause-status
+returns-then-eq-clause-status c = status_from c.args.self.now c.args.around 4 (search rules)
+
+pub returns-then-eq-2-clause-status : goal.returns-then-eq-2-clause-status
+returns-then-eq-2-clause-status c = status_from c.args.self.now c.args.around 1 (search rules)
+
+pub returns-clause-status : goal.returns-clause-status
+returns-clause-status c = status_from c.args.self.now c.args.around 0 (search rules)

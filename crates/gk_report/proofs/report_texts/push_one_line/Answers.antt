@@ -2,7 +2,7 @@ use Rattle.std.proofs.Common.{◌++◌, ◌∷◌, [], List, ℕ, rules, ap, sym
 use Rattle.std.specs.String.{string_bytes}
 use Rattle.gk_report.specs.ReportTexts.{one_line}
 use Rattle.gk_report.proofs.PushLemmas.{cut, uncut, pushed, one_line_to, one_line_end, one_line_feed}
-use Rattle.gk_report.proofs.plain_report.push_one_line.Goals as goal
+use Rattle.gk_report.proofs.report_texts.push_one_line.Goals as goal
 
 pub loop-line-preserved : goal.loop-line-preserved
 loop-line-preserved c =
