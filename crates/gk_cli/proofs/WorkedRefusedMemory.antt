@@ -21,7 +21,8 @@ use Rattle.gk_run.specs.Results.{StepRow, CaseRow, Results}
 use Rattle.gk_run.specs.Section.{Cut, nowhere, in_before, in_steps, in_after, in_cleanups}
 use Rattle.gk_run.specs.Alone.{Run, reached_row}
 use Rattle.gk_run.specs.Chosen.{MemberValue, ChosenValue}
-use Rattle.gk_run.specs.Judged.{Cuts, FeatureCuts, uncut_feature, first_or, later, section_state, feature_verdict, Judged}
+use Rattle.gk_run.specs.Features.{FeatureCuts, uncut_feature, first_or, later, section_state, feature_verdict}
+use Rattle.gk_run.specs.Judged.{Cuts, Judged}
 use Rattle.gk_report.specs.ReportTexts.{status_text, reason_text, one_line}
 use Rattle.gk_report.specs.Summary.{status}
 use Rattle.gk_report.specs.PlainReport.{status_line, step_line, case_line, around_line, feature_line, counted, count_line, closing_lines, plain_part}

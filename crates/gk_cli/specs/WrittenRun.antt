@@ -9,7 +9,8 @@ use Rattle.gk_world.specs.State.{State}
 use Rattle.gk_run.specs.Results.{FeatureRow, Results}
 use Rattle.gk_run.specs.Alone.{Run}
 use Rattle.gk_run.specs.Chosen.{ChosenValue}
-use Rattle.gk_run.specs.Judged.{FeatureCuts, stays_open, Judged}
+use Rattle.gk_run.specs.Features.{FeatureCuts, stays_open}
+use Rattle.gk_run.specs.Judged.{Judged}
 use Rattle.gk_run.specs.Running.{IsFeatureResult}
 use Rattle.gk_run.specs.DryRun.{dry_feature_of}
 use Rattle.gk_report.specs.declared.report.Style.{Style}

@@ -9,7 +9,7 @@ use Rattle.gk_run.specs.Results.{CaseRow, FeatureRow, Results, is_memory}
 use Rattle.gk_run.specs.Chosen.{ChosenValue}
 use Rattle.gk_run.specs.Section.{Cut, nowhere, happened, before_passed, around_of}
 use Rattle.gk_run.specs.Alone.{Run}
-pub use Rattle.gk_run.specs.Features.{FeatureCuts, uncut_feature, first_or, later, stays_open_by, stays_open, verdict_by, feature_verdict, section_state, section_events, feature_of, features_of}
+use Rattle.gk_run.specs.Features.{FeatureCuts, section_state, section_events, features_of}
 use Rattle.gk_run.specs.DryRun.{dry_features_of, AreDryFeatures}
 
 -- The cuts of a run: in its own hooks and cleanups, and in its features.
