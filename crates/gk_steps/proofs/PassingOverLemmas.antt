@@ -1,9 +1,9 @@
 -- The ends of a text that a pattern matches.
-use Rattle.std.proofs.Common.{◌≡◌, ℕ, zero, suc, ◌-◌, Bool, true, false, List, [], ◌∷◌, ◌++◌, length, take, drop, map, nat_eq, Option, Some, ap, sym, subst, ◌∙◌, arith, length-append, append_assoc}
+use Rattle.std.proofs.Common.{◌≡◌, ℕ, zero, suc, ◌+◌, ◌-◌, ◌<◌, ◌≤◌, refl, get_or, Bool, true, false, List, [], ◌∷◌, ◌++◌, length, take, drop, map, nat_eq, Option, Some, ap, sym, subst, ◌∙◌, arith, length-append, append_assoc}
 use Rattle.std.specs.Prelude.{slice_get, MatchBool}
 use Rattle.std.specs.List.{starts_with, ends_with}
 use Rattle.std.proofs.Math.Seq.{drop-append_seam}
-use Rattle.std.proofs.lemmas.List.{take-append-drop, append-nil}
+use Rattle.std.proofs.lemmas.List.{take-append-drop, append-nil, get_or-take, get_or-drop, length-drop}
 use Rattle.std.proofs.lemmas.Slice.Eq.{bytes_eq-Decides}
 use Rattle.gk_steps.specs.declared.pattern.Piece.{Piece}
 use Rattle.gk_steps.specs.Pattern.{PieceValue, Literal, FieldPiece, piece_value}
@@ -71,3 +71,22 @@ match_fits (p ∷ q ∷ ps) text spans m = let s = split p (q ∷ ps) text spans
 
 pub last_refuses : (pieces : List Piece) (p : Piece) (text : List ℕ) → slice_get pieces (length pieces - 1) ≡ Some p → (EndsWithPiece (piece_value p) text → ⊥) → MatchesNot (map piece_value pieces) text
 last_refuses pieces p text e no_end = λ spans m. no_end ((last_says pieces (length pieces - 1) p text (not_empty pieces p e) e).1 (match_fits (map piece_value pieces) text spans m))
+
+-- bytes that begin or end with others have their last byte
+no_test : (b : Bool) → (b ≡ true → ⊥) → b ≡ false
+no_test true h = absurd (h refl)
+no_test false h = refl
+
+pub last_of_first_differs : (bytes first : List ℕ) → 0 < length first → length first ≤ length bytes → (get_or bytes (length first - 1) 0 ≡ get_or first (length first - 1) 0 → ⊥) → starts_with nat_eq bytes first ≡ false
+last_of_first_differs bytes first some fits differs = no_test (starts_with nat_eq bytes first) (λ is.
+    let same : first ≡ take (length first) bytes = (bytes_eq-Decides first (take (length first) bytes)).0 is in
+    let at_end : length first - 1 < length first = omega arith in
+    differs (sym (get_or-take (length first) bytes (length first - 1) 0 at_end) ∙ ap (λ t. get_or t (length first - 1) 0) (sym same)))
+
+pub last_differs : (bytes last : List ℕ) → 0 < length bytes → 0 < length last → (get_or bytes (length bytes - 1) 0 ≡ get_or last (length last - 1) 0 → ⊥) → ends_with nat_eq bytes last ≡ false
+last_differs bytes last some any differs = no_test (ends_with nat_eq bytes last) (λ is.
+    let k = length bytes - length last in
+    let same : last ≡ drop k bytes = (bytes_eq-Decides last (drop k bytes)).0 is in
+    let size : length last ≡ length bytes - k = ap length same ∙ length-drop k bytes in
+    let place : k + (length last - 1) ≡ length bytes - 1 = omega arith in
+    differs (ap (λ i. get_or bytes i 0) (sym place) ∙ sym (get_or-drop k bytes (length last - 1) 0) ∙ ap (λ t. get_or t (length last - 1) 0) (sym same)))

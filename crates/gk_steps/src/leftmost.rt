@@ -5,7 +5,7 @@ ghost use Rattle.gk_steps.specs.Pattern.{Literal, FieldPiece, piece_value};
 ghost use Rattle.gk_steps.specs.Leftmost.{CanStandAt, IsFirstPlace, IsKnown, IsKnownBefore};
 
 use crate::columns::rest_after;
-use crate::passing_over::ends_with;
+use crate::passing_over::{begins_with_bytes, ends_with};
 use crate::pattern::{FieldKind, Piece};
 
 /// How much of a text the first piece of a pattern takes.
@@ -24,7 +24,7 @@ fn stands_at(literal: &str, text: &str, place: usize) -> bool
     requires { place ≤ length text.now }
     ensures { MatchBool result (CanStandAt literal.now text.now place) (CanStandAt literal.now text.now place → ⊥) }
 {
-    text.as_bytes()[place..].starts_with(literal.as_bytes()) && text.is_char_boundary(place)
+    begins_with_bytes(&text.as_bytes()[place..], literal.as_bytes()) && text.is_char_boundary(place)
 }
 
 // The first place after a character or more where a literal stands.

@@ -1,23 +1,50 @@
 //! Texts that a pattern matches nowhere, by its ends and without a table.
-ghost use Rattle.std.specs.Prelude.{◌≡◌, ◌++◌, ℕ, List, map, false, true, string_bytes, IsTrue, MatchBool};
+ghost use Rattle.std.specs.Prelude.{◌≡◌, ◌++◌, ℕ, List, map, false, true, string_bytes, IsTrue, MatchBool, nat_eq};
+ghost use Rattle.std.specs.List.{starts_with, ends_with};
 ghost use Rattle.gk_steps.specs.Pattern.{piece_value, pattern_value};
 ghost use Rattle.gk_steps.specs.Matching.{MatchesNot};
 ghost use Rattle.gk_steps.specs.PassingOver.{FitsStart, FitsEnd};
 
 use crate::pattern::{Pattern, Piece};
 
+/// Whether some bytes begin with others. Where these don't stand there, their last byte mostly doesn't either,
+/// and it is compared before the others.
+#[tactic(auto, using(crate::proofs::PassingOverLemmas::last_of_first_differs))]
+pub(crate) fn begins_with_bytes(bytes: &[u8], first: &[u8]) -> bool
+    ensures value { result ≡ starts_with nat_eq bytes.now first.now }
+{
+    let size = first.len();
+    if 0 < size && size <= bytes.len() && bytes[size - 1] != first[size - 1] {
+        false
+    } else {
+        bytes.starts_with(first)
+    }
+}
+
+// Whether some bytes end with others. The last byte is compared before the others.
+#[tactic(auto, using(crate::proofs::PassingOverLemmas::last_differs))]
+fn ends_with_bytes(bytes: &[u8], last: &[u8]) -> bool
+    ensures value { result ≡ ends_with nat_eq bytes.now last.now }
+{
+    if !bytes.is_empty() && !last.is_empty() && bytes[bytes.len() - 1] != last[last.len() - 1] {
+        false
+    } else {
+        bytes.ends_with(last)
+    }
+}
+
 /// Whether a text ends with another.
 pub(crate) fn ends_with(text: &str, back: &str) -> bool
     ensures { MatchBool result ((prefix : List ℕ) × (text.now ≡ prefix ++ back.now)) ((prefix : List ℕ) → text.now ≡ prefix ++ back.now → ⊥) }
 {
-    text.as_bytes().ends_with(back.as_bytes())
+    ends_with_bytes(text.as_bytes(), back.as_bytes())
 }
 
 // Whether a text begins with another.
 fn begins_with(text: &str, front: &str) -> bool
     ensures { MatchBool result ((rest : List ℕ) × (text.now ≡ front.now ++ rest)) ((rest : List ℕ) → text.now ≡ front.now ++ rest → ⊥) }
 {
-    text.as_bytes().starts_with(front.as_bytes())
+    begins_with_bytes(text.as_bytes(), front.as_bytes())
 }
 
 // Whether the first literal begins the text.
