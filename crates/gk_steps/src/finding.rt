@@ -7,6 +7,7 @@ ghost use Rattle.gk_steps.specs.Finding.{IsFoundOf, HasCandidate, HasCandidateFo
 
 use crate::action::Action;
 use crate::library::{Entry, Library};
+use crate::matching::match_from_left;
 use crate::pattern::{Field, Piece};
 use gk_gherkin::StepType;
 use std::alloc::{AllocError, Global};
@@ -31,7 +32,8 @@ fn is_same(a: Option<StepType>, b: Option<StepType>) -> bool
     }
 }
 
-// What a text finds among the entries of one type.
+// What a text finds among the entries of one type. An entry whose ends the text doesn't have is passed over here,
+// before a match begins.
 pub(crate) fn find_of(
     alloc: Global,
     entries: &[Entry],
@@ -43,8 +45,8 @@ pub(crate) fn find_of(
 {
     for place in 0..entries.len() {
         let entry = &entries[place];
-        if is_same(entry.step_type, step_type) {
-            match entry.pattern.matches(alloc, text)? {
+        if is_same(entry.step_type, step_type) && entry.pattern.can_match(text) {
+            match match_from_left(alloc, &entry.pattern.pieces, text)? {
                 Some(fields) => return Ok(Some(Found {
                     entry: place,
                     fields,

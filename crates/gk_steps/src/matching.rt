@@ -163,10 +163,10 @@ fn match_rest(
     }
 }
 
-// A match from the left. From the first piece on whose share depends on the pieces after it, a table is made.
+/// A match from the left. From the first piece on whose share depends on the pieces after it, a table is made.
 // Apart, so that an entry that is passed over costs little.
 #[inline(never)]
-fn match_from_left(
+pub(crate) fn match_from_left(
     alloc: Global,
     pieces: &[Piece],
     text: &str,

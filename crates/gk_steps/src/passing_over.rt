@@ -7,8 +7,8 @@ ghost use Rattle.gk_steps.specs.PassingOver.{FitsStart, FitsEnd};
 
 use crate::pattern::{Pattern, Piece};
 
-/// Whether some bytes begin with others. Where these don't stand there, their last byte mostly doesn't either,
-/// and it is compared before the others.
+/// Whether some bytes begin with others. The last byte of these is compared first, since the patterns of a
+/// library often begin alike.
 #[tactic(auto, using(crate::proofs::PassingOverLemmas::last_of_first_differs))]
 pub(crate) fn begins_with_bytes(bytes: &[u8], first: &[u8]) -> bool
     ensures value { result ≡ starts_with nat_eq bytes.now first.now }
@@ -21,7 +21,7 @@ pub(crate) fn begins_with_bytes(bytes: &[u8], first: &[u8]) -> bool
     }
 }
 
-// Whether some bytes end with others. The last byte is compared before the others.
+// Whether some bytes end with others. The last byte is compared first.
 #[tactic(auto, using(crate::proofs::PassingOverLemmas::last_differs))]
 fn ends_with_bytes(bytes: &[u8], last: &[u8]) -> bool
     ensures value { result ≡ ends_with nat_eq bytes.now last.now }
