@@ -8,12 +8,8 @@ mod counted_tests;
 #[cfg(test)]
 mod gherkin_tests;
 #[cfg(test)]
-mod select_tests;
-#[cfg(test)]
 mod source_tests;
 #[cfg(test)]
 mod steps_tests;
-#[cfg(test)]
-mod suite_tests;
 #[cfg(test)]
 mod world_tests;

@@ -130,51 +130,6 @@ fn calls_answer_and_change_as_stated(rt: HostRuntime) {
     assert!(rt; world.file("f").is_none() && world.recorded() == 0);
 }
 
-fn repeated(alloc: Global, count: usize) -> Result<String, AllocError> {
-    let mut text = String::new(alloc);
-    for _ in 0..count {
-        text.push('x')?;
-    }
-    Ok(text)
-}
-
-/// Whether names have their limit.
-fn names_have_limits(world: &mut Sandbox, alloc: Global) -> Result<bool, AllocError> {
-    let longest = repeated(alloc, 255)?;
-    let longer = repeated(alloc, 256)?;
-    let refused = world.put_file(&longer, "y");
-    let put = world.put_file(&longest, "y");
-    Ok(refused == Err(WorldFault::BadName) && put.is_ok())
-}
-
-/// Whether texts have their limit. A bad name is the fault before a text that is too long.
-fn texts_have_limits(world: &mut Sandbox, longest: &str, longer: &str) -> bool {
-    let nameless = world.put_file("", longer);
-    let refused = world.put_env("f", longer);
-    let put = world.put_file("f", longest);
-    let appended = world.append_file("f", "x");
-    nameless == Err(WorldFault::BadName)
-        && refused == Err(WorldFault::TextTooLong)
-        && put.is_ok()
-        && appended == Err(WorldFault::TextTooLong)
-        && world.file("f") == Some(longest)
-}
-
-/// Whether names and texts have their limits.
-fn limits_hold(world: &mut Sandbox, alloc: Global) -> Result<bool, AllocError> {
-    let longest = repeated(alloc, LONGEST_TEXT)?;
-    let longer = repeated(alloc, LONGEST_TEXT + 1)?;
-    let holds_of_names = names_have_limits(world, alloc)?;
-    Ok(holds_of_names && texts_have_limits(world, &longest, &longer))
-}
-
-#[test]
-fn names_and_texts_have_limits(rt: HostRuntime) {
-    let mut world = Sandbox::new(rt.alloc());
-    let answer = limits_hold(&mut world, rt.alloc());
-    assert!(rt; matches!(answer, Ok(true)));
-}
-
 /// Makes a call at each name, and counts those that are carried out.
 fn change_all(world: &mut Sandbox, names: &[String], round: usize) -> usize
     requires { 0 < depth world.old }
