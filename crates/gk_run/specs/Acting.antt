@@ -10,7 +10,7 @@ use Rattle.gk_steps.specs.declared.action.Action.TheVariants as actions
 use Rattle.gk_gherkin.specs.declared.feature.Block.{Block}
 use Rattle.gk_steps.specs.declared.finding.Found.{Found}
 use Rattle.gk_steps.specs.declared.library.Library.{Library}
-use Rattle.gk_steps.specs.Finding.{LibraryValue, FoundValue, library_value, found_value, action_of, text_field, number_field, found_any}
+use Rattle.gk_steps.specs.Finding.{LibraryValue, FoundValue, library_value, found_value, action_of, text_field, number_field, found_any, HasCandidate}
 use Rattle.gk_world.specs.declared.world_fault.WorldFault.{WorldFault}
 use Rattle.gk_world.specs.declared.world_fault.WorldFault.TheVariants as faults
 use Rattle.gk_world.specs.State.{State, with_text, without, see, state_of}
@@ -365,6 +365,17 @@ HasRegistered acted before outcome after = after ≡ before ++ acted.registered
 -- An action that changes nothing was carried out: memory is not an outcome of it. (this project's profile)
 abbrev pub IsExact : Library → Found → Done → Outcome → State → Type 0
 IsExact library found done outcome new = changes_nothing (action_of (library_value library) (found_value found)) ≡ true → IsExactly done outcome new
+
+-- Where no entry of type `step` matches a text, memory is refused only where the text has the ends of such an entry. (this project's profile)
+abbrev pub NeedsCandidate : LibraryValue → List ℕ → Outcome → Type 0
+NeedsCandidate library text outcome = found_any library text ≡ None → outcome ≡ outcomes.Memory → HasCandidate library None text
+
+-- The same of the step that at_cleanup registers. (this project's profile)
+abbrev pub CleanupNeedsCandidate : Library → Found → Block → Outcome → Type 0
+CleanupNeedsCandidate library found block outcome =
+    let l = library_value library in
+    let g = given l (found_value found) (block_value block) in
+    action_of l (found_value found) ≡ actions.AtCleanup → NeedsCandidate l g.step outcome
 
 -- The open layers stay as they are: what the end of each gives back, and how many changes were recorded when each began. (behave's documentation: context layers)
 pub record KeepsLayers (old new : SandboxValue) : Type 0 where

@@ -7,7 +7,7 @@ ghost use Rattle.gk_world.specs.Sandbox.{depth};
 ghost use Rattle.gk_world.specs.Refusals as refusals;
 ghost use Rattle.gk_run.specs.Cleanups.{cleanups_value};
 ghost use Rattle.gk_run.specs.Acting as words;
-ghost use Rattle.gk_run.specs.Acting.{given, given_value, table, carried_out, registers, act_of, changes_nothing, may_skip, may_register, IsDone, IsExactly, IsExact, IsActed, HasRegistered, KeepsLayers, IsHeld, IsNotHeld, IsText, HasText};
+ghost use Rattle.gk_run.specs.Acting.{given, given_value, table, carried_out, registers, act_of, changes_nothing, may_skip, may_register, IsDone, IsExactly, IsExact, IsActed, HasRegistered, KeepsLayers, IsHeld, IsNotHeld, IsText, HasText, NeedsCandidate, CleanupNeedsCandidate};
 
 mod file_actions;
 mod number_actions;
@@ -247,6 +247,7 @@ fn register(
 ) -> Outcome
     ensures done { (s : State) → IsDone (words.done_of (registers s (block_value block.now) (found_any (library_value library.now) text.now))) result s }
     ensures registered { (s : State) → HasRegistered (registers s (block_value block.now) (found_any (library_value library.now) text.now)) (cleanups_value cleanups.old) result (cleanups_value cleanups.new) }
+    ensures memory { NeedsCandidate (library_value library.now) text.now result }
 {
     match library.find_any(alloc, text) {
         Err(AllocError) => Outcome::Memory,
@@ -269,6 +270,7 @@ fn at_cleanup(
 ) -> Outcome
     ensures done { (s : State) → IsDone (words.done_of (words.registers_at site s (library_value library.now) (words.given (library_value library.now) (found_value found.now) (block_value block.now)))) result s }
     ensures registered { (s : State) → HasRegistered (words.registers_at site s (library_value library.now) (words.given (library_value library.now) (found_value found.now) (block_value block.now))) (cleanups_value cleanups.old) result (cleanups_value cleanups.new) }
+    ensures memory { let arguments = given (library_value library.now) (found_value found.now) (block_value block.now) in NeedsCandidate (library_value library.now) arguments.step result }
 {
     if !may_register(site) {
         return Outcome::Failed(Reason::NotHere);
@@ -281,11 +283,12 @@ fn at_cleanup(
 ///
 /// The outcome is `Passed`, `Failed` with the first of the action's reasons that holds, `Skip`, or
 /// `Memory`, which comes only where a growth was refused, and never for an action that changes
-/// nothing, nor for one that is refused before a part of it passed. `at_cleanup` adds a cleanup to
-/// those that are registered; every other action, and a refusal, leaves these as they are. An action
-/// that fails midway keeps what it did before: rows of `write_files` before the refused one stay. At
-/// `Memory` nothing is said of what the sandbox holds now; the end of the layer gives back what was
-/// there as it began. (behave's documentation: cleanups; this project's profile)
+/// nothing, nor for one that is refused before a part of it passed, nor for `at_cleanup` with a step
+/// that has the ends of no entry of type `step`. `at_cleanup` adds a cleanup to those that are
+/// registered; every other action, and a refusal, leaves these as they are. An action that fails
+/// midway keeps what it did before: rows of `write_files` before the refused one stay. At `Memory`
+/// nothing is said of what the sandbox holds now; the end of the layer gives back what was there as
+/// it began. (behave's documentation: cleanups; this project's profile)
 pub fn act(
     alloc: Global,
     sandbox: &mut Sandbox,
@@ -299,6 +302,7 @@ pub fn act(
     ensures done { IsDone (words.done_of (act_of library.now site found.now block.now (state_of sandbox.old.now))) result (state_of sandbox.new.now) }
     ensures exact { IsExact library.now found.now (words.done_of (act_of library.now site found.now block.now (state_of sandbox.old.now))) result (state_of sandbox.new.now) }
     ensures registered { HasRegistered (act_of library.now site found.now block.now (state_of sandbox.old.now)) (cleanups_value cleanups.old) result (cleanups_value cleanups.new) }
+    ensures memory { CleanupNeedsCandidate library.now found.now block.now result }
     ensures layers { KeepsLayers sandbox.old sandbox.new }
 {
     match library.action(found) {

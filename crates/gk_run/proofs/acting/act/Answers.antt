@@ -59,5 +59,6 @@ returns-in_default c =
       done = subst (λ (acted : Acted). IsDone (done_of acted) o new) is c.carry_out.ensures.done;
       exact = λ nothing. subst (λ (acted : Acted). IsExactly (done_of acted) o new) is (c.carry_out.ensures.exact nothing);
       registered = subst (λ (acted : Acted). HasRegistered acted (cleanups_value c.args.cleanups.now) o (cleanups_value c.args.cleanups.now)) is (none_registered (carried_out library f block s) (cleanups_value c.args.cleanups.now) o);
+      memory = λ is. absurd (c.in_default.not-AtCleanup (c.action.ensures ∙ is));
       layers = c.carry_out.ensures.layers;
     }
