@@ -372,6 +372,18 @@ def many_changes_of_one_name():
     return Run({"a.feature": feature}, 0, report + closing(1, 2, len(first) + len(second)))
 
 
+def many_cleanups():
+    """100,000 cleanups of one scenario, and then one with a table of 10,000 rows."""
+    count = 100_000
+    grown = ['And at cleanup the number "n" grows by 1'] * count
+    rows = "| name | text |\n" + "".join(f"| f{number} | {number} |\n" for number in range(10_000))
+    table = "And at cleanup these files:"
+    steps = [f'Given at cleanup the number "n" should be {count}', 'And at cleanup the file "f9999" should be "9999"', *grown,
+             'And at cleanup the number "n" is set to 0', table]
+    feature = "Feature: f\nScenario: s\n" + "".join(f"{step}\n" for step in steps) + rows
+    return Run({"a.feature": feature}, 0, passing("f", ["s"], steps) + closing(1, 1, len(steps)))
+
+
 def wide_row():
     cells = "".join(f" c{number} |" for number in range(100_000))
     feature = f"Feature: f\nScenario: s\nGiven it passes\n|{cells}\n|{cells}\n|{cells} one more |\n"
@@ -459,8 +471,8 @@ RUNS = (many_scenarios, many_scenarios_as_json, many_scenarios_as_progress, many
         outline_of_a_million_steps, outline_of_more_than_a_million_steps, outline_of_a_million_and_one_steps,
         outline_of_very_many_steps, background_steps_count, background_steps_at_the_limit,
         the_limit_of_steps_is_for_each_file, fault_before_the_steps_of_a_later_file, long_table,
-        many_changes_of_one_name, wide_row, long_doc_string, long_names, many_tags, many_options, long_option,
-        many_entries, fault_of_the_last_of_many_entries, hopeless_pattern, hopeless_pattern_of_numbers)
+        many_changes_of_one_name, many_cleanups, wide_row, long_doc_string, long_names, many_tags, many_options,
+        long_option, many_entries, fault_of_the_last_of_many_entries, hopeless_pattern, hopeless_pattern_of_numbers)
 
 
 def shown(text):

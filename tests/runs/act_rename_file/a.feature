@@ -14,6 +14,13 @@ Feature: rename_file
     Given a file named "f" containing "x"
     When the file "f" is renamed to "f"
     Then the file "f" should be "x"
+  Scenario: without a text
+    Given these files:
+      | name | text |
+      | f    |      |
+    When the file "f" is renamed to "g"
+    Then the file "g" should exist
+    And the file "f" should not exist
   Scenario: absent
     When the file "f" is renamed to "g"
   Scenario: absent to its own name
