@@ -12,7 +12,10 @@ fn lines_of(alloc: Global, bytes: &[u8]) -> Result<String, ReadFault> {
     let count = document.lines.len();
     let shown = match document.lines.as_slice().last() {
         Some(last) => {
-            format!(in alloc; "{count}: {:?} {} {}", last.text, last.place.line, last.place.column)
+            format!(in alloc;
+                "{count}: {:?} {} {}",
+                last.text, last.place.line, last.place.column
+            )
         }
         None => format!(in alloc; "{count}"),
     };

@@ -55,12 +55,42 @@ fn read(alloc: Global, left: usize, most: usize, fails_at: usize) -> Result<Stri
 const READ: [(usize, usize, usize, &str); 8] = [
     (0, 100, 0, "Ok(0): 1 of 16384, counted 1 0, 0 left"),
     (7, 1, 0, "Ok(7): 8 of 16384, counted 8 0, 0 left"),
-    (16_384, usize::MAX, 0, "Ok(16384): 2 of 16384, counted 2 0, 0 left"),
-    (40_000, usize::MAX, 0, "Ok(40000): 4 of 16384, counted 4 0, 0 left"),
-    (40_000, usize::MAX, 1, "Err(Device): 1 of 16384, counted 1 1, 40000 left"),
-    (40_000, usize::MAX, 4, "Err(Device): 4 of 16384, counted 4 1, 0 left"),
-    (LIMIT, usize::MAX, 0, "Ok(16777216): 1025 of 16384, counted 1025 0, 0 left"),
-    (LIMIT + 2, usize::MAX, 0, "Err(TooLong): 1025 of 16384, counted 1025 0, 1 left"),
+    (
+        16_384,
+        usize::MAX,
+        0,
+        "Ok(16384): 2 of 16384, counted 2 0, 0 left",
+    ),
+    (
+        40_000,
+        usize::MAX,
+        0,
+        "Ok(40000): 4 of 16384, counted 4 0, 0 left",
+    ),
+    (
+        40_000,
+        usize::MAX,
+        1,
+        "Err(Device): 1 of 16384, counted 1 1, 40000 left",
+    ),
+    (
+        40_000,
+        usize::MAX,
+        4,
+        "Err(Device): 4 of 16384, counted 4 1, 0 left",
+    ),
+    (
+        LIMIT,
+        usize::MAX,
+        0,
+        "Ok(16777216): 1025 of 16384, counted 1025 0, 0 left",
+    ),
+    (
+        LIMIT + 2,
+        usize::MAX,
+        0,
+        "Err(TooLong): 1025 of 16384, counted 1025 0, 1 left",
+    ),
 ];
 
 #[test]

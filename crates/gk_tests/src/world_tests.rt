@@ -1,7 +1,7 @@
 ghost use Rattle.std.specs.Prelude.{◌≡◌, ◌<◌, ◌+◌};
 ghost use Rattle.gk_world.specs.Sandbox.{depth, layers};
 
-use gk_world::{LONGEST_TEXT, Listing, Sandbox, WorldFault};
+use gk_world::{Listing, Sandbox, WorldFault};
 use std::alloc::{AllocError, Global};
 
 /// A call that changes a sandbox.
