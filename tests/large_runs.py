@@ -462,6 +462,69 @@ def hopeless_pattern_of_numbers():
                1, report + closing((0, 1), (0, 1), (0, 0, 0, 1)), arguments=["--library", "l.steps", "a.feature"])
 
 
+def hook_of_many_steps():
+    hooks = "before_tag @a:\n" + "* it passes\n" * 70_000 + '* the variable "A" is set to "x"\n'
+    steps = ['Then the variable "A" should be "x"']
+    return Run({"a.feature": "@a\nFeature: f\nScenario: s\n" + steps[0] + "\n", "h.hooks": hooks}, 0,
+               passing("f", ["s"], steps) + closing(1, 1, 1), arguments=["--hooks", "h.hooks", "a.feature"])
+
+
+def many_hooks():
+    hooks = "".join(f"before_tag @t{number}:\n* the variable \"V{number}\" is set to \"x\"\n" for number in range(1000))
+    steps = ['Then the variable "V999" should be "x"', 'And the variable "V0" should be unset']
+    return Run({"a.feature": "Feature: f\n@t999\nScenario: s\n" + "\n".join(steps) + "\n", "h.hooks": hooks}, 0,
+               passing("f", ["s"], steps) + closing(1, 1, 2), arguments=["--hooks", "h.hooks", "a.feature"])
+
+
+def longest_hooks():
+    hooks = "before_all:\n* it passes\n"
+    hooks += "#" * (FILE_LIMIT - len(hooks))
+    return Run({"a.feature": "", "h.hooks": hooks}, 0, closing(0, 0, 0), arguments=["--hooks", "h.hooks", "a.feature"])
+
+
+def hooks_one_byte_too_long():
+    return Run({"a.feature": "", "h.hooks": "#" * (FILE_LIMIT + 1)}, 3, "", refused("h.hooks", TOO_LONG),
+               arguments=["--hooks", "h.hooks", "a.feature"])
+
+
+def filled(text):
+    """An outline with a text in which nothing can be filled in."""
+    feature = f"Feature: f\nScenario Outline: o\nGiven {text}\nExamples:\n| a |\n| 1 |\n"
+    report = f"Feature: f ... failed\n  Scenario Outline: o -- @1.1 ... failed\n    Given {text} ... undefined\n\n"
+    return Run({"a.feature": feature}, 1, report + closing((0, 1), (0, 1), (0, 0, 0, 1)))
+
+
+def outline_of_openings():
+    """A look-up at each `<` must not read on to the end."""
+    return filled("<" * 1_048_576)
+
+
+def outline_of_openings_and_a_closing():
+    return filled("<" * 1_048_576 + ">")
+
+
+def outline_of_closings():
+    """What was filled before a `>` may not be copied there."""
+    return filled(">" * 2_097_152)
+
+
+def many_alternatives():
+    tags = "~@a," * 30_000 + "@b"
+    below = "Given it passes\n"
+    feature = f"Feature: f\n@a\nScenario: one\n{below}@a @b\nScenario: two\n{below}"
+    report = ("Feature: f ... passed\n  Scenario: one ... skipped\n    Given it passes ... skipped\n"
+              "  Scenario: two ... passed\n    Given it passes ... passed\n\n")
+    return Run({"a.feature": feature}, 0, report + closing(1, (1, 0, 1), (1, 0, 1)), arguments=["--tags", tags, "a.feature"])
+
+
+def doc_string_of_a_million_lines():
+    """No line of a doc string may cost the whole text."""
+    lines = "x\n" * 1_000_000 + "\\`\\`\\`" * 100_000 + "\n"
+    steps = ["* it passes"]
+    return Run({"a.feature": f"Feature: f\nScenario: s\n* it passes\n```\n{lines}```\n"}, 0,
+               passing("f", ["s"], steps) + closing(1, 1, 1))
+
+
 RUNS = (many_scenarios, many_scenarios_as_json, many_scenarios_as_progress, many_scenarios_after_the_one_that_stops_the_run,
         many_files_as_json, long_names_as_json, many_files, many_files_backwards, fault_of_the_last_of_many_files,
         many_rules_examples_and_rows, late_line, chosen_line_65535, chosen_line_65536, chosen_line_1000000,
@@ -472,7 +535,9 @@ RUNS = (many_scenarios, many_scenarios_as_json, many_scenarios_as_progress, many
         outline_of_very_many_steps, background_steps_count, background_steps_at_the_limit,
         the_limit_of_steps_is_for_each_file, fault_before_the_steps_of_a_later_file, long_table,
         many_changes_of_one_name, many_cleanups, wide_row, long_doc_string, long_names, many_tags, many_options,
-        long_option, many_entries, fault_of_the_last_of_many_entries, hopeless_pattern, hopeless_pattern_of_numbers)
+        long_option, many_entries, fault_of_the_last_of_many_entries, hopeless_pattern, hopeless_pattern_of_numbers,
+        hook_of_many_steps, many_hooks, longest_hooks, hooks_one_byte_too_long, outline_of_openings,
+        outline_of_openings_and_a_closing, outline_of_closings, many_alternatives, doc_string_of_a_million_lines)
 
 
 def shown(text):
