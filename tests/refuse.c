@@ -1,5 +1,5 @@
-/* Refuses one growth of memory of a program, or limits what it writes to standard output. Loaded before
- * the C library, by LD_PRELOAD. What it does is in variables of the environment:
+/* Refuses one growth of memory of a program, or limits what it writes to standard output or reads from files.
+ * Loaded before the C library, by LD_PRELOAD. What it does is in variables of the environment:
  *
  *   REFUSE        the number, from 1, of the growth that is refused. A growth is a call of malloc, calloc or
  *                 realloc
@@ -8,11 +8,17 @@
  *   WRITE_PIECE   how many bytes a call of write takes at most
  *   WRITE_FAILS   the number, from 1, of the call of write that fails
  *   WRITE_ERROR   the error of that call, a number of errno; without it the call takes no byte and has none
+ *   OPEN_FAILS    the file that can't be opened, named as the program names it
+ *   OPEN_ERROR    the error of opening it
+ *   READ_PIECE    how many bytes a call of read gives at most
+ *   READ_FAILS    the number, from 1, of the call of read that fails
+ *   READ_ERROR    the error of that call; without it the call gives no byte and has none
  *
- * Only the calls of write to standard output are counted and limited; those after the one that fails are
- * passed on again, so that a program that goes on is seen. */
+ * Only the calls of write to standard output, and those of read from files that the program opened, are counted
+ * and limited; those after the one that fails are passed on again, so that a program that goes on is seen. */
 #include <errno.h>
 #include <fcntl.h>
+#include <stdarg.h>
 #include <stdlib.h>
 #include <string.h>
 #include <sys/syscall.h>
@@ -67,6 +73,42 @@ ssize_t writev(int file, const struct iovec *pieces, int count) {
   int first = 0;
   while (first + 1 < count && pieces[first].iov_len == 0) first++;
   return count < 1 ? 0 : write(file, pieces[first].iov_base, pieces[first].iov_len);
+}
+
+ssize_t read(int file, void *bytes, size_t count) {
+  static long calls;
+  if (file < 3) return syscall(SYS_read, file, bytes, count);
+  long piece = number_of("READ_PIECE");
+  if (++calls == number_of("READ_FAILS")) {
+    errno = (int)number_of("READ_ERROR");
+    return errno ? -1 : 0;
+  }
+  return syscall(SYS_read, file, bytes, piece && (size_t)piece < count ? (size_t)piece : count);
+}
+
+static int opened(const char *name, int flags, va_list more) {
+  const char *failing = getenv("OPEN_FAILS");
+  if (failing && strcmp(failing, name) == 0) {
+    errno = (int)number_of("OPEN_ERROR");
+    return -1;
+  }
+  return (int)syscall(SYS_openat, AT_FDCWD, name, flags, flags & O_CREAT ? va_arg(more, int) : 0);
+}
+
+int open(const char *name, int flags, ...) {
+  va_list more;
+  va_start(more, flags);
+  int file = opened(name, flags, more);
+  va_end(more);
+  return file;
+}
+
+int open64(const char *name, int flags, ...) {
+  va_list more;
+  va_start(more, flags);
+  int file = opened(name, flags, more);
+  va_end(more);
+  return file;
 }
 
 __attribute__((destructor)) static void tell(void) {
