@@ -1,6 +1,6 @@
 -- A run whose output is flushed, the program's faults for those of the run, and variables one after another.
 use Rattle.std.proofs.Common.{◌≡◌, ◌∙◌, ◌+◌, ◌-◌, ◌^◌, ◌<◌, ◌≤◌, ◌++◌, ap, sym, subst, refl, inl, inr, arith, suc, ℕ, List, [], ◌∷◌, length, map, take, drop, get_or, Option, Some, None, Result, Ok, Err, add-one}
-use Rattle.std.specs.Prelude.{IfErr, IfOk, IsSome, String, is_some, option_map, string_bytes}
+use Rattle.std.specs.Prelude.{IfErr, IfOk, IfSome, IsSome, IsSomeAnd, String, is_some, option_map, string_bytes}
 use Rattle.std.specs.declared.alloc.Global.{Global}
 use Rattle.std.specs.List.{All, Any}
 use Rattle.std.specs.Io.KnownBytes.{Appends}
@@ -25,7 +25,7 @@ use Rattle.gk_cli.specs.declared.arguments.Words.{Words}
 use Rattle.gk_cli.specs.declared.run_fault.RunFault.{RunFault}
 use Rattle.gk_cli.specs.declared.run_fault.RunFault.TheVariants as run
 use Rattle.gherkin_run.specs.Files.{IsFileFault, name_of}
-use Rattle.gherkin_run.specs.Program.{AreGiven, IsFaultOfGiven, IsFaultOfRun, IsFaultOfVariable, IsFlushedRun, IsNamed, IsRefused, IsRun, IsWithin, SaysCallsOfRun, SaysProgram, SaysSuite, SaysVariables, contents_given, bytes_given, request_given, with_variables}
+use Rattle.gherkin_run.specs.Program.{AreGiven, AreTaken, IsFaultOfGiven, IsFaultOfRun, IsFaultOfVariable, IsFlushedRun, IsGiven, IsNamed, IsRefused, IsRun, IsWithin, SaysCallsOfRun, SaysProgram, SaysSuite, SaysVariables, contents_given, bytes_given, request_given, variables_given, with_variables}
 use Rattle.gherkin_run.specs.declared.fault.Fault.{Fault}
 use Rattle.gherkin_run.specs.declared.fault.Fault.TheVariants.{NotUtf8, Usage, Env, CannotRead, TooLong, Library, Hooks, Read, TooMany, BadTags, Write, Memory}
 
@@ -131,11 +131,30 @@ calls_of_variables d variables old new _ says = absurd says
 
 -- ---- a fault of a file
 
-pub from_files : (w : Words) (d : Device) (fault : Fault) → Any (λ name. IsFileFault (string_bytes name) fault) w.files.items → SaysProgram w d d fault
-from_files w d (CannotRead other) h = inr (inr h)
-from_files w d (TooLong other) h = inr (inr h)
-from_files w d Memory h = inl (untouched d)
-from_files w d _ h = absurd h.4
+pub from_files : (w : Words) (d : Device) (fault : Fault) → AreTaken (variables_given w) → Any (λ name. IsFileFault (string_bytes name) fault) w.files.items → SaysProgram w d d fault
+from_files w d (CannotRead other) taken h = (inr (inr h), taken)
+from_files w d (TooLong other) taken h = (inr (inr h), taken)
+from_files w d Memory taken h = inl (untouched d)
+from_files w d _ taken h = absurd h.4
+
+named_file : (P : String Global → Type 0) (name : Option (String Global)) → IfSome name P → (name ≡ None → ⊥) → IsSomeAnd name P
+named_file P None says none = absurd (none refl)
+named_file P (Some n) says none = says
+
+no_file : (name : Option (String Global)) → IfSome name (λ n. ⊥) → (name ≡ None → ⊥) → ⊥
+no_file None says none = none refl
+no_file (Some n) says none = says
+
+pub is_no_answer : {T E : Type 0} (e : E) (x : T) → Err e ≡ Ok x → ⊥
+is_no_answer e x h = cc
+
+-- a fault of the library file or of the hooks file
+pub from_named : (w : Words) (d : Device) (name : Option (String Global)) (fault : Fault) → ((file : List ℕ) → IsSomeAnd name (λ n. file ≡ string_bytes n) → IsGiven w file) → AreTaken (variables_given w)
+    → IfSome name (λ n. IsFileFault (string_bytes n) fault) → (name ≡ None → ⊥) → SaysProgram w d d fault
+from_named w d name (CannotRead other) given taken says none = (given (string_bytes other) (named_file (λ n. string_bytes other ≡ string_bytes n) name says none), taken)
+from_named w d name (TooLong other) given taken says none = (given (string_bytes other) (named_file (λ n. string_bytes other ≡ string_bytes n) name says none), taken)
+from_named w d name Memory given taken says none = inl (untouched d)
+from_named w d name _ given taken says none = absurd (no_file name says none)
 
 -- ---- a fault of the run of the files
 
@@ -177,10 +196,10 @@ of_given w old new Write is h = h
 of_given w old new Memory is h = inr h
 of_given w old new _ is h = absurd is
 
-pub of_suite : (w : Words) (library hooks : Option SourceValue) (sources : List SourceValue) (old new : Device) (fault : Fault) → AreGiven w library hooks sources
+pub of_suite : (w : Words) (library hooks : Option SourceValue) (sources : List SourceValue) (old new : Device) (fault : Fault) → AreGiven w library hooks sources → AreTaken (variables_given w)
     → SaysSuite library hooks sources (request_given w library hooks sources) (contents_given w) old new fault → SaysProgram w old new fault
-of_suite w library hooks sources old new fault given says =
-    of_given w old new fault (suite_named library hooks sources _ _ old new fault says) record { library = library; hooks = hooks; sources = sources; given = given; says = says }
+of_suite w library hooks sources old new fault given taken says =
+    of_given w old new fault (suite_named library hooks sources _ _ old new fault says) record { library = library; hooks = hooks; sources = sources; given = given; taken = taken; says = says }
 
 -- ---- the run of the files
 
@@ -196,24 +215,29 @@ pub are_given : (w : Words) (library hooks : Option Source) (sources : List Sour
     → map name_of sources ≡ map string_bytes w.files.items → AreGiven w (option_map source_value library) (option_map source_value hooks) (map source_value sources)
 are_given w library hooks sources l h s = record { files = names_of sources ∙ s; library_file = name_given library ∙ l; hooks_file = name_given hooks ∙ h }
 
+-- the variables that were put are those that were given
+pub taken_in : (w : Words) (variables : List (String Global × String Global)) → AreTaken (map pair_value variables) → variables ≡ w.env.items → AreTaken (variables_given w)
+taken_in w variables taken same = subst (λ xs. AreTaken (map pair_value xs)) same taken
+
 -- the contents after the variables are put into a new sandbox
 pub put_in : (w : Words) (start : SandboxValue) (c : Contents) (variables : List (String Global × String Global)) → c ≡ with_variables start.now (map pair_value variables) → start ≡ new_sandbox → variables ≡ w.env.items
     → c ≡ contents_given w
 put_in w start c variables put new same =
     put ∙ ap (λ s. with_variables s.now (map pair_value variables)) new ∙ ap (λ xs. with_variables nothing_yet (map pair_value xs)) same
 
-pub runs : (w : Words) (library hooks : Option SourceValue) (sources : List SourceValue) (old new : Device) (c : Contents) (r : Result ℕ Fault) → AreGiven w library hooks sources → c ≡ contents_given w
+pub runs : (w : Words) (library hooks : Option SourceValue) (sources : List SourceValue) (old new : Device) (c : Contents) (r : Result ℕ Fault) → AreGiven w library hooks sources → AreTaken (variables_given w) → c ≡ contents_given w
     → IfOk r (IsFlushedRun (request_given w library hooks sources) c old new) → IfOk r (IsRun w old new)
-runs w library hooks sources old new c (Err e) given is run = tt
-runs w library hooks sources old new c (Ok status) given is run = record {
+runs w library hooks sources old new c (Err e) given taken is run = tt
+runs w library hooks sources old new c (Ok status) given taken is run = record {
   library = library;
   hooks = hooks;
   sources = sources;
   given = given;
+  taken = taken;
   run = subst (λ x. IsFlushedRun (request_given w library hooks sources) x old new status) is run;
 }
 
-pub fails : (w : Words) (library hooks : Option SourceValue) (sources : List SourceValue) (old new : Device) (c : Contents) (r : Result ℕ Fault) → AreGiven w library hooks sources → c ≡ contents_given w
+pub fails : (w : Words) (library hooks : Option SourceValue) (sources : List SourceValue) (old new : Device) (c : Contents) (r : Result ℕ Fault) → AreGiven w library hooks sources → AreTaken (variables_given w) → c ≡ contents_given w
     → IfErr r (SaysSuite library hooks sources (request_given w library hooks sources) c old new) → IfErr r (SaysProgram w old new)
-fails w library hooks sources old new c (Err e) given is says = of_suite w library hooks sources old new e given (subst (λ x. SaysSuite library hooks sources (request_given w library hooks sources) x old new e) is says)
-fails w library hooks sources old new c (Ok status) given is says = tt
+fails w library hooks sources old new c (Err e) given taken is says = of_suite w library hooks sources old new e given taken (subst (λ x. SaysSuite library hooks sources (request_given w library hooks sources) x old new e) is says)
+fails w library hooks sources old new c (Ok status) given taken is says = tt

@@ -82,6 +82,10 @@ with_variables c (v ∷ vs) = with_variables (with_env c v.name v.text) vs
 abbrev pub IsRefused : PairValue → Type 0
 IsRefused v = IsSome (put_refusal v.name v.text)
 
+-- A sandbox takes every one of these variables. (this project's profile)
+abbrev pub AreTaken : List PairValue → Type 0
+AreTaken variables = All (λ v. put_refusal v.name v.text ≡ None) variables
+
 -- A variable that the sandbox refuses is a mistake in the arguments, out of memory apart. (this project's profile)
 abbrev pub IsFaultOfVariable : WorldFault → Fault → Type 0
 IsFaultOfVariable world.Memory fault = fault ≡ Memory
@@ -89,7 +93,7 @@ IsFaultOfVariable _ fault = fault ≡ Env
 
 -- The variables are in the sandbox, and its layers are as before; or one of them is refused. (this project's profile)
 abbrev pub SaysVariables : List PairValue → SandboxValue → SandboxValue → Result (Unit {0}) Fault → Type 0
-SaysVariables variables old new (Ok u) = (new.now ≡ with_variables old.now variables) × (new.saved ≡ old.saved) × All (λ v. put_refusal v.name v.text ≡ None) variables
+SaysVariables variables old new (Ok u) = (new.now ≡ with_variables old.now variables) × (new.saved ≡ old.saved) × AreTaken variables
 SaysVariables variables old new (Err Env) = Any IsRefused variables
 SaysVariables variables old new (Err Memory) = Unit {0}
 SaysVariables variables old new (Err _) = ⊥
@@ -158,9 +162,13 @@ pub record AreGiven (w : Words) (library hooks : Option SourceValue) (sources : 
   pub library_file : option_map (λ s. s.name) library ≡ option_map string_bytes w.library
   pub hooks_file : option_map (λ s. s.name) hooks ≡ option_map string_bytes w.hooks
 
+-- The variables that were given. (this project's profile)
+abbrev pub variables_given : Words → List PairValue
+variables_given w = map pair_value w.env.items
+
 -- The contents that a run begins with: the variables alone. (this project's profile)
 abbrev pub contents_given : Words → Contents
-contents_given w = with_variables nothing_yet (map pair_value w.env.items)
+contents_given w = with_variables nothing_yet (variables_given w)
 
 -- What a run of these files is asked for. (this project's profile)
 abbrev pub request : Options → Option Source → Option Source → List Source → Request
@@ -175,33 +183,35 @@ SaysRun options library hooks sources contents old new fault =
 abbrev pub request_given : Words → Option SourceValue → Option SourceValue → List SourceValue → Request
 request_given w library hooks sources = request_of w.options (bytes_given library) (bytes_given hooks) sources
 
--- What was written and the status are those of one run of the files that were given, with their bytes as they were read. (this project's profile)
+-- The variables are taken, and what was written and the status are those of one run of the files that were given, with their bytes as they were read. (this project's profile)
 pub record IsRun (w : Words) (old new : Device) (status : ℕ) : Type 0 where
   pub library : Option SourceValue
   pub hooks : Option SourceValue
   pub sources : List SourceValue
   pub given : AreGiven w library hooks sources
+  pub taken : AreTaken (variables_given w)
   pub run : IsFlushedRun (request_given w library hooks sources) (contents_given w) old new status
 
 -- A file of this name was given. (this project's profile)
 abbrev pub IsGiven : Words → List ℕ → Type 0
 IsGiven w name = IsSomeAnd w.library (λ file. name ≡ string_bytes file) ⊎ (IsSomeAnd w.hooks (λ file. name ≡ string_bytes file) ⊎ Any (λ file. name ≡ string_bytes file) w.files.items)
 
--- A fault of the run of the files that were given. (this project's profile)
+-- A fault of the run of the files that were given; the variables are taken. (this project's profile)
 pub record IsFaultOfGiven (w : Words) (old new : Device) (fault : Fault) : Type 0 where
   pub library : Option SourceValue
   pub hooks : Option SourceValue
   pub sources : List SourceValue
   pub given : AreGiven w library hooks sources
+  pub taken : AreTaken (variables_given w)
   pub says : SaysSuite library hooks sources (request_given w library hooks sources) (contents_given w) old new fault
 
--- What each fault says of what was asked for: where memory was refused, nothing was written, or a prefix of the report was. (this project's profile)
+-- What each fault says of what was asked for: a bad variable comes before every fault of a file; where memory was refused, nothing was written, or a prefix of the report was. (this project's profile)
 abbrev pub SaysProgram : Words → Device → Device → Fault → Type 0
 SaysProgram w old new NotUtf8 = ⊥
 SaysProgram w old new (Usage e) = ⊥
-SaysProgram w old new Env = Any IsRefused (map pair_value w.env.items)
-SaysProgram w old new (CannotRead name) = IsGiven w (string_bytes name)
-SaysProgram w old new (TooLong name) = IsGiven w (string_bytes name)
+SaysProgram w old new Env = Any IsRefused (variables_given w)
+SaysProgram w old new (CannotRead name) = IsGiven w (string_bytes name) × AreTaken (variables_given w)
+SaysProgram w old new (TooLong name) = IsGiven w (string_bytes name) × AreTaken (variables_given w)
 SaysProgram w old new Memory = IsUntouched old new ⊎ IsFaultOfGiven w old new Memory
 SaysProgram w old new fault = IsFaultOfGiven w old new fault
 

@@ -1,11 +1,11 @@
-use Rattle.std.proofs.Common.{map, subst, sym}
+use Rattle.std.proofs.Common.{inl, inr, map, subst, sym}
 use Rattle.std.specs.Prelude.{option_map}
 use Rattle.gk_cli.specs.Arguments.{pair_value}
 use Rattle.gk_cli.specs.Source.{source_value}
 use Rattle.gk_cli.specs.Suite.{device_of}
 use Rattle.gherkin_run.specs.Program.{SaysCallsOfRun, SaysProgram}
 use Rattle.gherkin_run.proofs.FilesLemmas.{passed_on}
-use Rattle.gherkin_run.proofs.ProgramLemmas.{are_given, calls_of_variables, fails, from_files, of_variables, put_in, runs}
+use Rattle.gherkin_run.proofs.ProgramLemmas.{are_given, calls_of_variables, fails, from_files, from_named, is_no_answer, of_variables, put_in, runs, taken_in}
 use Rattle.gherkin_run.proofs.program.run_words.Goals as goal
 
 pub returns-in_err-put_variables-clause-fault : goal.returns-in_err-put_variables-clause-fault
@@ -18,10 +18,25 @@ returns-in_err-put_variables-clause-calls g c =
     let d = device_of (λ w. g.W.Write.contents w) c.args.out.now in
     passed_on c.from_residual.result c.from_residual.ensures.1 (λ fault same. subst (SaysCallsOfRun d d) (sym same) (calls_of_variables d (map pair_value c.as_slice.result.now) c.new-sandbox.result c.put_variables.new.sandbox c.in_err-put_variables.field-0.0 c.in_err-put_variables.ensures))
 
+pub returns-in_err-library-clause-fault : goal.returns-in_err-library-clause-fault
+returns-in_err-library-clause-fault g c =
+    let d = device_of (λ w. g.W.Write.contents w) c.args.out.now in
+    let taken = taken_in c.args.words c.as_slice.result.now c.in_ok-put_variables.ensures.2 c.as_slice.ensures.value in
+    passed_on c.from_residual-in_err-library.result c.from_residual-in_err-library.ensures.1 (λ fault same. subst (SaysProgram c.args.words d d) (sym same)
+    (from_named c.args.words d c.args.words.library c.in_err-library.field-0.0 (λ file is. inl is) taken c.in_err-library.ensures.fault (λ none. is_no_answer _ _ (c.in_err-library.ensures.unnamed none))))
+
+pub returns-in_err-hooks-clause-fault : goal.returns-in_err-hooks-clause-fault
+returns-in_err-hooks-clause-fault g c =
+    let d = device_of (λ w. g.W.Write.contents w) c.args.out.now in
+    let taken = taken_in c.args.words c.as_slice.result.now c.in_ok-put_variables.ensures.2 c.as_slice.ensures.value in
+    passed_on c.from_residual-in_err-hooks.result c.from_residual-in_err-hooks.ensures.1 (λ fault same. subst (SaysProgram c.args.words d d) (sym same)
+    (from_named c.args.words d c.args.words.hooks c.in_err-hooks.field-0.0 (λ file is. inr (inl is)) taken c.in_err-hooks.ensures.fault (λ none. is_no_answer _ _ (c.in_err-hooks.ensures.unnamed none))))
+
 pub returns-in_err-sources-clause-fault : goal.returns-in_err-sources-clause-fault
 returns-in_err-sources-clause-fault g c =
     let d = device_of (λ w. g.W.Write.contents w) c.args.out.now in
-    passed_on c.from_residual-in_err-sources.result c.from_residual-in_err-sources.ensures.1 (λ fault same. subst (SaysProgram c.args.words d d) (sym same) (from_files c.args.words d c.in_err-sources.field-0.0 c.in_err-sources.ensures.fault))
+    let taken = taken_in c.args.words c.as_slice.result.now c.in_ok-put_variables.ensures.2 c.as_slice.ensures.value in
+    passed_on c.from_residual-in_err-sources.result c.from_residual-in_err-sources.ensures.1 (λ fault same. subst (SaysProgram c.args.words d d) (sym same) (from_files c.args.words d c.in_err-sources.field-0.0 taken c.in_err-sources.ensures.fault))
 
 pub returns-clause-run : goal.returns-clause-run
 returns-clause-run g c =
@@ -29,8 +44,9 @@ returns-clause-run g c =
     let hooks = c.in_ok-hooks.hooks in
     let sources = c.in_ok-sources.sources.items in
     let given = are_given c.args.words library hooks sources c.in_ok-library.ensures.named c.in_ok-hooks.ensures.named c.in_ok-sources.ensures.named in
+    let taken = taken_in c.args.words c.as_slice.result.now c.in_ok-put_variables.ensures.2 c.as_slice.ensures.value in
     let put = put_in c.args.words c.new-sandbox.result c.put_variables.new.sandbox.now c.as_slice.result.now c.in_ok-put_variables.ensures.0 c.new-sandbox.ensures c.as_slice.ensures.value in
-    runs c.args.words (option_map source_value library) (option_map source_value hooks) (map source_value sources) _ _ c.put_variables.new.sandbox.now c.run_sources.result given put c.run_sources.ensures.run
+    runs c.args.words (option_map source_value library) (option_map source_value hooks) (map source_value sources) _ _ c.put_variables.new.sandbox.now c.run_sources.result given taken put c.run_sources.ensures.run
 
 pub returns-clause-fault : goal.returns-clause-fault
 returns-clause-fault g c =
@@ -38,5 +54,6 @@ returns-clause-fault g c =
     let hooks = c.in_ok-hooks.hooks in
     let sources = c.in_ok-sources.sources.items in
     let given = are_given c.args.words library hooks sources c.in_ok-library.ensures.named c.in_ok-hooks.ensures.named c.in_ok-sources.ensures.named in
+    let taken = taken_in c.args.words c.as_slice.result.now c.in_ok-put_variables.ensures.2 c.as_slice.ensures.value in
     let put = put_in c.args.words c.new-sandbox.result c.put_variables.new.sandbox.now c.as_slice.result.now c.in_ok-put_variables.ensures.0 c.new-sandbox.ensures c.as_slice.ensures.value in
-    fails c.args.words (option_map source_value library) (option_map source_value hooks) (map source_value sources) _ _ c.put_variables.new.sandbox.now c.run_sources.result given put c.run_sources.ensures.fault
+    fails c.args.words (option_map source_value library) (option_map source_value hooks) (map source_value sources) _ _ c.put_variables.new.sandbox.now c.run_sources.result given taken put c.run_sources.ensures.fault
