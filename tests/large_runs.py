@@ -448,9 +448,9 @@ def fault_of_the_last_of_many_entries():
 
 def hopeless_pattern():
     """Taking the fields' lengths one after another would not end."""
-    text = "a" * 400 + "y"
+    text = "a" * 400 + "x"
     report = f"Feature: f ... failed\n  Scenario: s ... failed\n    Given {text} ... undefined\n\n"
-    return Run({"a.feature": f"Feature: f\nScenario: s\nGiven {text}\n", "l.steps": "step {a}{b}{c}{d}{e}{f}{g}{h}x => pass\n"},
+    return Run({"a.feature": f"Feature: f\nScenario: s\nGiven {text}\n", "l.steps": "step {a}{b}{c}{d}{e}{f}{g}{h}z{i}x => pass\n"},
                1, report + closing((0, 1), (0, 1), (0, 0, 0, 1)), arguments=["--library", "l.steps", "a.feature"])
 
 
