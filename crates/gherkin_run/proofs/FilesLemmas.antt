@@ -1,6 +1,6 @@
 -- Reading names one after the other.
-use Rattle.std.proofs.Common.{◌≡◌, ◌∙◌, ◌++◌, ap, sym, refl, arith, suc, ℕ, List, [], ◌∷◌, length, map, append_assoc, Result, Ok, Err}
-use Rattle.std.specs.Prelude.{IfErr, IsErrAnd}
+use Rattle.std.proofs.Common.{◌≡◌, ◌∙◌, ◌++◌, ap, sym, refl, arith, suc, ℕ, List, [], ◌∷◌, length, map, append_assoc, Option, Some, None, Result, Ok, Err}
+use Rattle.std.specs.Prelude.{IfErr, IfSome, IsErrAnd, IsSomeAnd}
 use Rattle.std.specs.List.{Any}
 use Rattle.std.proofs.lemmas.List.{map_push}
 
@@ -29,3 +29,11 @@ nothing_in (x ∷ xs) e = absurd (omega arith)
 pub passed_on : {T E : Type 0} {Q P : E → Type 0} (r : Result T E) → IsErrAnd r Q → ((e : E) → Q e → P e) → IfErr r P
 passed_on (Ok x) h f = absurd h
 passed_on (Err e) h f = f e h
+
+-- a fault that a named file alone has
+pub named_file : {X : Type 0} (P : X → Type 0) (name : Option X) → IfSome name P → (name ≡ None → ⊥) → IsSomeAnd name P
+named_file P None says none = absurd (none refl)
+named_file P (Some n) says none = says
+
+pub is_no_answer : {T E : Type 0} (e : E) (x : T) → Err e ≡ Ok x → ⊥
+is_no_answer e x h = cc

@@ -1,6 +1,6 @@
 -- A run whose output is flushed, the program's faults for those of the run, and variables one after another.
 use Rattle.std.proofs.Common.{◌≡◌, ◌∙◌, ◌+◌, ◌-◌, ◌^◌, ◌<◌, ◌≤◌, ◌++◌, ap, sym, subst, refl, inl, inr, arith, suc, ℕ, List, [], ◌∷◌, length, map, take, drop, get_or, Option, Some, None, Result, Ok, Err, add-one}
-use Rattle.std.specs.Prelude.{IfErr, IfOk, IfSome, IsSome, IsSomeAnd, String, is_some, option_map, string_bytes}
+use Rattle.std.specs.Prelude.{IfErr, IfOk, IsSome, IsSomeAnd, String, is_some, option_map, string_bytes}
 use Rattle.std.specs.declared.alloc.Global.{Global}
 use Rattle.std.specs.List.{All, Any}
 use Rattle.std.specs.Io.KnownBytes.{Appends}
@@ -24,7 +24,7 @@ use Rattle.gk_cli.specs.declared.arguments.Options.{Options}
 use Rattle.gk_cli.specs.declared.arguments.Words.{Words}
 use Rattle.gk_cli.specs.declared.run_fault.RunFault.{RunFault}
 use Rattle.gk_cli.specs.declared.run_fault.RunFault.TheVariants as run
-use Rattle.gherkin_run.specs.Files.{IsFileFault, name_of}
+use Rattle.gherkin_run.specs.Files.{IsFaultOfFiles, IsFileFault, name_of}
 use Rattle.gherkin_run.specs.Program.{AreGiven, AreTaken, IsFaultOfGiven, IsFaultOfRun, IsFaultOfVariable, IsFlushedRun, IsGiven, IsNamed, IsRefused, IsRun, IsWithin, SaysCallsOfRun, SaysProgram, SaysSuite, SaysVariables, contents_given, bytes_given, request_given, variables_given, with_variables}
 use Rattle.gherkin_run.specs.declared.fault.Fault.{Fault}
 use Rattle.gherkin_run.specs.declared.fault.Fault.TheVariants.{NotUtf8, Usage, Env, CannotRead, TooLong, Library, Hooks, Read, TooMany, BadTags, Write, Memory}
@@ -131,30 +131,38 @@ calls_of_variables d variables old new _ says = absurd says
 
 -- ---- a fault of a file
 
-pub from_files : (w : Words) (d : Device) (fault : Fault) → AreTaken (variables_given w) → Any (λ name. IsFileFault (string_bytes name) fault) w.files.items → SaysProgram w d d fault
+from_files : (w : Words) (d : Device) (fault : Fault) → AreTaken (variables_given w) → Any (λ name. IsFileFault (string_bytes name) fault) w.files.items → SaysProgram w d d fault
 from_files w d (CannotRead other) taken h = (inr (inr h), taken)
 from_files w d (TooLong other) taken h = (inr (inr h), taken)
 from_files w d Memory taken h = inl (untouched d)
 from_files w d _ taken h = absurd h.4
 
-named_file : (P : String Global → Type 0) (name : Option (String Global)) → IfSome name P → (name ≡ None → ⊥) → IsSomeAnd name P
-named_file P None says none = absurd (none refl)
-named_file P (Some n) says none = says
-
-no_file : (name : Option (String Global)) → IfSome name (λ n. ⊥) → (name ≡ None → ⊥) → ⊥
-no_file None says none = none refl
-no_file (Some n) says none = says
-
-pub is_no_answer : {T E : Type 0} (e : E) (x : T) → Err e ≡ Ok x → ⊥
-is_no_answer e x h = cc
+no_file : (name : Option (String Global)) → IsSomeAnd name (λ n. ⊥) → ⊥
+no_file None says = says
+no_file (Some n) says = says
 
 -- a fault of the library file or of the hooks file
-pub from_named : (w : Words) (d : Device) (name : Option (String Global)) (fault : Fault) → ((file : List ℕ) → IsSomeAnd name (λ n. file ≡ string_bytes n) → IsGiven w file) → AreTaken (variables_given w)
-    → IfSome name (λ n. IsFileFault (string_bytes n) fault) → (name ≡ None → ⊥) → SaysProgram w d d fault
-from_named w d name (CannotRead other) given taken says none = (given (string_bytes other) (named_file (λ n. string_bytes other ≡ string_bytes n) name says none), taken)
-from_named w d name (TooLong other) given taken says none = (given (string_bytes other) (named_file (λ n. string_bytes other ≡ string_bytes n) name says none), taken)
-from_named w d name Memory given taken says none = inl (untouched d)
-from_named w d name _ given taken says none = absurd (no_file name says none)
+from_named : (w : Words) (d : Device) (name : Option (String Global)) (fault : Fault) → ((file : List ℕ) → IsSomeAnd name (λ n. file ≡ string_bytes n) → IsGiven w file) → AreTaken (variables_given w)
+    → IsSomeAnd name (λ n. IsFileFault (string_bytes n) fault) → SaysProgram w d d fault
+from_named w d name (CannotRead other) given taken says = (given (string_bytes other) says, taken)
+from_named w d name (TooLong other) given taken says = (given (string_bytes other) says, taken)
+from_named w d name Memory given taken says = inl (untouched d)
+from_named w d name _ given taken says = absurd (no_file name says)
+
+-- a fault of one of the files
+pub from_run_files : (w : Words) (d : Device) (fault : Fault) → AreTaken (variables_given w) → IsFaultOfFiles w.library w.hooks w.files.items fault → SaysProgram w d d fault
+from_run_files w d fault taken (inl h) = from_named w d w.library fault (λ file is. inl is) taken h
+from_run_files w d fault taken (inr (inl h)) = from_named w d w.hooks fault (λ file is. inr (inl is)) taken h
+from_run_files w d fault taken (inr (inr h)) = from_files w d fault taken h
+
+-- then standard output is not called
+pub calls_of_files : (library hooks : Option (String Global)) (names : List (String Global)) (d : Device) (fault : Fault) → IsFaultOfFiles library hooks names fault → SaysCallsOfRun d d fault
+calls_of_files library hooks names d (CannotRead other) h = untouched d
+calls_of_files library hooks names d (TooLong other) h = untouched d
+calls_of_files library hooks names d Memory h = inl (untouched d)
+calls_of_files library hooks names d _ (inl h) = absurd (no_file library h)
+calls_of_files library hooks names d _ (inr (inl h)) = absurd (no_file hooks h)
+calls_of_files library hooks names d _ (inr (inr h)) = absurd h.4
 
 -- ---- a fault of the run of the files
 

@@ -1,5 +1,7 @@
 -- What reading the files answers.
-use Rattle.std.specs.Prelude.{◌≡◌, ◌<◌, List, ℕ, length, Option, string_bytes, IfSome}
+use Rattle.std.specs.Prelude.{◌≡◌, ◌⊎◌, ◌<◌, List, ℕ, length, Option, String, string_bytes, IfSome, IsSomeAnd}
+use Rattle.std.specs.List.{Any}
+use Rattle.std.specs.declared.alloc.Global.{Global}
 use Rattle.gk_gherkin.specs.Lines.{limit}
 use Rattle.gk_cli.specs.Counted.{one_more}
 use Rattle.gk_cli.specs.declared.source.Source.{Source}
@@ -23,3 +25,10 @@ IsFileFault name (CannotRead other) = string_bytes other ≡ name
 IsFileFault name (TooLong other) = string_bytes other ≡ name
 IsFileFault name Memory = Unit {0}
 IsFileFault name _ = ⊥
+
+-- A fault of reading that names the library file, the hooks file or one of the feature files, or out of memory. (this project's profile)
+abbrev pub IsFaultOfFiles : Option (String Global) → Option (String Global) → List (String Global) → Fault → Type 0
+IsFaultOfFiles library hooks names fault =
+    IsSomeAnd library (λ name. IsFileFault (string_bytes name) fault)
+    ⊎ (IsSomeAnd hooks (λ name. IsFileFault (string_bytes name) fault)
+    ⊎ Any (λ name. IsFileFault (string_bytes name) fault) names)

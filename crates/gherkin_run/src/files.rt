@@ -2,7 +2,7 @@
 ghost use Rattle.std.specs.Prelude.{◌≡◌, ◌≤◌, map, IfOk, IfErr, IfSome, option_map, vec_len, string_bytes};
 ghost use Rattle.std.specs.List.{Any};
 ghost use Rattle.gk_cli.specs.Counted.{inner_of, failures_of};
-ghost use Rattle.gherkin_run.specs.Files.{IsFileFault, SaysSourceFault, name_of};
+ghost use Rattle.gherkin_run.specs.Files.{IsFaultOfFiles, IsFileFault, SaysSourceFault, name_of};
 
 use crate::fault::Fault;
 use gk_cli::{Counted, Source, SourceFault, read_source};
@@ -76,4 +76,35 @@ pub fn read_named_file<R: Files + AllocGlobal>(
         },
         None => Ok(None),
     }
+}
+
+/// The files of a run, read whole.
+#[derive(Drop)]
+pub struct RunFiles {
+    pub library: Option<Source>,
+    pub hooks: Option<Source>,
+    pub sources: Vec<Source>,
+}
+
+/// Reads the library file and the hooks file, where they are named, and then each feature file, in order. The
+/// first that can't be read is the fault.
+pub fn read_run_files<R: Files + AllocGlobal>(
+    rt: &R,
+    library: Option<String>,
+    hooks: Option<String>,
+    names: Vec<String>,
+) -> Result<RunFiles, Fault>
+    ensures library { IfOk result (λ files. option_map name_of files.library ≡ option_map string_bytes library) }
+    ensures hooks { IfOk result (λ files. option_map name_of files.hooks ≡ option_map string_bytes hooks) }
+    ensures named { IfOk result (λ files. map name_of files.sources.items ≡ map string_bytes names.items) }
+    ensures fault { IfErr result (IsFaultOfFiles library hooks names.items) }
+{
+    let library = read_named_file(rt, library)?;
+    let hooks = read_named_file(rt, hooks)?;
+    let sources = read_files(rt, names)?;
+    Ok(RunFiles {
+        library,
+        hooks,
+        sources,
+    })
 }

@@ -1,6 +1,6 @@
 //! From the arguments to the report.
 ghost use Rattle.std.specs.Prelude.{◌≡◌, ◌<◌, ◌-◌, ◌^◌, map, IfOk, IfErr, OnOk, option_map, string_bytes};
-ghost use Rattle.gk_world.specs.Sandbox.{depth};
+ghost use Rattle.gk_world.specs.Sandbox.{depth, new_sandbox};
 ghost use Rattle.gk_cli.specs.Arguments.{pair_value};
 ghost use Rattle.gk_cli.specs.Counted.{flushes_of, failures_of, one_more};
 ghost use Rattle.gk_cli.specs.Suite.{device_of};
@@ -8,7 +8,7 @@ ghost use Rattle.gk_cli.specs.Source.{source_value};
 ghost use Rattle.gherkin_run.specs.Program.{SaysAsked, SaysError, IsHelpFault, IsArgumentsFault, IsFaultOfVariable, SaysVariables, IsWithin, IsFaultOfRun, bytes_given, request, IsFlushedRun, SaysRun, SaysCalls, SaysCallsOfRun, SaysProgram, IsRun, IsDoneForSome};
 
 use crate::fault::Fault;
-use crate::files::{read_files, read_named_file};
+use crate::files::read_run_files;
 use gk_cli::{
     Counted, Options, RunFault, Source, Words, WordsFault, read_words, run_suite, write_whole,
 };
@@ -204,6 +204,34 @@ pub fn run_sources<W: Write>(
     }
 }
 
+// The same in a sandbox that is new.
+fn run_in<R: Files + AllocGlobal, W: Write>(
+    rt: &R,
+    sandbox: &mut Sandbox,
+    words: Words,
+    out: &mut Counted<W>,
+) -> Result<u8, Fault>
+    requires room { failures_of out.old < 2 ^ 64 - 1 }
+    requires empty { sandbox.old ≡ new_sandbox }
+    ensures run { IfOk result (IsRun words (device_of W.contents out.old) (device_of W.contents out.new)) }
+    ensures quiet { OnOk result (failures_of out.new ≡ failures_of out.old) }
+    ensures flushed { OnOk result (flushes_of out.new ≡ one_more (flushes_of out.old)) }
+    ensures fault { IfErr result (SaysProgram words (device_of W.contents out.old) (device_of W.contents out.new)) }
+    ensures calls { IfErr result (SaysCallsOfRun (device_of W.contents out.old) (device_of W.contents out.new)) }
+{
+    put_variables(sandbox, words.env.as_slice())?;
+    let files = read_run_files(rt, words.library, words.hooks, words.files)?;
+    run_sources(
+        rt.alloc(),
+        sandbox,
+        &words.options,
+        files.library,
+        files.hooks,
+        files.sources,
+        out,
+    )
+}
+
 /// Runs what is asked for: puts the variables into an empty sandbox, reads the library file, the hooks file and
 /// the files, and runs the suite. The first fault in this order ends it.
 pub fn run_words<R: Files + AllocGlobal, W: Write>(
@@ -220,19 +248,7 @@ pub fn run_words<R: Files + AllocGlobal, W: Write>(
     ensures calls { IfErr result (SaysCallsOfRun (device_of W.contents out.old) (device_of W.contents out.new)) }
 {
     let mut sandbox = Sandbox::new(rt.alloc());
-    put_variables(&mut sandbox, words.env.as_slice())?;
-    let library = read_named_file(rt, words.library)?;
-    let hooks = read_named_file(rt, words.hooks)?;
-    let sources = read_files(rt, words.files)?;
-    run_sources(
-        rt.alloc(),
-        &mut sandbox,
-        &words.options,
-        library,
-        hooks,
-        sources,
-        out,
-    )
+    run_in(rt, &mut sandbox, words, out)
 }
 
 /// Runs the program on its arguments. The answer is the status to end with.
