@@ -1,11 +1,11 @@
 //! From the arguments to the report.
-ghost use Rattle.std.specs.Prelude.{◌≡◌, ◌<◌, ◌-◌, ◌^◌, map, IfOk, IfErr, OnOk, option_map, string_bytes};
+ghost use Rattle.std.specs.Prelude.{◌≡◌, ◌<◌, ◌-◌, ◌^◌, map, IfOk, IfErr, IsSome, OnOk, Some, option_map, string_bytes, vec_len};
 ghost use Rattle.gk_world.specs.Sandbox.{depth, new_sandbox};
 ghost use Rattle.gk_cli.specs.Arguments.{pair_value};
 ghost use Rattle.gk_cli.specs.Counted.{flushes_of, failures_of, one_more};
 ghost use Rattle.gk_cli.specs.Suite.{device_of};
 ghost use Rattle.gk_cli.specs.Source.{source_value};
-ghost use Rattle.gherkin_run.specs.Program.{SaysAsked, SaysError, IsHelpFault, IsArgumentsFault, IsFaultOfVariable, SaysVariables, IsWithin, IsFaultOfRun, bytes_given, request, IsFlushedRun, SaysRun, SaysCalls, SaysCallsOfRun, SaysProgram, IsRun, IsDoneForSome};
+ghost use Rattle.gherkin_run.specs.Program.{SaysAsked, SaysError, IsHelpFault, IsArgumentsFault, IsFaultOfVariable, SaysVariables, IsWithin, IsNamed, IsFaultOfRun, bytes_given, request, IsFlushedRun, SaysRun, SaysCalls, SaysCallsOfRun, SaysProgram, IsRun, IsDoneForSome};
 
 use crate::fault::Fault;
 use crate::files::read_run_files;
@@ -108,41 +108,52 @@ pub fn put_variables(sandbox: &mut Sandbox, variables: &[(String, String)]) -> R
     Ok(())
 }
 
+// The name of a file that is there.
+fn name_given(file: Option<Source>) -> String
+    requires { IsSome file }
+    ensures { option_map (λ source. source.name) (option_map source_value file) ≡ Some (string_bytes result) }
+{
+    match file {
+        Some(source) => source.name,
+        None => unreachable!(),
+    }
+}
+
+// The name of the source at a place.
+fn name_at(sources: Vec<Source>, input: usize) -> String
+    requires { input < vec_len sources }
+    ensures { IsNamed (map source_value sources.items) input (string_bytes result) }
+{
+    let mut sources = sources;
+    sources.swap_remove(input).name
+}
+
 // The program's fault for one of the run: files have their names in place of numbers.
 fn fault_of_run(
     fault: RunFault,
     library: Option<Source>,
     hooks: Option<Source>,
-    mut sources: Vec<Source>,
+    sources: Vec<Source>,
 ) -> Fault
     requires { IsWithin (option_map source_value library) (option_map source_value hooks) (map source_value sources.items) fault }
     ensures { IsFaultOfRun (option_map source_value library) (option_map source_value hooks) (map source_value sources.items) fault result }
 {
     match fault {
-        RunFault::Read { input, fault } => {
-            let source = sources.swap_remove(input);
-            Fault::Read {
-                name: source.name,
-                fault,
-            }
-        }
-        RunFault::Library(fault) => match library {
-            Some(source) => Fault::Library {
-                name: source.name,
-                fault,
-            },
-            None => unreachable!(),
+        RunFault::Read { input, fault } => Fault::Read {
+            name: name_at(sources, input),
+            fault,
         },
-        RunFault::Hooks(fault) => match hooks {
-            Some(source) => Fault::Hooks {
-                name: source.name,
-                fault,
-            },
-            None => unreachable!(),
+        RunFault::Library(fault) => Fault::Library {
+            name: name_given(library),
+            fault,
+        },
+        RunFault::Hooks(fault) => Fault::Hooks {
+            name: name_given(hooks),
+            fault,
         },
         RunFault::Select { input, fault } => match (input, fault) {
             (Some(input), SelectFault::TooMany) => Fault::TooMany {
-                name: sources.swap_remove(input).name,
+                name: name_at(sources, input),
             },
             (None, SelectFault::BadTagText) => Fault::BadTags,
             _ => unreachable!(),
