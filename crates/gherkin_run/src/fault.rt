@@ -1,6 +1,7 @@
 //! Why the program ends without a report, in one line and a status.
-ghost use Rattle.std.specs.Prelude.{◌≡◌};
-ghost use Rattle.gherkin_run.specs.Fault.{row_of, line_of};
+ghost use Rattle.std.specs.Prelude.{◌≡◌, ◌++◌, codes, option_map, Some};
+ghost use Rattle.std.specs.Fmt.{DisplaysOnOk};
+ghost use Rattle.gherkin_run.specs.Fault.{row_of, line_of, placed};
 
 use gk_gherkin::ReadFault;
 use gk_steps::LibraryFault;
@@ -73,6 +74,21 @@ impl<T: Drop> From<AllocFailed<T>> for Fault {
     }
 }
 
+// Writes the fault of a file: its name, the line where one is known, and the text.
+fn write_placed<W: fmt::Write, T: fmt::Display>(
+    f: &mut fmt::Formatter<W>,
+    name: &str,
+    line: Option<u32>,
+    text: &T,
+) -> fmt::Result
+    ensures { DisplaysOnOk W.write_str_gives f.old result (option_map (λ text. codes "gherkin_run: " ++ placed (Some name.now) line text) (T.output text.now)) f.new }
+{
+    match line {
+        Some(line) => write!(f, "gherkin_run: {name}:{line}: {text}"),
+        None => write!(f, "gherkin_run: {name}: {text}"),
+    }
+}
+
 // Writes the line of a fault, without its line feed.
 impl fmt::Display for Fault {
     ghost output = { line_of };
@@ -82,24 +98,12 @@ impl fmt::Display for Fault {
             Fault::NotUtf8 => f.write_str("gherkin_run: not UTF-8"),
             Fault::Usage(error) => write!(f, "{error}"),
             Fault::Env => f.write_str("gherkin_run: bad --env"),
-            Fault::CannotRead { name } => write!(f, "gherkin_run: {name}: cannot read"),
-            Fault::TooLong { name } => write!(f, "gherkin_run: {name}: longer than 16777216 bytes"),
-            Fault::Library { name, fault } => {
-                let text = fault.text();
-                match fault.line() {
-                    Some(line) => write!(f, "gherkin_run: {name}:{line}: {text}"),
-                    None => write!(f, "gherkin_run: {name}: {text}"),
-                }
-            }
-            Fault::Hooks { name, fault } => match fault.line() {
-                Some(line) => write!(f, "gherkin_run: {name}:{line}: {fault}"),
-                None => write!(f, "gherkin_run: {name}: {fault}"),
-            },
-            Fault::Read { name, fault } => match fault.line() {
-                Some(line) => write!(f, "gherkin_run: {name}:{line}: {fault}"),
-                None => write!(f, "gherkin_run: {name}: {fault}"),
-            },
-            Fault::TooMany { name } => write!(f, "gherkin_run: {name}: more than 1000000 steps"),
+            Fault::CannotRead { name } => write_placed(f, name, None, &"cannot read"),
+            Fault::TooLong { name } => write_placed(f, name, None, &"longer than 16777216 bytes"),
+            Fault::Library { name, fault } => write_placed(f, name, fault.line(), &fault.text()),
+            Fault::Hooks { name, fault } => write_placed(f, name, fault.line(), fault),
+            Fault::Read { name, fault } => write_placed(f, name, fault.line(), fault),
+            Fault::TooMany { name } => write_placed(f, name, None, &"more than 1000000 steps"),
             Fault::BadTags => f.write_str("gherkin_run: bad tag expression"),
             Fault::Write => f.write_str("gherkin_run: cannot write"),
             Fault::Memory => f.write_str("gherkin_run: out of memory"),
