@@ -1,4 +1,3 @@
 -- Lemmas.
-mod FaultLemmas
 mod FilesLemmas
 mod ProgramLemmas
