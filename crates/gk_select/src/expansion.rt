@@ -1,17 +1,19 @@
 //! The cases of a feature.
-ghost use Rattle.std.specs.Prelude.{◌≡◌, length, map, nat_lt, MatchBool, IfOk, IfErr, Some, Err};
+ghost use Rattle.std.specs.Prelude.{◌≡◌, ◌++◌, length, map, nat_lt, MatchBool, IfOk, IfErr, Some, Err};
 ghost use Rattle.std.specs.List.{AllByRecursion};
 ghost use Rattle.gk_gherkin.specs.Lines.{Lines};
 ghost use Rattle.gk_gherkin.specs.Grammar.{Reads};
-ghost use Rattle.gk_gherkin.specs.Feature.{FeatureValue, row_value, examples_value, scenario_value, rule_value, feature_value};
+ghost use Rattle.std.specs.String.{string_bytes};
+ghost use Rattle.gk_gherkin.specs.Feature.{FeatureValue, texts, step_value, row_value, examples_value, scenario_value, rule_value, feature_value};
 ghost use Rattle.gk_select.specs.Case.{case_value};
-ghost use Rattle.gk_select.specs.Copies.{Appends};
+ghost use Rattle.gk_select.specs.Copies.{Appends, filled_by};
+ghost use Rattle.gk_select.specs.Filling.{filled_step};
 ghost use Rattle.gk_select.specs.Expansion as spec;
 ghost use Rattle.gk_select.specs.Expansion.{cases, step_count, step_limit, HasTooManySteps, IsExpandable, RowsFit};
 ghost use Rattle.gk_select.specs.Expansion.{HasNoOutline, plain_cases, case_count};
 ghost use Rattle.gk_select.specs.Expansion.{case_of_row, cases_of_rows, cases_of_parts, cases_of_scenarios, cases_of_rules};
 ghost use Rattle.gk_select.specs.Inherited.{inherited_value};
-ghost use Rattle.gk_select.specs.Outline.{FitsHeader, AllFit};
+ghost use Rattle.gk_select.specs.Outline.{FitsHeader, AllFit, outline_name};
 ghost use Rattle.gk_select.specs.declared.select_fault.SelectFault.TheVariants.{TooMany, Memory};
 
 use crate::case::Case;
@@ -24,7 +26,7 @@ use crate::inherited::{
 };
 use crate::outline::{case_name, is_outline};
 use crate::select_fault::SelectFault;
-use gk_gherkin::{Examples, Feature, Row, Rule, Scenario};
+use gk_gherkin::{Examples, Feature, Row, Rule, Scenario, Step};
 use std::alloc::{AllocError, Global};
 use std::mem::replace;
 
@@ -56,6 +58,86 @@ fn plain_case(
     })
 }
 
+// The name of a row's case: the scenario's, filled in, with the numbers of the examples and the row.
+fn row_name(
+    alloc: Global,
+    scenario: &Scenario,
+    examples_number: usize,
+    examples: &Examples,
+    row_number: usize,
+    row: &Row,
+) -> Result<String, AllocError>
+    requires { FitsHeader (examples_value examples.now) (row_value row.now) }
+    ensures { IfOk result (λ name. string_bytes name ≡ outline_name (filled_by examples.now.header.items row.now.cells.items (scenario_value scenario.now).name) examples_number row_number (examples_value examples.now).name) }
+{
+    let name = fill(alloc, scenario.name.as_str(), &examples.header, &row.cells)?;
+    case_name(
+        alloc,
+        name.as_str(),
+        examples_number,
+        row_number,
+        examples.name.as_str(),
+    )
+}
+
+// Pushes copies of the tags of a row's scenario and of its examples.
+fn push_row_tags(
+    alloc: Global,
+    tags: &mut Vec<String>,
+    scenario: &Scenario,
+    examples: &Examples,
+) -> Result<(), AllocError>
+    ensures { Appends string_bytes result tags.old.items tags.new.items ((scenario_value scenario.now).tags ++ (examples_value examples.now).tags) }
+{
+    push_texts(alloc, tags, &scenario.tags)?;
+    push_texts(alloc, tags, &examples.tags)
+}
+
+// A row's own tags: those of its scenario and of its examples.
+fn own_row_tags(
+    alloc: Global,
+    scenario: &Scenario,
+    examples: &Examples,
+) -> Result<Vec<String>, AllocError>
+    ensures { IfOk result (λ tags. texts tags.items ≡ (scenario_value scenario.now).tags ++ (examples_value examples.now).tags) }
+{
+    let mut tags = Vec::new(alloc);
+    push_row_tags(alloc, &mut tags, scenario, examples)?;
+    Ok(tags)
+}
+
+// A row's tags: those that it inherits, and its own.
+fn row_tags(
+    alloc: Global,
+    inherited: &Inherited<'_>,
+    scenario: &Scenario,
+    examples: &Examples,
+) -> Result<Vec<String>, AllocError>
+    ensures { IfOk result (λ tags. texts tags.items ≡ (inherited_value inherited.now).tags ++ (scenario_value scenario.now).tags ++ (examples_value examples.now).tags) }
+{
+    let mut tags = Vec::new(alloc);
+    push_inherited_tags(alloc, &mut tags, inherited)?;
+    push_row_tags(alloc, &mut tags, scenario, examples)?;
+    Ok(tags)
+}
+
+// Copies of the inherited steps and the scenario's own, which are filled in from a row.
+fn row_steps(
+    alloc: Global,
+    inherited: &Inherited<'_>,
+    scenario: &Scenario,
+    header: &[String],
+    cells: &[String],
+) -> Result<Vec<Step>, AllocError>
+    requires { length cells.now ≡ length header.now }
+    ensures { IfOk result (λ steps. map step_value steps.items ≡ (inherited_value inherited.now).steps ++ map (filled_step (filled_by header.now cells.now)) (scenario_value scenario.now).steps) }
+{
+    let mut steps = Vec::new(alloc);
+    push_inherited_steps(alloc, &mut steps, inherited)?;
+    push_filled_steps(alloc, &mut steps, &scenario.steps, header, cells)?;
+    Ok(steps)
+}
+
 fn row_case(
     alloc: Global,
     inherited: &Inherited<'_>,
@@ -68,32 +150,13 @@ fn row_case(
     requires { FitsHeader (examples_value examples.now) (row_value row.now) }
     ensures { IfOk result (λ c. case_value c ≡ case_of_row inherited.now scenario.now examples_number examples.now row_number row.now) }
 {
-    let header = examples.header.as_slice();
-    let cells = row.cells.as_slice();
-    let mut tags = Vec::new(alloc);
-    push_inherited_tags(alloc, &mut tags, inherited)?;
-    push_texts(alloc, &mut tags, &scenario.tags)?;
-    push_texts(alloc, &mut tags, &examples.tags)?;
-    let mut own_tags = Vec::new(alloc);
-    push_texts(alloc, &mut own_tags, &scenario.tags)?;
-    push_texts(alloc, &mut own_tags, &examples.tags)?;
-    let mut steps = Vec::new(alloc);
-    push_inherited_steps(alloc, &mut steps, inherited)?;
-    push_filled_steps(alloc, &mut steps, &scenario.steps, header, cells)?;
-    let name = fill(alloc, scenario.name.as_str(), header, cells)?;
     Ok(Case {
-        name: case_name(
-            alloc,
-            name.as_str(),
-            examples_number,
-            row_number,
-            examples.name.as_str(),
-        )?,
+        name: row_name(alloc, scenario, examples_number, examples, row_number, row)?,
         keyword: String::from_str(alloc, scenario.keyword.as_str())?,
         line: row.line,
-        tags,
-        own_tags,
-        steps,
+        tags: row_tags(alloc, inherited, scenario, examples)?,
+        own_tags: own_row_tags(alloc, scenario, examples)?,
+        steps: row_steps(alloc, inherited, scenario, &examples.header, &row.cells)?,
     })
 }
 
