@@ -241,6 +241,11 @@ pub any_answer : (es : LibraryValue) (text : List ℕ) (r : Result (Option Found
 any_answer es text (Ok o) h = any_computed es text (option_map found_value o) h
 any_answer es text (Err e) h = tt
 
-pub other_answer : (es : LibraryValue) (step_type : StepType) (text : List ℕ) (r : Result (Option Found) AllocError) → IsFoundOf es (Some step_type) text None → IfOk r (λ o. IsFoundOf es None text (option_map found_value o)) → IfOk r (λ o. option_map found_value o ≡ found es step_type text)
-other_answer es step_type text (Ok o) none h = other_computed es step_type text (option_map found_value o) none h
+from_any : (es : LibraryValue) (step_type : StepType) (text : List ℕ) (a : Option FoundValue) → IsFoundOf es (Some step_type) text None → a ≡ found_any es text → a ≡ found es step_type text
+unfolding found found_any
+from_any es step_type text a none h = h ∙ ap (λ o. option_or o (found_from 0 es None text)) (of_computed es (Some step_type) text None none)
+
+-- where no entry of the own type has a match, what is found is what the entries of type `step` give
+pub other_answer : (es : LibraryValue) (step_type : StepType) (text : List ℕ) (r : Result (Option Found) AllocError) → IsFoundOf es (Some step_type) text None → IfOk r (λ o. option_map found_value o ≡ found_any es text) → IfOk r (λ o. option_map found_value o ≡ found es step_type text)
+other_answer es step_type text (Ok o) none h = from_any es step_type text (option_map found_value o) none h
 other_answer es step_type text (Err e) none h = tt

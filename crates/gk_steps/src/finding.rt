@@ -94,7 +94,7 @@ impl Library {
         if let Some(found) = find_of(alloc, typed, Some(step_type), text)? {
             return Ok(Some(found));
         }
-        find_of(alloc, &self.entries, None, text)
+        self.find_any(alloc, text)
     }
 
     /// The same among the entries of type `step` alone. (this project's profile)

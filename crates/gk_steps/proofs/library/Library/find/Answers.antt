@@ -13,11 +13,11 @@ returns-in-Some-clause-found c =
 
 pub returns-clause-found : goal.returns-clause-found
 returns-clause-found c =
-    other_answer (library_value c.args.self.now) c.args.step_type c.args.text.now c.find_of-2.result
+    other_answer (library_value c.args.self.now) c.args.step_type c.args.text.now c.find_any.result
     (subst (λ o. IsFoundOf (library_value c.args.self.now) (Some c.args.step_type) c.args.text.now (option_map found_value o)) c.in_default.is
     (typed_found c.args.self.now.entries.items c.args.self.now.typed c.args.step_type c.args.text.now (option_map found_value c.in_ok-found.field-0) c.args.self.now.rest
     (subst (λ es. IsFoundOf (map entry_value (take c.args.self.now.typed es)) (Some c.args.step_type) c.args.text.now (option_map found_value c.in_ok-found.field-0)) c.deref.ensures.value c.in_ok-found.ensures.found)))
-    (subst (λ es. IfOk c.find_of-2.result (λ o. IsFoundOf (map entry_value es) None c.args.text.now (option_map found_value o))) c.deref-2.ensures.value c.find_of-2.ensures.found)
+    c.find_any.ensures.found
 
 pub returns-in_err-found-clause-memory : goal.returns-in_err-found-clause-memory
 returns-in_err-found-clause-memory c =
