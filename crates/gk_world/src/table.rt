@@ -5,7 +5,7 @@ ghost use Rattle.gk_world.specs.Slots.{map_at};
 ghost use Rattle.gk_world.specs.Listing.{Lists};
 ghost use Rattle.gk_world.specs.Refusals as refusals;
 ghost use Rattle.gk_world.specs.Slots.{Fits, undone};
-ghost use Rattle.gk_world.specs.Table.{Steps, Refuses};
+ghost use Rattle.gk_world.specs.Table.{Steps, Refuses, refusal};
 
 use crate::limits::{is_bad_name, is_too_long, joined, put_refusal};
 use crate::listing::{note, sorted};
@@ -101,6 +101,17 @@ impl Table {
         }
         sorted(alloc, texts)
     }
+
+    /// Why a change is refused, if there is a reason.
+    fn refusal(&self, change: &TableChange) -> Option<WorldFault>
+        ensures { refusals.IsReason (refusal change.now (map_at 0 self.now)) result }
+    {
+        match change {
+            TableChange::Put(name, text) => put_refusal(name, text),
+            TableChange::Append(name, more) => self.append_refusal(name, more),
+            TableChange::Remove(name) => self.remove_refusal(name),
+        }
+    }
 }
 
 impl Reversible for Table {
@@ -132,31 +143,18 @@ impl Reversible for Table {
         ensures err { OnErr result (self.new ≡ self.old) }
         ensures refused { IfErr result (Refuses change self.old) }
     {
+        if let Some(fault) = self.refusal(&change) {
+            return Err(fault);
+        }
         match change {
-            TableChange::Put(name, text) => {
-                if let Some(fault) = put_refusal(&name, &text) {
-                    return Err(fault);
-                }
-                self.slots.put(name, 0, text)
-            }
+            TableChange::Put(name, text) => self.slots.put(name, 0, text),
             TableChange::Append(name, more) => {
-                if let Some(fault) = self.append_refusal(&name, &more) {
-                    return Err(fault);
-                }
-                let Some(text) = self.slots.text(&name, 0) else {
-                    return Err(WorldFault::Absent);
-                };
+                let text = self.get(&name).unwrap_or("");
                 let text = joined(self.alloc, text, &more)?;
                 self.slots.put(name, 0, text)
             }
             TableChange::Remove(name) => {
-                if let Some(fault) = self.remove_refusal(&name) {
-                    return Err(fault);
-                }
-                match self.slots.remove(&name, 0) {
-                    Some(undo) => Ok(undo),
-                    None => Err(WorldFault::Absent),
-                }
+                self.slots.remove(&name, 0).ok_or(WorldFault::Absent)
             }
         }
     }
