@@ -1,8 +1,8 @@
 -- How a sandbox keeps what is seen of it.
-use Rattle.std.proofs.Common.{◌≡◌, ◌≢◌, ◌⊎◌, inl, inr, ℕ, zero, suc, ◌+◌, ◌-◌, ◌<◌, ◌≤◌, None, List, [], ◌∷◌, ◌++◌, length, drop, take, set, get_or, get_or-set_other, get_or-set_same, refl, sym, ap, subst, ◌∙◌, arith}
+use Rattle.std.proofs.Common.{◌≡◌, ◌≢◌, ◌⊎◌, inl, inr, ℕ, zero, suc, ◌+◌, ◌-◌, ◌<◌, ◌≤◌, None, Result, Ok, Err, OnOk, OnErr, IfErr, List, [], ◌∷◌, ◌++◌, length, drop, take, set, get_or, get_or-set_other, get_or-set_same, refl, sym, ap, subst, ◌∙◌, arith}
 use Rattle.std.proofs.lemmas.List.{length-take-le, length-append}
 use Rattle.std.proofs.Math.Seq.{drop-length}
-use Rattle.gk_world.specs.Journal.{rewound, FitAll}
+use Rattle.gk_world.specs.Journal.{rewound, FitAll, StaysFit}
 use Rattle.gk_world.proofs.UndoLemmas.{length-layers_of}
 use Rattle.gk_world.proofs.JournalLemmas.{FitAll-drop}
 use Rattle.gk_world.specs.declared.world_fault.WorldFault.{WorldFault}
@@ -12,7 +12,7 @@ use Rattle.gk_world.specs.declared.world.World.{World}
 use Rattle.gk_world.specs.declared.world.WorldUndo.{WorldUndo}
 use Rattle.gk_world.specs.declared.world.WorldChange.{WorldChange}
 use Rattle.gk_world.specs.Slots.{map_at, layers_of}
-use Rattle.gk_world.specs.Refusals.{IsFault, delete_refusal}
+use Rattle.gk_world.specs.Refusals.{IsFault, IsAnswer, delete_refusal}
 use Rattle.gk_world.specs.State.{state_of}
 use Rattle.gk_world.specs.Values.{state_at, IsLayer}
 use Rattle.gk_world.specs.World.{contents_of, Fits, undone, Steps, Refuses, CanApply, IsHere, changed, refusal, IsClear}
@@ -195,6 +195,24 @@ module _ (c : WorldChange) (w : World) (us : List WorldUndo) (ms : List ℕ) (v 
       ordered = marks-more ms (length us) (length vs) vs t lt (omega (arith, ap length is, length-append us (u ∷ []))) (marks-same ms (length us) us vs w t h.ordered same);
       fit = fit;
     }
+
+-- a change of an open layer, whether it is refused or not
+module _ {A : Type 0} (c : WorldChange) (w : World) (us : List WorldUndo) (ms : List ℕ) (v : SandboxValue) (is : value_of w us ms ≡ v) (here : IsHere c (depth v)) (h : IsSound w us ms) (lt : 0 < length ms) (t : World) (vs : List WorldUndo) where
+  pub recorded_value : (r : Result A WorldFault) → OnOk r (Steps c w t) → OnOk r (Same (length us) us vs w t) → OnOk r ((u : WorldUndo) × (vs ≡ us ++ u ∷ []) × Fits u t × (undone u t ≡ w)) → OnOk r (Becomes (changed c v.now) v (value_of t vs ms))
+  recorded_value (Ok x) s same more = becomes_recorded c w us ms v is here h t vs s same more.0 more.1 lt
+  recorded_value (Err e) s same more = tt
+
+  pub recorded_sound : (r : Result A WorldFault) → OnOk r (Steps c w t) → OnOk r (Same (length us) us vs w t) → OnOk r ((u : WorldUndo) × (vs ≡ us ++ u ∷ []) × Fits u t × (undone u t ≡ w)) → OnOk r (StaysFit undone Fits us w vs t) → OnErr r ((vs ≡ us) × (t ≡ w)) → IsSound t vs ms
+  recorded_sound (Ok x) s same more fit err = sound_still c w us ms v is here h t vs s same more.0 more.1 lt (fit 0 (omega arith) h.fit)
+  recorded_sound (Err e) s same more fit err = subst (λ t. IsSound t vs ms) (sym err.1) (subst (λ us. IsSound w us ms) (sym err.0) h)
+
+  pub recorded_answer : (r : Result A WorldFault) → refusal c v.now ≡ None → IfErr r (λ e. (e ≡ Memory) ⊎ Refuses c w e) → IsAnswer (refusal c v.now) r
+  recorded_answer (Ok x) none refused = none
+  recorded_answer (Err e) none refused = may_be c w us ms v is here h none e refused
+
+  pub recorded_same : (r : Result A WorldFault) → OnErr r ((vs ≡ us) × (t ≡ w)) → OnErr r (value_of t vs ms ≡ v)
+  recorded_same (Ok x) err = tt
+  recorded_same (Err e) err = ap (λ t. value_of t vs ms) err.1 ∙ ap (λ us. value_of w us ms) err.0 ∙ is
 
 -- what is said of values in the innermost layer
 pub delete_refusal_is : (w : World) (us : List WorldUndo) (ms : List ℕ) (v : SandboxValue) → value_of w us ms ≡ v → (d : ℕ) → d ≡ depth v → (name : List ℕ) → delete_refusal (state_at d w.values) name ≡ delete_refusal (state_of v.now) name

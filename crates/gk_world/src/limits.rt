@@ -38,6 +38,23 @@ pub fn put_refusal(name: &str, text: &str) -> Option<WorldFault>
     None
 }
 
+/// A name and a text that may be put, copied.
+pub fn copied_for_put(
+    alloc: Global,
+    name: &str,
+    text: &str,
+) -> Result<(String, String), WorldFault>
+    ensures answer { refusals.IsAnswer (refusals.put_refusal name.now text.now) result }
+    ensures copies { IfOk result (λ copies. (string_bytes copies.0 ≡ name.now) × (string_bytes copies.1 ≡ text.now)) }
+{
+    if let Some(fault) = put_refusal(name, text) {
+        return Err(fault);
+    }
+    let name = String::from_str(alloc, name)?;
+    let text = String::from_str(alloc, text)?;
+    Ok((name, text))
+}
+
 /// A text with more at its end. It takes memory once.
 pub fn joined(alloc: Global, text: &str, more: &str) -> Result<String, AllocError>
     ensures { IfOk result (λ whole. string_bytes whole ≡ text.now ++ more.now) }

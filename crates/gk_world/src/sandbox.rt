@@ -11,7 +11,7 @@ ghost use Rattle.gk_world.specs.Sandbox.{new_sandbox, layers, depth, begun, Ends
 
 use crate::cells::LAYERS;
 use crate::journal::Journal;
-use crate::limits::put_refusal;
+use crate::limits::copied_for_put;
 use crate::listing::Listing;
 use crate::reversible::Reversible;
 use crate::table::TableChange;
@@ -140,8 +140,7 @@ impl Sandbox {
             self.world.apply(change)?;
             return Ok(());
         }
-        self.journal.change(&mut self.world, change)?;
-        Ok(())
+        self.journal.change(&mut self.world, change)
     }
 
     /// Puts a file. Refusals come in the order `BadName`, `TextTooLong`. A refusal changes nothing; `Memory`
@@ -152,11 +151,7 @@ impl Sandbox {
         ensures answer { IsAnswer (refusals.put_refusal name.now text.now) result }
         ensures err { OnErr result (self.new ≡ self.old) }
     {
-        if let Some(fault) = put_refusal(name, text) {
-            return Err(fault);
-        }
-        let name = String::from_str(self.alloc, name)?;
-        let text = String::from_str(self.alloc, text)?;
+        let (name, text) = copied_for_put(self.alloc, name, text)?;
         self.change(WorldChange::File(TableChange::Put(name, text)))
     }
 
@@ -199,11 +194,7 @@ impl Sandbox {
         ensures answer { IsAnswer (refusals.put_refusal name.now text.now) result }
         ensures err { OnErr result (self.new ≡ self.old) }
     {
-        if let Some(fault) = put_refusal(name, text) {
-            return Err(fault);
-        }
-        let name = String::from_str(self.alloc, name)?;
-        let text = String::from_str(self.alloc, text)?;
+        let (name, text) = copied_for_put(self.alloc, name, text)?;
         self.change(WorldChange::Env(TableChange::Put(name, text)))
     }
 
@@ -232,11 +223,7 @@ impl Sandbox {
         ensures answer { IsAnswer (refusals.put_refusal name.now text.now) result }
         ensures err { OnErr result (self.new ≡ self.old) }
     {
-        if let Some(fault) = put_refusal(name, text) {
-            return Err(fault);
-        }
-        let name = String::from_str(self.alloc, name)?;
-        let text = String::from_str(self.alloc, text)?;
+        let (name, text) = copied_for_put(self.alloc, name, text)?;
         let layer = self.depth();
         self.change(WorldChange::Value(ValueChange::Set(layer, name, text)))
     }

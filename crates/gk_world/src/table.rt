@@ -1,5 +1,5 @@
 //! A table of texts by name, as of files or of variables.
-ghost use Rattle.std.specs.Prelude.{◌≡◌, ℕ, List, [], ◌++◌, IfOk, IfErr, OnOk, OnErr, None, Some, option_copied};
+ghost use Rattle.std.specs.Prelude.{◌≡◌, ℕ, List, [], ◌++◌, IfOk, IfErr, OnOk, OnErr, None, Some, option_copied, string_bytes};
 ghost use Rattle.std.specs.FinMap as finite;
 ghost use Rattle.gk_world.specs.Slots.{map_at};
 ghost use Rattle.gk_world.specs.Listing.{Lists};
@@ -102,6 +102,13 @@ impl Table {
         sorted(alloc, texts)
     }
 
+    /// The text of a name, with more at its end.
+    fn extended(&self, name: &str, more: &str) -> Result<String, AllocError>
+        ensures { IfOk result (λ text. string_bytes text ≡ refusals.joined (finite.get (map_at 0 self.now)) name.now more.now) }
+    {
+        joined(self.alloc, self.get(name).unwrap_or(""), more)
+    }
+
     /// Why a change is refused, if there is a reason.
     fn refusal(&self, change: &TableChange) -> Option<WorldFault>
         ensures { refusals.IsReason (refusal change.now (map_at 0 self.now)) result }
@@ -149,8 +156,7 @@ impl Reversible for Table {
         match change {
             TableChange::Put(name, text) => self.slots.put(name, 0, text),
             TableChange::Append(name, more) => {
-                let text = self.get(&name).unwrap_or("");
-                let text = joined(self.alloc, text, &more)?;
+                let text = self.extended(&name, &more)?;
                 self.slots.put(name, 0, text)
             }
             TableChange::Remove(name) => {

@@ -5,7 +5,7 @@ ghost use Rattle.gk_world.specs.State.{see};
 ghost use Rattle.gk_world.specs.Listing.{Lists};
 ghost use Rattle.gk_world.specs.Refusals as refusals;
 ghost use Rattle.gk_world.specs.Slots.{Fits, undone};
-ghost use Rattle.gk_world.specs.Values.{Steps, Refuses, IsLayer, layer_of, state_at};
+ghost use Rattle.gk_world.specs.Values.{Steps, Refuses, IsLayer, layer_of, refusal, state_at};
 
 use crate::cells::LAYERS;
 use crate::limits::{is_bad_name, put_refusal};
@@ -94,6 +94,17 @@ impl Values {
         }
         sorted(alloc, texts)
     }
+
+    /// Why a change is refused, if there is a reason.
+    fn refusal(&self, change: &ValueChange) -> Option<WorldFault>
+        requires { IsLayer (layer_of change.now) }
+        ensures { refusals.IsReason (refusal change.now (state_at (layer_of change.now) self.now)) result }
+    {
+        match change {
+            ValueChange::Set(_, name, text) => put_refusal(name, text),
+            ValueChange::Delete(layer, name) => self.delete_refusal(*layer, name),
+        }
+    }
 }
 
 impl Reversible for Values {
@@ -129,21 +140,15 @@ impl Reversible for Values {
         ensures err { OnErr result (self.new ≡ self.old) }
         ensures refused { IfErr result (Refuses change self.old) }
     {
+        if let Some(fault) = self.refusal(&change) {
+            return Err(fault);
+        }
         match change {
             ValueChange::Set(layer, name, text) => {
-                if let Some(fault) = put_refusal(&name, &text) {
-                    return Err(fault);
-                }
                 self.slots.put(name, layer - 1, text)
             }
             ValueChange::Delete(layer, name) => {
-                if let Some(fault) = self.delete_refusal(layer, &name) {
-                    return Err(fault);
-                }
-                match self.slots.remove(&name, layer - 1) {
-                    Some(undo) => Ok(undo),
-                    None => Err(WorldFault::OtherLayer),
-                }
+                self.slots.remove(&name, layer - 1).ok_or(WorldFault::OtherLayer)
             }
         }
     }
