@@ -5,7 +5,7 @@ use Rattle.std.specs.Global.{Global}
 use Rattle.std.specs.Map.{lookup, keys_of, values_of}
 use Rattle.indexmap.specs.IndexMap.{set_value_at}
 use Rattle.gk_world.specs.Cells.{Slot, Cell}
-use Rattle.gk_world.specs.Slots.{cells_of, with_cells, with_cell, IsPlace, IsMissing, IsAt, IsNew}
+use Rattle.gk_world.specs.Slots.{cells_of, name_at, with_cells, with_cell, IsPlace, IsMissing, IsAt, IsNew}
 use Rattle.gk_world.specs.Slots.{seen, slots_of}
 use Rattle.gk_world.proofs.SlotsLemmas.{place_is}
 
@@ -67,6 +67,24 @@ module _ {C : Type 0} (cells : C → List Cell) where
 
   pub cells-at-place : (es : List (String Global × C)) (s : List Slot) (i : ℕ) (x : C) → slots_of cells es ≡ s → slice_get (values_of es) i ≡ Some x → cells x ≡ cells_of s i
   cells-at-place es s i x is at = sym (cells-at es i x at) ∙ ap (λ s. cells_of s i) is
+
+  -- the name of the row at i
+  name-at : (es : List (String Global × C)) (i : ℕ) (r : String Global × C) → Some r ≡ slice_get es i → string_bytes r.0 ≡ name_at (slots_of cells es) i
+  name-at [] i r h = absurd (true≢false (ap is_some h))
+  name-at (e ∷ es) zero r h = let same : r ≡ e = cc in ap (λ (r : String Global × C). string_bytes r.0) same
+  name-at (e ∷ es) (suc i) r h = name-at es i r h
+
+  pub name-at-place : (es : List (String Global × C)) (s : List Slot) (i : ℕ) (r : String Global × C) → slots_of cells es ≡ s → Some r ≡ slice_get es i → string_bytes r.0 ≡ name_at s i
+  name-at-place es s i r is at = name-at es i r at ∙ ap (λ s. name_at s i) is
+
+  no-name : (es : List (String Global × C)) (i : ℕ) → None ≡ slice_get es i → [] ≡ name_at (slots_of cells es) i
+  no-name [] i h = refl
+  no-name (e ∷ es) zero h = absurd (true≢false (sym (ap is_some h)))
+  no-name (e ∷ es) (suc i) h = no-name es i h
+
+  -- there is no name after the last row
+  pub no-name-at-place : (es : List (String Global × C)) (s : List Slot) (i : ℕ) → slots_of cells es ≡ s → None ≡ slice_get es i → [] ≡ name_at s i
+  no-name-at-place es s i is at = no-name es i at ∙ ap (λ s. name_at s i) is
 
   -- a write of one cell of the row at i
   pub row-write : (es : List (String Global × C)) (s : List Slot) (i j : ℕ) (x new : C) (c : Cell) → slots_of cells es ≡ s → slice_get (values_of es) i ≡ Some x → cells new ≡ set (cells x) j c → slots_of cells (set_value_at es i new) ≡ with_cell s i j c

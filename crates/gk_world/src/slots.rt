@@ -87,8 +87,10 @@ impl<C: Cells> Slots<C> {
         ensures memory { IfErr result (λ e. e ≡ WorldFault.Memory) }
     {
         let place = self.rows.len();
-        self.rows.insert(name, C::only(cell, text))?;
-        Ok(SlotUndo::Created(place, cell))
+        match self.rows.insert(name, C::only(cell, text)) {
+            Ok(_) => Ok(SlotUndo::Created(place, cell)),
+            Err(_) => Err(WorldFault::Memory),
+        }
     }
 
     /// How many rows there are.
@@ -146,7 +148,9 @@ impl<C: Cells> Slots<C> {
         ensures none { IfNone result (self.new ≡ self.old) }
     {
         let place = self.place(name)?;
-        self.cell(place, cell)?;
+        if self.cell(place, cell).is_none() {
+            return None;
+        }
         Some(self.write(place, cell, None))
     }
 
