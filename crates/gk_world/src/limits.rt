@@ -50,13 +50,6 @@ pub fn copied_for_put(
     if let Some(fault) = put_refusal(name, text) {
         return Err(fault);
     }
-    Ok(copied(alloc, name, text)?)
-}
-
-/// A name and a text, copied.
-pub fn copied(alloc: Global, name: &str, text: &str) -> Result<(String, String), AllocError>
-    ensures { IfOk result (λ copies. (string_bytes copies.0 ≡ name.now) × (string_bytes copies.1 ≡ text.now)) }
-{
     let name = String::from_str(alloc, name)?;
     let text = String::from_str(alloc, text)?;
     Ok((name, text))

@@ -2,7 +2,6 @@
 ghost use Rattle.std.specs.Prelude.{OnOk, IfOk, option_copied};
 ghost use Rattle.gk_world.specs.Listing.{AreEntries, Notes};
 
-use crate::limits::copied;
 use std::alloc::{AllocError, Global};
 use std::collections::BTreeMap;
 
@@ -27,7 +26,8 @@ pub fn note(
     let Some(text) = text else {
         return Ok(());
     };
-    let (name, text) = copied(alloc, name, text)?;
+    let name = String::from_str(alloc, name)?;
+    let text = String::from_str(alloc, text)?;
     texts.insert(name, text)?;
     Ok(())
 }

@@ -87,10 +87,8 @@ impl<C: Cells> Slots<C> {
         ensures memory { IfErr result (λ e. e ≡ WorldFault.Memory) }
     {
         let place = self.rows.len();
-        match self.rows.insert(name, C::only(cell, text)) {
-            Ok(_) => Ok(SlotUndo::Created(place, cell)),
-            Err(_) => Err(WorldFault::Memory),
-        }
+        self.rows.insert(name, C::only(cell, text))?;
+        Ok(SlotUndo::Created(place, cell))
     }
 
     /// How many rows there are.
