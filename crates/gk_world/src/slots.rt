@@ -145,11 +145,12 @@ impl<C: Cells> Slots<C> {
         ensures absent { IfNone result (is_none (finite.get (map_at cell self.old) name.now) ≡ true) }
         ensures none { IfNone result (self.new ≡ self.old) }
     {
-        let place = self.place(name)?;
-        if self.cell(place, cell).is_none() {
-            return None;
+        match self.place(name) {
+            Some(place) if self.cell(place, cell).is_some() => {
+                Some(self.write(place, cell, None))
+            }
+            _ => None,
         }
-        Some(self.write(place, cell, None))
     }
 
     /// Takes a change back. It takes no memory.

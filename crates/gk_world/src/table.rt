@@ -151,6 +151,7 @@ impl Reversible for Table {
         ensures refused { IfErr result (Refuses change self.old) }
     {
         if let Some(fault) = self.refusal(&change) {
+            drop(change);
             return Err(fault);
         }
         match change {

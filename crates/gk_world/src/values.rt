@@ -141,6 +141,7 @@ impl Reversible for Values {
         ensures refused { IfErr result (Refuses change self.old) }
     {
         if let Some(fault) = self.refusal(&change) {
+            drop(change);
             return Err(fault);
         }
         match change {
