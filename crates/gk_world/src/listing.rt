@@ -40,8 +40,8 @@ pub fn sorted(
     ensures { IfOk result (λ pairs. AreEntries texts pairs.items) }
 {
     let mut pairs = Vec::new(alloc);
-    for (name, text) in texts {
-        pairs.push((name, text))?;
+    for pair in texts {
+        pairs.push(pair)?;
     }
     Ok(pairs)
 }

@@ -137,8 +137,13 @@ impl Sandbox {
         ensures err { OnErr result (self.new ≡ self.old) }
     {
         if self.depth == 0 {
-            self.world.apply(change)?;
-            return Ok(());
+            return match self.world.apply(change) {
+                Ok(undo) => {
+                    drop(undo);
+                    Ok(())
+                }
+                Err(fault) => Err(fault),
+            };
         }
         self.journal.change(&mut self.world, change)
     }

@@ -159,12 +159,8 @@ impl<C: Cells> Slots<C> {
         ensures { self.new ≡ undone undo self.old }
     {
         match undo {
-            SlotUndo::Restore(place, cell, old) => {
-                self.write(place, cell, old);
-            }
-            SlotUndo::Created(_, _) => {
-                self.rows.pop();
-            }
+            SlotUndo::Restore(place, cell, old) => drop(self.write(place, cell, old)),
+            SlotUndo::Created(_, _) => drop(self.rows.pop()),
         }
     }
 }

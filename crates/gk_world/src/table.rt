@@ -151,6 +151,7 @@ impl Reversible for Table {
         ensures refused { IfErr result (Refuses change self.old) }
     {
         if let Some(fault) = self.refusal(&change) {
+            // None of it was taken, so it goes as a whole.
             drop(change);
             return Err(fault);
         }
