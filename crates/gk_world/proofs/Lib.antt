@@ -3,6 +3,7 @@ pub mod ListingLemmas
 pub mod RewindLemmas
 pub mod JournalLemmas
 pub mod RowsLemmas
+pub mod RemovedLemmas
 pub mod SlotsLemmas
 pub mod UndoLemmas
 pub mod WorldLemmas
