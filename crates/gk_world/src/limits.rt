@@ -39,11 +39,7 @@ pub fn put_refusal(name: &str, text: &str) -> Option<WorldFault>
 }
 
 /// A name and a text that may be put, copied.
-pub fn copied_for_put(
-    alloc: Global,
-    name: &str,
-    text: &str,
-) -> Result<(String, String), WorldFault>
+pub fn copied_for_put(alloc: Global, name: &str, text: &str) -> Result<(String, String), WorldFault>
     ensures answer { refusals.IsAnswer (refusals.put_refusal name.now text.now) result }
     ensures copies { IfOk result (λ copies. (string_bytes copies.0 ≡ name.now) × (string_bytes copies.1 ≡ text.now)) }
 {

@@ -161,9 +161,7 @@ impl Reversible for Table {
                 let text = self.extended(&name, &more)?;
                 self.slots.put(name, 0, text)
             }
-            TableChange::Remove(name) => {
-                self.slots.remove(&name, 0).ok_or(WorldFault::Absent)
-            }
+            TableChange::Remove(name) => self.slots.remove(&name, 0).ok_or(WorldFault::Absent),
         }
     }
 

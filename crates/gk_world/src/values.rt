@@ -146,12 +146,11 @@ impl Reversible for Values {
             return Err(fault);
         }
         match change {
-            ValueChange::Set(layer, name, text) => {
-                self.slots.put(name, layer - 1, text)
-            }
-            ValueChange::Delete(layer, name) => {
-                self.slots.remove(&name, layer - 1).ok_or(WorldFault::OtherLayer)
-            }
+            ValueChange::Set(layer, name, text) => self.slots.put(name, layer - 1, text),
+            ValueChange::Delete(layer, name) => self
+                .slots
+                .remove(&name, layer - 1)
+                .ok_or(WorldFault::OtherLayer),
         }
     }
 

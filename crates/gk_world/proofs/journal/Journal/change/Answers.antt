@@ -1,4 +1,3 @@
-use Rattle.std.proofs.Common.{◌≡◌, [], ◌∷◌, ◌++◌}
 use Rattle.gk_world.proofs.JournalLemmas.{pushed, rewound-since, FitAll-since}
 use Rattle.gk_world.proofs.journal.Journal.change.Goals as goal
 

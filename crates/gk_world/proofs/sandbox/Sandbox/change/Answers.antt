@@ -1,7 +1,6 @@
 use Rattle.std.proofs.Common.{arith}
-use Rattle.std.proofs.lemmas.Result.{err_from_is_err_and}
 use Rattle.gk_world.specs.Kept.{open_marks}
-use Rattle.gk_world.proofs.KeptLemmas.{length-open_marks, applies, may_be, recorded_value, recorded_sound, recorded_answer, recorded_same}
+use Rattle.gk_world.proofs.KeptLemmas.{length-open_marks, applies, recorded_value, recorded_sound, recorded_answer, recorded_same}
 use Rattle.gk_world.proofs.sandbox.Sandbox.change.Goals as goal
 
 pub change-requires : goal.change-requires

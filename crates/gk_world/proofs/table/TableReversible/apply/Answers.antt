@@ -24,10 +24,10 @@ append_steps : {A : Type 0} (r : Result A WorldFault) (change : TableChange) (na
 append_steps (Ok x) change name more text inside s t view is whole none w = record {
   allowed = none;
   done =
-    w.here
-    ∙ ap (λ s. finite.insert (map_at 0 s) (string_bytes name) (string_bytes text)) view
-    ∙ ap (finite.insert (map_at 0 s) (string_bytes name)) whole
-    ∙ ap (λ c. changed c (map_at 0 s)) (sym is);
+      w.here
+      ∙ ap (λ s. finite.insert (map_at 0 s) (string_bytes name) (string_bytes text)) view
+      ∙ ap (finite.insert (map_at 0 s) (string_bytes name)) whole
+      ∙ ap (λ c. changed c (map_at 0 s)) (sym is);
 }
 append_steps (Err e) change name more text inside s t view is whole none w = tt
 
