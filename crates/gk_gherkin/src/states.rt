@@ -192,10 +192,10 @@ fn after_tags(
 }
 
 // A state in the place of another, which is dropped.
-fn put(state: &mut State, next: State)
-    ensures { state.new ≡ next }
+fn put<T: Drop>(slot: &mut T, next: T)
+    ensures { slot.new ≡ next }
 {
-    *state = next;
+    *slot = next;
 }
 
 // Tags or a fence at a place.
