@@ -25,20 +25,19 @@ use crate::machine::{Place, State, feature_of, section_of};
 use crate::read_fault::ReadFault;
 use crate::states::next_state;
 use std::alloc::Global;
+use std::mem;
 
-fn run(alloc: Global, text: &str) -> Result<State, ReadFault>
+// The state after the lines of a text, in place of the state before them.
+fn run(alloc: Global, state: &mut State, text: &str) -> Result<(), ReadFault>
     requires { length text.now ≤ LIMIT }
-    ensures { Gives state_value result (spec.run (spec.At spec.Above) (numbered_from 1 (lines text.now))) }
+    ensures { Gives (λ _. state_value state.new) result (spec.run (state_value state.old) (numbered_from 1 (lines text.now))) }
 {
-    let mut state = State::At {
-        place: Place::Above,
-    };
     let mut number: u32 = 1;
     for part in text.lines() {
-        next_state(alloc, &mut state, &piece_from(number, part))?;
+        next_state(alloc, state, &piece_from(number, part))?;
         number += 1;
     }
-    Ok(state)
+    Ok(())
 }
 
 fn answer(alloc: Global, place: Place) -> Result<Option<Feature>, ReadFault>
@@ -53,22 +52,36 @@ fn answer(alloc: Global, place: Place) -> Result<Option<Feature>, ReadFault>
 }
 
 #[tactic(auto, unfolding(crate::specs::Machine::finish))]
-fn finish(alloc: Global, state: State) -> Result<Option<Feature>, ReadFault>
-    ensures { Gives (λ f. option_map feature_value f) result (spec.finish (state_value state)) }
+fn finish(alloc: Global, state: &mut State) -> Result<Option<Feature>, ReadFault>
+    ensures { Gives (λ f. option_map feature_value f) result (spec.finish (state_value state.old)) }
 {
     match state {
-        State::At { place } => answer(alloc, place),
-        State::Tagged { last, .. } => Err(ReadFault::TagsAtEnd { line: last }),
-        State::Quoted { line, .. } => Err(ReadFault::UnclosedText { line }),
+        State::At { place } => answer(alloc, mem::replace(place, Place::Above)),
+        State::Tagged { last, .. } => Err(ReadFault::TagsAtEnd { line: *last }),
+        State::Quoted { line, .. } => Err(ReadFault::UnclosedText { line: *line }),
     }
 }
 
 #[tactic(auto, unfolding(crate::specs::Machine::reading))]
+fn read_from(alloc: Global, state: &mut State, text: &str) -> Result<Option<Feature>, ReadFault>
+    requires first { state_value state.old ≡ spec.At spec.Above }
+    requires within { length text.now ≤ LIMIT }
+    ensures { Gives (λ f. option_map feature_value f) result (spec.reading (numbered_from 1 (lines text.now))) }
+{
+    run(alloc, state, text)?;
+    finish(alloc, state)
+}
+
 fn read(alloc: Global, text: &str) -> Result<Option<Feature>, ReadFault>
     requires { length text.now ≤ LIMIT }
     ensures { Gives (λ f. option_map feature_value f) result (spec.reading (numbered_from 1 (lines text.now))) }
 {
-    finish(alloc, run(alloc, text)?)
+    let mut state = State::At {
+        place: Place::Above,
+    };
+    let result = read_from(alloc, &mut state, text);
+    mem::drop(state);
+    result
 }
 
 /// The feature that the bytes spell, or none where they hold blank lines and comments alone.
