@@ -14,40 +14,53 @@ use crate::hooks_machine::{HooksPlace, HooksState, hooks_of, next_hooks_state};
 use crate::lines::{LIMIT, piece_from, text_of};
 use crate::read_fault::ReadFault;
 use std::alloc::Global;
+use std::mem;
 
-fn run(alloc: Global, text: &str) -> Result<HooksState, ReadFault>
+// The state after the lines of a text, in place of the state before them.
+fn run(alloc: Global, state: &mut HooksState, text: &str) -> Result<(), ReadFault>
     requires { length text.now ≤ LIMIT }
-    ensures { Gives state_value result (spec.run (spec.At spec.NoHook) (numbered_from 1 (lines text.now))) }
+    ensures { Gives (λ _. state_value state.new) result (spec.run (state_value state.old) (numbered_from 1 (lines text.now))) }
 {
-    let mut state = HooksState::At {
-        place: HooksPlace::NoHook,
-    };
     let mut number: u32 = 1;
     for part in text.lines() {
-        next_hooks_state(alloc, &mut state, &piece_from(number, part))?;
+        next_hooks_state(alloc, state, &piece_from(number, part))?;
         number += 1;
     }
-    Ok(state)
+    Ok(())
 }
 
 #[tactic(auto, unfolding(crate::specs::HooksMachine::finish))]
-fn finish(alloc: Global, state: HooksState) -> Result<HookFile, ReadFault>
-    ensures { Gives hooks_value result (spec.finish (state_value state)) }
+fn finish(alloc: Global, state: &mut HooksState) -> Result<HookFile, ReadFault>
+    ensures { Gives hooks_value result (spec.finish (state_value state.old)) }
 {
     match state {
         HooksState::At { place } => Ok(HookFile {
-            hooks: hooks_of(alloc, place)?,
+            hooks: hooks_of(alloc, mem::replace(place, HooksPlace::NoHook))?,
         }),
-        HooksState::Quoted { line, .. } => Err(ReadFault::UnclosedText { line }),
+        HooksState::Quoted { line, .. } => Err(ReadFault::UnclosedText { line: *line }),
     }
 }
 
 #[tactic(auto, unfolding(crate::specs::HooksMachine::reading))]
+fn read_from(alloc: Global, state: &mut HooksState, text: &str) -> Result<HookFile, ReadFault>
+    requires first { state_value state.old ≡ spec.At spec.NoHook }
+    requires within { length text.now ≤ LIMIT }
+    ensures { Gives hooks_value result (spec.reading (numbered_from 1 (lines text.now))) }
+{
+    run(alloc, state, text)?;
+    finish(alloc, state)
+}
+
 fn read(alloc: Global, text: &str) -> Result<HookFile, ReadFault>
     requires { length text.now ≤ LIMIT }
     ensures { Gives hooks_value result (spec.reading (numbered_from 1 (lines text.now))) }
 {
-    finish(alloc, run(alloc, text)?)
+    let mut state = HooksState::At {
+        place: HooksPlace::NoHook,
+    };
+    let result = read_from(alloc, &mut state, text);
+    mem::drop(state);
+    result
 }
 
 /// The hooks that the bytes spell, in order. A file of blank lines and comments alone has none.

@@ -1,5 +1,5 @@
 //! How a line goes on from a state: in place, but for tags, fences and lines after tags.
-ghost use Rattle.std.specs.Prelude.{Option, option_map, Ok, ◌≡◌};
+ghost use Rattle.std.specs.Prelude.{Option, option_map, Ok, ◌≡◌, ℕ, List, []};
 ghost use Rattle.gk_gherkin.specs.Lines.{piece_value};
 ghost use Rattle.gk_gherkin.specs.Feature.{texts};
 ghost use Rattle.std.specs.String.{string_bytes};
@@ -10,6 +10,7 @@ ghost use Rattle.gk_gherkin.specs.Tags as tagging;
 ghost use Rattle.gk_gherkin.specs.DocStrings as quoting;
 ghost use Rattle.std.specs.Str.Lines.{lines};
 ghost use Rattle.gk_gherkin.specs.declared.class.Class.TheVariants.{RuleHeading};
+ghost use Rattle.gk_gherkin.specs.declared.class.Fence as classes;
 
 use crate::class::{Class, Fence, class_of_line};
 use crate::doc_strings::{closes, whole_text, with_line};
@@ -42,24 +43,15 @@ fn check_comment(place: &Place, line: &Piece<'_>) -> Result<(), ReadFault>
     }
 }
 
-fn tag_line(
-    alloc: Global,
-    place: Place,
-    tags: Vec<String>,
-    line: &Piece<'_>,
-) -> Result<State, ReadFault>
-    ensures { Gives state_value result (spec.tag_line (tagging.tags_of (piece_value line.now)) (place_value place) (texts tags.items) (piece_value line.now)) }
+// The tags of a line after those before it.
+fn tag_line(alloc: Global, tags: &mut Vec<String>, line: &Piece<'_>) -> Result<(), ReadFault>
+    ensures { (place : spec.Place) → Gives (λ _. spec.Tagged place (texts tags.new.items) (piece_value line.now).line) result (spec.tag_line (tagging.tags_of (piece_value line.now)) place (texts tags.old.items) (piece_value line.now)) }
 {
     match tags_of(alloc, line)? {
         Some(more) => {
-            let mut tags = tags;
             let mut more = more;
             tags.append(&mut more)?;
-            Ok(State::Tagged {
-                place,
-                tags,
-                last: line.place.line,
-            })
+            Ok(())
         }
         None => Err(ReadFault::BadTag {
             line: line.place.line,
@@ -109,10 +101,15 @@ fn quote_of(place: Place) -> Result<Quote, Place>
 }
 
 #[tactic(auto, unfolding(crate::specs::Machine::on_fence))]
-fn on_fence(alloc: Global, place: Place, line: &Piece<'_>, fence: Fence) -> Result<State, ReadFault>
-    ensures { Gives state_value result (spec.on_fence (spec.quote_of (place_value place)) (place_value place) (piece_value line.now) fence) }
+fn on_fence(
+    alloc: Global,
+    place: &mut Place,
+    line: &Piece<'_>,
+    fence: Fence,
+) -> Result<State, ReadFault>
+    ensures { Gives state_value result (spec.on_fence (spec.quote_of (place_value place.old)) (place_value place.old) (piece_value line.now) fence) }
 {
-    match quote_of(place) {
+    match quote_of(mem::replace(place, Place::Above)) {
         Ok(quote) => Ok(State::Quoted {
             quote,
             fence,
@@ -121,9 +118,11 @@ fn on_fence(alloc: Global, place: Place, line: &Piece<'_>, fence: Fence) -> Resu
             content: None,
         }),
         Err(other) => {
-            let mut place = other;
-            on_place(alloc, &mut place, line, Class::FenceLine(fence))?;
-            Ok(State::At { place })
+            put(place, other);
+            on_place(alloc, place, line, Class::FenceLine(fence))?;
+            Ok(State::At {
+                place: mem::replace(place, Place::Above),
+            })
         }
     }
 }
@@ -165,54 +164,88 @@ pub fn add_line(
     Ok(())
 }
 
-#[tactic(auto, unfolding(crate::specs::Machine::on))]
-fn after_tags(
-    alloc: Global,
-    place: Place,
-    tags: Vec<String>,
-    last: u32,
-    line: &Piece<'_>,
-    class: Class,
-) -> Result<State, ReadFault>
-    ensures { Gives state_value result (spec.on (spec.Tagged (place_value place) (texts tags.items) last) (piece_value line.now) class) }
-{
-    let mut place = place;
-    match class {
-        Class::Blank => Ok(State::Tagged { place, tags, last }),
-        Class::Comment => {
-            check_comment(&place, line)?;
-            Ok(State::Tagged { place, tags, last })
-        }
-        Class::TagLine => tag_line(alloc, place, tags, line),
-        _ => {
-            on_heading(alloc, &mut place, tags, line, class)?;
-            Ok(State::At { place })
-        }
-    }
-}
-
-// A state in the place of another, which is dropped.
+// A value in the place of another, which is dropped.
 fn put<T: Drop>(slot: &mut T, next: T)
     ensures { slot.new ≡ next }
 {
     *slot = next;
 }
 
+// The first tags at a place.
+fn first_tags(alloc: Global, place: &mut Place, line: &Piece<'_>) -> Result<State, ReadFault>
+    ensures { Gives state_value result (spec.tag_line (tagging.tags_of (piece_value line.now)) (place_value place.old) [] (piece_value line.now)) }
+{
+    let mut tags = Vec::new(alloc);
+    tag_line(alloc, &mut tags, line)?;
+    Ok(State::Tagged {
+        place: mem::replace(place, Place::Above),
+        tags,
+        last: line.place.line,
+    })
+}
+
 // Tags or a fence at a place.
 #[tactic(auto, unfolding(crate::specs::Machine::on))]
 fn tags_or_fence(
     alloc: Global,
-    place: Place,
+    place: &mut Place,
     line: &Piece<'_>,
     class: Class,
 ) -> Result<State, ReadFault>
-    requires { spec.Changes (spec.At (place_value place)) (piece_value line.now) class }
-    ensures { Gives state_value result (spec.on (spec.At (place_value place)) (piece_value line.now) class) }
+    requires { spec.Changes (spec.At (place_value place.old)) (piece_value line.now) class }
+    ensures { Gives state_value result (spec.on (spec.At (place_value place.old)) (piece_value line.now) class) }
 {
     match class {
-        Class::TagLine => tag_line(alloc, place, Vec::new(alloc), line),
+        Class::TagLine => first_tags(alloc, place, line),
         Class::FenceLine(fence) => on_fence(alloc, place, line, fence),
-        _ => Ok(State::At { place }),
+        _ => Ok(State::At {
+            place: mem::replace(place, Place::Above),
+        }),
+    }
+}
+
+// More tags after tags.
+fn more_tags(
+    alloc: Global,
+    tags: &mut Vec<String>,
+    last: &mut u32,
+    line: &Piece<'_>,
+) -> Result<(), ReadFault>
+    ensures { (place : spec.Place) → Gives (λ _. spec.Tagged place (texts tags.new.items) last.new) result (spec.tag_line (tagging.tags_of (piece_value line.now)) place (texts tags.old.items) (piece_value line.now)) }
+{
+    tag_line(alloc, tags, line)?;
+    *last = line.place.line;
+    Ok(())
+}
+
+// A heading that takes the tags before it.
+fn heading_after_tags(
+    alloc: Global,
+    place: &mut Place,
+    tags: &mut Vec<String>,
+    line: &Piece<'_>,
+    class: Class,
+) -> Result<State, ReadFault>
+    ensures { Gives state_value result (spec.placed (spec.on_heading (place_value place.old) (texts tags.old.items) (piece_value line.now) class)) }
+{
+    let tags = mem::replace(tags, Vec::new(alloc));
+    on_heading(alloc, place, tags, line, class)?;
+    Ok(State::At {
+        place: mem::replace(place, Place::Above),
+    })
+}
+
+// The end of a doc string: the state is at the place after it.
+fn end_quote(alloc: Global, state: &mut State)
+    ensures { (quote : spec.QuoteValue) (fence : classes.Fence) (column n : ℕ) (content : Option (List ℕ)) → state_value state.old ≡ spec.Quoted quote fence column n content → state_value state.new ≡ spec.At (spec.after_quote quote content) }
+{
+    let place = Place::Above;
+    match mem::replace(state, State::At { place }) {
+        State::Quoted { quote, content, .. } => {
+            let place = after_quote(alloc, quote, content);
+            put(state, State::At { place });
+        }
+        other => put(state, other),
     }
 }
 
@@ -223,16 +256,27 @@ fn change(alloc: Global, state: &mut State, line: &Piece<'_>, class: Class) -> R
     requires { spec.Changes (state_value state.old) (piece_value line.now) class }
     ensures { Gives (λ _. state_value state.new) result (spec.on (state_value state.old) (piece_value line.now) class) }
 {
-    let place = Place::Above;
-    let next = match mem::replace(state, State::At { place }) {
-        State::At { place } => tags_or_fence(alloc, place, line, class)?,
-        State::Tagged { place, tags, last } => after_tags(alloc, place, tags, last, line, class)?,
-        State::Quoted { quote, content, .. } => State::At {
-            place: after_quote(alloc, quote, content),
+    match state {
+        State::At { place } => {
+            let next = tags_or_fence(alloc, place, line, class)?;
+            put(state, next);
+            Ok(())
+        }
+        State::Tagged { place, tags, last } => match class {
+            Class::Blank => Ok(()),
+            Class::Comment => check_comment(place, line),
+            Class::TagLine => more_tags(alloc, tags, last, line),
+            _ => {
+                let next = heading_after_tags(alloc, place, tags, line, class)?;
+                put(state, next);
+                Ok(())
+            }
         },
-    };
-    put(state, next);
-    Ok(())
+        State::Quoted { .. } => {
+            end_quote(alloc, state);
+            Ok(())
+        }
+    }
 }
 
 #[tactic(auto, unfolding(crate::specs::Machine::step, crate::specs::Machine::on))]

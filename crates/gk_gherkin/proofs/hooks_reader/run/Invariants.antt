@@ -7,6 +7,6 @@ use Rattle.gk_gherkin.proofs.hooks_reader.run.Given as goal
 
 abbrev pub invariant-loop-part : goal.invariant-loop-part
 invariant-loop-part l = record {
-  so_far : spec.run (state_value l.state) (numbered_from l.number (drop (length l.yielded) (lines l.text))) ≡ spec.run (spec.At spec.NoHook) (numbered_from 1 (lines l.text));
+  so_far : spec.run (state_value l.state) (numbered_from l.number (drop (length l.yielded) (lines l.text))) ≡ spec.run (state_value l.fn.state) (numbered_from 1 (lines l.text));
   counted : l.number ≡ 1 + length l.yielded;
 }
