@@ -19,7 +19,7 @@ use crate::feature::{Block, Step};
 use crate::hook_headings::{Heading, HooksClass, hook_heading, hooks_class};
 use crate::hooks::{Hook, HookKind};
 use crate::lines::Piece;
-use crate::machine::{Body, on_body, steps_of, unexpected};
+use crate::machine::{Body, on_body, put, steps_of, unexpected};
 use crate::read_fault::ReadFault;
 use crate::states::add_line;
 use std::alloc::Global;
@@ -157,10 +157,13 @@ fn on_hook(alloc: Global, place: &mut HooksPlace, line: &Piece<'_>) -> Result<()
                 tag: tag_of(alloc, &heading)?,
                 line: line.place.line,
             };
-            *place = HooksPlace::InHook {
-                opened,
-                body: Body::Describing,
-            };
+            put(
+                place,
+                HooksPlace::InHook {
+                    opened,
+                    body: Body::Describing,
+                },
+            );
             Ok(())
         }
     }
@@ -265,13 +268,6 @@ fn after_quote(alloc: Global, quote: HookQuote, content: Option<String>) -> Hook
             },
         },
     }
-}
-
-// A state in the place of another, which is dropped.
-fn put(state: &mut HooksState, next: HooksState)
-    ensures { state.new ≡ next }
-{
-    *state = next;
 }
 
 // A fence at a place, or a line that closes a doc string.

@@ -140,6 +140,13 @@ pub enum State {
     },
 }
 
+/// A value in the place of another, which is dropped.
+pub fn put<T: Drop>(slot: &mut T, next: T)
+    ensures { slot.new ≡ next }
+{
+    *slot = next;
+}
+
 pub fn unexpected(line: &Piece<'_>) -> ReadFault
     ensures { result ≡ Unexpected line.now.place.line }
 {
@@ -350,10 +357,13 @@ fn feature_heading(
     ensures { Gives (λ _. place_value place.new) result (Ok (spec.Inside (spec.OfFeature (spec.head_from (texts tags.items) (piece_value line.now))) spec.Headed)) }
 {
     let head = head_from(alloc, tags, line)?;
-    *place = Place::Inside {
-        top: Top::OfFeature { head },
-        part: Open::Headed,
-    };
+    put(
+        place,
+        Place::Inside {
+            top: Top::OfFeature { head },
+            part: Open::Headed,
+        },
+    );
     Ok(())
 }
 
@@ -372,10 +382,13 @@ fn rule_heading(
         Place::Inside { top, part } => {
             let feature = feature_of(alloc, top, section_of(alloc, part)?)?;
             let head = head_from(alloc, tags, line)?;
-            *place = Place::Inside {
-                top: Top::OfRule { feature, head },
-                part: Open::Headed,
-            };
+            put(
+                place,
+                Place::Inside {
+                    top: Top::OfRule { feature, head },
+                    part: Open::Headed,
+                },
+            );
             Ok(())
         }
     }
@@ -392,14 +405,17 @@ fn first_scenario(
     ensures { Gives (λ _. open_value part.new) result (Ok (spec.begun_scenario (spec.section_of (open_value part.old)) (string_bytes keyword) (head_value head))) }
 {
     let section = section_of(alloc, mem::replace(part, Open::Headed))?;
-    *part = Open::Bodied {
-        owner: Owner::OfScenario {
-            section,
-            keyword,
-            head,
+    put(
+        part,
+        Open::Bodied {
+            owner: Owner::OfScenario {
+                section,
+                keyword,
+                head,
+            },
+            body: Body::Describing,
         },
-        body: Body::Describing,
-    };
+    );
     Ok(())
 }
 
@@ -421,11 +437,14 @@ fn scenario_after_steps(
                 background,
                 scenarios: Vec::new(alloc),
             };
-            *owner = Owner::OfScenario {
-                section,
-                keyword,
-                head,
-            };
+            put(
+                owner,
+                Owner::OfScenario {
+                    section,
+                    keyword,
+                    head,
+                },
+            );
             Ok(())
         }
         Owner::OfScenario {
@@ -471,12 +490,15 @@ fn examples_heading(
     match outline_of(alloc, mem::replace(part, Open::Headed))? {
         Some(outline) => {
             let head = head_from(alloc, tags, line)?;
-            *part = Open::Exampled {
-                section: outline.section,
-                scenario: outline.scenario,
-                head,
-                grid: Grid::NoRows,
-            };
+            put(
+                part,
+                Open::Exampled {
+                    section: outline.section,
+                    scenario: outline.scenario,
+                    head,
+                    grid: Grid::NoRows,
+                },
+            );
             Ok(())
         }
         None => Err(unexpected(line)),
@@ -548,7 +570,7 @@ fn on_block(alloc: Global, block: &mut Block, line: &Piece<'_>) -> Result<(), Re
             let cells = on_row(alloc, None, line)?;
             let mut rows = Vec::new(alloc);
             rows.push(cells)?;
-            *block = Block::Table(rows);
+            put(block, Block::Table(rows));
             Ok(())
         }
         Block::Table(rows) => {
@@ -574,10 +596,13 @@ pub fn on_grid(
         Grid::NoRows => match class {
             Class::RowLine => {
                 let header = on_row(alloc, None, line)?;
-                *grid = Grid::Rows {
-                    header,
-                    rows: Vec::new(alloc),
-                };
+                put(
+                    grid,
+                    Grid::Rows {
+                        header,
+                        rows: Vec::new(alloc),
+                    },
+                );
                 Ok(())
             }
             Class::StepLine | Class::FenceLine(_) | Class::Other => Ok(()),
@@ -610,10 +635,13 @@ pub fn on_body(
         Body::Describing => match class {
             Class::StepLine => {
                 let step = step_from(alloc, StepType::Given, line)?;
-                *body = Body::Stepped {
-                    steps: Vec::new(alloc),
-                    step,
-                };
+                put(
+                    body,
+                    Body::Stepped {
+                        steps: Vec::new(alloc),
+                        step,
+                    },
+                );
                 Ok(())
             }
             Class::RowLine | Class::FenceLine(_) | Class::Other => Ok(()),
@@ -638,12 +666,15 @@ fn on_open(alloc: Global, part: &mut Open, line: &Piece<'_>, class: Class) -> Re
     match part {
         Open::Headed => match class {
             Class::BackgroundHeading => {
-                *part = Open::Bodied {
-                    owner: Owner::OfBackground {
-                        line: line.place.line,
+                put(
+                    part,
+                    Open::Bodied {
+                        owner: Owner::OfBackground {
+                            line: line.place.line,
+                        },
+                        body: Body::Describing,
                     },
-                    body: Body::Describing,
-                };
+                );
                 Ok(())
             }
             Class::StepLine | Class::RowLine | Class::FenceLine(_) | Class::Other => Ok(()),

@@ -17,7 +17,7 @@ use crate::doc_strings::{closes, whole_text, with_line};
 use crate::feature::{Block, Step};
 use crate::language::language_of;
 use crate::lines::Piece;
-use crate::machine::{Body, Open, Owner, Place, Quote, State, Top, on_heading, on_place};
+use crate::machine::{Body, Open, Owner, Place, Quote, State, Top, on_heading, on_place, put};
 use crate::read_fault::ReadFault;
 use crate::tags::tags_of;
 use std::alloc::Global;
@@ -162,13 +162,6 @@ pub fn add_line(
     let before = mem::replace(content, None);
     *content = Some(with_line(alloc, before, fence, column, line)?);
     Ok(())
-}
-
-// A value in the place of another, which is dropped.
-fn put<T: Drop>(slot: &mut T, next: T)
-    ensures { slot.new ≡ next }
-{
-    *slot = next;
 }
 
 // The first tags at a place.
