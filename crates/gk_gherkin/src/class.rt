@@ -75,6 +75,21 @@ fn begins_as_step(text: &str) -> bool
         || begins_word(text, "*")
 }
 
+fn begins_as_scenario(text: &str) -> bool
+    ensures { result ≡ spec.begins_with_one text.now spec.scenario_keywords }
+{
+    begins(text, "Scenario:")
+        || begins(text, "Example:")
+        || begins(text, "Scenario Outline:")
+        || begins(text, "Scenario Template:")
+}
+
+fn begins_as_examples(text: &str) -> bool
+    ensures { result ≡ spec.begins_with_one text.now spec.examples_keywords }
+{
+    begins(text, "Examples:") || begins(text, "Scenarios:")
+}
+
 #[tactic(auto, unfolding(crate::specs::Class::class_of_words))]
 fn class_of_words(text: &str) -> Class
     ensures { result ≡ spec.class_of_words text.now }
@@ -85,13 +100,9 @@ fn class_of_words(text: &str) -> Class
         Class::RuleHeading
     } else if begins(text, "Background:") {
         Class::BackgroundHeading
-    } else if begins(text, "Scenario:")
-        || begins(text, "Example:")
-        || begins(text, "Scenario Outline:")
-        || begins(text, "Scenario Template:")
-    {
+    } else if begins_as_scenario(text) {
         Class::ScenarioHeading
-    } else if begins(text, "Examples:") || begins(text, "Scenarios:") {
+    } else if begins_as_examples(text) {
         Class::ExamplesHeading
     } else if begins_as_step(text) {
         Class::StepLine

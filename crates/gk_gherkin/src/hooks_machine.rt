@@ -1,5 +1,5 @@
 //! What was read of a hooks file so far, and how a line goes on from there.
-ghost use Rattle.std.specs.Prelude.{option_map, map, Ok, ◌≡◌};
+ghost use Rattle.std.specs.Prelude.{Option, option_map, map, Ok, ◌≡◌, ℕ, List};
 ghost use Rattle.std.specs.List.{list_any};
 ghost use Rattle.std.specs.String.{string_bytes};
 ghost use Rattle.gk_gherkin.specs.Lines.{piece_value};
@@ -11,6 +11,7 @@ ghost use Rattle.gk_gherkin.specs.Machine.{Gives};
 ghost use Rattle.gk_gherkin.specs.Machine.Views.{body_value};
 ghost use Rattle.gk_gherkin.specs.HooksMachine as spec;
 ghost use Rattle.gk_gherkin.specs.HooksMachine.Views.{opened_value, place_value, quote_value, state_value, IsQuote};
+ghost use Rattle.gk_gherkin.specs.declared.class.Fence as classes;
 ghost use Rattle.gk_gherkin.specs.declared.read_fault.ReadFault.TheVariants.{BadHook};
 
 use crate::class::{Class, Fence};
@@ -228,13 +229,13 @@ fn quote_of(place: HooksPlace) -> Result<HookQuote, HooksPlace>
 
 fn on_fence(
     alloc: Global,
-    place: HooksPlace,
+    place: &mut HooksPlace,
     line: &Piece<'_>,
     fence: Fence,
 ) -> Result<HooksState, ReadFault>
-    ensures { Gives state_value result (spec.on_fence (spec.quote_of (place_value place)) (place_value place) (piece_value line.now) fence) }
+    ensures { Gives state_value result (spec.on_fence (spec.quote_of (place_value place.old)) (place_value place.old) (piece_value line.now) fence) }
 {
-    match quote_of(place) {
+    match quote_of(mem::replace(place, HooksPlace::NoHook)) {
         Ok(quote) => Ok(HooksState::Quoted {
             quote,
             fence,
@@ -243,9 +244,11 @@ fn on_fence(
             content: None,
         }),
         Err(other) => {
-            let mut place = other;
-            on_hooks_place(alloc, &mut place, line, Class::FenceLine(fence))?;
-            Ok(HooksState::At { place })
+            put(place, other);
+            on_hooks_place(alloc, place, line, Class::FenceLine(fence))?;
+            Ok(HooksState::At {
+                place: mem::replace(place, HooksPlace::NoHook),
+            })
         }
     }
 }
@@ -270,6 +273,20 @@ fn after_quote(alloc: Global, quote: HookQuote, content: Option<String>) -> Hook
     }
 }
 
+// The end of a doc string: the state is at the place after it.
+fn end_quote(alloc: Global, state: &mut HooksState)
+    ensures { (quote : spec.HookQuoteValue) (fence : classes.Fence) (column n : ℕ) (content : Option (List ℕ)) → state_value state.old ≡ spec.Quoted quote fence column n content → state_value state.new ≡ spec.At (spec.after_quote quote content) }
+{
+    let place = HooksPlace::NoHook;
+    match mem::replace(state, HooksState::At { place }) {
+        HooksState::Quoted { quote, content, .. } => {
+            let place = after_quote(alloc, quote, content);
+            put(state, HooksState::At { place });
+        }
+        other => put(state, other),
+    }
+}
+
 // A fence at a place, or a line that closes a doc string.
 #[inline(never)]
 #[tactic(auto, unfolding(crate::specs::HooksMachine::on))]
@@ -282,17 +299,15 @@ fn change(
     requires { spec.Changes (state_value state.old) (piece_value line.now) class }
     ensures { Gives (λ _. state_value state.new) result (spec.on (state_value state.old) (piece_value line.now) class) }
 {
-    let place = HooksPlace::NoHook;
-    let next = match mem::replace(state, HooksState::At { place }) {
-        HooksState::At { place } => match class {
-            HooksClass::Plain(Class::FenceLine(fence)) => on_fence(alloc, place, line, fence)?,
-            _ => HooksState::At { place },
-        },
-        HooksState::Quoted { quote, content, .. } => HooksState::At {
-            place: after_quote(alloc, quote, content),
-        },
-    };
-    put(state, next);
+    match state {
+        HooksState::At { place } => {
+            if let HooksClass::Plain(Class::FenceLine(fence)) = class {
+                let next = on_fence(alloc, place, line, fence)?;
+                put(state, next);
+            }
+        }
+        HooksState::Quoted { .. } => end_quote(alloc, state),
+    }
     Ok(())
 }
 
