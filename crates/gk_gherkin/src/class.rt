@@ -7,7 +7,7 @@ ghost use Rattle.gk_gherkin.specs.Class as spec;
 use crate::lines::{Piece, is_blank, trim};
 
 /// The two fences of doc strings. (Cucumber's Gherkin reference: doc strings)
-#[derive(Clone, Copy, Debug, PartialEq, Eq)]
+#[derive(Clone, Copy)]
 pub enum Fence {
     Quotes,
     Backticks,
@@ -15,7 +15,7 @@ pub enum Fence {
 
 /// The class of a line: the first that fits its text, without the blanks at the text's ends. A
 /// heading's class is that of its keyword with the colon. (Cucumber's Gherkin reference: keywords)
-#[derive(Clone, Copy, Debug, PartialEq, Eq)]
+#[derive(Clone, Copy)]
 pub enum Class {
     /// No text.
     Blank,

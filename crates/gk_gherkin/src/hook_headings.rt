@@ -11,7 +11,7 @@ use crate::tags::is_tag;
 
 /// The class of a line in a hooks file: a hook line, whose text begins with `before_` or `after_`,
 /// without the blanks at the text's ends, or that of any other line. (this project's profile)
-#[derive(Clone, Copy, Debug, PartialEq, Eq)]
+#[derive(Clone, Copy)]
 pub enum HooksClass {
     HookLine,
     Plain(Class),

@@ -1,9 +1,10 @@
 //! The tags of a line.
-ghost use Rattle.std.specs.Prelude.{option_map, Ok, ◌≡◌};
+ghost use Rattle.std.specs.Prelude.{option_map, Ok, IfOk, IfErr, ◌≡◌, ◌++◌, ◌∷◌, []};
 ghost use Rattle.gk_gherkin.specs.Lines.{piece_value};
 ghost use Rattle.gk_gherkin.specs.Feature.{texts};
 ghost use Rattle.gk_gherkin.specs.Machine.{Gives};
 ghost use Rattle.gk_gherkin.specs.Tags as spec;
+ghost use Rattle.gk_gherkin.specs.declared.read_fault.ReadFault.TheVariants.{Memory};
 
 use crate::class::{begins, first_blank};
 use crate::lines::{Piece, trim_front};
@@ -14,6 +15,16 @@ pub fn is_tag(word: &str) -> bool
     ensures { result ≡ spec.is_tag word.now }
 {
     begins(word, "@") && 2 <= word.len()
+}
+
+// A word after the tags before it.
+#[tactic(auto, using(crate::proofs::TagWords::text_more))]
+fn push_tag(alloc: Global, tags: &mut Vec<String>, word: &str) -> Result<(), ReadFault>
+    ensures pushed { IfOk result (λ _. texts tags.new.items ≡ texts tags.old.items ++ word.now ∷ []) }
+    ensures fault { IfErr result (λ e. e ≡ Memory) }
+{
+    tags.push(String::from_str(alloc, word)?)?;
+    Ok(())
 }
 
 /// The tags of a tag line, each with its `@`; none where a word before any comment is no tag.
@@ -28,7 +39,7 @@ pub fn tags_of(alloc: Global, line: &Piece<'_>) -> Result<Option<Vec<String>>, R
         if !is_tag(word) {
             return Ok(None);
         }
-        tags.push(String::from_str(alloc, word)?)?;
+        push_tag(alloc, &mut tags, word)?;
         rest = trim_front(&rest[end..]);
     }
     Ok(Some(tags))

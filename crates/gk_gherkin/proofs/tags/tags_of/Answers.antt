@@ -47,12 +47,11 @@ words-preserved c =
     let whole : n - 0 ≡ n = omega arith in
     let word : c.range-word.result.now ≡ take n t = c.range-word.ensures.value ∙ ap (λ (k : ℕ). take k t) whole in
     let next : c.trim_front-rest-in-words.result.now ≡ trim_front (drop n t) = c.trim_front-rest-in-words.ensures ∙ ap trim_front c.range_from.ensures.value in
-    let pushed : c.push.new.self.items ≡ c.words.tags.items ++ c.in_ok-from_str.field-0 ∷ [] = search rules in
-    let made : string_bytes c.in_ok-from_str.field-0 ≡ c.range-word.result.now = search rules in (
+    let pushed : texts c.push_tag.new.tags.items ≡ texts c.words.tags.items ++ take n t ∷ [] = c.in_ok-push_tag.ensures.pushed ∙ ap (λ (w : List ℕ). texts c.words.tags.items ++ w ∷ []) word in (
       c.trim_front-rest-in-words.utf8,
       takes_tag (tags_of (piece_value c.args.line.now)) t n (texts c.words.tags.items) some c.words.invariant.2 place (sym c.begins.ensures ∙ c.if-not-begins.true) c.words.invariant.1
           (ap is_tag (sym word) ∙ sym c.is_tag.ensures ∙ c.if-not-is_tag.false)
-          ∙ ap (λ (xs : List (List ℕ)). onto_tags xs (tags_by (words_of (trim_front (drop n t))))) (sym (text_more c.words.tags.items c.push.new.self.items c.in_ok-from_str.field-0 (take n t) pushed (made ∙ word)))
-          ∙ ap (λ (r : List ℕ). onto_tags (texts c.push.new.self.items) (tags_by (words_of r))) (sym next),
+          ∙ ap (λ (xs : List (List ℕ)). onto_tags xs (tags_by (words_of (trim_front (drop n t))))) (sym pushed)
+          ∙ ap (λ (r : List ℕ). onto_tags (texts c.push_tag.new.tags.items) (tags_by (words_of r))) (sym next),
       ap (prefix_len is_blank) next ∙ no_blank_left (drop n t),
     )
