@@ -290,7 +290,7 @@ fn outline_of(alloc: Global, part: Open) -> Result<Option<Outline>, ReadFault>
     }
 }
 
-pub fn section_of(alloc: Global, part: Open) -> Result<Section, ReadFault>
+fn section_of(alloc: Global, part: Open) -> Result<Section, ReadFault>
     ensures { Gives section_value result (Ok (spec.section_of (open_value part))) }
 {
     match part {
@@ -331,7 +331,7 @@ fn with_rule(feature: Feature, rule: Rule) -> Result<Feature, ReadFault>
     Ok(feature)
 }
 
-pub fn feature_of(alloc: Global, top: Top, section: Section) -> Result<Feature, ReadFault>
+fn feature_of(alloc: Global, top: Top, section: Section) -> Result<Feature, ReadFault>
     ensures { Gives feature_value result (Ok (spec.feature_of (top_value top) (section_value section))) }
 {
     match top {
@@ -344,6 +344,18 @@ pub fn feature_of(alloc: Global, top: Top, section: Section) -> Result<Feature, 
             rules: Vec::new(alloc),
         }),
         Top::OfRule { feature, head } => with_rule(feature, rule_of(head, section)),
+    }
+}
+
+/// The feature that a place closes, or none above its heading.
+pub fn feature_at(alloc: Global, place: Place) -> Result<Option<Feature>, ReadFault>
+    ensures { Gives (λ f. option_map feature_value f) result (Ok (spec.answer (place_value place))) }
+{
+    match place {
+        Place::Above => Ok(None),
+        Place::Inside { top, part } => {
+            Ok(Some(feature_of(alloc, top, section_of(alloc, part)?)?))
+        }
     }
 }
 
@@ -377,10 +389,8 @@ fn rule_heading(
 ) -> Result<(), ReadFault>
     ensures { Gives (λ _. place_value place.new) result (spec.on_heading (place_value place.old) (texts tags.items) (piece_value line.now) RuleHeading) }
 {
-    match mem::replace(place, Place::Above) {
-        Place::Above => Err(unexpected(line)),
-        Place::Inside { top, part } => {
-            let feature = feature_of(alloc, top, section_of(alloc, part)?)?;
+    match feature_at(alloc, mem::replace(place, Place::Above))? {
+        Some(feature) => {
             let head = head_from(alloc, tags, line)?;
             put(
                 place,
@@ -391,6 +401,7 @@ fn rule_heading(
             );
             Ok(())
         }
+        None => Err(unexpected(line)),
     }
 }
 

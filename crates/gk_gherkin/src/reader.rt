@@ -21,7 +21,7 @@ ghost use Rattle.gk_gherkin.specs.declared.read_fault.ReadFault.TheVariants.{Une
 
 use crate::feature::Feature;
 use crate::lines::{LIMIT, piece_from, text_of};
-use crate::machine::{Place, State, feature_of, section_of};
+use crate::machine::{Place, State, feature_at};
 use crate::read_fault::ReadFault;
 use crate::states::next_state;
 use std::alloc::Global;
@@ -40,23 +40,12 @@ fn run(alloc: Global, state: &mut State, text: &str) -> Result<(), ReadFault>
     Ok(())
 }
 
-fn answer(alloc: Global, place: Place) -> Result<Option<Feature>, ReadFault>
-    ensures { Gives (λ f. option_map feature_value f) result (Ok (spec.answer (place_value place))) }
-{
-    match place {
-        Place::Above => Ok(None),
-        Place::Inside { top, part } => {
-            Ok(Some(feature_of(alloc, top, section_of(alloc, part)?)?))
-        }
-    }
-}
-
 #[tactic(auto, unfolding(crate::specs::Machine::finish))]
 fn finish(alloc: Global, state: &mut State) -> Result<Option<Feature>, ReadFault>
     ensures { Gives (λ f. option_map feature_value f) result (spec.finish (state_value state.old)) }
 {
     match state {
-        State::At { place } => answer(alloc, mem::replace(place, Place::Above)),
+        State::At { place } => feature_at(alloc, mem::replace(place, Place::Above)),
         State::Tagged { last, .. } => Err(ReadFault::TagsAtEnd { line: *last }),
         State::Quoted { line, .. } => Err(ReadFault::UnclosedText { line: *line }),
     }
