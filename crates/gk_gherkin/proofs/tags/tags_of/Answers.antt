@@ -1,11 +1,10 @@
-use Rattle.std.proofs.Common.{rules, ◌≡◌, ◌≤◌, ◌<◌, ◌-◌, ◌∙◌, ◌++◌, ◌∷◌, [], ℕ, List, length, take, drop, ap, sym, Ok, arith}
+use Rattle.std.proofs.Common.{◌≡◌, ◌≤◌, ◌<◌, ◌-◌, ◌∙◌, ◌++◌, ◌∷◌, [], ℕ, List, length, take, drop, ap, sym, Ok, arith}
 use Rattle.std.specs.List.{position_or_len, prefix_len}
-use Rattle.std.specs.String.{string_bytes}
 use Rattle.gk_gherkin.specs.Lines.{is_blank, trim_front, piece_value}
 use Rattle.gk_gherkin.specs.Feature.{texts}
 use Rattle.gk_gherkin.specs.Tags.{tags_of, words_of, is_tag}
 use Rattle.gk_gherkin.proofs.LineCuts.{before_first_blank}
-use Rattle.gk_gherkin.proofs.TagWords.{onto_tags, tags_by, starts, no_blank_left, takes_tag, refuses_word, text_more, some_left}
+use Rattle.gk_gherkin.proofs.TagWords.{onto_tags, tags_by, starts, no_blank_left, takes_tag, refuses_word, some_left}
 use Rattle.gk_gherkin.proofs.tags.tags_of.Goals as goal
 
 pub words-init : goal.words-init
