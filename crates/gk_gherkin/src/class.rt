@@ -1,6 +1,7 @@
 //! The classes of lines.
 ghost use Rattle.std.specs.Prelude.{◌≡◌, ◌≤◌, ◌&&◌, length, slice_index};
 ghost use Rattle.std.specs.List.{position_or_len};
+ghost use Rattle.std.specs.Str.{bytes_eq};
 ghost use Rattle.gk_gherkin.specs.Lines.{is_blank, piece_value};
 ghost use Rattle.gk_gherkin.specs.Class as spec;
 
@@ -54,6 +55,12 @@ pub fn begins(text: &str, word: &str) -> bool
     } else {
         text.starts_with(word)
     }
+}
+
+pub fn is_word(text: &str, word: &str) -> bool
+    ensures { result ≡ bytes_eq text.now word.now }
+{
+    text == word
 }
 
 pub fn begins_word(text: &str, word: &str) -> bool

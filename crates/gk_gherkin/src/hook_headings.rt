@@ -4,7 +4,7 @@ ghost use Rattle.std.specs.List.{list_all, ends_with};
 ghost use Rattle.gk_gherkin.specs.Lines.{is_blank, piece_value};
 ghost use Rattle.gk_gherkin.specs.HookHeadings as spec;
 
-use crate::class::{Class, begins, begins_word, class_of_line};
+use crate::class::{Class, begins, begins_word, class_of_line, is_word};
 use crate::hooks::HookKind;
 use crate::lines::{Piece, is_blank, trim, trim_front};
 use crate::tags::is_tag;
@@ -42,17 +42,17 @@ pub fn hooks_class(line: &Piece<'_>) -> HooksClass
 fn plain_kind(text: &str) -> Option<HookKind>
     ensures { option_map (λ kind. spec.plain kind) result ≡ spec.plain_heading text.now }
 {
-    if text == "before_all:" {
+    if is_word(text, "before_all:") {
         Some(HookKind::BeforeAll)
-    } else if text == "after_all:" {
+    } else if is_word(text, "after_all:") {
         Some(HookKind::AfterAll)
-    } else if text == "before_feature:" {
+    } else if is_word(text, "before_feature:") {
         Some(HookKind::BeforeFeature)
-    } else if text == "after_feature:" {
+    } else if is_word(text, "after_feature:") {
         Some(HookKind::AfterFeature)
-    } else if text == "before_scenario:" {
+    } else if is_word(text, "before_scenario:") {
         Some(HookKind::BeforeScenario)
-    } else if text == "after_scenario:" {
+    } else if is_word(text, "after_scenario:") {
         Some(HookKind::AfterScenario)
     } else {
         None

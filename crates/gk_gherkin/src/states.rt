@@ -12,7 +12,7 @@ ghost use Rattle.std.specs.Str.Lines.{lines};
 ghost use Rattle.gk_gherkin.specs.declared.class.Class.TheVariants.{RuleHeading};
 ghost use Rattle.gk_gherkin.specs.declared.class.Fence as classes;
 
-use crate::class::{Class, Fence, class_of_line};
+use crate::class::{Class, Fence, class_of_line, is_word};
 use crate::doc_strings::{closes, whole_text, with_line};
 use crate::feature::{Block, Step};
 use crate::language::language_of;
@@ -29,7 +29,7 @@ fn check_comment(place: &Place, line: &Piece<'_>) -> Result<(), ReadFault>
     match place {
         Place::Above => match language_of(line) {
             Some(word) => {
-                if word == "en" {
+                if is_word(word, "en") {
                     Ok(())
                 } else {
                     Err(ReadFault::Language {

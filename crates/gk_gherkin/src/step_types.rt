@@ -2,6 +2,7 @@
 ghost use Rattle.std.specs.Prelude.{◌≡◌};
 ghost use Rattle.gk_gherkin.specs.StepTypes as spec;
 
+use crate::class::is_word;
 use crate::feature::StepType;
 
 /// The type that a keyword gives after a step of another type.
@@ -9,11 +10,11 @@ use crate::feature::StepType;
 pub fn type_after(before: StepType, keyword: &str) -> StepType
     ensures { result ≡ spec.type_after before keyword.now }
 {
-    if keyword == "Given" {
+    if is_word(keyword, "Given") {
         StepType::Given
-    } else if keyword == "When" {
+    } else if is_word(keyword, "When") {
         StepType::When
-    } else if keyword == "Then" {
+    } else if is_word(keyword, "Then") {
         StepType::Then
     } else {
         before
