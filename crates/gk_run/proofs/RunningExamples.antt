@@ -289,9 +289,13 @@ ordered others = run (ordered_hooks ++ others) (later ∷ write ∷ append ∷ i
 abbrev ordered_scenario : MemberValue
 ordered_scenario = tagged (codes "@a" ∷ codes "@b" ∷ []) (steps_of (codes "later is l absSB" ∷ codes "is l abs" ∷ []))
 
+-- what it comes to without a cut
+abbrev ordered_row : CaseSeen
+ordered_row = record { verdict = Passed; around = Passed; cleanups = outcomes.Passed ∷ []; steps = ok ∷ ok ∷ [] }
+
 -- The hooks of tags come before the before hook, and after the after hook, and cleanups after all of them.
 hooks_in_order : one_run (ordered []) (ordered_scenario ∷ []) ≡
-    comes_to Passed Passed (record { verdict = Passed; around = Passed; cleanups = outcomes.Passed ∷ []; steps = ok ∷ ok ∷ [] } ∷ [])
+    comes_to Passed Passed (ordered_row ∷ [])
 unfolding found found_any match_of is_utf8 chars lib.Utf8.encode act
 hooks_in_order = refl
 
@@ -316,7 +320,7 @@ unfolding found found_any match_of is_utf8 chars lib.Utf8.encode act
 cut_in_after = refl
 
 -- A cut at an event that there isn't is none.
-cut_nowhere : cut_row (ordered []) (in_after 3) ordered_scenario ≡ cut_row (ordered []) nowhere ordered_scenario
+cut_nowhere : cut_row (ordered []) (in_after 3) ordered_scenario ≡ ordered_row
 unfolding found found_any match_of is_utf8 chars lib.Utf8.encode act
 cut_nowhere = refl
 
