@@ -1,10 +1,15 @@
 //! Running a feature.
-ghost use Rattle.std.specs.Prelude.{◌≡◌, ◌≤◌, ◌<◌, true, false, ◌&&◌, ◌||◌, suc, [], map, length, vec_capacity, IfOk};
+ghost use Rattle.std.specs.Prelude.{◌≡◌, ◌≤◌, ◌<◌, Bool, true, false, ◌&&◌, ◌||◌, suc, [], map, length, vec_capacity, IfOk};
 ghost use Rattle.std.specs.List.{list_any};
 ghost use Rattle.gk_gherkin.specs.Feature.{texts};
+ghost use Rattle.gk_gherkin.specs.Hooks.{hooks_value};
+ghost use Rattle.gk_steps.specs.Finding.{library_value};
 ghost use Rattle.gk_world.specs.State.{State, state_of, enter};
 ghost use Rattle.gk_world.specs.Sandbox.{depth, layers};
 ghost use Rattle.gk_run.specs.Acting.{KeepsLayers};
+ghost use Rattle.gk_run.specs.Cleanups.{cleanups_value};
+ghost use Rattle.gk_run.specs.Ending as endings;
+ghost use Rattle.gk_run.specs.SectionHooks.{begun};
 ghost use Rattle.gk_run.specs.Results as rows;
 ghost use Rattle.gk_run.specs.Results.{case_row, feature_row};
 ghost use Rattle.gk_run.specs.Section.{Cut};
@@ -12,12 +17,12 @@ ghost use Rattle.gk_run.specs.Alone.{run_of};
 ghost use Rattle.gk_run.specs.Chosen.{member_of, members_of, chosen_value, IsPaired};
 ghost use Rattle.gk_run.specs.Features as spec;
 ghost use Rattle.gk_run.specs.Features.{FeatureCuts, case_of, feature_of, case_statuses, feature_verdict};
-ghost use Rattle.gk_run.specs.Running.{IsSame, run_value, AreCases, IsFeatureEnd, IsFeatureResult};
+ghost use Rattle.gk_run.specs.Running.{IsSame, run_value, AreCases, IsWalked, IsSectionEnd, IsFeatureEnd, IsFeatureResult};
 
 use crate::chosen::Chosen;
 use crate::cleanups::Cleanups;
 use crate::closing::close;
-use crate::ending::{around_status, has_passed, is_memory, worse};
+use crate::ending::{Ending, around_status, has_passed, is_memory, worse};
 use crate::results::{CaseResult, FeatureResult, Mark, NoRoom, Status};
 use crate::running::{run_case, told_case};
 use crate::section_hooks::Level;
@@ -92,16 +97,15 @@ fn run_cases(
     is_open: bool,
     cases: Vec<Case>,
     selected: &[bool],
-    results: Vec<CaseResult>,
-) -> Result<Vec<CaseResult>, NoRoom>
+    results: &mut Vec<CaseResult>,
+) -> Result<(), NoRoom>
     requires layer { depth sandbox.old < layers }
-    requires empty { results.items ≡ [] }
+    requires empty { results.old.items ≡ [] }
     requires paired { length selected.now ≡ length cases.items }
-    requires room { length cases.items ≤ vec_capacity results }
-    ensures rows { IfOk result (λ rs. AreCases (run_value run.now) (state_of sandbox.old.now) is_open (members_of cases.items selected.now) (map case_row rs.items)) }
+    requires room { length cases.items ≤ vec_capacity results.old }
+    ensures rows { IfOk result (λ done. AreCases (run_value run.now) (state_of sandbox.old.now) is_open (members_of cases.items selected.now) (map case_row results.new.items)) }
     ensures same { IsSame sandbox.old sandbox.new }
 {
-    let mut results = results;
     let mut is_open = is_open;
     let mut place = 0;
     for case in cases {
@@ -110,14 +114,36 @@ fn run_cases(
         is_open = both(is_open, stays_open(run.stop, row.status));
         results.push_reserved(row);
     }
-    Ok(results)
+    Ok(())
 }
 
-/// What a feature comes to.
-#[derive(Drop)]
-struct FeatureEnd {
-    around: Status,
-    cases: Vec<CaseResult>,
+// Ends a section whose before list ended so: how its hooks and cleanups ended.
+pub(crate) fn end_section(
+    run: &Run<'_>,
+    sandbox: &mut Sandbox,
+    level: Level,
+    tags: &[String],
+    before: Ending,
+    cleanups: Cleanups,
+) -> Status
+    requires begun { 0 < depth sandbox.old }
+    ensures around { (outside : State) (stop : Bool) → IsWalked (begun (library_value run.now.library.now) (hooks_value run.now.hooks.now) level (texts tags.now) outside) before (state_of sandbox.old.now) (cleanups_value cleanups) →
+        IsSectionEnd (run_of run.now.library.now run.now.hooks.now stop) level (texts tags.now) outside result (endings.has_passed before) }
+    ensures layers { KeepsLayers sandbox.old sandbox.new }
+{
+    if is_memory(before) {
+        return Status::Memory;
+    }
+    let closed = close(
+        run.alloc,
+        sandbox,
+        cleanups,
+        run.library,
+        run.hooks,
+        level,
+        tags,
+    );
+    around_status(worse(before, closed.ending))
 }
 
 // Runs a feature in the layer that was begun for it; `results` has room for its cases.
@@ -127,15 +153,15 @@ fn in_feature(
     tags: &[String],
     cases: Vec<Case>,
     selected: &[bool],
-    results: Vec<CaseResult>,
-) -> Result<FeatureEnd, NoRoom>
+    results: &mut Vec<CaseResult>,
+) -> Result<Status, NoRoom>
     requires begun { 0 < depth sandbox.old }
     requires layer { depth sandbox.old < layers }
-    requires empty { results.items ≡ [] }
+    requires empty { results.old.items ≡ [] }
     requires paired { length selected.now ≡ length cases.items }
-    requires room { length cases.items ≤ vec_capacity results }
-    ensures end { IfOk result (λ r. (outside : State) → state_of sandbox.old.now ≡ enter outside →
-        IsFeatureEnd (run_value run.now) Level.Feature outside true (texts tags.now) (members_of cases.items selected.now) r.around (map case_row r.cases.items)) }
+    requires room { length cases.items ≤ vec_capacity results.old }
+    ensures end { IfOk result (λ around. (outside : State) → state_of sandbox.old.now ≡ enter outside →
+        IsFeatureEnd (run_value run.now) Level.Feature outside true (texts tags.now) (members_of cases.items selected.now) around (map case_row results.new.items)) }
     ensures layers { KeepsLayers sandbox.old sandbox.new }
 {
     let mut cleanups = Cleanups::new(run.alloc);
@@ -148,26 +174,15 @@ fn in_feature(
         Level::Feature,
         tags,
     );
-    let cases = run_cases(run, sandbox, has_passed(before), cases, selected, results)?;
-    if is_memory(before) {
-        return Ok(FeatureEnd {
-            around: Status::Memory,
-            cases,
-        });
-    }
-    let closed = close(
-        run.alloc,
+    run_cases(run, sandbox, has_passed(before), cases, selected, results)?;
+    Ok(end_section(
+        run,
         sandbox,
-        cleanups,
-        run.library,
-        run.hooks,
         Level::Feature,
         tags,
-    );
-    Ok(FeatureEnd {
-        around: around_status(worse(before, closed.ending)),
-        cases,
-    })
+        before,
+        cleanups,
+    ))
 }
 
 fn has_selected(selected: &[bool]) -> bool
@@ -254,13 +269,13 @@ fn begin_feature(
     tags: &[String],
     cases: Vec<Case>,
     selected: &[bool],
-    results: Vec<CaseResult>,
-) -> Result<FeatureEnd, NoRoom>
+    results: &mut Vec<CaseResult>,
+) -> Result<Status, NoRoom>
     requires layer { suc (depth sandbox.old) < layers }
-    requires empty { results.items ≡ [] }
+    requires empty { results.old.items ≡ [] }
     requires paired { length selected.now ≡ length cases.items }
-    requires room { length cases.items ≤ vec_capacity results }
-    ensures end { IfOk result (λ r. IsFeatureEnd (run_value run.now) Level.Feature (state_of sandbox.old.now) true (texts tags.now) (members_of cases.items selected.now) r.around (map case_row r.cases.items)) }
+    requires room { length cases.items ≤ vec_capacity results.old }
+    ensures end { IfOk result (λ around. IsFeatureEnd (run_value run.now) Level.Feature (state_of sandbox.old.now) true (texts tags.now) (members_of cases.items selected.now) around (map case_row results.new.items)) }
     ensures same { IsSame sandbox.old sandbox.new }
 {
     // No code runs here: the law says that the layer's state is the run's, entered.
@@ -279,24 +294,21 @@ fn feature_end(
     tags: &[String],
     cases: Vec<Case>,
     selected: &[bool],
-    results: Vec<CaseResult>,
-) -> Result<FeatureEnd, NoRoom>
+    results: &mut Vec<CaseResult>,
+) -> Result<Status, NoRoom>
     requires layer { suc (depth sandbox.old) < layers }
-    requires empty { results.items ≡ [] }
+    requires empty { results.old.items ≡ [] }
     requires paired { length selected.now ≡ length cases.items }
-    requires room { length cases.items ≤ vec_capacity results }
-    ensures end { IfOk result (λ r. (outside : State) → (is_begun ≡ true → state_of sandbox.old.now ≡ outside) →
-        IsFeatureEnd (run_value run.now) Level.Feature outside is_begun (texts tags.now) (members_of cases.items selected.now) r.around (map case_row r.cases.items)) }
+    requires room { length cases.items ≤ vec_capacity results.old }
+    ensures end { IfOk result (λ around. (outside : State) → (is_begun ≡ true → state_of sandbox.old.now ≡ outside) →
+        IsFeatureEnd (run_value run.now) Level.Feature outside is_begun (texts tags.now) (members_of cases.items selected.now) around (map case_row results.new.items)) }
     ensures same { IsSame sandbox.old sandbox.new }
 {
     if is_begun {
         return begin_feature(run, sandbox, tags, cases, selected, results);
     }
-    let cases = run_cases(run, sandbox, false, cases, selected, results)?;
-    Ok(FeatureEnd {
-        around: Status::Passed,
-        cases,
-    })
+    run_cases(run, sandbox, false, cases, selected, results)?;
+    Ok(Status::Passed)
 }
 
 // Runs a feature of a run that is open, or isn't.
@@ -319,27 +331,27 @@ pub(crate) fn feature_in(
         cases,
         selected,
     } = chosen;
-    let results = match Vec::with_capacity(run.alloc, cases.len()) {
+    let mut results = match Vec::with_capacity(run.alloc, cases.len()) {
         Ok(results) => results,
         Err(AllocError) => return Err(NoRoom),
     };
     let is_begun = both(is_open, has_selected(selected.as_slice()));
-    let FeatureEnd { around, cases } = feature_end(
+    let around = feature_end(
         run,
         sandbox,
         is_begun,
         tags.as_slice(),
         cases,
         selected.as_slice(),
-        results,
+        &mut results,
     )?;
     Ok(FeatureResult {
         source,
         name,
         line,
-        status: feature_status(around, cases.as_slice()),
+        status: feature_status(around, results.as_slice()),
         around,
-        cases,
+        cases: results,
     })
 }
 

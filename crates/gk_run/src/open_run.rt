@@ -4,7 +4,6 @@ ghost use Rattle.gk_world.specs.State.{State, state_of};
 ghost use Rattle.gk_world.specs.Sandbox.{depth, layers, Ends};
 ghost use Rattle.gk_gherkin.specs.Hooks.{hooks_value};
 ghost use Rattle.gk_steps.specs.Finding.{library_value};
-ghost use Rattle.gk_run.specs.Acting.{KeepsLayers};
 ghost use Rattle.gk_run.specs.Cleanups.{cleanups_value};
 ghost use Rattle.gk_run.specs.Results.{feature_row};
 ghost use Rattle.gk_run.specs.Ending as endings;
@@ -17,9 +16,8 @@ ghost use Rattle.gk_run.specs.OpenRun.{IsStarted, IsKept, FinishedRunsAreJudged,
 
 use crate::chosen::Chosen;
 use crate::cleanups::Cleanups;
-use crate::closing::close;
-use crate::ending::{Ending, around_status, has_passed, is_memory, worse};
-use crate::features::{Run, both, feature_in, stays_open};
+use crate::ending::{Ending, has_passed};
+use crate::features::{Run, both, end_section, feature_in, stays_open};
 use crate::results::{FeatureResult, NoRoom, Status};
 use crate::section_hooks::Level;
 use crate::walk::walk_before;
@@ -38,27 +36,6 @@ pub struct Suite {
     stop: bool,
     // Further features are begun.
     is_open: bool,
-}
-
-// Closes a run whose before list ended so.
-fn finish_in(
-    alloc: Global,
-    sandbox: &mut Sandbox,
-    library: &Library,
-    hooks: &HookFile,
-    before: Ending,
-    cleanups: Cleanups,
-) -> Status
-    requires begun { 0 < depth sandbox.old }
-    ensures around { (outside : State) (stop : Bool) → IsWalked (begun (library_value library.now) (hooks_value hooks.now) Level.Run [] outside) before (state_of sandbox.old.now) (cleanups_value cleanups) →
-        IsSectionEnd (run_of library.now hooks.now stop) Level.Run [] outside result (endings.has_passed before) }
-    ensures layers { KeepsLayers sandbox.old sandbox.new }
-{
-    if is_memory(before) {
-        return Status::Memory;
-    }
-    let closed = close(alloc, sandbox, cleanups, library, hooks, Level::Run, &[]);
-    around_status(worse(before, closed.ending))
 }
 
 impl Suite {
@@ -147,10 +124,16 @@ impl Suite {
             layer,
             before,
             cleanups,
-            stop: _,
+            stop,
             is_open: _,
         } = self;
-        let around = finish_in(alloc, sandbox, library, hooks, before, cleanups);
+        let run = Run {
+            alloc,
+            library,
+            hooks,
+            stop,
+        };
+        let around = end_section(&run, sandbox, Level::Run, &[], before, cleanups);
         sandbox.end(layer);
         around
     }

@@ -16,8 +16,8 @@ pub returns-clause-row : goal.returns-clause-row
 returns-clause-row c =
     let run = run_of c.args.run.now.library.now c.args.run.now.hooks.now c.args.run.now.stop in
     let f = chosen_value c.args.chosen in
-    let around = c.in_ok-around.field-0.around in
-    let rows = map case_row c.in_ok-around.field-0.cases.items in
+    let around = c.in_ok-around.around in
+    let rows = map case_row c.feature_end.new.results.items in
     let begins : c.both-is_begun.result ≡ (c.args.is_open && has_selected f.members) =
     c.both-is_begun.ensures ∙ ap (λ (b : Bool). c.args.is_open && b) (c.has_selected.ensures ∙ ap (λ (ss : List Bool). list_any (λ (s : Bool). s) ss) c.as_slice.ensures.value ∙ sym (selected_any c.args.chosen.cases.items c.args.chosen.selected.items c.requires.paired)) in
     let verdict : c.feature_status.result ≡ feature_verdict around (case_statuses rows) =

@@ -20,39 +20,18 @@ use Rattle.gk_run.proofs.SectionLemmas.{section_in_before, section_closed}
 use Rattle.gk_run.proofs.CasesLemmas.{feature_ends}
 use Rattle.gk_run.proofs.features.in_feature.Goals as goal
 
-pub returns-then-is_memory-clause-end : goal.returns-then-is_memory-clause-end
-returns-then-is_memory-clause-end c = λ outside here.
-    let run = run_of c.args.run.now.library.now c.args.run.now.hooks.now c.args.run.now.stop in
-    let tags = texts c.args.tags.now in
-    let members = members_of c.args.cases.items c.args.selected.now in
-    let rows = map case_row c.in_ok-cases.cases.items in
-    let b = c.walk_before-before.result in
-    let s = state_of c.walk_before-before.new.sandbox.now in
-    let cs = cleanups_value c.walk_before-before.new.cleanups in
-    let walked : IsWalked (begun run.library run.hooks levels.Feature tags outside) b s cs =
-    subst (λ (x : List CleanupValue). IsWalked (walk run.library (before_site levels.Feature) (enter outside) x (before_list run.hooks levels.Feature tags)) b s cs) c.new-cleanups.ensures
-    (subst (λ (x : State). IsWalked (walk run.library (before_site levels.Feature) x (cleanups_value c.new-cleanups.result) (before_list run.hooks levels.Feature tags)) b s cs) here c.walk_before-before.ensures.walked) in
-    let m = is_memory b (sym c.is_memory.ensures ∙ c.if-is_memory.true) in
-    let end : IsSectionEnd run levels.Feature tags outside statuses.Memory (has_passed b) =
-    subst (λ (e : Ending). IsSectionEnd run levels.Feature tags outside statuses.Memory (has_passed e)) (sym m) (section_in_before run levels.Feature tags outside s cs (subst (λ (e : Ending). IsWalked (begun run.library run.hooks levels.Feature tags outside) e s cs) m walked)) in
-    feature_ends run levels.Feature outside tags members b s cs c.has_passed.result statuses.Memory rows walked c.has_passed.ensures c.in_ok-cases.ensures.rows end
-
 pub returns-clause-end : goal.returns-clause-end
 returns-clause-end c = λ outside here.
-    let run = run_of c.args.run.now.library.now c.args.run.now.hooks.now c.args.run.now.stop in
+    let stop = c.args.run.now.stop in
+    let run = run_of c.args.run.now.library.now c.args.run.now.hooks.now stop in
     let tags = texts c.args.tags.now in
     let members = members_of c.args.cases.items c.args.selected.now in
-    let rows = map case_row c.in_ok-cases.cases.items in
+    let rows = map case_row c.run_cases.new.results.items in
     let b = c.walk_before-before.result in
     let s = state_of c.walk_before-before.new.sandbox.now in
     let cs = cleanups_value c.walk_before-before.new.cleanups in
-    let l = c.close-closed.result.ending in
-    let told = c.close-closed.result.outcomes.items in
     let walked : IsWalked (begun run.library run.hooks levels.Feature tags outside) b s cs =
     subst (λ (x : List CleanupValue). IsWalked (walk run.library (before_site levels.Feature) (enter outside) x (before_list run.hooks levels.Feature tags)) b s cs) c.new-cleanups.ensures
     (subst (λ (x : State). IsWalked (walk run.library (before_site levels.Feature) x (cleanups_value c.new-cleanups.result) (before_list run.hooks levels.Feature tags)) b s cs) here c.walk_before-before.ensures.walked) in
-    let closed : IsClosed (closing run.library run.hooks levels.Feature tags s cs) l told =
-    subst (λ (x : State). IsClosed (closing run.library run.hooks levels.Feature tags x cs) l told) (ap state_of c.in_ok-cases.ensures.same.contents) c.close-closed.ensures.closed in
-    let end = section_closed run levels.Feature tags outside b s cs l told (not_memory b (sym c.is_memory.ensures ∙ c.if-is_memory.false)) walked closed in
-    let whole = feature_ends run levels.Feature outside tags members b s cs c.has_passed.result (around_status (worse b l)) rows walked c.has_passed.ensures c.in_ok-cases.ensures.rows end in
-    subst (λ (x : Status). IsFeatureEnd run levels.Feature outside true tags members x rows) (sym (c.around_status.ensures ∙ ap around_status c.worse.ensures)) whole
+    let end = c.end_section.ensures.around outside stop (subst (λ (x : State). IsWalked (begun run.library run.hooks levels.Feature tags outside) b x cs) (sym (ap state_of c.in_ok-run_cases.ensures.same.contents)) walked) in
+    feature_ends run levels.Feature outside tags members b s cs c.has_passed.result c.end_section.result rows walked c.has_passed.ensures c.in_ok-run_cases.ensures.rows end

@@ -25,7 +25,7 @@ loop-case-init c =
       same = record { contents = refl; saved = refl; marks = refl; recorded = refl };
       earlier = λ h. h;
       paired = omega (arith, c.requires.paired);
-      room = let e : length c.args.results.items ≡ 0 = ap length c.requires.empty in let v = c.args.results.ok.0 in omega (arith, c.requires.room);
+      room = let e : length c.args.results.now.items ≡ 0 = ap length c.requires.empty in let v = c.args.results.now.ok.0 in omega (arith, c.requires.room);
       counted = let l = c.into_iter-case-iterator.ensures.into_iter_gives.1 in let v = c.args.cases.ok.0 in omega arith;
     }
 
