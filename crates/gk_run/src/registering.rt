@@ -10,36 +10,14 @@ use gk_gherkin::Block;
 use gk_steps::Found;
 use std::alloc::{AllocError, Global};
 
-// A copy of texts.
-fn copy_texts(alloc: Global, from: &[String]) -> Result<Vec<String>, AllocError>
-    ensures { IfOk result (λ v. texts v.items ≡ texts from.now) }
-{
-    let mut copy = Vec::new(alloc);
-    for text in from {
-        copy.push(String::from_str(alloc, text.as_str())?)?;
-    }
-    Ok(copy)
-}
-
-// A copy of a table.
-fn copy_rows(alloc: Global, from: &[Vec<String>]) -> Result<Vec<Vec<String>>, AllocError>
-    ensures { let cells = map (λ row. texts row.items) in IfOk result (λ v. cells v.items ≡ cells from.now) }
-{
-    let mut copy = Vec::new(alloc);
-    for cells in from {
-        copy.push(copy_texts(alloc, cells.as_slice())?)?;
-    }
-    Ok(copy)
-}
-
 // A copy of a block.
-fn copy_block(alloc: Global, block: &Block) -> Result<Block, AllocError>
+fn copy_block(block: &Block) -> Result<Block, AllocError>
     ensures { IfOk result (λ b. block_value b ≡ block_value block.now) }
 {
     match block {
         Block::Empty => Ok(Block::Empty),
-        Block::Text(text) => Ok(Block::Text(String::from_str(alloc, text.as_str())?)),
-        Block::Table(rows) => Ok(Block::Table(copy_rows(alloc, rows.as_slice())?)),
+        Block::Text(text) => Ok(Block::Text(text.clone()?)),
+        Block::Table(rows) => Ok(Block::Table(rows.clone()?)),
     }
 }
 
@@ -65,8 +43,8 @@ impl Cleanups {
         ensures ok { OnOk result (cleanups_value self.new ≡ cleanups_value self.old ++ record { found = found_value found; block = block_value block.now } ∷ []) }
         ensures err { OnErr result (cleanups_value self.new ≡ cleanups_value self.old) }
     {
-        let block = copy_block(alloc, block)?;
         self.outcomes.reserve(self.list.len() + 1)?;
+        let block = copy_block(block)?;
         self.list.push(Cleanup { found, block })?;
         Ok(())
     }
