@@ -1,7 +1,7 @@
 //! What a step's action does.
-ghost use Rattle.std.specs.Prelude.{◌≡◌, ◌<◌, true, not, option_copied};
+ghost use Rattle.std.specs.Prelude.{◌≡◌, ◌<◌, [], true, not, option_copied, unwrap_or};
 ghost use Rattle.gk_gherkin.specs.Feature.{block_value};
-ghost use Rattle.gk_steps.specs.Finding.{library_value, found_value, found_any};
+ghost use Rattle.gk_steps.specs.Finding.{library_value, found_value, found_any, text_field};
 ghost use Rattle.gk_world.specs.State.{State, state_of};
 ghost use Rattle.gk_world.specs.Sandbox.{depth};
 ghost use Rattle.gk_world.specs.Refusals as refusals;
@@ -144,14 +144,21 @@ fn doc_string(block: &Block) -> Option<&str>
     }
 }
 
+// A field's text; the empty one where the pattern has no such field.
+fn field_text<'a>(library: &Library, found: &'a Found, field: &str) -> &'a str
+    ensures { result.now ≡ unwrap_or (text_field (library_value library.now) (found_value found.now) field.now) [] }
+{
+    library.text(found, field).unwrap_or("")
+}
+
 // What a step's action works with.
 fn arguments_of<'a>(library: &Library, found: &'a Found, block: &'a Block) -> Arguments<'a>
     ensures { given_value result ≡ given (library_value library.now) (found_value found.now) (block_value block.now) }
 {
     Arguments {
-        name: library.text(found, "name").unwrap_or(""),
-        to: library.text(found, "to").unwrap_or(""),
-        step: library.text(found, "step").unwrap_or(""),
+        name: field_text(library, found, "name"),
+        to: field_text(library, found, "to"),
+        step: field_text(library, found, "step"),
         number: library.number(found, "n").unwrap_or(0),
         text: library.text(found, "text").or(doc_string(block)),
         block,
