@@ -20,7 +20,7 @@ use Rattle.gk_run.specs.Chosen.{ChosenValue, MemberValue, has_selected, member_o
 use Rattle.gk_run.specs.Ending.{has_passed}
 use Rattle.gk_run.specs.Features.{case_of, case_statuses, cases_of, feature_row_of, feature_verdict, happened_in, section_state, stays_open}
 use Rattle.gk_run.specs.Results.{CaseRow, FeatureRow, StepRow, case_row}
-use Rattle.gk_run.specs.Running.{AreCases, IsFeatureEnd, IsFeatureResult, IsSectionEnd, IsWalked, marks_of}
+use Rattle.gk_run.specs.Running.{AreCases, IsFeatureEnd, IsFeatureResult, IsReached, IsSectionEnd, IsWalked, marks_of}
 use Rattle.gk_run.specs.Section.{Cut, around_of, nowhere}
 use Rattle.gk_run.specs.SectionHooks.{begun}
 use Rattle.gk_run.proofs.SectionLemmas.{passed_state}
@@ -90,6 +90,12 @@ unreached_is run section is_open m row h o e =
     let told : List StepRow → CaseRow = λ rows. record { keyword = c.keyword; name = c.name; line = c.line; status = statuses.Untested; around = statuses.Passed; cleanups = []; steps = rows } in
     e ∙ ap told (sym (none_told c.steps)) ∙ ap (λ (b : Bool). cond b (reached_row run section nowhere c) (unreached_row c)) (sym o)
     ∙ ap (λ (b : Bool). cond b (cond is_open (reached_row run section nowhere c) (unreached_row c)) (unselected_row c)) (sym h)
+
+pub reached_is : (run : Run) (section : State) (is_open : Bool) (m : MemberValue) (row : CaseRow) → m.selected ≡ true → is_open ≡ true → IsReached run section m.scenario row → (cut : Cut) × (row ≡ case_of run section is_open cut m)
+reached_is run section is_open m row h o reached =
+    let c = m.scenario in
+    let x = reached_row run section reached.0 c in
+    (reached.0, reached.1 ∙ ap (λ (b : Bool). cond b x (unreached_row c)) (sym o) ∙ ap (λ (b : Bool). cond b (cond is_open x (unreached_row c)) (unselected_row c)) (sym h))
 
 pub if_ok : {A E : Type 0} (P Q : A → Type 0) (x : Result A E) → ((a : A) → P a → Q a) → IfOk x P → IfOk x Q
 if_ok P Q (Ok a) f h = f a h

@@ -53,35 +53,24 @@ fn dry_step(alloc: Global, library: &Library, is_refused: bool, step: &Step) -> 
     }
 }
 
-/// The results of a case's steps, and whether memory was refused at one.
-#[derive(Drop)]
-struct DrySteps {
-    steps: Vec<StepResult>,
-    is_refused: bool,
-}
-
-// Looks the steps of a case up; `results` has room for theirs.
+// Looks the steps of a case up; `results` has room for theirs. Answers whether memory was refused at one.
 fn dry_steps(
     alloc: Global,
     library: &Library,
     steps: Vec<Step>,
-    results: Vec<StepResult>,
-) -> DrySteps
-    requires empty { results.items ≡ [] }
-    requires room { length steps.items ≤ vec_capacity results }
-    ensures { AreDrySteps (library_value library.now) false (map step_value steps.items) (map step_row result.steps.items) result.is_refused }
+    results: &mut Vec<StepResult>,
+) -> bool
+    requires empty { results.old.items ≡ [] }
+    requires room { length steps.items ≤ vec_capacity results.old }
+    ensures { AreDrySteps (library_value library.now) false (map step_value steps.items) (map step_row results.new.items) result }
 {
-    let mut results = results;
     let mut is_refused = false;
     for step in steps {
         let looked = dry_step(alloc, library, is_refused, &step);
         is_refused = looked.is_refused;
         results.push_reserved(row_of(step, looked.mark));
     }
-    DrySteps {
-        steps: results,
-        is_refused,
-    }
+    is_refused
 }
 
 fn dry_status(is_refused: bool) -> Status
@@ -105,11 +94,11 @@ fn dry_case(alloc: Global, library: &Library, case: Case) -> Result<CaseResult, 
         tags: _,
         own_tags: _,
     } = case;
-    let results = match Vec::with_capacity(alloc, steps.len()) {
+    let mut results = match Vec::with_capacity(alloc, steps.len()) {
         Ok(results) => results,
         Err(AllocError) => return Err(NoRoom),
     };
-    let DrySteps { steps, is_refused } = dry_steps(alloc, library, steps, results);
+    let is_refused = dry_steps(alloc, library, steps, &mut results);
     Ok(CaseResult {
         keyword,
         name,
@@ -117,7 +106,7 @@ fn dry_case(alloc: Global, library: &Library, case: Case) -> Result<CaseResult, 
         status: dry_status(is_refused),
         around: Status::Passed,
         cleanups: Vec::new(alloc),
-        steps,
+        steps: results,
     })
 }
 

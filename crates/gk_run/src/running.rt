@@ -15,7 +15,7 @@ use crate::closing::close;
 use crate::ending::{around_status, is_memory, verdict_status, worse};
 use crate::results::{CaseResult, Mark, NoRoom, Outcome, Status, StepResult};
 use crate::section_hooks::Level;
-use crate::walk::{Stepped, row_of, run_steps, walk_before};
+use crate::walk::{row_of, run_steps, walk_before};
 use gk_gherkin::{HookFile, Step};
 use gk_select::Case;
 use gk_steps::Library;
@@ -28,7 +28,6 @@ struct CaseEnd {
     status: Status,
     around: Status,
     cleanups: Vec<Outcome>,
-    steps: Vec<StepResult>,
 }
 
 // Runs a case in the layer that was begun for it; `results` has room for its steps.
@@ -39,13 +38,13 @@ fn in_layer(
     hooks: &HookFile,
     tags: &[String],
     steps: Vec<Step>,
-    results: Vec<StepResult>,
+    results: &mut Vec<StepResult>,
 ) -> CaseEnd
     requires begun { 0 < depth sandbox.old }
-    requires empty { results.items ≡ [] }
-    requires room { length steps.items ≤ vec_capacity results }
+    requires empty { results.old.items ≡ [] }
+    requires room { length steps.items ≤ vec_capacity results.old }
     ensures end { (outside : State) → state_of sandbox.old.now ≡ enter outside →
-        IsCaseEnd (run_of library.now hooks.now false) outside (ran (texts tags.now) (map step_value steps.items)) result.status result.around result.cleanups.items (map step_row result.steps.items) }
+        IsCaseEnd (run_of library.now hooks.now false) outside (ran (texts tags.now) (map step_value steps.items)) result.status result.around result.cleanups.items (map step_row results.new.items) }
     ensures layers { KeepsLayers sandbox.old sandbox.new }
 {
     let mut cleanups = Cleanups::new(alloc);
@@ -58,7 +57,7 @@ fn in_layer(
         Level::Scenario,
         tags,
     );
-    let Stepped { steps, ending } = run_steps(
+    let ending = run_steps(
         alloc,
         sandbox,
         &mut cleanups,
@@ -72,7 +71,6 @@ fn in_layer(
             status: Status::Memory,
             around: around_status(before),
             cleanups: cleanups.none(),
-            steps,
         };
     }
     let closed = close(
@@ -88,7 +86,6 @@ fn in_layer(
         status: verdict_status(worse(ending, closed.ending)),
         around: around_status(worse(before, closed.ending)),
         cleanups: closed.outcomes,
-        steps,
     }
 }
 
@@ -117,7 +114,7 @@ pub fn run_case(
         own_tags,
         tags: _,
     } = case;
-    let results = match Vec::with_capacity(alloc, steps.len()) {
+    let mut results = match Vec::with_capacity(alloc, steps.len()) {
         Ok(results) => results,
         Err(AllocError) => return Err(NoRoom),
     };
@@ -131,7 +128,7 @@ pub fn run_case(
         hooks,
         own_tags.as_slice(),
         steps,
-        results,
+        &mut results,
     );
     sandbox.end(layer);
     Ok(CaseResult {
@@ -141,7 +138,7 @@ pub fn run_case(
         status: end.status,
         around: end.around,
         cleanups: end.cleanups,
-        steps: end.steps,
+        steps: results,
     })
 }
 

@@ -229,14 +229,8 @@ pub fn row_of(step: Step, mark: Mark) -> StepResult
     }
 }
 
-/// The results of a case's steps, and how the case stands after them.
-#[derive(Drop)]
-pub struct Stepped {
-    pub steps: Vec<StepResult>,
-    pub ending: Ending,
-}
-
-/// Runs the steps of a case whose before list ended so; `results` has room for theirs.
+/// Runs the steps of a case whose before list ended so; `results` has room for theirs. Answers how the
+/// case stands after them.
 pub fn run_steps(
     alloc: Global,
     sandbox: &mut Sandbox,
@@ -244,23 +238,19 @@ pub fn run_steps(
     library: &Library,
     before: Ending,
     steps: Vec<Step>,
-    results: Vec<StepResult>,
-) -> Stepped
+    results: &mut Vec<StepResult>,
+) -> Ending
     requires begun { 0 < depth sandbox.old }
-    requires empty { results.items ≡ [] }
-    requires room { length steps.items ≤ vec_capacity results }
-    ensures stepped { AreStepped (library_value library.now) before (state_of sandbox.old.now) (cleanups_value cleanups.old) (map step_value steps.items) (map step_row result.steps.items) result.ending (state_of sandbox.new.now) (cleanups_value cleanups.new) }
+    requires empty { results.old.items ≡ [] }
+    requires room { length steps.items ≤ vec_capacity results.old }
+    ensures stepped { AreStepped (library_value library.now) before (state_of sandbox.old.now) (cleanups_value cleanups.old) (map step_value steps.items) (map step_row results.new.items) result (state_of sandbox.new.now) (cleanups_value cleanups.new) }
     ensures layers { KeepsLayers sandbox.old sandbox.new }
 {
-    let mut results = results;
     let mut ending = before;
     for step in steps {
         let next = next_step(alloc, sandbox, cleanups, library, ending, &step);
         ending = next.ending;
         results.push_reserved(row_of(step, next.mark));
     }
-    Stepped {
-        steps: results,
-        ending,
-    }
+    ending
 }

@@ -1,5 +1,6 @@
 //! Actions on files.
-ghost use Rattle.std.specs.Prelude.{◌≡◌, map};
+ghost use Rattle.std.specs.Prelude.{◌≡◌, bytes_eq, map};
+ghost use Rattle.std.specs.String.{string_bytes};
 ghost use Rattle.gk_gherkin.specs.Feature.{texts};
 ghost use Rattle.gk_steps.specs.declared.action.Action.TheVariants as actions;
 ghost use Rattle.gk_world.specs.State.{state_of};
@@ -79,12 +80,19 @@ pub fn rename_file(alloc: Global, sandbox: &mut Sandbox, arguments: &Arguments<'
     }
 }
 
+// Whether a cell is a word.
+fn is_word(cell: &String, word: &str) -> bool
+    ensures { result ≡ bytes_eq (string_bytes cell.now) word.now }
+{
+    cell.as_str() == word
+}
+
 // Whether a row is `name`, `text`.
 fn is_head(row: &[String]) -> bool
     ensures { result ≡ words.is_head (texts row.now) }
 {
     match row {
-        [name, text] => name.as_str() == "name" && text.as_str() == "text",
+        [name, text] => is_word(name, "name") && is_word(text, "text"),
         _ => false,
     }
 }

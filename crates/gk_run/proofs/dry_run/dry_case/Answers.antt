@@ -10,7 +10,7 @@ use Rattle.gk_run.proofs.dry_run.dry_case.Goals as goal
 pub returns : goal.returns
 returns c =
     let case = case_value c.args.case in
-    let rows = map step_row c.dry_steps-steps.result.steps.items in
-    let is = dry_is (library_value c.args.library.now) case rows c.dry_steps-steps.result.is_refused c.dry_status.result c.dry_status.ensures c.dry_steps-steps.ensures in
+    let rows = map step_row c.dry_steps-is_refused.new.results.items in
+    let is = dry_is (library_value c.args.library.now) case rows c.dry_steps-is_refused.result c.dry_status.result c.dry_status.ensures c.dry_steps-is_refused.ensures in
     let row : List Outcome → CaseRow = λ os. record { keyword = case.keyword; name = case.name; line = case.line; status = c.dry_status.result; around = statuses.Passed; cleanups = os; steps = rows } in
     (is.0, ap row c.new.ensures.items ∙ is.1)

@@ -18,7 +18,7 @@ loop-step-init c =
       goes =
           subst (λ (rows : List StepRow). GoesDrySteps library false (map step_value (into_iter_items c.into_iter-step-iterator.result)) rows steps) (sym (ap (map step_row) c.requires.empty))
           (subst (λ (left : List StepValue). GoesDrySteps library false left [] steps) (sym (ap (map step_value) here)) (dry_steps_first library steps));
-      room = let e : length c.args.results.items ≡ 0 = ap length c.requires.empty in let f = ap length here in let v = c.args.results.ok.0 in omega (arith, c.requires.room);
+      room = let e : length c.args.results.now.items ≡ 0 = ap length c.requires.empty in let f = ap length here in let v = c.args.results.now.ok.0 in omega (arith, c.requires.room);
       counted = let l = c.into_iter-step-iterator.ensures.into_iter_gives.1 in let v = c.args.steps.ok.0 in let f = ap length here in omega arith;
     }
 

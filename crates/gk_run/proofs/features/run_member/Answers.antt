@@ -1,4 +1,4 @@
-use Rattle.std.proofs.Common.{◌≡◌, true}
+use Rattle.std.proofs.Common.{◌≡◌, true, subst}
 use Rattle.gk_world.specs.State.{State, state_of}
 use Rattle.gk_run.specs.declared.results.CaseResult.{CaseResult}
 use Rattle.gk_run.specs.declared.results.Mark.TheVariants as marks
@@ -8,8 +8,8 @@ use Rattle.gk_run.specs.Section.{Cut, nowhere}
 use Rattle.gk_run.specs.Alone.{run_of, told_row}
 use Rattle.gk_run.specs.Chosen.{member_of}
 use Rattle.gk_run.specs.Features.{case_of}
-use Rattle.gk_run.specs.Running.{marks_of}
-use Rattle.gk_run.proofs.CasesLemmas.{if_ok, unselected_is, unreached_is}
+use Rattle.gk_run.specs.Running.{IsReached, marks_of}
+use Rattle.gk_run.proofs.CasesLemmas.{if_ok, reached_is, unselected_is, unreached_is}
 use Rattle.gk_run.proofs.features.run_member.Goals as goal
 
 pub returns-then-not-selected-clause-row : goal.returns-then-not-selected-clause-row
@@ -27,3 +27,13 @@ returns-then-not-is_open-clause-row c =
     if_ok (λ (r : CaseResult). case_row r ≡ told_row m.scenario statuses.Untested (marks_of marks.Untested m.scenario))
     (λ (r : CaseResult). (section : State) → (c.args.is_open ≡ true → state_of c.args.sandbox.now.now ≡ section) → (x : Cut) × (case_row r ≡ case_of run section c.args.is_open x m))
     c.told_case-then-not-is_open.result (λ r e section opens. (nowhere, unreached_is run section c.args.is_open m (case_row r) c.if-not-selected.false c.if-not-is_open.true e)) c.told_case-then-not-is_open.ensures
+
+pub returns-clause-row : goal.returns-clause-row
+returns-clause-row c =
+    let run = run_of c.args.run.now.library.now c.args.run.now.hooks.now c.args.run.now.stop in
+    let m = member_of c.args.case c.args.selected in
+    let now = state_of c.args.sandbox.now.now in
+    if_ok (λ (r : CaseResult). IsReached run now m.scenario (case_row r)) (λ (r : CaseResult). (section : State) → (c.args.is_open ≡ true → now ≡ section) → (x : Cut) × (case_row r ≡ case_of run section c.args.is_open x m))
+    c.run_case.result
+    (λ r reached section opens. reached_is run section c.args.is_open m (case_row r) c.if-not-selected.false c.if-not-is_open.false (subst (λ (s : State). IsReached run s m.scenario (case_row r)) (opens c.if-not-is_open.false) reached))
+    c.run_case.ensures.row

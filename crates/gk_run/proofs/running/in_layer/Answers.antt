@@ -24,14 +24,14 @@ returns-then-is_memory-clause-end c = λ outside here.
     let b = c.walk_before-before.result in
     let s = state_of c.walk_before-before.new.sandbox.now in
     let cs = cleanups_value c.walk_before-before.new.cleanups in
-    let rows = map step_row c.run_steps-steps.result.steps.items in
-    let e = c.run_steps-steps.result.ending in
-    let last = state_of c.run_steps-steps.new.sandbox.now in
-    let ls = cleanups_value c.run_steps-steps.new.cleanups in
+    let rows = map step_row c.run_steps-ending.new.results.items in
+    let e = c.run_steps-ending.result in
+    let last = state_of c.run_steps-ending.new.sandbox.now in
+    let ls = cleanups_value c.run_steps-ending.new.cleanups in
     let walked : IsWalked (begun run.library run.hooks levels.Scenario case.own_tags outside) b s cs =
     subst (λ (x : List CleanupValue). IsWalked (walk run.library (before_site levels.Scenario) (enter outside) x (before_list run.hooks levels.Scenario case.own_tags)) b s cs) c.new-cleanups.ensures
     (subst (λ (x : State). IsWalked (walk run.library (before_site levels.Scenario) x (cleanups_value c.new-cleanups.result) (before_list run.hooks levels.Scenario case.own_tags)) b s cs) here c.walk_before-before.ensures.walked) in
-    let end = case_ends_early run outside case b s cs rows e last ls walked c.run_steps-steps.ensures.stepped (is_memory e (sym c.is_memory.ensures ∙ c.if-is_memory.true)) in
+    let end = case_ends_early run outside case b s cs rows e last ls walked c.run_steps-ending.ensures.stepped (is_memory e (sym c.is_memory.ensures ∙ c.if-is_memory.true)) in
     subst (λ (x : List Outcome). IsCaseEnd run outside case statuses.Memory c.around_status.result x rows) (sym c.none.ensures)
     (subst (λ (x : Status). IsCaseEnd run outside case statuses.Memory x [] rows) (sym c.around_status.ensures) end)
 
@@ -42,16 +42,16 @@ returns-clause-end c = λ outside here.
     let b = c.walk_before-before.result in
     let s = state_of c.walk_before-before.new.sandbox.now in
     let cs = cleanups_value c.walk_before-before.new.cleanups in
-    let rows = map step_row c.run_steps-steps.result.steps.items in
-    let e = c.run_steps-steps.result.ending in
-    let last = state_of c.run_steps-steps.new.sandbox.now in
-    let ls = cleanups_value c.run_steps-steps.new.cleanups in
+    let rows = map step_row c.run_steps-ending.new.results.items in
+    let e = c.run_steps-ending.result in
+    let last = state_of c.run_steps-ending.new.sandbox.now in
+    let ls = cleanups_value c.run_steps-ending.new.cleanups in
     let l = c.close-closed.result.ending in
     let told = c.close-closed.result.outcomes.items in
     let walked : IsWalked (begun run.library run.hooks levels.Scenario case.own_tags outside) b s cs =
     subst (λ (x : List CleanupValue). IsWalked (walk run.library (before_site levels.Scenario) (enter outside) x (before_list run.hooks levels.Scenario case.own_tags)) b s cs) c.new-cleanups.ensures
     (subst (λ (x : State). IsWalked (walk run.library (before_site levels.Scenario) x (cleanups_value c.new-cleanups.result) (before_list run.hooks levels.Scenario case.own_tags)) b s cs) here c.walk_before-before.ensures.walked) in
-    let stepped = c.run_steps-steps.ensures.stepped in
+    let stepped = c.run_steps-ending.ensures.stepped in
     let not = not_memory e (sym c.is_memory.ensures ∙ c.if-is_memory.false) in
     let end = case_closed run outside case b s cs rows e last ls l told (before_not run.library b s cs case.steps rows e last ls stepped not) not walked stepped c.close-closed.ensures.closed in
     subst (λ (x : Status). IsCaseEnd run outside case x c.around_status-2.result told rows) (sym (c.verdict_status.ensures ∙ ap verdict_status c.worse.ensures))

@@ -23,7 +23,7 @@ loop-step-init c =
           subst (λ (rows : List StepRow). GoesSteps library c.args.before first cs0 (map step_value (into_iter_items c.into_iter-step-iterator.result)) rows c.args.before first cs0 steps) (sym (ap (map step_row) c.requires.empty))
           (subst (λ (left : List StepValue). GoesSteps library c.args.before first cs0 left [] c.args.before first cs0 steps) (sym (ap (map step_value) here)) (steps_first library c.args.before first cs0 steps));
       layers = record { saved = refl; marks = refl };
-      room = let e : length c.args.results.items ≡ 0 = ap length c.requires.empty in let f = ap length here in let v = c.args.results.ok.0 in omega arith;
+      room = let e : length c.args.results.now.items ≡ 0 = ap length c.requires.empty in let f = ap length here in let v = c.args.results.now.ok.0 in omega arith;
       counted = let l = c.into_iter-step-iterator.ensures.into_iter_gives.1 in let v = c.args.steps.ok.0 in let f = ap length here in omega arith;
     }
 
