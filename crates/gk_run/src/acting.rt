@@ -259,7 +259,7 @@ fn register(
     match library.find_any(alloc, text) {
         Err(AllocError) => Outcome::Memory,
         Ok(None) => Outcome::Failed(Reason::NoStep),
-        Ok(Some(found)) => match cleanups.add(alloc, found, block) {
+        Ok(Some(found)) => match cleanups.add(found, block) {
             Ok(()) => Outcome::Passed,
             Err(AllocError) => Outcome::Memory,
         },

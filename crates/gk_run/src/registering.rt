@@ -36,7 +36,6 @@ impl Cleanups {
     /// outcome. A refusal changes nothing. (behave's documentation: cleanups)
     pub(crate) fn add(
         &mut self,
-        alloc: Global,
         found: Found,
         block: &Block,
     ) -> Result<(), AllocError>
@@ -44,8 +43,9 @@ impl Cleanups {
         ensures err { OnErr result (cleanups_value self.new ≡ cleanups_value self.old) }
     {
         self.outcomes.reserve(self.list.len() + 1)?;
+        self.list.reserve(1)?;
         let block = copy_block(block)?;
-        self.list.push(Cleanup { found, block })?;
+        self.list.push_reserved(Cleanup { found, block });
         Ok(())
     }
 
