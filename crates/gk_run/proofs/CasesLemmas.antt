@@ -1,8 +1,8 @@
 -- Cases and features, one after another.
 use Rattle.std.specs.List.{list_any}
 use Rattle.std.specs.Prelude.{Err, IfOk, Ok, Result}
-use Rattle.std.proofs.Common.{Bool, List, [], ap, append_assoc, arith, cond, drop, false, get_or, length, map, refl, subst, sym, true, ℕ, ◌&&◌, ◌++◌, ◌+◌, ◌<◌, ◌||◌, ◌∙◌, ◌∷◌, ◌≡◌}
-use Rattle.std.proofs.lemmas.List.{append-nil, at_drop_more}
+use Rattle.std.proofs.Common.{Bool, List, [], ap, append_assoc, arith, cond, drop, false, get_or, length, map, refl, subst, sym, true, ℕ, ◌&&◌, ◌++◌, ◌+◌, ◌<◌, ◌≤◌, ◌||◌, ◌∙◌, ◌∷◌, ◌≡◌}
+use Rattle.std.proofs.lemmas.List.{append-nil, at_drop_all, at_drop_more}
 use Rattle.gk_gherkin.specs.Feature.{StepValue}
 use Rattle.gk_select.specs.declared.case.Case.{Case}
 use Rattle.gk_world.specs.State.{State}
@@ -29,6 +29,29 @@ use Rattle.gk_run.proofs.SectionLemmas.{passed_state}
 pub statuses_any : (p : Status → Bool) (cases : List CaseResult) → list_any p (map (λ (row : CaseRow). row.status) (map case_row cases)) ≡ list_any (λ (c : CaseResult). p c.status) cases
 statuses_any p [] = refl
 statuses_any p (c ∷ cs) = ap (λ b. p c.status || b) (statuses_any p cs)
+
+-- the same of the cases so far, and of those that are left
+abbrev pub GoesAny : (Status → Bool) → List CaseResult → ℕ → Bool → Bool → Type 0
+GoesAny p cases i so_far whole = (so_far || list_any (λ (c : CaseResult). p c.status) (drop i cases)) ≡ whole
+
+or_assoc : (a b c : Bool) → ((a || b) || c) ≡ (a || (b || c))
+or_assoc true b c = refl
+or_assoc false b c = refl
+
+or_false : (a : Bool) → (a || false) ≡ a
+or_false true = refl
+or_false false = refl
+
+pub any_on : (p : Status → Bool) (cases : List CaseResult) (i : ℕ) (c : CaseResult) (so_far this next whole : Bool) → i < length cases → c ≡ get_or cases i c → this ≡ p c.status → next ≡ (so_far || this) →
+    GoesAny p cases i so_far whole → GoesAny p cases (i + 1) next whole
+any_on p cases i c so_far this next whole lt is here nexts goes =
+    let P : CaseResult → Bool = λ x. p x.status in
+    let left = list_any P (drop (i + 1) cases) in
+    ap (λ b. b || left) nexts ∙ ap (λ b. (so_far || b) || left) here ∙ or_assoc so_far (p c.status) left ∙ ap (λ (x : CaseResult). so_far || (p x.status || left)) is
+    ∙ sym (at_drop_more (λ xs. so_far || list_any P xs) cases i c lt) ∙ goes
+
+pub any_done : (p : Status → Bool) (cases : List CaseResult) (i : ℕ) (so_far whole : Bool) → length cases ≤ i → GoesAny p cases i so_far whole → so_far ≡ whole
+any_done p cases i so_far whole le goes = sym (or_false so_far) ∙ sym (at_drop_all (λ xs. so_far || list_any (λ (x : CaseResult). p x.status) xs) cases i le) ∙ goes
 
 pub selected_any : (cases : List Case) (selected : List Bool) → length selected ≡ length cases → has_selected (members_of cases selected) ≡ list_any (λ (s : Bool). s) selected
 selected_any [] [] h = refl

@@ -191,38 +191,6 @@ fn has_selected(selected: &[bool]) -> bool
     selected.iter().any(|s| *s)
 }
 
-fn any_memory(cases: &[CaseResult]) -> bool
-    ensures { result ≡ list_any (λ c. rows.is_memory c.status) cases.now }
-{
-    cases
-        .iter()
-        .any(|case| matches!(case.status, Status::Memory))
-}
-
-fn any_failed(cases: &[CaseResult]) -> bool
-    ensures { result ≡ list_any (λ c. rows.is_failed c.status) cases.now }
-{
-    cases
-        .iter()
-        .any(|case| matches!(case.status, Status::Failed))
-}
-
-fn any_untested(cases: &[CaseResult]) -> bool
-    ensures { result ≡ list_any (λ c. rows.is_untested c.status) cases.now }
-{
-    cases
-        .iter()
-        .any(|case| matches!(case.status, Status::Untested))
-}
-
-fn any_passed(cases: &[CaseResult]) -> bool
-    ensures { result ≡ list_any (λ c. rows.is_passed c.status) cases.now }
-{
-    cases
-        .iter()
-        .any(|case| matches!(case.status, Status::Passed))
-}
-
 fn is_memory_status(status: Status) -> bool
     ensures { result ≡ rows.is_memory status }
 {
@@ -233,6 +201,18 @@ fn is_failed_status(status: Status) -> bool
     ensures { result ≡ rows.is_failed status }
 {
     matches!(status, Status::Failed)
+}
+
+fn is_untested_status(status: Status) -> bool
+    ensures { result ≡ rows.is_untested status }
+{
+    matches!(status, Status::Untested)
+}
+
+fn is_passed_status(status: Status) -> bool
+    ensures { result ≡ rows.is_passed status }
+{
+    matches!(status, Status::Passed)
 }
 
 fn verdict_by(memory: bool, failed: bool, untested: bool, passed: bool) -> Status
@@ -257,9 +237,17 @@ fn verdict_by(memory: bool, failed: bool, untested: bool, passed: bool) -> Statu
 pub fn feature_status(around: Status, cases: &[CaseResult]) -> Status
     ensures { result ≡ feature_verdict around (case_statuses (map case_row cases.now)) }
 {
-    let memory = either(is_memory_status(around), any_memory(cases));
-    let failed = either(is_failed_status(around), any_failed(cases));
-    verdict_by(memory, failed, any_untested(cases), any_passed(cases))
+    let mut memory = is_memory_status(around);
+    let mut failed = is_failed_status(around);
+    let mut untested = false;
+    let mut passed = false;
+    for case in cases {
+        memory = either(memory, is_memory_status(case.status));
+        failed = either(failed, is_failed_status(case.status));
+        untested = either(untested, is_untested_status(case.status));
+        passed = either(passed, is_passed_status(case.status));
+    }
+    verdict_by(memory, failed, untested, passed)
 }
 
 // Begins a feature's layer, runs the feature in it, and ends the layer.

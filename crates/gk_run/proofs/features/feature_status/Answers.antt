@@ -1,21 +1,45 @@
-use Rattle.std.proofs.Common.{◌≡◌, ◌∙◌, ◌||◌, Bool, map, sym, ap}
+use Rattle.std.proofs.Common.{◌≡◌, ◌∙◌, ◌||◌, Bool, map, sym, ap, refl}
 use Rattle.std.specs.List.{list_any}
 use Rattle.gk_run.specs.Results.{is_memory, is_failed, is_untested, is_passed, case_row}
 use Rattle.gk_run.specs.Features.{verdict_by, case_statuses}
-use Rattle.gk_run.proofs.CasesLemmas.{statuses_any}
+use Rattle.gk_run.proofs.CasesLemmas.{any_done, any_on, statuses_any}
 use Rattle.gk_run.proofs.features.feature_status.Goals as goal
+
+pub loop-case-init : goal.loop-case-init
+loop-case-init c = record {
+  memory = ap (λ (b : Bool). b || list_any (λ x. is_memory x.status) c.args.cases.now) c.is_memory_status-memory.ensures;
+  failed = ap (λ (b : Bool). b || list_any (λ x. is_failed x.status) c.args.cases.now) c.is_failed_status-failed.ensures;
+  untested = refl;
+  passed = refl;
+}
+
+pub loop-case-preserved : goal.loop-case-preserved
+loop-case-preserved c =
+    let cases = c.args.cases.now in
+    let i = c.loop-case.case-index in
+    let x = c.case-item.result in
+    let lt = c.loop-case-test.true in
+    let is = c.case-item.is in
+    record {
+      memory = any_on is_memory cases i x c.loop-case.memory c.is_memory_status.result c.either-memory.result _ lt is c.is_memory_status.ensures c.either-memory.ensures c.loop-case.invariant.memory;
+      failed = any_on is_failed cases i x c.loop-case.failed c.is_failed_status.result c.either-failed.result _ lt is c.is_failed_status.ensures c.either-failed.ensures c.loop-case.invariant.failed;
+      untested = any_on is_untested cases i x c.loop-case.untested c.is_untested_status.result c.either-untested.result _ lt is c.is_untested_status.ensures c.either-untested.ensures c.loop-case.invariant.untested;
+      passed = any_on is_passed cases i x c.loop-case.passed c.is_passed_status.result c.either-passed.result _ lt is c.is_passed_status.ensures c.either-passed.ensures c.loop-case.invariant.passed;
+    }
 
 pub returns : goal.returns
 returns c =
-    let all = case_statuses (map case_row c.args.cases.now) in
-    let m : c.either-memory.result ≡ (is_memory c.args.around || list_any is_memory all) =
-    c.either-memory.ensures ∙ ap (λ (b : Bool). b || c.any_memory.result) c.is_memory_status.ensures ∙ ap (λ (b : Bool). is_memory c.args.around || b) (c.any_memory.ensures ∙ sym (statuses_any is_memory c.args.cases.now)) in
-    let f : c.either-failed.result ≡ (is_failed c.args.around || list_any is_failed all) =
-    c.either-failed.ensures ∙ ap (λ (b : Bool). b || c.any_failed.result) c.is_failed_status.ensures ∙ ap (λ (b : Bool). is_failed c.args.around || b) (c.any_failed.ensures ∙ sym (statuses_any is_failed c.args.cases.now)) in
-    let u : c.any_untested.result ≡ list_any is_untested all = c.any_untested.ensures ∙ sym (statuses_any is_untested c.args.cases.now) in
-    let p : c.any_passed.result ≡ list_any is_passed all = c.any_passed.ensures ∙ sym (statuses_any is_passed c.args.cases.now) in
+    let cases = c.args.cases.now in
+    let around = c.args.around in
+    let i = c.loop-case.case-index in
+    let le = c.loop-case-test.false in
+    let all = case_statuses (map case_row cases) in
+    let m : c.loop-case.memory ≡ (is_memory around || list_any is_memory all) = any_done is_memory cases i c.loop-case.memory _ le c.loop-case.invariant.memory ∙ ap (λ (b : Bool). is_memory around || b) (sym (statuses_any is_memory cases)) in
+    let f : c.loop-case.failed ≡ (is_failed around || list_any is_failed all) = any_done is_failed cases i c.loop-case.failed _ le c.loop-case.invariant.failed ∙ ap (λ (b : Bool). is_failed around || b) (sym (statuses_any is_failed cases)) in
+    let u : c.loop-case.untested ≡ list_any is_untested all = any_done is_untested cases i c.loop-case.untested _ le c.loop-case.invariant.untested ∙ sym (statuses_any is_untested cases) in
+    let p : c.loop-case.passed ≡ list_any is_passed all = any_done is_passed cases i c.loop-case.passed _ le c.loop-case.invariant.passed ∙ sym (statuses_any is_passed cases) in
     c.verdict_by.ensures
-    ∙ ap (λ (b : Bool). verdict_by b c.either-failed.result c.any_untested.result c.any_passed.result) m
-    ∙ ap (λ (b : Bool). verdict_by (is_memory c.args.around || list_any is_memory all) b c.any_untested.result c.any_passed.result) f
-    ∙ ap (λ (b : Bool). verdict_by (is_memory c.args.around || list_any is_memory all) (is_failed c.args.around || list_any is_failed all) b c.any_passed.result) u
-    ∙ ap (λ (b : Bool). verdict_by (is_memory c.args.around || list_any is_memory all) (is_failed c.args.around || list_any is_failed all) (list_any is_untested all) b) p
+    ∙ ap (λ (b : Bool). verdict_by b c.loop-case.failed c.loop-case.untested c.loop-case.passed) m
+    ∙ ap (λ (b : Bool). verdict_by (is_memory around || list_any is_memory all) b c.loop-case.untested c.loop-case.passed) f
+    ∙ ap (λ (b : Bool). verdict_by (is_memory around || list_any is_memory all) (is_failed around || list_any is_failed all) b c.loop-case.passed) u
+    ∙ ap (λ (b : Bool). verdict_by (is_memory around || list_any is_memory all) (is_failed around || list_any is_failed all) (list_any is_untested all) b) p
