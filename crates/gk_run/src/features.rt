@@ -175,14 +175,7 @@ fn in_feature(
         tags,
     );
     run_cases(run, sandbox, has_passed(before), cases, selected, results)?;
-    Ok(end_section(
-        run,
-        sandbox,
-        Level::Feature,
-        tags,
-        before,
-        cleanups,
-    ))
+    Ok(end_section(run, sandbox, Level::Feature, tags, before, cleanups))
 }
 
 fn has_selected(selected: &[bool]) -> bool

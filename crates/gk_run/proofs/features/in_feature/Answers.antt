@@ -1,22 +1,15 @@
-use Rattle.std.proofs.Common.{◌∙◌, List, true, map, sym, ap, subst}
+use Rattle.std.proofs.Common.{List, map, sym, ap, subst}
 use Rattle.gk_gherkin.specs.Feature.{texts}
 use Rattle.gk_world.specs.State.{State, state_of, enter}
-use Rattle.gk_run.specs.declared.ending.Ending.{Ending}
-use Rattle.gk_run.specs.declared.results.Status.{Status}
-use Rattle.gk_run.specs.declared.results.Status.TheVariants as statuses
 use Rattle.gk_run.specs.declared.section_hooks.Level.TheVariants as levels
 use Rattle.gk_run.specs.Results.{case_row}
 use Rattle.gk_run.specs.Acting.{CleanupValue}
 use Rattle.gk_run.specs.Cleanups.{cleanups_value}
-use Rattle.gk_run.specs.Ending.{has_passed, around_status, worse}
 use Rattle.gk_run.specs.Walk.{walk}
 use Rattle.gk_run.specs.SectionHooks.{begun, before_site, before_list}
-use Rattle.gk_run.specs.Closing.{closing}
 use Rattle.gk_run.specs.Alone.{run_of}
 use Rattle.gk_run.specs.Chosen.{members_of}
-use Rattle.gk_run.specs.Running.{IsWalked, IsClosed, IsSectionEnd, IsFeatureEnd}
-use Rattle.gk_run.proofs.EndingLemmas.{not_memory, is_memory}
-use Rattle.gk_run.proofs.SectionLemmas.{section_in_before, section_closed}
+use Rattle.gk_run.specs.Running.{IsWalked}
 use Rattle.gk_run.proofs.CasesLemmas.{feature_ends}
 use Rattle.gk_run.proofs.features.in_feature.Goals as goal
 
