@@ -151,7 +151,7 @@ pub number_checked : (held looked : Option (List ℕ)) (n : ℤ) (o : Outcome) (
 number_checked held looked n o s e h = let P : Option (List ℕ) → Type 0 = λ x. IsNumber x n o in subst P e h s
 
 -- a part that comes after one that passed
-went_on : (d : Done) (o : Outcome) (s : State) → IsDone d o s → IsDone (record d { begun = true }) o s
+pub went_on : (d : Done) (o : Outcome) (s : State) → IsDone d o s → IsDone (record d { begun = true }) o s
 went_on d outcomes.Passed s h = h
 went_on d outcomes.Skip s h = h
 went_on d (outcomes.Failed why) s h = h
@@ -285,7 +285,7 @@ out_of_range_row s name text n m good number far =
     let c = ap (λ b. unless_for s (first_true ((not b, reasons.OutOfRange) ∷ [])) (with_own s name (signed_decimal (m +ℤ n)))) far in
     a ∙ b ∙ c
 
-failed_acted : (old : SandboxValue) (why : Reason) → IsActed (fails (state_of old.now) why) old (outcomes.Failed why) old
+pub failed_acted : (old : SandboxValue) (why : Reason) → IsActed (fails (state_of old.now) why) old (outcomes.Failed why) old
 failed_acted old why = record { carried_out = (refl, refl); layers = record { saved = refl; marks = refl } }
 
 pub out_of_range_acted : (old : SandboxValue) (name text : List ℕ) (looked : Option (List ℕ)) (n m : ℤ) → is_bad_name name ≡ false → Some text ≡ looked → number_of text ≡ Some m → is_in_range (m +ℤ n) ≡ false
