@@ -16,6 +16,13 @@ pub struct Counted<T> {
     failures: u64,
 }
 
+// One call more; a count at `u64::MAX` stays.
+fn count_one(count: &mut u64)
+    ensures { count.new ≡ one_more count.old }
+{
+    *count = count.saturating_add(1);
+}
+
 impl<T> Counted<T> {
     ghost use Rattle.gk_cli.specs.Counted.{inner_of, calls_of, flushes_of, failures_of};
 
@@ -79,17 +86,17 @@ impl<W: Write> Write for Counted<W> {
         ensures flushes { flushes_of self.new ≡ flushes_of self.old }
         ensures failures { failures_of self.new ≡ counted_write result buf.now (failures_of self.old) }
     {
-        self.calls = self.calls.saturating_add(1);
+        count_one(&mut self.calls);
         let taken = self.inner.write(buf);
         match &taken {
             Ok(0) => {
                 if !buf.is_empty() {
-                    self.failures = self.failures.saturating_add(1);
+                    count_one(&mut self.failures);
                 }
             }
             Ok(_) => {}
             Err(_) => {
-                self.failures = self.failures.saturating_add(1);
+                count_one(&mut self.failures);
             }
         }
         taken
@@ -101,10 +108,10 @@ impl<W: Write> Write for Counted<W> {
         ensures flushes { flushes_of self.new ≡ one_more (flushes_of self.old) }
         ensures failures { failures_of self.new ≡ counted_flush result (failures_of self.old) }
     {
-        self.flushes = self.flushes.saturating_add(1);
+        count_one(&mut self.flushes);
         let flushed = self.inner.flush();
         if flushed.is_err() {
-            self.failures = self.failures.saturating_add(1);
+            count_one(&mut self.failures);
         }
         flushed
     }
@@ -125,10 +132,10 @@ impl<R: Read> Read for Counted<R> {
         ensures flushes { flushes_of self.new ≡ flushes_of self.old }
         ensures failures { failures_of self.new ≡ counted_read result (failures_of self.old) }
     {
-        self.calls = self.calls.saturating_add(1);
+        count_one(&mut self.calls);
         let taken = self.inner.read(buf);
         if taken.is_err() {
-            self.failures = self.failures.saturating_add(1);
+            count_one(&mut self.failures);
         }
         taken
     }
