@@ -1,6 +1,6 @@
 //! Reading what a run is asked for: the rules of tags, the step library, the hooks, and the features with
 //! their cases and the choice among them.
-ghost use Rattle.std.specs.Prelude.{◌≡◌, map, option_map, IfOk, IfErr, OnOk, Some};
+ghost use Rattle.std.specs.Prelude.{◌≡◌, map, option_map, string_bytes, IfOk, IfErr, OnOk, Some};
 ghost use Rattle.std.specs.List.{AllByRecursion};
 ghost use Rattle.gk_gherkin.specs.Feature.{feature_value, texts};
 ghost use Rattle.gk_gherkin.specs.Hooks.{hooks_value};
@@ -129,6 +129,22 @@ fn selections(alloc: Global, choice: &Choice, cases: &[Case]) -> Result<Vec<bool
     Ok(selected)
 }
 
+// What is copied of a source and of its feature: the source's name, and the feature's name and tags.
+fn copies_of(
+    alloc: Global,
+    source: &str,
+    feature: &Feature,
+) -> Result<(String, String, Vec<String>), AllocError>
+    ensures source { IfOk result (λ copies. string_bytes copies.0 ≡ source.now) }
+    ensures name { IfOk result (λ copies. string_bytes copies.1 ≡ string_bytes feature.now.name) }
+    ensures tags { IfOk result (λ copies. texts copies.2.items ≡ texts feature.now.tags.items) }
+{
+    let source = String::from_str(alloc, source)?;
+    let name = String::from_str(alloc, feature.name.as_str())?;
+    let tags = copied_texts(alloc, feature.tags.as_slice())?;
+    Ok((source, name, tags))
+}
+
 fn chosen_of(
     alloc: Global,
     choice: &Choice,
@@ -141,12 +157,11 @@ fn chosen_of(
     ensures fault { IfErr result (λ e. SaysExpansion (feature_value feature) e) }
     ensures room { OnOk result (spec.HasRoom (Some (feature_value feature))) }
 {
-    let source = String::from_str(alloc, source)?;
-    let name = String::from_str(alloc, feature.name.as_str())?;
-    let tags = copied_texts(alloc, feature.tags.as_slice())?;
+    let copies = copies_of(alloc, source, &feature)?;
     let line = feature.line;
     let cases = expand(alloc, feature)?;
     let selected = selections(alloc, choice, cases.as_slice())?;
+    let (source, name, tags) = copies;
     Ok(Chosen {
         source,
         name,
