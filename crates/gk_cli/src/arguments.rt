@@ -333,6 +333,19 @@ fn words_of(alloc: Global, matches: &ArgMatches, format: Format) -> Result<Words
     })
 }
 
+// What the command reads the arguments as.
+fn words_by<'a>(alloc: Global, reader: &mut Command<'a>, words: &'a [String]) -> Result<Words, WordsFault>
+    requires { IsCommand command reader.old }
+    ensures { SaysArguments (map string_bytes words.now) result }
+{
+    let matches = reader.try_get_matches_from_mut(words)?;
+    let name = matches.get_str("format").unwrap_or("plain");
+    match format_of(name) {
+        Some(format) => words_of(alloc, &matches, format),
+        None => Err(WordsFault::Usage(unknown_format(alloc, reader, name)?)),
+    }
+}
+
 /// Reads the arguments of the command line, of which the first is the program's name. `--tags T`,
 /// `--line N` (1 to 4,294,967,295) and `--env NAME=VALUE` may stand several times. `--library FILE`,
 /// `--hooks FILE`, `--format F` (`plain`, `progress` or `json`; `plain` if it is left out), `--dry-run`,
@@ -344,11 +357,6 @@ fn words_of(alloc: Global, matches: &ArgMatches, format: Format) -> Result<Words
 pub fn read_words(alloc: Global, words: &[String]) -> Result<Words, WordsFault>
     ensures { SaysArguments (map string_bytes words.now) result }
 {
-    let mut command = command_of(alloc)?;
-    let matches = command.try_get_matches_from_mut(words)?;
-    let name = matches.get_str("format").unwrap_or("plain");
-    match format_of(name) {
-        Some(format) => words_of(alloc, &matches, format),
-        None => Err(WordsFault::Usage(unknown_format(alloc, &mut command, name)?)),
-    }
+    let mut reader = command_of(alloc)?;
+    words_by(alloc, &mut reader, words)
 }
