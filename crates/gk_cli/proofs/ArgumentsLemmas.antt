@@ -2,10 +2,12 @@
 use Rattle.std.proofs.Common.{◌≡◌, ◌≢◌, ◌⊎◌, ◌∙◌, ◌<◌, ◌≤◌, ◌&&◌, ◌||◌, ◌==◌, ◌+◌, ◌++◌, ap, ap₂, sym, subst, refl, inl, inr, arith, zero, suc, ℕ, Bool, true, false, not, List, [], ◌∷◌, length, map, codes, drop, take, is_some, get_or, Option, Some, None, Result, Ok, Err}
 use Rattle.std.specs.Prelude.{cond, find, if◌then◌else◌, option_map, unwrap_or, IsErrAnd, IsSomeAnd}
 use Rattle.std.specs.Option.{option_map_or}
-use Rattle.std.specs.List.{All, Any, slice_index_or, list_all}
+use Rattle.std.specs.List.{All, Any, after_first, before_first, slice_index_or, list_all}
 use Rattle.std.specs.Str.{bytes_eq}
 use Rattle.std.specs.Str.Parse.{ParsesBool, ParsesUnsigned}
 use Rattle.std.specs.Borrow.{Bor}
+use Rattle.std.specs.Prelude.{String, string_bytes}
+use Rattle.std.specs.declared.alloc.Global.{Global}
 use Rattle.std.proofs.lemmas.List.{append-nil, append_assoc, drop_all, get_or-map, length-map, map_push, take_all}
 use Rattle.std.proofs.lemmas.List.Elements.{All-nil, All-map, All-push}
 use Rattle.std.proofs.lemmas.Bool.Decides.{nat_tests}
@@ -27,13 +29,14 @@ use Rattle.clap.specs.declared.parser.matches.ArgMatches.{ArgMatches}
 use Rattle.clap.specs.declared.parser.matches.Found.{Found}
 use Rattle.clap.specs.declared.parser.matches.MatchedArg.{MatchedArg}
 use Rattle.clap.proofs.CallerLemmas.{added_plain, entry_by_id, present_has_entry, required_present}
+use Rattle.clap.proofs.CutLemmas.{list_any-at}
 use Rattle.clap.proofs.WalkLemmas.{first_value-rows}
 use Rattle.clap.specs.declared.error.Error.{Error}
 use Rattle.clap.specs.declared.error.kind.ErrorKind.{ErrorKind}
 use Rattle.clap.specs.declared.error.kind.ErrorKind.TheVariants.{InvalidValue}
 use Rattle.gk_report.specs.declared.report.Format.{Format}
 use Rattle.gk_report.specs.declared.report.Format.TheVariants.{Plain, Progress, Json}
-use Rattle.gk_cli.specs.Arguments.{HasRule, IsAskedBy, IsCommand, IsFaultBy, IsLineNumber, PairValue, SaysArguments, SaysMatches, SaysVariables, command, cut_at_equals, faults_in, files_rule, format_asked, format_name, found_in, has_equals, is_format, line_number, values_of}
+use Rattle.gk_cli.specs.Arguments.{HasRule, IsAskedBy, IsCommand, IsFaultBy, IsLineNumber, PairValue, SaysArguments, SaysMatches, SaysVariable, SaysVariables, command, cut_at_equals, faults_in, files_rule, format_asked, format_name, found_in, has_equals, is_format, line_number, values_of}
 use Rattle.gk_cli.specs.declared.arguments.Words.{Words}
 use Rattle.gk_cli.specs.declared.arguments.WordsFault.{WordsFault}
 use Rattle.gk_cli.specs.declared.arguments.WordsFault.TheVariants.{Usage, Env, Memory}
@@ -249,6 +252,20 @@ name_read : (o : Option (Bor Text)) (d r : Bor Text) → r ≡ unwrap_or o d →
 name_read None d r e = ap (λ (b : Bor Text). b.now) e
 name_read (Some x) d r e = ap (λ (b : Bor Text). b.now) e
 
+-- a name that is none of the three
+pub unknown_name : (name : Text) → (name ≡ codes "plain" → ⊥) → (name ≡ codes "progress" → ⊥) → (name ≡ codes "json" → ⊥) → is_format name ≡ false
+unknown_name name plain progress json = none _ _ _ (differs (codes "plain") plain) (differs (codes "progress") progress) (differs (codes "json") json)
+  where
+    none : (a b c : Bool) → a ≡ false → b ≡ false → c ≡ false → (a || (b || (c || false))) ≡ false
+    none a b c e f g = rw (e, f, g) refl
+
+    differs : (text : Text) → (name ≡ text → ⊥) → bytes_eq text name ≡ false
+    differs text other = go (bytes_eq text name) refl
+      where
+        go : (b : Bool) → bytes_eq text name ≡ b → bytes_eq text name ≡ false
+        go true e = absurd (other (sym ((bytes_eq-Decides text name).0 e)))
+        go false e = e
+
 pub format_read : (f : Found) (o : Option (Bor Text)) (d r : Bor Text) → r ≡ unwrap_or o d → d.now ≡ codes "plain"
     → option_map (λ s. s.now) o ≡ first_value f (codes "format") → r.now ≡ format_asked (rows_of f)
 format_read f o d r e plain got =
@@ -333,6 +350,25 @@ pub one_more : (P : Text → Type 0) (texts : List (Bor Text)) (i : ℕ) (d : Bo
 one_more P texts i d lt before here =
     let more : take (i + 1) texts ≡ take i texts ++ get_or texts i d ∷ [] = grind (arith, common_steps) in
     subst (λ xs. All P (map (λ t. t.now) xs)) (sym more) (subst (All P) (sym (map_push (λ t. t.now) (take i texts) (get_or texts i d))) (All-push P (map (λ t. t.now) (take i texts)) (get_or texts i d).now before here))
+
+-- one number more
+pub one_number : (done more : List ℕ) (n : ℕ) (texts : List (Bor Text)) (i : ℕ) (d : Bor Text) → i < length texts → more ≡ done ++ n ∷ [] → n ≡ line_number (get_or texts i d).now
+    → (all : List ℕ) → done ++ map line_number (map (λ t. t.now) (drop i texts)) ≡ all
+    → more ++ map line_number (map (λ t. t.now) (drop (i + 1) texts)) ≡ all
+one_number done more n texts i d lt grown same all before =
+    let split : drop i texts ≡ get_or texts i d ∷ drop (i + 1) texts = grind (arith, common_steps) in
+    let rest = map line_number (map (λ (t : Bor Text). t.now) (drop (i + 1) texts)) in
+    ap (λ l. l ++ rest) grown ∙ append_assoc done (n ∷ []) rest ∙ ap (λ x. done ++ x ∷ rest) same
+    ∙ ap (λ l. done ++ map line_number (map (λ (t : Bor Text). t.now) l)) (sym split) ∙ before
+
+-- a text that was cut at its first `=`
+pub cut_there : (text name value : Text) (variable : String Global × String Global) → text ≡ name ++ 61 ∷ value → string_bytes variable.0 ≡ before_first (λ b. b == 61) text → string_bytes variable.1 ≡ after_first (λ b. b == 61) text
+    → SaysVariable text (Ok variable)
+cut_there text name value variable whole before after =
+    (subst (λ t. has_equals t ≡ true) (sym whole) (list_any-at 61 name value), alike before after)
+  where
+    alike : {a a' b b' : Text} → a ≡ a' → b ≡ b' → let one : PairValue = record { name = a; text = b } in let other : PairValue = record { name = a'; text = b' } in one ≡ other
+    alike e f = cc
 
 pub one_pair : {X : Type 0} (f : X → PairValue) (done more : List X) (v : X) (texts : List (Bor Text)) (i : ℕ) (d : Bor Text) → i < length texts → more ≡ done ++ v ∷ [] → f v ≡ cut_at_equals (get_or texts i d).now
     → (all : List PairValue) → map f done ++ map cut_at_equals (map (λ t. t.now) (drop i texts)) ≡ all

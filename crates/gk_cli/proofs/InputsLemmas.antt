@@ -1,5 +1,6 @@
 -- Inputs, one after another, and that they are determined.
-use Rattle.std.proofs.Common.{◌≡◌, ◌⊎◌, inl, inr, ℕ, suc, zero, ◌+◌, ◌<◌, Bool, List, [], ◌∷◌, ◌++◌, map, take, drop, length, get_or, Option, Some, None, refl, ap, sym, subst, ◌∙◌, arith, add-one}
+use Rattle.std.proofs.Common.{◌≡◌, ◌⊎◌, inl, inr, ℕ, suc, zero, ◌+◌, ◌<◌, Bool, List, [], ◌∷◌, ◌++◌, map, take, drop, length, get_or, Option, Some, None, refl, ap, sym, subst, ◌∙◌, arith, add-one, append_assoc}
+use Rattle.std.proofs.lemmas.Grind.{common_steps}
 use Rattle.std.specs.Prelude.{slice_get}
 use Rattle.std.specs.List.{AllByRecursion}
 use Rattle.gk_gherkin.specs.declared.read_fault.ReadFault.{ReadFault}
@@ -64,6 +65,14 @@ pub chosen_again : {source source' name name' : List ℕ} {line : ℕ} {tags tag
     let other : ChosenValue = record { source = source'; name = name'; line = line; tags = tags'; members = members' } in
     one ≡ other
 chosen_again a b c d = cc
+
+-- One value more.
+pub one_value : {X Y : Type 0} (f : X → Y) (done more : List Y) (y : Y) (xs : List X) (i : ℕ) (d : X) → i < length xs → more ≡ done ++ y ∷ [] → y ≡ f (get_or xs i d)
+    → (all : List Y) → done ++ map f (drop i xs) ≡ all → more ++ map f (drop (i + 1) xs) ≡ all
+one_value f done more y xs i d lt grown same all before =
+    let split : drop i xs ≡ get_or xs i d ∷ drop (i + 1) xs = grind (arith, common_steps) in
+    let rest = map f (drop (i + 1) xs) in
+    ap (λ l. l ++ rest) grown ∙ append_assoc done (y ∷ []) rest ∙ ap (λ x. done ++ x ∷ rest) same ∙ ap (λ l. done ++ map f l) (sym split) ∙ before
 
 -- One element more, of which it holds.
 pub all_push : {X : Type 0} (P : X → Type 0) (xs : List X) (x : X) → AllByRecursion P xs → P x → AllByRecursion P (xs ++ x ∷ [])
