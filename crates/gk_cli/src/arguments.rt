@@ -358,5 +358,7 @@ pub fn read_words(alloc: Global, words: &[String]) -> Result<Words, WordsFault>
     ensures { SaysArguments (map string_bytes words.now) result }
 {
     let mut reader = command_of(alloc)?;
-    words_by(alloc, &mut reader, words)
+    let read = words_by(alloc, &mut reader, words);
+    drop(reader);
+    read
 }
