@@ -1,7 +1,7 @@
 //! The arguments of the command line.
-ghost use Rattle.std.specs.Prelude.{◌≡◌, map, IfOk, codes, option_map, string_bytes};
+ghost use Rattle.std.specs.Prelude.{◌≡◌, map, Some, IfOk, codes, option_map, string_bytes};
 ghost use Rattle.std.specs.List.{All};
-ghost use Rattle.clap.specs.Words.{found_of, kind_of, rows_of};
+ghost use Rattle.clap.specs.Words.{found_of, kind_of, new_rule, rows_of};
 ghost use Rattle.clap.specs.declared.error.kind.ErrorKind.TheVariants.{InvalidValue};
 ghost use Rattle.gk_cli.specs.Arguments.{files_rule, tags_rule, line_rule, library_rule, hooks_rule, env_rule, format_rule, flag_rule, command, HasRule, IsCommand, values_of, is_set, IsLineNumber, line_number, format_name, format_asked, SaysFormat, SaysVariable, SaysVariables, AreAsked, SaysMatches, SaysArguments};
 
@@ -115,65 +115,94 @@ fn files_arg<'a>(alloc: Global) -> Arg<'a>
         .action(ArgAction::Append)
 }
 
+// An option that has a value.
+fn value_arg<'a>(
+    alloc: Global,
+    name: &'a str,
+    value_name: &'a str,
+    help: &'a str,
+    action: ArgAction,
+) -> Arg<'a>
+    ensures { HasRule (record (new_rule name.entry.now) { long = Some name.entry.now; action = Some action; value_names = 1 }) result }
+{
+    Arg::new(alloc, name)
+        .long(name)
+        .value_name(value_name)
+        .help(help)
+        .action(action)
+}
+
 fn tags_arg<'a>(alloc: Global) -> Arg<'a>
     ensures { HasRule tags_rule result }
 {
-    Arg::new(alloc, "tags")
-        .long("tags")
-        .value_name("T")
-        .help("Run only scenarios whose tags fit T, as ~@slow,@db; each --tags has to fit")
-        .action(ArgAction::Append)
+    value_arg(
+        alloc,
+        "tags",
+        "T",
+        "Run only scenarios whose tags fit T, as ~@slow,@db; each --tags has to fit",
+        ArgAction::Append,
+    )
 }
 
 fn line_arg<'a>(alloc: Global) -> Arg<'a>
     ensures { HasRule line_rule result }
 {
-    Arg::new(alloc, "line")
-        .long("line")
-        .value_name("N")
-        .help("Run only the scenarios at line N of a file; of several lines, one has to fit")
-        .value_parser(ValueParser::unsigned(1, 4_294_967_295))
-        .action(ArgAction::Append)
+    value_arg(
+        alloc,
+        "line",
+        "N",
+        "Run only the scenarios at line N of a file; of several lines, one has to fit",
+        ArgAction::Append,
+    )
+    .value_parser(ValueParser::unsigned(1, 4_294_967_295))
 }
 
 fn library_arg<'a>(alloc: Global) -> Arg<'a>
     ensures { HasRule library_rule result }
 {
-    Arg::new(alloc, "library")
-        .long("library")
-        .value_name("FILE")
-        .help("Take the steps from FILE in place of the default library")
-        .action(ArgAction::Set)
+    value_arg(
+        alloc,
+        "library",
+        "FILE",
+        "Take the steps from FILE in place of the default library",
+        ArgAction::Set,
+    )
 }
 
 fn hooks_arg<'a>(alloc: Global) -> Arg<'a>
     ensures { HasRule hooks_rule result }
 {
-    Arg::new(alloc, "hooks")
-        .long("hooks")
-        .value_name("FILE")
-        .help("Run the hooks in FILE around the run, its features and its scenarios")
-        .action(ArgAction::Set)
+    value_arg(
+        alloc,
+        "hooks",
+        "FILE",
+        "Run the hooks in FILE around the run, its features and its scenarios",
+        ArgAction::Set,
+    )
 }
 
 fn env_arg<'a>(alloc: Global) -> Arg<'a>
     ensures { HasRule env_rule result }
 {
-    Arg::new(alloc, "env")
-        .long("env")
-        .value_name("NAME=VALUE")
-        .help("Set a variable before the run; of equal names the last counts")
-        .action(ArgAction::Append)
+    value_arg(
+        alloc,
+        "env",
+        "NAME=VALUE",
+        "Set a variable before the run; of equal names the last counts",
+        ArgAction::Append,
+    )
 }
 
 fn format_arg<'a>(alloc: Global) -> Arg<'a>
     ensures { HasRule format_rule result }
 {
-    Arg::new(alloc, "format")
-        .long("format")
-        .value_name("F")
-        .help("Write the report as plain, progress or json [default: plain]")
-        .action(ArgAction::Set)
+    value_arg(
+        alloc,
+        "format",
+        "F",
+        "Write the report as plain, progress or json [default: plain]",
+        ArgAction::Set,
+    )
 }
 
 // A flag, which stands once at most.
