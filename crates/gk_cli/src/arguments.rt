@@ -363,7 +363,11 @@ fn words_of(alloc: Global, matches: &ArgMatches, format: Format) -> Result<Words
 }
 
 // What the command reads the arguments as.
-fn words_by<'a>(alloc: Global, reader: &mut Command<'a>, words: &'a [String]) -> Result<Words, WordsFault>
+fn words_by<'a>(
+    alloc: Global,
+    reader: &mut Command<'a>,
+    words: &'a [String],
+) -> Result<Words, WordsFault>
     requires { IsCommand command reader.old }
     ensures { SaysArguments (map string_bytes words.now) result }
 {
