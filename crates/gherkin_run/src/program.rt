@@ -215,7 +215,7 @@ pub fn run_sources<W: Write>(
     }
 }
 
-// The same in a sandbox that is new.
+// What `run_words` does, in a sandbox that is new: puts the variables, reads the files, runs the suite.
 fn run_in<R: Files + AllocGlobal, W: Write>(
     rt: &R,
     sandbox: &mut Sandbox,

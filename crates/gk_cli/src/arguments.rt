@@ -392,6 +392,7 @@ pub fn read_words(alloc: Global, words: &[String]) -> Result<Words, WordsFault>
 {
     let mut reader = command_of(alloc)?;
     let read = words_by(alloc, &mut reader, words);
+    // Nothing of the command was taken, so it goes as a whole.
     drop(reader);
     read
 }

@@ -16,7 +16,7 @@ pub struct Counted<T> {
     failures: u64,
 }
 
-// One call more; a count at `u64::MAX` stays.
+// A count, by one more; at `u64::MAX` it stays.
 fn count_one(count: &mut u64)
     ensures { count.new ≡ one_more count.old }
 {

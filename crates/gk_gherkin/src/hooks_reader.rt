@@ -59,7 +59,8 @@ fn read(alloc: Global, text: &str) -> Result<HookFile, ReadFault>
         place: HooksPlace::NoHook,
     };
     let result = read_from(alloc, &mut state, text);
-    mem::drop(state);
+    // What is left of the state goes as a whole.
+    drop(state);
     result
 }
 

@@ -69,7 +69,8 @@ fn read(alloc: Global, text: &str) -> Result<Option<Feature>, ReadFault>
         place: Place::Above,
     };
     let result = read_from(alloc, &mut state, text);
-    mem::drop(state);
+    // What is left of the state goes as a whole.
+    drop(state);
     result
 }
 

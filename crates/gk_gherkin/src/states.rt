@@ -1,4 +1,4 @@
-//! How a line goes on from a state: in place, but for tags, fences and lines after tags.
+//! How a line goes on from a state: in place, but for first tags, fences and headings after tags.
 ghost use Rattle.std.specs.Prelude.{Option, option_map, Ok, ◌≡◌, ℕ, List, []};
 ghost use Rattle.gk_gherkin.specs.Lines.{piece_value};
 ghost use Rattle.gk_gherkin.specs.Feature.{texts};

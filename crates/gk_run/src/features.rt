@@ -117,8 +117,9 @@ fn run_cases(
     Ok(())
 }
 
-// Ends a section whose before list ended so: how its hooks and cleanups ended.
-pub(crate) fn end_section(
+// Closes a feature or the run, whose before list ended so, and leaves its layer open. Answers how its hooks
+// and cleanups ended.
+pub(crate) fn close_section(
     run: &Run<'_>,
     sandbox: &mut Sandbox,
     level: Level,
@@ -175,7 +176,7 @@ fn in_feature(
         tags,
     );
     run_cases(run, sandbox, has_passed(before), cases, selected, results)?;
-    Ok(end_section(run, sandbox, Level::Feature, tags, before, cleanups))
+    Ok(close_section(run, sandbox, Level::Feature, tags, before, cleanups))
 }
 
 fn has_selected(selected: &[bool]) -> bool

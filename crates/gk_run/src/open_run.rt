@@ -17,7 +17,7 @@ ghost use Rattle.gk_run.specs.OpenRun.{IsStarted, IsKept, FinishedRunsAreJudged,
 use crate::chosen::Chosen;
 use crate::cleanups::Cleanups;
 use crate::ending::{Ending, has_passed};
-use crate::features::{Run, both, end_section, feature_in, stays_open};
+use crate::features::{Run, both, close_section, feature_in, stays_open};
 use crate::results::{FeatureResult, NoRoom, Status};
 use crate::section_hooks::Level;
 use crate::walk::walk_before;
@@ -133,7 +133,7 @@ impl Suite {
             hooks,
             stop,
         };
-        let around = end_section(&run, sandbox, Level::Run, &[], before, cleanups);
+        let around = close_section(&run, sandbox, Level::Run, &[], before, cleanups);
         sandbox.end(layer);
         around
     }

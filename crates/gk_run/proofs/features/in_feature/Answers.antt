@@ -26,5 +26,5 @@ returns-clause-end c = λ outside here.
     let walked : IsWalked (begun run.library run.hooks levels.Feature tags outside) b s cs =
     subst (λ (x : List CleanupValue). IsWalked (walk run.library (before_site levels.Feature) (enter outside) x (before_list run.hooks levels.Feature tags)) b s cs) c.new-cleanups.ensures
     (subst (λ (x : State). IsWalked (walk run.library (before_site levels.Feature) x (cleanups_value c.new-cleanups.result) (before_list run.hooks levels.Feature tags)) b s cs) here c.walk_before-before.ensures.walked) in
-    let end = c.end_section.ensures.around outside stop (subst (λ (x : State). IsWalked (begun run.library run.hooks levels.Feature tags outside) b x cs) (sym (ap state_of c.in_ok-run_cases.ensures.same.contents)) walked) in
-    feature_ends run levels.Feature outside tags members b s cs c.has_passed.result c.end_section.result rows walked c.has_passed.ensures c.in_ok-run_cases.ensures.rows end
+    let end = c.close_section.ensures.around outside stop (subst (λ (x : State). IsWalked (begun run.library run.hooks levels.Feature tags outside) b x cs) (sym (ap state_of c.in_ok-run_cases.ensures.same.contents)) walked) in
+    feature_ends run levels.Feature outside tags members b s cs c.has_passed.result c.close_section.result rows walked c.has_passed.ensures c.in_ok-run_cases.ensures.rows end

@@ -11,7 +11,7 @@ use Rattle.gk_run.specs.Alone.{run_of}
 use Rattle.gk_run.specs.Running.{IsWalked, IsSectionEnd}
 use Rattle.gk_run.proofs.EndingLemmas.{not_memory, is_memory}
 use Rattle.gk_run.proofs.SectionLemmas.{section_in_before, section_closed}
-use Rattle.gk_run.proofs.features.end_section.Goals as goal
+use Rattle.gk_run.proofs.features.close_section.Goals as goal
 
 pub returns-then-is_memory-clause-around : goal.returns-then-is_memory-clause-around
 returns-then-is_memory-clause-around c = λ outside stop walked.
