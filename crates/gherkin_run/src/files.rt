@@ -14,11 +14,7 @@ use std::{fs, io};
 
 /// A source of this name with all the bytes of the reader. A reader that fails is `CannotRead`, one with more
 /// bytes than `gk_gherkin::LIMIT` is `TooLong`. (this project's profile)
-pub fn source_of<R: Read>(
-    alloc: Global,
-    name: String,
-    reader: &mut Counted<R>,
-) -> Result<Source, Fault>
+fn source_of<R: Read>(alloc: Global, name: String, reader: &mut Counted<R>) -> Result<Source, Fault>
     ensures named { IfOk result (λ source. name_of source ≡ string_bytes name) }
     ensures whole { IfOk result (λ source. IfSome (R.remaining (inner_of reader.old)) (λ bytes. source.bytes.items ≡ bytes)) }
     ensures within { IfOk result (λ source. vec_len source.bytes ≤ LIMIT) }
@@ -48,7 +44,7 @@ fn read_file<R: Files + AllocGlobal>(rt: &R, name: String) -> Result<Source, Fau
 }
 
 /// Reads each file whole, in order. The first that can't be read is the fault.
-pub fn read_files<R: Files + AllocGlobal>(rt: &R, names: Vec<String>) -> Result<Vec<Source>, Fault>
+fn read_files<R: Files + AllocGlobal>(rt: &R, names: Vec<String>) -> Result<Vec<Source>, Fault>
     ensures named { IfOk result (λ sources. map name_of sources.items ≡ map string_bytes names.items) }
     ensures fault { IfErr result (λ fault. Any (λ name. IsFileFault (string_bytes name) fault) names.items) }
 {
@@ -61,7 +57,7 @@ pub fn read_files<R: Files + AllocGlobal>(rt: &R, names: Vec<String>) -> Result<
 }
 
 /// Reads a file whole, where one is named: the library file, or the hooks file.
-pub fn read_named_file<R: Files + AllocGlobal>(
+fn read_named_file<R: Files + AllocGlobal>(
     rt: &R,
     name: Option<String>,
 ) -> Result<Option<Source>, Fault>

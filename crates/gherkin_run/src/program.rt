@@ -39,7 +39,7 @@ fn asked_for(error: clap::Error) -> Result<Asked, Fault>
 
 /// What these arguments ask for; the first is the program's name. A mistake is `Usage`, and comes before
 /// `Env`. (this project's profile)
-pub fn asked_by(alloc: Global, arguments: &[String]) -> Result<Asked, Fault>
+fn asked_by(alloc: Global, arguments: &[String]) -> Result<Asked, Fault>
     ensures { SaysAsked (map string_bytes arguments.now) result }
 {
     match read_words(alloc, arguments) {
@@ -63,11 +63,7 @@ fn arguments_of<R: Env + AllocGlobal>(rt: &R) -> Result<Vec<String>, Fault>
 }
 
 /// Writes clap's text for help, and flushes.
-pub fn show_help<W: Write>(
-    alloc: Global,
-    text: &clap::Error,
-    out: &mut Counted<W>,
-) -> Result<u8, Fault>
+fn show_help<W: Write>(alloc: Global, text: &clap::Error, out: &mut Counted<W>) -> Result<u8, Fault>
     requires room { failures_of out.old < 2 ^ 64 - 1 }
     ensures well { IfOk result (λ status. status ≡ 0) }
     ensures quiet { OnOk result (failures_of out.new ≡ failures_of out.old) }
@@ -96,7 +92,7 @@ fn fault_of_variable(fault: WorldFault) -> Fault
 
 /// Puts the variables into the sandbox, in order; of equal names the last counts. A bad name or a text too
 /// long is `Env`. (this project's profile)
-pub fn put_variables(sandbox: &mut Sandbox, variables: &[(String, String)]) -> Result<(), Fault>
+fn put_variables(sandbox: &mut Sandbox, variables: &[(String, String)]) -> Result<(), Fault>
     ensures { SaysVariables (map pair_value variables.now) sandbox.old sandbox.new result }
 {
     for variable in variables {
@@ -175,7 +171,7 @@ fn bytes_of(file: &Option<Source>) -> Option<&[u8]>
 /// Runs the suite, and flushes the report. A fault names the file that it comes from. `Write` comes where a
 /// write or the flush failed; then a prefix of the report, or all of it, was written. At `Memory` nothing or a
 /// prefix of the report was written. At any other fault nothing was.
-pub fn run_sources<W: Write>(
+fn run_sources<W: Write>(
     alloc: Global,
     sandbox: &mut Sandbox,
     options: &Options,
@@ -245,7 +241,7 @@ fn run_in<R: Files + AllocGlobal, W: Write>(
 
 /// Runs what is asked for: puts the variables into an empty sandbox, reads the library file, the hooks file and
 /// the files, and runs the suite. The first fault in this order ends it.
-pub fn run_words<R: Files + AllocGlobal, W: Write>(
+fn run_words<R: Files + AllocGlobal, W: Write>(
     rt: &R,
     words: Words,
     out: &mut Counted<W>,
