@@ -272,17 +272,18 @@ fn at_cleanup(
     cleanups: &mut Cleanups,
     library: &Library,
     site: Site,
-    found: &Found,
-    block: &Block,
+    arguments: &Arguments<'_>,
 ) -> Outcome
-    ensures done { (s : State) → IsDone (words.done_of (words.registers_at site s (library_value library.now) (words.given (library_value library.now) (found_value found.now) (block_value block.now)))) result s }
-    ensures registered { (s : State) → HasRegistered (words.registers_at site s (library_value library.now) (words.given (library_value library.now) (found_value found.now) (block_value block.now))) (cleanups_value cleanups.old) result (cleanups_value cleanups.new) }
-    ensures memory { let arguments = given (library_value library.now) (found_value found.now) (block_value block.now) in NeedsCandidate (library_value library.now) arguments.step result }
+    ensures done { (s : State) → IsDone (words.done_of (words.registers_at
+        site s (library_value library.now) (given_value arguments.now))) result s }
+    ensures registered { (s : State) → HasRegistered (words.registers_at
+        site s (library_value library.now) (given_value arguments.now))
+        (cleanups_value cleanups.old) result (cleanups_value cleanups.new) }
+    ensures memory { NeedsCandidate (library_value library.now) arguments.now.step.now result }
 {
     if !may_register(site) {
         return Outcome::Failed(Reason::NotHere);
     }
-    let arguments = arguments_of(library, found, block);
     register(alloc, cleanups, library, arguments.step, arguments.block)
 }
 
@@ -313,7 +314,10 @@ pub fn act(
     ensures layers { KeepsLayers sandbox.old sandbox.new }
 {
     match library.action(found) {
-        Action::AtCleanup => at_cleanup(alloc, cleanups, library, site, found, block),
+        Action::AtCleanup => {
+            let arguments = arguments_of(library, found, block);
+            at_cleanup(alloc, cleanups, library, site, &arguments)
+        }
         Action::SkipScenario => skip(site),
         _ => carry_out(alloc, sandbox, library, found, block),
     }
