@@ -123,7 +123,8 @@ impl Suite {
     ) -> Status
         requires innermost { self.layer ≡ depth sandbox.old }
         ensures around { (outside : State) (stop : Bool) →
-            IsWalked (begun (library_value library.now) (hooks_value hooks.now) Level.Run [] outside)
+            IsWalked
+            (begun (library_value library.now) (hooks_value hooks.now) Level.Run [] outside)
             self.before (state_of sandbox.old.now) (cleanups_value self.cleanups) →
             IsSectionEnd (run_of library.now hooks.now stop) Level.Run [] outside result
             (endings.has_passed self.before) }
