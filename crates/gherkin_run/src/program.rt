@@ -8,7 +8,7 @@ ghost use Rattle.gk_cli.specs.Source.{source_value};
 ghost use Rattle.gherkin_run.specs.Program.{SaysAsked, SaysError, IsHelpFault, IsArgumentsFault, IsFaultOfVariable, SaysVariables, IsWithin, IsNamed, IsFaultOfRun, bytes_given, request, IsFlushedRun, SaysRun, SaysCalls, SaysCallsOfRun, SaysProgram, IsRun, IsDoneForSome};
 
 use crate::fault::Fault;
-use crate::files::read_run_files;
+use crate::files::{RunFiles, read_run_files};
 use gk_cli::{
     Counted, Options, RunFault, Source, Words, WordsFault, read_words, run_suite, write_whole,
 };
@@ -175,23 +175,30 @@ fn run_sources<W: Write>(
     alloc: Global,
     sandbox: &mut Sandbox,
     options: &Options,
-    library: Option<Source>,
-    hooks: Option<Source>,
-    sources: Vec<Source>,
+    files: RunFiles,
     out: &mut Counted<W>,
 ) -> Result<u8, Fault>
     requires room { failures_of out.old < 2 ^ 64 - 1 }
     requires outside { depth sandbox.old ≡ 0 }
     // What was written and the status are those of one run of these inputs.
-    ensures run { IfOk result (IsFlushedRun (request options.now library hooks sources.items) sandbox.old.now (device_of W.contents out.old) (device_of W.contents out.new)) }
+    ensures run { IfOk result (IsFlushedRun
+        (request options.now files.library files.hooks files.sources.items) sandbox.old.now
+        (device_of W.contents out.old) (device_of W.contents out.new)) }
     // A status comes only where the writer did not fail, and was flushed once.
     ensures quiet { OnOk result (failures_of out.new ≡ failures_of out.old) }
     ensures flushed { OnOk result (flushes_of out.new ≡ one_more (flushes_of out.old)) }
     // A fault is that of the run, or the flush failed.
-    ensures fault { IfErr result (SaysRun options.now library hooks sources.items sandbox.old.now (device_of W.contents out.old) (device_of W.contents out.new)) }
+    ensures fault { IfErr result (SaysRun
+        options.now files.library files.hooks files.sources.items sandbox.old.now
+        (device_of W.contents out.old) (device_of W.contents out.new)) }
     // Where standard output isn't at fault, it was not called, or memory was refused after a prefix of the report.
     ensures calls { IfErr result (SaysCallsOfRun (device_of W.contents out.old) (device_of W.contents out.new)) }
 {
+    let RunFiles {
+        library,
+        hooks,
+        sources,
+    } = files;
     let steps = bytes_of(&library);
     let around = bytes_of(&hooks);
     match run_suite(
@@ -228,15 +235,7 @@ fn run_in<R: Files + AllocGlobal, W: Write>(
 {
     put_variables(sandbox, words.env.as_slice())?;
     let files = read_run_files(rt, words.library, words.hooks, words.files)?;
-    run_sources(
-        rt.alloc(),
-        sandbox,
-        &words.options,
-        files.library,
-        files.hooks,
-        files.sources,
-        out,
-    )
+    run_sources(rt.alloc(), sandbox, &words.options, files, out)
 }
 
 /// Runs what is asked for: puts the variables into an empty sandbox, reads the library file, the hooks file and
