@@ -7,7 +7,7 @@ ghost use Rattle.gk_world.specs.Sandbox.{depth};
 ghost use Rattle.gk_world.specs.Refusals as refusals;
 ghost use Rattle.gk_run.specs.Cleanups.{cleanups_value};
 ghost use Rattle.gk_run.specs.Acting as words;
-ghost use Rattle.gk_run.specs.Acting.{given, given_value, table, carried_out_of, registers, act_of, Performs, changes_nothing, may_skip, may_register, IsDone, IsExactly, IsExact, IsActed, HasRegistered, KeepsLayers, IsHeld, IsNotHeld, IsText, HasText, NeedsCandidate, CleanupNeedsCandidate};
+ghost use Rattle.gk_run.specs.Acting.{given, given_value, table, carried_out_of, registers, act_of, Performs, changes_nothing, may_skip, may_register, IsDone, IsExactly, IsExact, HasRegistered, KeepsLayers, IsHeld, IsNotHeld, IsText, HasText, NeedsCandidate, CleanupNeedsCandidate};
 
 mod file_actions;
 mod number_actions;

@@ -1,5 +1,5 @@
 //! Dry runs.
-ghost use Rattle.std.specs.Prelude.{◌≡◌, false, cond, List, map, length, IfOk};
+ghost use Rattle.std.specs.Prelude.{◌≡◌, false, cond, List, map, IfOk};
 ghost use Rattle.gk_gherkin.specs.Feature.{step_value};
 ghost use Rattle.gk_select.specs.Case.{case_value};
 ghost use Rattle.gk_steps.specs.Finding.{library_value};

@@ -1,5 +1,5 @@
 //! Running a feature.
-ghost use Rattle.std.specs.Prelude.{◌≡◌, ◌<◌, Bool, true, false, ◌&&◌, ◌||◌, suc, length, map, IfOk};
+ghost use Rattle.std.specs.Prelude.{◌≡◌, ◌<◌, Bool, true, ◌&&◌, ◌||◌, suc, map, IfOk};
 ghost use Rattle.std.specs.List.{list_any};
 ghost use Rattle.gk_gherkin.specs.Feature.{texts};
 ghost use Rattle.gk_world.specs.State.{State, state_of, enter};
