@@ -5,8 +5,8 @@
 # has to be what the program prints as plain; it counts the features, scenarios and steps, which has to give the
 # summary; and the status has to be the one that the program ends with. Then runs over several files are
 # compared with the reports of runs over a part of them each, added up by examples/add_reports.sh; and the
-# commands with jq in docs/GUIDE.md are tried. PROGRAM is
-# the built program; without it, the one that ./run builds. jq is needed, so ./test doesn't run this script.
+# commands with jq in docs/guide/reports.md are tried. PROGRAM is the built program; without it, the one that
+# ./run builds. jq is needed, so ./test doesn't run this script.
 # Closes with one line 'N passed, M failed'.
 set -eu
 
@@ -135,7 +135,7 @@ add_up "cleanups" --hooks examples/cleanups.hooks -- examples/cleanups.feature e
 add_up "a library" --library examples/default.steps --env A=b -- examples/default.feature $features
 # The commands of the guide, in a folder with some features: a line of the page that begins with a text.
 command_of() {
-    grep --max-count=1 --fixed-strings -- "$1" docs/GUIDE.md
+    grep --max-count=1 --fixed-strings -- "$1" docs/guide/reports.md
 }
 share=$(command_of './run --format json $(ls')
 add=$(command_of 'examples/add_reports.sh report.*.json')
