@@ -13,7 +13,7 @@ Fails where
 - README.md has more than 120 lines;
 - a fault text or a reason of the program has no entry in docs/FAULTS.md, or an entry has no such text;
 - examples/default.steps isn't the built-in library;
-- README.md or a page of docs/ has a word of WORDS; elsewhere such words are counted only.
+- a page at the top or of docs/ has a word of WORDS; elsewhere such words are counted only.
 """
 
 import os
@@ -48,7 +48,7 @@ CRATES = [line.split(":")[0] for line in read("crates.txt").splitlines() if line
 # The crate of tests, whose texts are no faults of the program.
 TESTS = "crates/gk_tests/"
 DOCUMENTS = [it for it in FILES if it.endswith(".md")]
-PAGES = [it for it in DOCUMENTS if it == "README.md" or it.startswith("docs/")]
+PAGES = [it for it in DOCUMENTS if "/" not in it or it.startswith("docs/")]
 
 
 def without_blocks(text):
@@ -507,7 +507,7 @@ def main():
     tests.check("entries of docs/FAULTS.md", fault_differences())
     tests.check("the built-in library", library_difference())
     faults, elsewhere = counted_words()
-    tests.check("words in README.md and docs/", [f"{path}:{number}: {text}" for path, number, text in faults])
+    tests.check("words in pages", [f"{path}:{number}: {text}" for path, number, text in faults])
     if elsewhere:
         print("such words elsewhere: " + ", ".join(f"{count} in {top}" for top, count in sorted(elsewhere.items())))
     print(f"{tests.passed} passed, {tests.failed} failed")
