@@ -3,7 +3,7 @@
 
 Fails where
 - a document names a clause, file, crate, function, definition or must-fail edit that isn't there;
-- a must-fail edit isn't listed in docs/PROOFS.md, or is listed twice;
+- a must-fail edit isn't listed in docs/TRIALS.md, or is listed twice;
 - a relative link leads nowhere, or to a heading that isn't there;
 - a run that a document shows gives something else (a `console` block over the files above it, and, on a page of
   docs/guide/, over those of the guide's other pages);
@@ -163,7 +163,7 @@ def named_wrongly(page, names, owned):
 
 
 def named_clauses(page):
-    """Each pair 'public call, clause' of a table of docs/PROOFS.md or README.md whose clause isn't there.
+    """Each pair 'public call, clause' of a table of a page whose clause isn't there.
 
     A cell `call`: `clause`, `clause` names clauses of one function."""
     clauses = clauses_by_function()
@@ -205,10 +205,10 @@ def edits():
 
 
 def listed_edits():
-    """The edits that docs/PROOFS.md lists, by crate: the first cells of the table below the heading
-    `### Edits of CRATE`."""
+    """The edits that docs/TRIALS.md lists, by crate: the first cells of the table below the heading
+    `## Edits of CRATE`."""
     found, crate = {}, None
-    for line in read("docs/PROOFS.md").split("\n"):
+    for line in read("docs/TRIALS.md").split("\n"):
         heading = re.match(r"#+ (.*)", line)
         if heading:
             named = re.fullmatch(r"Edits of `?([a-z_]+)`?", heading.group(1))
@@ -224,10 +224,10 @@ def edit_differences():
         for name in there.get(crate, []):
             count = listed.get(crate, []).count(name)
             if count != 1:
-                yield f"docs/PROOFS.md lists the edit {name} of {crate} {count} times"
+                yield f"docs/TRIALS.md lists the edit {name} of {crate} {count} times"
         for name in listed.get(crate, []):
             if name not in there.get(crate, []):
-                yield f"docs/PROOFS.md lists {name}, which is no edit of {crate}"
+                yield f"docs/TRIALS.md lists {name}, which is no edit of {crate}"
 
 
 # ---- links
