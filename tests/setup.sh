@@ -1,11 +1,10 @@
 # Read by the scripts of this folder with `.`, not run. Sets `home`, the repository's folder, `program`,
-# the built program (the script's first argument, or the one that ./run builds), `room`, a folder that is
+# the built program (the script's first argument, or the one that ./run runs), `room`, a folder that is
 # removed at the end, and the counts `passed` and `failed`.
 home=$(dirname -- "$(dirname -- "$(readlink -f -- "$0")")")
 program=${1:-}
 if [ -z "$program" ]; then
-    "$home/run" --help > /dev/null
-    program=$home/crates/gherkin_run/out/gherkin_run
+    program=$("$home/run" --which)
 fi
 case $program in
 /*) ;;
