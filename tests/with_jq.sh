@@ -115,7 +115,7 @@ for feature in examples/*.feature; do
     echo "$feature" >> "$room/list"
     with_arguments "$room/list" compare "$feature"
 done
-for folder in tests/runs/*json*; do
+for folder in tests/runs/*/*json*; do
     case $(head -c 1 "$folder/stdout" 2> /dev/null) in
     "{")
         cd "$folder"
