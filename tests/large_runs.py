@@ -6,8 +6,10 @@ program.
 """
 
 import os
-import subprocess
+import shutil
 import threading
+
+import driver
 
 PATIENCE = 120  # seconds
 FILE_LIMIT = 16_777_216
@@ -25,6 +27,10 @@ class Run:
         self.status = status
         self.stdout = stdout
         self.stderr = stderr
+
+    def wanted(self):
+        """The status, and the bytes on standard output and standard error, that have to come out."""
+        return self.status, self.stdout.encode(), self.stderr.encode()
 
 
 def counted(noun, passed, failed=0, skipped=0, undefined=None):
@@ -86,7 +92,7 @@ def many_scenarios_as_progress():
 
 def many_scenarios_after_the_one_that_stops_the_run():
     run = many_scenarios()
-    files = {"0.feature": "Feature: f\nScenario: s\nGiven it fails\n", **run.files}
+    files = {"0.feature": driver.feature("Given it fails"), **run.files}
     report = f"0.feature  F  failed\na.feature  {'U' * 100_000}  untested\n" + counted("feature", 0, 1).replace("\n", ", 1 untested\n")
     report += counted("scenario", 0, 1).replace("\n", ", 100000 untested\n") + counted("step", 0, 1, 0, 0).replace("\n", ", 200000 untested\n")
     return Run(files, 1, report, arguments=["--stop", "--format", "progress", *files])
@@ -110,15 +116,15 @@ def long_names_as_json():
     undefined = json_counts(0, True).replace('"undefined":0', '"undefined":1')
     report = (f'{{"features":[{{"around":"passed","line":1,"name":"{written}","scenarios":[{scenario}],"source":"a.feature","status":"failed"}}],'
               f'"run":"passed","status":1,"summary":{{"features":{failed},"scenarios":{failed},"steps":{undefined}}}}}\n')
-    return Run({"a.feature": f"Feature: {name}\nScenario: {name}\nGiven {name}\n"}, 1, report, arguments=["--format", "json", "a.feature"])
+    return Run({"a.feature": driver.feature(f"Given {name}", name=name, scenario=name)}, 1, report, arguments=["--format", "json", "a.feature"])
 
 
 def many_files():
-    files = {f"{number}.feature": f"Feature: f{number}\nScenario: s{number}\nGiven the variable \"V{number}\" should be unset\n"
-             f"And the variable \"V{number}\" is set to \"x\"\n" for number in range(100)}
-    report = "".join(passing(f"f{number}", [f"s{number}"], [f'Given the variable "V{number}" should be unset',
-                                                             f'And the variable "V{number}" is set to "x"'])
-                     for number in range(100))
+    files, report = {}, ""
+    for number in range(100):
+        steps = [f'Given the variable "V{number}" should be unset', f'And the variable "V{number}" is set to "x"']
+        files[f"{number}.feature"] = driver.feature(*steps, name=f"f{number}", scenario=f"s{number}")
+        report += passing(f"f{number}", [f"s{number}"], steps)
     return Run(files, 0, report + closing(100, 100, 200))
 
 
@@ -150,7 +156,7 @@ def many_rules_examples_and_rows():
 
 
 def late_line():
-    text = "Feature: f\nScenario: s\nGiven it passes\n" + "# nothing\n" * 70_000 + "stray\n"
+    text = driver.feature("Given it passes") + "# nothing\n" * 70_000 + "stray\n"
     return Run({"a.feature": text}, 3, "", "gherkin_run: a.feature:70004: unexpected line\n")
 
 
@@ -180,7 +186,7 @@ def longest_file_of_a_comment():
 
 
 def longest_file_of_a_scenario():
-    text = "Feature: f\nScenario: s\nGiven it passes\n"
+    text = driver.feature("Given it passes")
     text += "#" * (FILE_LIMIT - len(text) - 1) + "\n"
     return Run({"a.feature": text}, 0, passing("f", ["s"], ["Given it passes"]) + closing(1, 1, 1))
 
@@ -204,7 +210,7 @@ def longest_file_not_utf8():
 def longest_library():
     entry = "step x => pass\n"
     library = entry + "#" * (FILE_LIMIT - len(entry))
-    return Run({"a.feature": "Feature: f\nScenario: s\nGiven x\n", "l.steps": library}, 0,
+    return Run({"a.feature": driver.feature("Given x"), "l.steps": library}, 0,
                passing("f", ["s"], ["Given x"]) + closing(1, 1, 1), arguments=["--library", "l.steps", "a.feature"])
 
 
@@ -280,7 +286,7 @@ def longest_variable_and_value():
 def text_in_characters_of_more_bytes():
     """The limit counts bytes: 524,288 characters of two bytes are kept, and one more isn't."""
     text = "\u00e9" * (TEXT_LIMIT // 2)
-    feature = f'Feature: f\nScenario: s\nGiven a file named "f" with:\n"""\n{text}\n"""\nGiven a file named "g" with:\n"""\n{text}\u00e9\n"""\n'
+    feature = driver.feature(f'Given a file named "f" with:\n"""\n{text}\n"""', f'Given a file named "g" with:\n"""\n{text}\u00e9\n"""')
     report = ('Feature: f ... failed\n  Scenario: s ... failed\n    Given a file named "f" with: ... passed\n'
               '    Given a file named "g" with: ... failed: text too long\n\n')
     return Run({"a.feature": feature}, 1, report + closing((0, 1), (0, 1), (1, 1)))
@@ -289,7 +295,7 @@ def text_in_characters_of_more_bytes():
 def name_in_characters_of_more_bytes():
     name = "n" + "\u00e9" * 127
     steps = [(f'Given a file named "{name}" containing "x"', "passed"), (f'And a file named "n{name}" containing "x"', "failed: bad name")]
-    feature = "Feature: f\nScenario: s\n" + "".join(f"{step}\n" for step, _ in steps)
+    feature = driver.feature(*(step for step, _ in steps))
     report = "Feature: f ... failed\n  Scenario: s ... failed\n" + "".join(f"    {step} ... {status}\n" for step, status in steps) + "\n"
     return Run({"a.feature": feature}, 1, report + closing((0, 1), (0, 1), (1, 1)))
 
@@ -349,10 +355,9 @@ def fault_before_the_steps_of_a_later_file():
 
 def long_table():
     rows = "".join(f"| f{number} | {number} |\n" for number in range(70_000))
-    feature = ('Feature: f\nScenario: s\nGiven these files:\n| name | text |\n' + rows
-               + 'Then the file "f69999" should be "69999"\nAnd the file "f0" should be "0"\nAnd the file "f70000" should not exist\n')
     steps = ["Given these files:", 'Then the file "f69999" should be "69999"', 'And the file "f0" should be "0"',
              'And the file "f70000" should not exist']
+    feature = driver.feature(f"{steps[0]}\n| name | text |\n{rows.rstrip()}", *steps[1:])
     return Run({"a.feature": feature}, 0, passing("f", ["s"], steps) + closing(1, 1, 4))
 
 
@@ -380,20 +385,20 @@ def many_cleanups():
     table = "And at cleanup these files:"
     steps = [f'Given at cleanup the number "n" should be {count}', 'And at cleanup the file "f9999" should be "9999"', *grown,
              'And at cleanup the number "n" is set to 0', table]
-    feature = "Feature: f\nScenario: s\n" + "".join(f"{step}\n" for step in steps) + rows
+    feature = driver.feature(*steps) + rows
     return Run({"a.feature": feature}, 0, passing("f", ["s"], steps) + closing(1, 1, len(steps)))
 
 
 def wide_row():
     cells = "".join(f" c{number} |" for number in range(100_000))
-    feature = f"Feature: f\nScenario: s\nGiven it passes\n|{cells}\n|{cells}\n|{cells} one more |\n"
+    feature = driver.feature("Given it passes", f"|{cells}", f"|{cells}", f"|{cells} one more |")
     return Run({"a.feature": feature}, 3, "", "gherkin_run: a.feature:6: row with another number of cells\n")
 
 
 def long_doc_string():
     lines = "".join(f"line {number}\n" for number in range(80_000))
-    feature = (f'Feature: f\nScenario: s\nGiven a file named "f" with:\n"""\n{lines}"""\n'
-               'Then the file "f" should contain "line 79999"\nAnd the file "f" should contain "80000"\n')
+    feature = driver.feature(f'Given a file named "f" with:\n"""\n{lines}"""',
+                             'Then the file "f" should contain "line 79999"', 'And the file "f" should contain "80000"')
     report = ('Feature: f ... failed\n  Scenario: s ... failed\n    Given a file named "f" with: ... passed\n'
               '    Then the file "f" should contain "line 79999" ... passed\n'
               '    And the file "f" should contain "80000" ... failed: differs\n\n')
@@ -402,14 +407,14 @@ def long_doc_string():
 
 def long_names():
     name = "n" * 1_000_000
-    feature = f"Feature: {name}\nScenario: {name}\nGiven {name}\n"
+    feature = driver.feature(f"Given {name}", name=name, scenario=name)
     report = f"Feature: {name} ... failed\n  Scenario: {name} ... failed\n    Given {name} ... undefined\n\n"
     return Run({"a.feature": feature}, 1, report + closing((0, 1), (0, 1), (0, 0, 0, 1)))
 
 
 def many_tags():
     tags = " ".join(f"@t{number}" for number in range(70_000))
-    feature = f"{tags}\nFeature: f\nScenario: s\nGiven it passes\n"
+    feature = f"{tags}\n" + driver.feature("Given it passes")
     return Run({"a.feature": feature}, 0, passing("f", ["s"], ["Given it passes"]) + closing(1, 1, 1),
                arguments=["--tags", "@t69999", "--tags", "~@t70000", "a.feature"])
 
@@ -419,14 +424,14 @@ def many_options():
     arguments += [it for number in range(1000, 0, -1) for it in ("--line", str(number))]
     arguments += [it for number in range(1000) for it in ("--env", f"V{number}={number}")]
     steps = ['Then the variable "V0" should be "0"', 'And the variable "V999" should be "999"']
-    feature = "Feature: f\nScenario: s\n" + "\n".join(steps) + "\n"
+    feature = driver.feature(*steps)
     return Run({"a.feature": feature}, 0, passing("f", ["s"], steps) + closing(1, 1, 2), arguments=[*arguments, "a.feature"])
 
 
 def long_option():
     text = "x" * 100_000
     steps = [f'Then the variable "V" should be "{text}"']
-    feature = "Feature: f\nScenario: s\n" + steps[0] + "\n"
+    feature = driver.feature(*steps)
     return Run({"a.feature": feature}, 0, passing("f", ["s"], steps) + closing(1, 1, 1),
                arguments=["--env", f"V={text}", "--tags", "~@" + "t" * 100_000, "a.feature"])
 
@@ -435,7 +440,7 @@ def many_entries():
     library = "".join(f"step w{number} {{name}} is {{text}} => set_env\n" for number in range(1000))
     library += "then {name} = {text} => env_is\n"
     steps = ["Given w0 A is 1", "Given w999 B is 2", "Then A = 1", "Then B = 2"]
-    feature = "Feature: f\nScenario: s\n" + "\n".join(steps) + "\n"
+    feature = driver.feature(*steps)
     return Run({"a.feature": feature, "l.steps": library}, 0, passing("f", ["s"], steps) + closing(1, 1, 4),
                arguments=["--library", "l.steps", "a.feature"])
 
@@ -450,7 +455,7 @@ def hopeless_pattern():
     """Taking the fields' lengths one after another would not end."""
     text = "a" * 400 + "x"
     report = f"Feature: f ... failed\n  Scenario: s ... failed\n    Given {text} ... undefined\n\n"
-    return Run({"a.feature": f"Feature: f\nScenario: s\nGiven {text}\n", "l.steps": "step {a}{b}{c}{d}{e}{f}{g}{h}z{i}x => pass\n"},
+    return Run({"a.feature": driver.feature(f"Given {text}"), "l.steps": "step {a}{b}{c}{d}{e}{f}{g}{h}z{i}x => pass\n"},
                1, report + closing((0, 1), (0, 1), (0, 0, 0, 1)), arguments=["--library", "l.steps", "a.feature"])
 
 
@@ -458,14 +463,14 @@ def hopeless_pattern_of_numbers():
     text = "1" * 400
     report = f"Feature: f ... failed\n  Scenario: s ... failed\n    Given {text} ... undefined\n\n"
     fields = "".join(f"{{n{number}:d}}" for number in range(12))
-    return Run({"a.feature": f"Feature: f\nScenario: s\nGiven {text}\n", "l.steps": f"step {fields} => pass\n"},
+    return Run({"a.feature": driver.feature(f"Given {text}"), "l.steps": f"step {fields} => pass\n"},
                1, report + closing((0, 1), (0, 1), (0, 0, 0, 1)), arguments=["--library", "l.steps", "a.feature"])
 
 
 def hook_of_many_steps():
     hooks = "before_tag @a:\n" + "* it passes\n" * 70_000 + '* the variable "A" is set to "x"\n'
     steps = ['Then the variable "A" should be "x"']
-    return Run({"a.feature": "@a\nFeature: f\nScenario: s\n" + steps[0] + "\n", "h.hooks": hooks}, 0,
+    return Run({"a.feature": "@a\n" + driver.feature(*steps), "h.hooks": hooks}, 0,
                passing("f", ["s"], steps) + closing(1, 1, 1), arguments=["--hooks", "h.hooks", "a.feature"])
 
 
@@ -521,7 +526,7 @@ def doc_string_of_a_million_lines():
     """No line of a doc string may cost the whole text."""
     lines = "x\n" * 1_000_000 + "\\`\\`\\`" * 100_000 + "\n"
     steps = ["* it passes"]
-    return Run({"a.feature": f"Feature: f\nScenario: s\n* it passes\n```\n{lines}```\n"}, 0,
+    return Run({"a.feature": driver.feature("* it passes", f"```\n{lines}```")}, 0,
                passing("f", ["s"], steps) + closing(1, 1, 1))
 
 
@@ -540,43 +545,15 @@ RUNS = (many_scenarios, many_scenarios_as_json, many_scenarios_as_progress, many
         outline_of_openings_and_a_closing, outline_of_closings, many_alternatives, doc_string_of_a_million_lines)
 
 
-def shown(text):
-    text = text.decode("utf-8", "backslashreplace")
-    return repr(text if len(text) <= 600 else text[:300] + " .. " + text[-200:])
-
-
-def first_difference(printed, wanted):
-    """The place of the first byte that differs, and what stands there."""
-    place = next((at for at, (one, other) in enumerate(zip(printed, wanted)) if one != other), min(len(printed), len(wanted)))
-    around = slice(max(0, place - 40), place + 80)
-    return f"from byte {place} on: {shown(printed[around])}, and not {shown(wanted[around])}"
-
-
-def write_files(folder, files):
-    os.makedirs(folder)
-    for name, text in files.items():
-        with open(os.path.join(folder, name), "wb") as file:
-            file.write(text if isinstance(text, bytes) else text.encode())
-
-
-def differences(program, folder, run):
-    """What differs from what has to come out, in words."""
-    try:
-        done = subprocess.run([program, *run.arguments], cwd=folder, stdin=subprocess.DEVNULL, capture_output=True,
-                              timeout=PATIENCE, check=False)
-    except subprocess.TimeoutExpired:
-        return [f"  not ended after {PATIENCE} seconds"]
-    found = []
-    if done.returncode != run.status:
-        found.append(f"  status {done.returncode}, and not {run.status}")
-    for name, printed, wanted in (("stdout", done.stdout, run.stdout), ("stderr", done.stderr, run.stderr)):
-        if printed != wanted.encode():
-            found.append(f"  {name} differs {first_difference(printed, wanted.encode())}")
-    return found
+def trouble(program, folder, name, run):
+    """What is wrong with a large run in a folder, or nothing."""
+    ended = driver.start(program, run.arguments, folder, patience=PATIENCE)
+    return driver.trouble(f"large run {name}", ended, run.wanted())
 
 
 def from_a_pipe(program, folder):
-    """The program reads a file that is a pipe, which hands out a few bytes a call."""
+    """What is wrong where the program reads a pipe, which hands out a few bytes a call, or nothing."""
+    text = driver.feature("Given it passes")
     run = Run({}, 0, passing("f", ["s"], ["Given it passes"]) + closing(1, 1, 1), arguments=["pipe"])
     os.makedirs(folder)
     path = os.path.join(folder, "pipe")
@@ -584,23 +561,22 @@ def from_a_pipe(program, folder):
 
     def feed():
         with open(path, "wb", buffering=0) as pipe:
-            for byte in b"Feature: f\nScenario: s\nGiven it passes\n":
+            for byte in text.encode():
                 pipe.write(bytes([byte]))
 
     writer = threading.Thread(target=feed)
     writer.start()
-    found = differences(program, folder, run)
+    found = trouble(program, folder, "from_a_pipe", run)
     writer.join()
     return found
 
 
-def results(program, room):
-    """The name of each large run, and what differs from what has to come out."""
+def troubles(program, room):
+    """What is wrong with each large run, or nothing."""
     for make in RUNS:
         folder = os.path.join(room, make.__name__)
         run = make()
-        write_files(folder, run.files)
-        yield make.__name__, differences(program, folder, run)
-        for name in run.files:
-            os.remove(os.path.join(folder, name))
-    yield "from_a_pipe", from_a_pipe(program, os.path.join(room, "from_a_pipe"))
+        driver.write(folder, run.files)
+        yield trouble(program, folder, make.__name__, run)
+        shutil.rmtree(folder)
+    yield from_a_pipe(program, os.path.join(room, "from_a_pipe"))
