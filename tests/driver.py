@@ -24,7 +24,7 @@ def read(path):
 
 
 def write(folder, files):
-    """Writes files, texts or bytes by their names, to a folder, which is made where it isn't there."""
+    """Writes files, texts or bytes by their names, to a folder. The folder may be there or not."""
     os.makedirs(folder, exist_ok=True)
     for name, text in files.items():
         with open(os.path.join(folder, name), "wb") as file:
@@ -53,8 +53,8 @@ def feature(*steps, name="f", scenario="s"):
 
 # ---- running the program
 
-def start(program, arguments, folder=HOME, environment=None, patience=PATIENCE, stdout=subprocess.PIPE,
-          stderr=subprocess.PIPE, before=None):
+def start(program, arguments, folder=HOME, environment=None, *, patience=PATIENCE,
+          stdout=subprocess.PIPE, stderr=subprocess.PIPE, before=None):
     """Runs the program, with nothing on its standard input.
 
     Answers its status, and what was read of its standard output and standard error. The status of
@@ -98,13 +98,13 @@ def stream_difference(name, printed, wanted):
     """What was printed on a stream, and what has to be, in words. Of long texts a part is shown."""
     if max(len(printed), len(wanted)) <= SHOWN:
         return f"  {name} {shown(printed)}\n    and not {shown(wanted)}"
-    place = first_difference(printed, wanted)
-    part = slice(max(0, place - 40), place + 80)
-    return f"  {name} from byte {place} on {shown(printed[part])}\n    and not {shown(wanted[part])}"
+    at = first_difference(printed, wanted)
+    part = slice(max(0, at - 40), at + 80)
+    return f"  {name}, byte {at}: {shown(printed[part])}\n    and not {shown(wanted[part])}"
 
 
 def differences(ended, wanted):
-    """What differs between a run and what has to come out, in words: a list, empty where nothing does.
+    """A list of what differs between a run and what has to come out, in words.
 
     Both are a status and the bytes on standard output and standard error."""
     found = []

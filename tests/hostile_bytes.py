@@ -9,7 +9,7 @@
 - Random options.
 
 Each of these runs is made with a report of one format, plain, as progress or as JSON, and some with
---no-skipped, --dry-run or --stop. Called by tests/hostile_bytes.sh, which says how a run has to end.
+--no-skipped, --dry-run or --stop. Called by tests/hostile_bytes.sh, which says how they have to end.
 """
 
 import itertools
@@ -32,20 +32,21 @@ RANDOM_OPTIONS = 400
 CHUNK = 2000
 ENDINGS = (".feature", ".steps", ".hooks")  # of the examples' files
 
-FEATURE_LINES = """Feature: a|Feature:|Rule: r|Background:|Scenario: s|Example:|Scenario Outline: o <a>|
-Scenario Template: t|Examples: e|Scenarios:|Given it passes|When it fails|
+FEATURE_LINES = """Feature: a|Feature:|Rule: r|Background:|Scenario: s|Example:|
+Scenario Outline: o <a>|Scenario Template: t|Examples: e|Scenarios:|Given it passes|When it fails|
 Then the number "n" should be 1|And a file named "<a>" with:|* x|But|@t|@a @b #c|@a b|@|# c|
-# language: en|# language: de|/|| a |/|| a | b |/|| \\| \\n \\\\ |/|| a/|/||| x |/|""\"|```|  ""\"json|
-\\"\\"\\"|text|<a> text|Given these files:|/|| name | text |/|| f | x |/| |\t|\r|\ufefffeature|\u00e9|"""
+# language: en|# language: de|/|| a |/|| a | b |/|| \\| \\n \\\\ |/|| a/|/||| x |/|""\"|```|
+  ""\"json|\\"\\"\\"|text|<a> text|Given these files:|/|| name | text |/|| f | x |/| |\t|\r|
+\ufefffeature|\u00e9|"""
 LIBRARY_LINES = """step it passes => pass|given a {x} => pass|when a {name} is {text} => set_env|
 then {n:d} {name} => number_is|step {{x}} => fail|step {} => pass|step => pass|and a => pass|
 step a =>|step a } => pass|# c||step {a}{b}{c}{d}x => pass|given {name} => dance|
 step {name:d} => file_is|step a => b => pass"""
-HOOK_LINES = """before_all:|after_all:|before_feature:|after_feature:|before_scenario:|after_scenario:|
-before_tag @a:|after_tag @a:|before_tag @a:b:|before_tag @:|before_all :|before_rule:|after_|
+HOOK_LINES = """before_all:|after_all:|before_feature:|after_feature:|before_scenario:|
+after_scenario:|before_tag @a:|after_tag @a:|before_tag @a:b:|before_tag @:|before_all :|before_rule:|after_|
 Given it passes|And it fails|When the scenario is skipped|* nothing knows this|
-Given at cleanup it passes|And at cleanup at cleanup it passes|Given a file named "f" with:|""\"|text|
-Given these files:|/| name /| text /||/| f /| x /||# c||@a|Feature: f|stray"""
+Given at cleanup it passes|And at cleanup at cleanup it passes|Given a file named "f" with:|""\"|
+text|Given these files:|/| name /| text /||/| f /| x /||# c||@a|Feature: f|stray"""
 OPTIONS = [
     "--hooks", "--hooks=h.hooks", "h.hooks", "--tags", "--line", "--env", "--library", "--", "-",
     "@a", "~@a,b", "@", ",", "a b", "0", "1", "4294967295", "4294967296", "A=b", "=", "A",
@@ -85,14 +86,16 @@ def changes(name, arguments, files, changed, turn):
     """One file of a case, each prefix of it, and each byte of it changed."""
     text = files[changed]
     for place in range(len(text)):
-        yield Case(f"{name}: the first {place} bytes of {changed}", arguments, {**files, changed: text[:place]})
+        yield Case(f"{name}: the first {place} bytes of {changed}", arguments,
+                   {**files, changed: text[:place]})
         for byte in itertools.islice(turn, CHANGES):
             other = text[:place] + bytes([byte]) + text[place + 1:]
-            yield Case(f"{name}: {changed} with byte {place} changed to {byte}", arguments, {**files, changed: other})
+            yield Case(f"{name}: {changed} with byte {place} changed to {byte}", arguments,
+                       {**files, changed: other})
 
 
 def example_cases():
-    """The examples, whole and changed. Their files stand beside each other, under their own names."""
+    """The examples, whole and changed. Their files stand beside each other."""
     turn = changed_to()
     for arguments in driver.examples():
         paths = [it for it in arguments if it.startswith("examples/")]
@@ -104,9 +107,10 @@ def example_cases():
 
 
 def example_lines():
-    """The lines of each feature file, library and hooks file of the examples, by the file's name."""
+    """The lines of each feature file, library and hooks file of the examples, by its name."""
     names = sorted(it for it in os.listdir(driver.EXAMPLES) if it.endswith(ENDINGS))
-    return {it: driver.read(os.path.join(driver.EXAMPLES, it)).splitlines(keepends=True) for it in names}
+    paths = {it: os.path.join(driver.EXAMPLES, it) for it in names}
+    return {it: driver.read(path).splitlines(keepends=True) for it, path in paths.items()}
 
 
 def mixed_cases(chance):

@@ -8,7 +8,7 @@ import random
 import shutil
 import sys
 
-import several
+import driver
 from reports import Feature, Report, Scenario, Style, verdict
 
 TAGS = ["@a", "@b", "@c"]
@@ -160,7 +160,7 @@ class Suite:
     def run(self, options, files=None):
         """What a run prints, and its status."""
         self.runs += 1
-        status, printed, err = several.start(self.program, [*self.options, *options, *(files or self.features)], self.folder)
+        status, printed, err = driver.start(self.program, [*self.options, *options, *(files or self.features)], self.folder)
         if err or status not in (0, 1):
             raise ValueError(f"{options}, {files}: status {status}, {err}")
         return printed, status
@@ -324,15 +324,13 @@ def main():
         shutil.rmtree(suite.folder)
         return own, suite.runs, found
 
-    passed = failed = runs = 0
-    for own, count, found in several.on_all_processors(compared, range(seed, seed + number)):
+    tests, runs = driver.Tests(), 0
+    for own, count, found in driver.on_all_processors(compared, range(seed, seed + number)):
         runs += count
-        passed, failed = (passed, failed + 1) if found else (passed + 1, failed)
-        if found:
-            print(f"suite {own}, kept in {os.path.join(kept, str(own))}: {found[0][:400]}")
+        place = os.path.join(kept, str(own))
+        tests.add(f"suite {own}, kept in {place}: {found[0][:400]}" if found else "")
     print(f"{runs} runs of {number} suites")
-    print(f"{passed} passed, {failed} failed")
-    return 1 if failed else 0
+    return tests.close()
 
 
 if __name__ == "__main__":

@@ -4,7 +4,7 @@
 import os
 import sys
 
-import several
+import driver
 from reports import Ample, Report, Style, style_of
 
 # One feature, twice.
@@ -245,14 +245,14 @@ class Refusals:
     def __init__(self, program, room, name, arguments, folder):
         self.program, self.room, self.name = program, room, name
         self.arguments, self.folder = arguments, folder
-        self.ample = Ample(arguments, several.start(program, arguments, folder), self.whole())
+        self.ample = Ample(arguments, driver.start(program, arguments, folder), self.whole())
 
     def whole(self):
         """The report of the same run that leaves nothing out."""
         if "--no-skipped" not in self.arguments:
             return None
         arguments = [it for it in self.arguments if it != "--no-skipped"]
-        _, printed, _ = several.start(self.program, arguments, self.folder)
+        _, printed, _ = driver.start(self.program, arguments, self.folder)
         return Report.of(printed, Style(style_of(arguments).format, False))
 
     def ending(self, number):
@@ -261,10 +261,9 @@ class Refusals:
         log = os.path.join(self.room, f"met.{number % 64}.{os.getpid()}")
         if os.path.exists(log):
             os.remove(log)
-        ended = several.start(self.program, self.arguments, self.folder,
-                              {**os.environ, "REFUSE": str(number), "REFUSE_LOG": log,
-                               "LD_PRELOAD": os.path.join(self.room, "refuse.so")})
-        met = several.read(log).strip() if os.path.exists(log) else b"ended by a signal"
+        environment = driver.limited(self.room, REFUSE=number, REFUSE_LOG=log)
+        ended = driver.start(self.program, self.arguments, self.folder, environment)
+        met = driver.read(log).strip() if os.path.exists(log) else b"ended by a signal"
         ending = self.ample.ending(ended)
         if met == b"unmet" and ending == "unharmed":
             return "unmet", ended[1]
@@ -277,7 +276,7 @@ class Refusals:
         number = 1
         while True:
             numbers = range(number, number + 64)
-            for ending in several.on_all_processors(self.ending, numbers):
+            for ending in driver.on_all_processors(self.ending, numbers):
                 yield ending
                 if ending[0] == "unmet":
                     return
@@ -288,66 +287,63 @@ ENDINGS = ("stopped", "marked", "unharmed", "unmet")
 
 
 class Counts:
-    """How many runs ended how, and how many of them badly."""
+    """How many runs ended how, and how many tests passed and failed."""
 
     def __init__(self):
-        self.passed = self.failed = self.pieces = 0
+        self.tests = driver.Tests()
+        self.pieces = 0
         self.endings = dict.fromkeys(ENDINGS, 0)
-
-    def check(self, is_well, name):
-        if is_well:
-            self.passed += 1
-        else:
-            self.failed += 1
-            print(name)
 
     def add(self, case):
         """Makes all runs of a case."""
         if not case.ample.is_read_well():
-            self.check(False, f"{case.name}: the counts and statuses of its report aren't those of its rows")
+            self.tests.add(f"{case.name}: its report's counts and statuses aren't those of its rows")
             return
         written = set()
         for ending, printed in case.endings():
-            self.check(ending in ENDINGS, ending)
+            self.tests.add("" if ending in ENDINGS else ending)
             if ending in ENDINGS:
                 self.endings[ending] += 1
             if ending == "stopped":
                 written.add(printed)
                 self.pieces += printed != b""
         if case.ample.report is not None:
-            self.check_pieces(case, written)
+            self.add_pieces(case, written)
 
-    def check_pieces(self, case, written):
-        """Each piece is made when those before it are written, so for each of them a run ends there."""
+    def add_pieces(self, case, written):
+        """Each piece is made when those before it are written, so some run ends at each of them."""
         for before, piece in zip(case.ample.beginnings, case.ample.report.pieces()):
             if piece:
-                self.check(before in written, f"{case.name}: no run stopped after {len(before)} bytes, where a piece is made")
+                name = f"{case.name}: no run stopped after {len(before)} bytes, where a piece is made"
+                self.tests.add("" if before in written else name)
+
+    def close(self):
+        """Says how the runs ended, and answers the status that the driver ends with."""
+        ended = self.endings
+        print(f"where a growth was refused: {ended['stopped']} runs stopped, {self.pieces} of them "
+              f"after whole pieces of the report, {ended['marked']} ended with one mark of memory, "
+              f"{ended['unharmed']} as with ample memory")
+        # Growths were really refused, outside of what is marked and in it.
+        is_each = ended["stopped"] and ended["marked"] and self.pieces
+        self.tests.add("" if is_each else "no run ended in one of these ways")
+        return self.tests.close()
 
 
 def cases(program, room):
-    for arguments in several.examples():
-        yield Refusals(program, room, arguments[-1], arguments, several.HOME)
+    """The runs of the examples, and those of RUNS."""
+    for arguments in driver.examples():
+        yield Refusals(program, room, arguments[-1], arguments, driver.HOME)
     for name, (arguments, files) in RUNS.items():
         folder = os.path.join(room, name.replace(" ", "_"))
-        os.makedirs(folder)
-        for file, text in files.items():
-            with open(os.path.join(folder, file), "w", encoding="utf-8") as out:
-                out.write(text)
+        driver.write(folder, files)
         yield Refusals(program, room, name, arguments, folder)
 
 
 def main():
-    program, room = sys.argv[1], sys.argv[2]
     counts = Counts()
-    for case in cases(program, room):
+    for case in cases(sys.argv[1], sys.argv[2]):
         counts.add(case)
-    ended = counts.endings
-    print(f"where a growth was refused: {ended['stopped']} runs stopped, {counts.pieces} of them after whole pieces of the report, "
-          f"{ended['marked']} ended with one mark of memory, {ended['unharmed']} as with ample memory")
-    # Growths were really refused, outside of what is marked and in it.
-    counts.check(ended["stopped"] and ended["marked"] and counts.pieces, "no run ended in one of these ways")
-    print(f"{counts.passed} passed, {counts.failed} failed")
-    return 1 if counts.failed else 0
+    return counts.close()
 
 
 if __name__ == "__main__":
