@@ -8,8 +8,9 @@
 - Random bytes, and random lines that look like Gherkin, like a library or like a hooks file.
 - Random options.
 
-Each of these runs is made with a report of one format, plain, as progress or as JSON, and some with
---no-skipped, --dry-run or --stop. Called by tests/hostile_bytes.sh, which says how they have to end.
+Each of these runs is made with a report of one format, plain, as progress or as JSON, and some
+with --no-skipped, --dry-run or --stop. Called by tests/hostile_bytes.sh, which says how they have
+to end.
 """
 
 import itertools
@@ -43,8 +44,8 @@ then {n:d} {name} => number_is|step {{x}} => fail|step {} => pass|step => pass|a
 step a =>|step a } => pass|# c||step {a}{b}{c}{d}x => pass|given {name} => dance|
 step {name:d} => file_is|step a => b => pass"""
 HOOK_LINES = """before_all:|after_all:|before_feature:|after_feature:|before_scenario:|
-after_scenario:|before_tag @a:|after_tag @a:|before_tag @a:b:|before_tag @:|before_all :|before_rule:|after_|
-Given it passes|And it fails|When the scenario is skipped|* nothing knows this|
+after_scenario:|before_tag @a:|after_tag @a:|before_tag @a:b:|before_tag @:|before_all :|
+before_rule:|after_|Given it passes|And it fails|When the scenario is skipped|* nothing knows this|
 Given at cleanup it passes|And at cleanup at cleanup it passes|Given a file named "f" with:|""\"|
 text|Given these files:|/| name /| text /||/| f /| x /||# c||@a|Feature: f|stray"""
 OPTIONS = [

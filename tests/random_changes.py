@@ -125,7 +125,8 @@ class World:
                 yield f'the file "{name}" should be:', block
             else:
                 yield f'the file "{name}" should not exist', []
-            for maps, noun, absent in ((self.env, "variable", "unset"), (self.values, "value", "absent")):
+            for maps, noun, absent in (
+                    (self.env, "variable", "unset"), (self.values, "value", "absent")):
                 wanted = f'"{maps[name]}"' if name in maps else absent
                 yield f'the {noun} "{name}" should be {wanted}', []
 
@@ -200,7 +201,8 @@ class Runs:
 def main():
     runs = Runs(sys.argv[1], sys.argv[2])
     tests = driver.Tests()
-    for troubles in driver.on_all_processors(lambda seed: list(runs.troubles(seed)), range(FEATURES)):
+    each = driver.on_all_processors(lambda seed: list(runs.troubles(seed)), range(FEATURES))
+    for troubles in each:
         tests.add_all(troubles)
     return tests.close()
 
