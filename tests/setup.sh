@@ -14,7 +14,7 @@ esac
 room=$(mktemp -d)
 trap 'rm -rf "$room"' EXIT
 trap 'exit 1' HUP INT TERM
-# No run takes that long, and none may leave a file of its memory behind.
+# No run takes that long, and none may leave a core dump.
 ulimit -t 300
 ulimit -c 0
 passed=0
