@@ -22,7 +22,7 @@ SHARED = 10  # lines that two places may not share
 # Modules that have no specification by their kind.
 ROOTS = ("lib", "main")
 # A comment of specs/Lib.antt that marks the modules below it, up to the next comment.
-MACHINERY = "-- Machinery of proofs"
+MACHINERY = "-- Proof machinery"
 WORKED_EXAMPLES = re.compile(r"(Worked.*|.*Examples)\.antt")
 # Words that a line's shape keeps.
 KEYWORDS = frozenset("""
@@ -165,7 +165,7 @@ def snake_case(name):
 
 
 def machinery(crate):
-    """The specifications that specs/Lib.antt of a crate marks as machinery of proofs."""
+    """The specifications that specs/Lib.antt of a crate marks as proof machinery."""
     marked, is_marked = set(), False
     for line in lines_of(os.path.join(crate, "specs", "Lib.antt")):
         if line.startswith("--"):
@@ -187,7 +187,7 @@ def modules_without_spec():
 def specs_without_module():
     """Files of specs/ for which src/ has no module of the same name.
 
-    Machinery of proofs needs none."""
+    Proof machinery needs none."""
     for crate in crates_with_specs():
         modules, excepted = names_in(os.path.join(crate, "src"), ".rt"), machinery(crate)
         for name in names_in(os.path.join(crate, "specs"), ".antt"):
