@@ -41,6 +41,7 @@ pub record FilesValue : Type 0 where
   pub hooks : Option SourceValue
   pub sources : List SourceValue
 
+-- The files of a run as the definitions see them. (this project's profile)
 abbrev pub files_value : RunFiles → FilesValue
 files_value files = record {
   library = option_map source_value files.library;
