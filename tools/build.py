@@ -49,7 +49,7 @@ def clock(seconds):
 
 
 class Progress:
-    """What is said on standard error: on a terminal one line that is written anew, else a line a crate."""
+    """What stands on standard error: on a terminal one line that is written anew, else a line a crate."""
 
     def __init__(self, crates):
         self.total = len(crates)
@@ -61,8 +61,8 @@ class Progress:
 
     def say(self, text):
         """Writes a line that stays."""
-        front = "\r\033[K" if self.is_terminal else ""
-        sys.stderr.write(f"{front}run: {text}\n")
+        clear = "\r\033[K" if self.is_terminal else ""
+        sys.stderr.write(f"{clear}run: {text}\n")
         sys.stderr.flush()
 
     def show(self):
