@@ -72,7 +72,7 @@ class Progress:
         with self.lock:
             each = [f"{name} {so_far}" for name, so_far in self.running.items()]
             spent = clock(time.monotonic() - self.began)
-            line = f"run: {self.proved} of {self.total} crates proved; {', '.join(each)}; {spent}"
+            line = f"run: {self.proved} of {self.total} crates proved, {spent}; {', '.join(each)}"
             sys.stderr.write(f"\r\033[K{line[:os.get_terminal_size(2).columns - 1]}")
             sys.stderr.flush()
 
