@@ -1,6 +1,6 @@
 -- What the program answers and writes.
 use Rattle.std.specs.Prelude.{◌≡◌, ◌⊎◌, ◌<◌, ℕ, List, [], ◌∷◌, length, map, Option, Some, None, Result, Ok, Err, IsSome, IsSomeAnd, option_map, slice_get, string_bytes}
-use Rattle.std.specs.Io.KnownBytes.{Keeps}
+use Rattle.std.specs.Io.KnownBytes.{Appends, Keeps}
 use Rattle.std.specs.List.{All, Any}
 use Rattle.clap.specs.Words.{IsAmong, Text, kind_of}
 use Rattle.clap.specs.declared.error.Error.{Error}
@@ -66,6 +66,15 @@ IsCutForSome old new = (request : Request) × (contents : Contents) × Cut reque
 abbrev pub SaysCallsOfRun : Device → Device → Fault → Type 0
 SaysCallsOfRun old new Memory = IsUntouched old new ⊎ IsCutForSome old new
 SaysCallsOfRun old new fault = SaysCalls old new fault
+
+-- A text was written once, and nothing else. (this project's profile)
+pub record IsShown (text : List ℕ) (old new : Device) (status : ℕ) : Type 0 where
+  pub written : Appends old.bytes new.bytes text
+  pub well : status ≡ 0
+
+-- A text of help was written once, and nothing else: which one is clap's. (this project's profile)
+abbrev pub IsHelp : Device → Device → ℕ → Type 0
+IsHelp old new status = (text : List ℕ) × IsShown text old new status
 
 -- Why help was not written whole. (this project's profile)
 abbrev pub IsHelpFault : Fault → Type 0
@@ -207,11 +216,32 @@ SaysProgram w old new (TooLong name) = IsGiven w (string_bytes name) × AreTaken
 SaysProgram w old new Memory = IsUntouched old new ⊎ IsFaultOfGiven w old new Memory
 SaysProgram w old new fault = IsFaultOfGiven w old new fault
 
--- What was asked for was done: help was shown with status 0, or there was a run. (this project's profile)
+-- What was asked for was done: a text of help was written once, with status 0, or there was a run. (this project's profile)
 abbrev pub IsDone : Asked → Device → Device → ℕ → Type 0
-IsDone (Help e) old new status = status ≡ 0
+IsDone (Help e) old new status = IsHelp old new status
 IsDone (Run w) old new status = IsRun w old new status
+
+-- Why what was asked for was not done. (this project's profile)
+abbrev pub SaysUndone : Asked → Device → Device → Fault → Type 0
+SaysUndone (Help e) old new fault = IsHelpFault fault × SaysCalls old new fault
+SaysUndone (Run w) old new fault = SaysProgram w old new fault
+
+-- What these arguments ask for was done. (this project's profile)
+abbrev pub IsDoneFor : List Text → Device → Device → ℕ → Type 0
+IsDoneFor arguments old new status = (asked : Asked) × SaysAsked arguments (Ok asked) × IsDone asked old new status
+
+-- These arguments are at fault, and standard output was not called; or what they ask for was not done. (this project's profile)
+abbrev pub IsFaultFor : List Text → Device → Device → Fault → Type 0
+IsFaultFor arguments old new fault =
+    (SaysAsked arguments (Err fault) × IsUntouched old new)
+    ⊎ ((asked : Asked) × SaysAsked arguments (Ok asked) × SaysUndone asked old new fault)
 
 -- What some arguments ask for was done. (this project's profile)
 abbrev pub IsDoneForSome : Device → Device → ℕ → Type 0
-IsDoneForSome old new status = (arguments : List Text) × (asked : Asked) × SaysAsked arguments (Ok asked) × IsDone asked old new status
+IsDoneForSome old new status = (arguments : List Text) × IsDoneFor arguments old new status
+
+-- The arguments could not be had, and standard output was not called; or this is the fault for some arguments. (this project's profile)
+abbrev pub IsFaultForSome : Device → Device → Fault → Type 0
+IsFaultForSome old new fault =
+    (IsArgumentsFault fault × IsUntouched old new)
+    ⊎ ((arguments : List Text) × IsFaultFor arguments old new fault)

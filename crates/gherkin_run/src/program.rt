@@ -6,7 +6,7 @@ ghost use Rattle.gk_cli.specs.Counted.{flushes_of, failures_of, one_more};
 ghost use Rattle.gk_cli.specs.Suite.{device_of};
 ghost use Rattle.gk_cli.specs.Source.{source_value};
 ghost use Rattle.gherkin_run.specs.Files.{files_value};
-ghost use Rattle.gherkin_run.specs.Program.{SaysAsked, SaysError, IsHelpFault, IsArgumentsFault, IsFaultOfVariable, SaysVariables, IsWithin, IsNamed, IsFaultOfRun, bytes_given, request_of_files, IsFlushedRun, SaysRun, SaysCalls, SaysCallsOfRun, SaysProgram, IsRun, IsDoneForSome};
+ghost use Rattle.gherkin_run.specs.Program.{SaysAsked, SaysError, IsHelpFault, IsArgumentsFault, IsFaultOfVariable, SaysVariables, IsWithin, IsNamed, IsFaultOfRun, bytes_given, request_of_files, IsFlushedRun, SaysRun, SaysCalls, SaysCallsOfRun, SaysProgram, IsRun, IsShown, IsHelp, IsDoneFor, IsFaultFor, IsDoneForSome, IsFaultForSome};
 
 use crate::fault::Fault;
 use crate::files::{RunFiles, read_run_files};
@@ -50,6 +50,7 @@ fn asked_by(alloc: Global, arguments: &[String]) -> Result<Asked, Fault>
     }
 }
 
+// The arguments of the program. One that isn't UTF-8 is `NotUtf8`.
 fn arguments_of<R: Env + AllocGlobal>(rt: &R) -> Result<Vec<String>, Fault>
     ensures { IfErr result IsArgumentsFault }
 {
@@ -62,17 +63,17 @@ fn arguments_of<R: Env + AllocGlobal>(rt: &R) -> Result<Vec<String>, Fault>
     }
 }
 
-/// Writes clap's text for help, and flushes.
-fn show_help<W: Write>(alloc: Global, text: &clap::Error, out: &mut Counted<W>) -> Result<u8, Fault>
+/// Writes a text, and flushes.
+fn show_text<W: Write>(text: &str, out: &mut Counted<W>) -> Result<u8, Fault>
     requires room { failures_of out.old < 2 ^ 64 - 1 }
-    ensures well { IfOk result (λ status. status ≡ 0) }
+    ensures shown { IfOk result
+        (IsShown text.now (device_of W.contents out.old) (device_of W.contents out.new)) }
     ensures quiet { OnOk result (failures_of out.new ≡ failures_of out.old) }
     ensures flushed { OnOk result (flushes_of out.new ≡ one_more (flushes_of out.old)) }
     ensures fault { IfErr result IsHelpFault }
     ensures calls { IfErr result
         (SaysCalls (device_of W.contents out.old) (device_of W.contents out.new)) }
 {
-    let text = format!(in alloc; "{text}")?;
     match write_whole(out, text.as_bytes()) {
         Ok(()) => match out.flush() {
             Ok(()) => Ok(0),
@@ -80,6 +81,21 @@ fn show_help<W: Write>(alloc: Global, text: &clap::Error, out: &mut Counted<W>) 
         },
         Err(_) => Err(Fault::Write),
     }
+}
+
+/// Writes clap's text for help, and flushes.
+fn show_help<W: Write>(alloc: Global, text: &clap::Error, out: &mut Counted<W>) -> Result<u8, Fault>
+    requires room { failures_of out.old < 2 ^ 64 - 1 }
+    ensures well { IfOk result
+        (IsHelp (device_of W.contents out.old) (device_of W.contents out.new)) }
+    ensures quiet { OnOk result (failures_of out.new ≡ failures_of out.old) }
+    ensures flushed { OnOk result (flushes_of out.new ≡ one_more (flushes_of out.old)) }
+    ensures fault { IfErr result IsHelpFault }
+    ensures calls { IfErr result
+        (SaysCalls (device_of W.contents out.old) (device_of W.contents out.new)) }
+{
+    let text = format!(in alloc; "{text}")?;
+    show_text(text.as_str(), out)
 }
 
 fn fault_of_variable(fault: WorldFault) -> Fault
@@ -257,7 +273,31 @@ fn run_words<R: Files + AllocGlobal, W: Write>(
     run_in(rt, &mut sandbox, words, out)
 }
 
-/// Runs the program on its arguments. The answer is the status to end with.
+// Does what these arguments ask for.
+fn run_asked<R: Files + AllocGlobal, W: Write>(
+    rt: &R,
+    arguments: &[String],
+    out: &mut Counted<W>,
+) -> Result<u8, Fault>
+    requires room { failures_of out.old < 2 ^ 64 - 1 }
+    ensures done { IfOk result (IsDoneFor (map string_bytes arguments.now)
+        (device_of W.contents out.old) (device_of W.contents out.new)) }
+    ensures quiet { OnOk result (failures_of out.new ≡ failures_of out.old) }
+    ensures flushed { OnOk result (flushes_of out.new ≡ one_more (flushes_of out.old)) }
+    ensures fault { IfErr result (IsFaultFor (map string_bytes arguments.now)
+        (device_of W.contents out.old) (device_of W.contents out.new)) }
+    ensures calls { IfErr result
+        (SaysCallsOfRun (device_of W.contents out.old) (device_of W.contents out.new)) }
+{
+    match asked_by(rt.alloc(), arguments) {
+        Ok(Asked::Help(text)) => show_help(rt.alloc(), &text, out),
+        Ok(Asked::Run(words)) => run_words(rt, words, out),
+        Err(fault) => Err(fault),
+    }
+}
+
+/// Runs the program on its arguments. The answer is the status to end with. A fault is that of the
+/// arguments, or says why what they ask for was not done.
 pub fn run<R: Env + Files + AllocGlobal, W: Write>(
     rt: &R,
     out: &mut Counted<W>,
@@ -267,14 +307,15 @@ pub fn run<R: Env + Files + AllocGlobal, W: Write>(
         (IsDoneForSome (device_of W.contents out.old) (device_of W.contents out.new)) }
     ensures quiet { OnOk result (failures_of out.new ≡ failures_of out.old) }
     ensures flushed { OnOk result (flushes_of out.new ≡ one_more (flushes_of out.old)) }
+    ensures fault { IfErr result
+        (IsFaultForSome (device_of W.contents out.old) (device_of W.contents out.new)) }
     // Where standard output isn't at fault, it was not called, or memory was refused after a
     // prefix of the report.
     ensures calls { IfErr result
         (SaysCallsOfRun (device_of W.contents out.old) (device_of W.contents out.new)) }
 {
-    let arguments = arguments_of(rt)?;
-    match asked_by(rt.alloc(), arguments.as_slice())? {
-        Asked::Help(text) => show_help(rt.alloc(), &text, out),
-        Asked::Run(words) => run_words(rt, words, out),
+    match arguments_of(rt) {
+        Ok(arguments) => run_asked(rt, arguments.as_slice(), out),
+        Err(fault) => Err(fault),
     }
 }
