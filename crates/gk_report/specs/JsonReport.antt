@@ -1,9 +1,9 @@
 -- The JSON format: compact text, with the keys of each object in byte order.
-use Rattle.std.specs.Prelude.{ℕ, Bool, cond, not, List, [], ◌++◌, map, filter, Option, Some, None, codes}
+use Rattle.std.specs.Prelude.{ℕ, Bool, cond, not, List, [], ◌++◌, map, filter, Option, Some, None, Result, OnOk, codes}
 use Rattle.std.specs.Fmt.{decimal}
 use Rattle.serde.specs.Event.{Log}
 use Rattle.serde_json.specs.Data.{Data, number, unsigned, string, array, object, Items, item, Members, no_members, member}
-use Rattle.serde_json.specs.Events.{SendsItems, SendsMembers}
+use Rattle.serde_json.specs.Events.{SendsItems, SendsMembers, SendsValue}
 use Rattle.serde_json.specs.View.{items_of}
 use Rattle.serde_json.specs.Written.{compact_text}
 use Rattle.gk_run.specs.declared.results.Status.{Status}
@@ -119,6 +119,18 @@ AddsMembers add old new = (rest : Members) (end : Log) → SendsMembers rest new
 -- The same of the values of an array.
 abbrev pub AddsItems : (Items → Items) → Log → Log → Type 0
 AddsItems add old new = (rest : Items) (end : Log) → SendsItems rest new end → SendsItems (add rest) old end
+
+-- Where a call succeeds, it writes these members.
+abbrev pub WritesMembers : {W T E : Type 0} → (W → Log) → W → (Members → Members) → Result T E → W → Type 0
+WritesMembers written old add result new = OnOk result (AddsMembers add (written old) (written new))
+
+-- Where a call succeeds, it writes these items.
+abbrev pub WritesItems : {W T E : Type 0} → (W → Log) → W → (Items → Items) → Result T E → W → Type 0
+WritesItems written old add result new = OnOk result (AddsItems add (written old) (written new))
+
+-- Where a call succeeds, it writes this value.
+abbrev pub WritesValue : {W T E : Type 0} → (W → Log) → W → Data → Result T E → W → Type 0
+WritesValue written old value result new = OnOk result (SendsValue value (written old) (written new))
 
 -- How many members a step's object has.
 abbrev pub step_members : Option Reason → ℕ

@@ -1,7 +1,7 @@
 //! The progress report: a line for each feature.
 ghost use Rattle.std.specs.Prelude.{◌≡◌, [], ◌∷◌, ◌++◌, map, cond, IfOk, OnOk, string_bytes};
 ghost use Rattle.gk_run.specs.Results.{case_row, feature_row};
-ghost use Rattle.gk_report.specs.ReportTexts.{is_hidden};
+ghost use Rattle.gk_report.specs.ReportTexts.{is_hidden, Pushes, AnswersText};
 ghost use Rattle.gk_report.specs.ProgressReport as spec;
 ghost use Rattle.gk_report.specs.ProgressReport.{status_mark, case_marks, progress_line};
 
@@ -23,7 +23,8 @@ fn mark_text(status: Status) -> &'static str
 
 // The character of a scenario, unless it is hidden.
 fn push_mark(out: &mut String, no_skipped: bool, status: Status) -> Result<(), AllocError>
-    ensures { OnOk result (string_bytes out.new ≡ string_bytes out.old ++ cond (is_hidden no_skipped status) [] (status_mark status ∷ [])) }
+    ensures { Pushes out.old
+        (cond (is_hidden no_skipped status) [] (status_mark status ∷ [])) result out.new }
 {
     if !hides(no_skipped, status) {
         out.push_str(mark_text(status))?;
@@ -32,7 +33,7 @@ fn push_mark(out: &mut String, no_skipped: bool, status: Status) -> Result<(), A
 }
 
 fn push_marks(out: &mut String, no_skipped: bool, cases: &[CaseResult]) -> Result<(), AllocError>
-    ensures { OnOk result (string_bytes out.new ≡ string_bytes out.old ++ case_marks no_skipped (map case_row cases.now)) }
+    ensures { Pushes out.old (case_marks no_skipped (map case_row cases.now)) result out.new }
 {
     for case in cases {
         push_mark(out, no_skipped, case.status)?;
@@ -41,7 +42,7 @@ fn push_marks(out: &mut String, no_skipped: bool, cases: &[CaseResult]) -> Resul
 }
 
 fn push_line(out: &mut String, no_skipped: bool, feature: &FeatureResult) -> Result<(), AllocError>
-    ensures { OnOk result (string_bytes out.new ≡ string_bytes out.old ++ progress_line no_skipped (feature_row feature.now)) }
+    ensures { Pushes out.old (progress_line no_skipped (feature_row feature.now)) result out.new }
 {
     push_one_line(out, feature.source.as_str())?;
     out.push_str("  ")?;
@@ -60,7 +61,7 @@ pub fn progress_part(
     no_skipped: bool,
     feature: &FeatureResult,
 ) -> Result<String, AllocError>
-    ensures { IfOk result (λ text. string_bytes text ≡ spec.progress_part no_skipped (feature_row feature.now)) }
+    ensures { AnswersText result (spec.progress_part no_skipped (feature_row feature.now)) }
 {
     let mut out = String::new(alloc);
     if !hides(no_skipped, feature.status) {

@@ -3,7 +3,8 @@ ghost use Rattle.std.specs.Prelude.{◌≡◌, List, IfOk, string_bytes};
 ghost use Rattle.gk_run.specs.Results.{FeatureRow, feature_row};
 ghost use Rattle.gk_report.specs.Summary.{summary_of};
 ghost use Rattle.gk_report.specs.Report as spec;
-ghost use Rattle.gk_report.specs.Report.{IsOneDocument, ReportsGrowByParts};
+ghost use Rattle.gk_report.specs.ReportTexts.{AnswersText};
+ghost use Rattle.gk_report.specs.Report.{IsTailOf, IsOneDocument, ReportsGrowByParts};
 
 use crate::json_report::{json_head, json_part, json_tail};
 use crate::plain_report::{closing_text, plain_part};
@@ -37,7 +38,7 @@ pub struct Style {
 /// What a report begins with: nothing in plain and progress. An error comes only where a growth was refused.
 /// (this project's profile)
 pub fn head(alloc: Global, style: Style) -> Result<String, AllocError>
-    ensures { IfOk result (λ text. string_bytes text ≡ spec.head style) }
+    ensures { AnswersText result (spec.head style) }
 {
     match style.format {
         Format::Plain | Format::Progress => Ok(String::new(alloc)),
@@ -54,7 +55,7 @@ pub fn part(
     first: bool,
     feature: &FeatureResult,
 ) -> Result<String, AllocError>
-    ensures { IfOk result (λ text. string_bytes text ≡ spec.part style first (feature_row feature.now)) }
+    ensures { AnswersText result (spec.part style first (feature_row feature.now)) }
 {
     match style.format {
         Format::Plain => plain_part(alloc, style.no_skipped, feature),
@@ -72,8 +73,8 @@ pub fn tail(
     summary: &Summary,
     around: Status,
 ) -> Result<String, AllocError>
-    ensures counts { IfOk result (λ text. string_bytes text ≡ spec.tail_by style summary.now around) }
-    ensures tail { IfOk result (λ text. (rows : List FeatureRow) → summary.now ≡ summary_of rows → string_bytes text ≡ spec.tail style rows around) }
+    ensures counts { AnswersText result (spec.tail_by style summary.now around) }
+    ensures tail { IfOk result (λ text. IsTailOf style summary.now around (string_bytes text)) }
 {
     match style.format {
         Format::Plain | Format::Progress => closing_text(alloc, summary, around),
