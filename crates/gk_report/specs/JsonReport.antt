@@ -101,10 +101,13 @@ document no_skipped rows around status summary = object (
 unfoldable pub json_head : List ℕ
 json_head = codes "{\"features\":["
 
--- The part of a feature: its object, after a comma where it isn't the first that is printed; nothing where it is hidden. (this project's profile)
+-- The object of a feature, after a comma where it isn't the first that is printed. (this project's profile)
+abbrev pub feature_object : Bool → Bool → FeatureRow → List ℕ
+feature_object no_skipped first f = cond first [] (codes ",") ++ compact_text (feature_data no_skipped f)
+
+-- The part of a feature: its object, nothing where it is hidden. (this project's profile)
 unfoldable pub json_part : Bool → Bool → FeatureRow → List ℕ
-json_part no_skipped first f = cond (is_hidden no_skipped f.status) [] (
-    cond first [] (codes ",") ++ compact_text (feature_data no_skipped f))
+json_part no_skipped first f = cond (is_hidden no_skipped f.status) [] (feature_object no_skipped first f)
 
 -- What stands after the features. (this project's profile)
 unfoldable pub json_tail : Status → ℕ → Summary → List ℕ

@@ -1,5 +1,5 @@
 //! The JSON report: one document, whose objects `serde_json` writes from the results where they lie.
-ghost use Rattle.std.specs.Prelude.{◌≡◌, [], ◌++◌, codes, map, length, Some, IfOk, OnOk, string_bytes};
+ghost use Rattle.std.specs.Prelude.{◌≡◌, [], codes, map, length, Some, IfOk, string_bytes};
 ghost use Rattle.serde.specs.Event.{Log};
 ghost use Rattle.serde_json.specs.Data.{string, member};
 ghost use Rattle.serde_json.specs.Events.{SendsValue};
@@ -285,20 +285,16 @@ pub fn json_head(alloc: Global) -> Result<String, AllocError>
     Ok(String::from_str(alloc, "{\"features\":[")?)
 }
 
-/// The part of a feature: its object, after a comma where it isn't the first that is printed, or nothing
-/// where it is hidden. An error comes only where a growth was refused.
-#[tactic(auto, unfolding(crate::specs::JsonReport::json_part))]
-pub fn json_part(
+/// The object of a feature, after a comma where it isn't the first that is printed. An error comes only
+/// where a growth was refused.
+pub fn feature_object(
     alloc: Global,
     no_skipped: bool,
     first: bool,
     feature: &FeatureResult,
 ) -> Result<String, AllocError>
-    ensures { AnswersText result (spec.json_part no_skipped first (feature_row feature.now)) }
+    ensures { AnswersText result (spec.feature_object no_skipped first (feature_row feature.now)) }
 {
-    if hides(no_skipped, feature.status) {
-        return Ok(String::new(alloc));
-    }
     let mut object = feature_text(alloc, no_skipped, feature)?;
     if !first {
         object.insert_str(0, ",")?;

@@ -1,9 +1,9 @@
-//! The plain report: a part for each feature, and the closing lines, which it shares with progress.
-ghost use Rattle.std.specs.Prelude.{◌≡◌, [], ◌++◌, map, flat_map, codes, cond, IfOk, OnOk, string_bytes};
+//! The plain report: the lines of a feature, and the closing lines, which it shares with progress.
+ghost use Rattle.std.specs.Prelude.{[], map, flat_map, codes, cond};
 ghost use Rattle.gk_run.specs.Results.{step_row, case_row, feature_row};
 ghost use Rattle.gk_report.specs.ReportTexts.{is_hidden, printed_cases, Pushes, AnswersText};
 ghost use Rattle.gk_report.specs.PlainReport as spec;
-ghost use Rattle.gk_report.specs.PlainReport.{step_verdict, step_line, status_line, case_line, around_line, case_lines, feature_line, feature_lines, counted, counted_if_any, passed_part, undefined_part, count_line, closing_lines};
+ghost use Rattle.gk_report.specs.PlainReport.{step_verdict, step_line, status_line, case_line, around_line, case_lines, feature_line, counted, counted_if_any, passed_part, undefined_part, count_line, closing_lines};
 
 use crate::report_texts::{hides, push_one_line, reason_text, status_text};
 use crate::summary::{Counts, Summary};
@@ -103,34 +103,19 @@ fn push_cases(out: &mut String, no_skipped: bool, cases: &[CaseResult]) -> Resul
     Ok(())
 }
 
-fn push_feature(
-    out: &mut String,
-    no_skipped: bool,
-    feature: &FeatureResult,
-) -> Result<(), AllocError>
-    ensures { Pushes out.old (feature_lines no_skipped (feature_row feature.now)) result out.new }
-{
-    push_feature_line(out, feature)?;
-    push_cases(out, no_skipped, feature.cases.as_slice())?;
-    push_around(out, "  ", feature.around)?;
-    out.push_str("\n")?;
-    Ok(())
-}
-
-/// The part of a feature: its lines, or nothing where it is hidden. An error comes only where a growth was
-/// refused.
-#[tactic(auto, unfolding(crate::specs::PlainReport::plain_part))]
-pub fn plain_part(
+/// The lines of a feature. An error comes only where a growth was refused.
+pub fn feature_lines(
     alloc: Global,
     no_skipped: bool,
     feature: &FeatureResult,
 ) -> Result<String, AllocError>
-    ensures { AnswersText result (spec.plain_part no_skipped (feature_row feature.now)) }
+    ensures { AnswersText result (spec.feature_lines no_skipped (feature_row feature.now)) }
 {
     let mut out = String::new(alloc);
-    if !hides(no_skipped, feature.status) {
-        push_feature(&mut out, no_skipped, feature)?;
-    }
+    push_feature_line(&mut out, feature)?;
+    push_cases(&mut out, no_skipped, feature.cases.as_slice())?;
+    push_around(&mut out, "  ", feature.around)?;
+    out.push_str("\n")?;
     Ok(out)
 }
 

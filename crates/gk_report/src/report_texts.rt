@@ -1,5 +1,5 @@
 //! The texts that the formats share, and what each of them leaves out.
-ghost use Rattle.std.specs.Prelude.{◌≡◌, ◌++◌, OnOk, string_bytes};
+ghost use Rattle.std.specs.Prelude.{◌≡◌};
 ghost use Rattle.gk_report.specs.ReportTexts as spec;
 ghost use Rattle.gk_report.specs.ReportTexts.{is_hidden, one_line, Pushes};
 

@@ -1,6 +1,6 @@
 //! What the report counts, and the status that a run ends with.
-ghost use Rattle.std.specs.Prelude.{◌≡◌, List, [], ◌∷◌, ◌++◌, map, fold};
-ghost use Rattle.gk_run.specs.Results.{FeatureRow, step_row, case_row, feature_row};
+ghost use Rattle.std.specs.Prelude.{◌≡◌, [], map, fold};
+ghost use Rattle.gk_run.specs.Results.{step_row, case_row, feature_row};
 ghost use Rattle.gk_report.specs.Summary.{summary_of, one_status_more, one_case_more};
 
 use gk_run::{CaseResult, FeatureResult, Status, StepResult};
