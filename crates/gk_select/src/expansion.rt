@@ -14,7 +14,7 @@ ghost use Rattle.gk_select.specs.Expansion.{HasNoOutline, plain_cases, case_coun
 ghost use Rattle.gk_select.specs.Expansion.{name_of_row, case_of_row, cases_of_rows, FitPart};
 ghost use Rattle.gk_select.specs.Expansion.{cases_of_parts, cases_of_scenarios, cases_of_rules};
 ghost use Rattle.gk_select.specs.Inherited.{inherited_value};
-ghost use Rattle.gk_select.specs.Outline.{FitsHeader, AllFit, outline_name};
+ghost use Rattle.gk_select.specs.Outline.{FitsHeader, AllFit};
 ghost use Rattle.gk_select.specs.declared.select_fault.SelectFault.TheVariants.{TooMany, Memory};
 
 use crate::case::Case;

@@ -1,5 +1,5 @@
 //! A row's cells, each a text or absent.
-ghost use Rattle.std.specs.Prelude.{◌≡◌, ℕ, ◌<◌, List, [], ◌∷◌, length, map, Some, None, OnErr, IfOk, option_map, option_copied, string_bytes, slice_set, slice_index_or};
+ghost use Rattle.std.specs.Prelude.{◌≡◌, ℕ, ◌<◌, List, [], ◌∷◌, length, map, Some, None, option_map, option_copied, string_bytes, slice_set, slice_index_or};
 ghost use Rattle.gk_world.specs.Cells.{Cell};
 ghost use Rattle.gk_world.specs.Cells.{cell_at, IsOnly};
 

@@ -1,5 +1,5 @@
 //! A journal of changes.
-ghost use Rattle.std.specs.Prelude.{◌≡◌, ℕ, ◌+◌, ◌<◌, ◌≤◌, List, [], ◌∷◌, ◌++◌, length, drop, take, IfOk, IfErr, ◌⊎◌, OnOk, OnErr, vec_len};
+ghost use Rattle.std.specs.Prelude.{◌≡◌, ◌<◌, ◌≤◌, List, [], length, drop, take, IfErr, ◌⊎◌, OnOk, OnErr};
 ghost use Rattle.gk_world.specs.Journal.{rewound, FitAll, Records};
 ghost use Rattle.gk_world.specs.Journal.{RewindsTheSame, RewindsTheSameTo, StaysFit, StaysFitTo};
 

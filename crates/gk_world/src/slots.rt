@@ -1,10 +1,10 @@
 //! Rows of cells by name, each a text or absent. Each change can be undone.
-ghost use Rattle.std.specs.Prelude.{◌≡◌, ℕ, List, [], ◌<◌, length, MatchOption, None, Some, OnOk, OnErr, IfOk, IfErr, IfSome, IfNone, is_none, true, false, option_map, option_copied, string_bytes, slice_index_or, slice_set};
+ghost use Rattle.std.specs.Prelude.{◌≡◌, List, [], ◌<◌, length, MatchOption, None, Some, OnOk, OnErr, IfOk, IfErr, IfSome, IfNone, is_none, true, false, option_map, option_copied, string_bytes};
 ghost use Rattle.gk_world.specs.Slots.{text_at, with_cell, cells_of, name_at};
 ghost use Rattle.gk_world.specs.Slots.{Puts, Writes, WritesAt, IsPlace, IsMissing, IsAt, IsNew};
 ghost use Rattle.gk_world.specs.Cells.{cell_at};
 ghost use Rattle.gk_world.specs.Slots.{slots_of};
-ghost use Rattle.gk_world.specs.Slots.{HasCell, Fits, undone};
+ghost use Rattle.gk_world.specs.Slots.{Fits, undone};
 
 use crate::cells::Cells;
 use crate::world_fault::WorldFault;

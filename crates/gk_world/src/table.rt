@@ -1,6 +1,5 @@
 //! A table of texts by name, as of files or of variables.
-ghost use Rattle.std.specs.Prelude.{◌≡◌, ℕ, List, [], ◌++◌, IfOk, IfErr, OnOk, OnErr, None, Some, option_copied, string_bytes};
-ghost use Rattle.std.specs.FinMap as finite;
+ghost use Rattle.std.specs.Prelude.{◌≡◌, List, [], IfOk, IfErr, OnOk, OnErr, None, Some, option_copied, string_bytes};
 ghost use Rattle.gk_world.specs.Slots.{map_at, text_at};
 ghost use Rattle.gk_world.specs.Listing.{Lists};
 ghost use Rattle.gk_world.specs.Refusals as refusals;

@@ -1,6 +1,5 @@
 //! Values by name, in layers.
-ghost use Rattle.std.specs.Prelude.{◌≡◌, ℕ, ◌≤◌, List, [], IfOk, IfErr, OnOk, OnErr, None, Some, option_copied};
-ghost use Rattle.std.specs.FinMap as finite;
+ghost use Rattle.std.specs.Prelude.{◌≡◌, ◌≤◌, List, [], IfOk, IfErr, OnOk, OnErr, None, Some, option_copied};
 ghost use Rattle.gk_world.specs.State.{see};
 ghost use Rattle.gk_world.specs.Listing.{Lists};
 ghost use Rattle.gk_world.specs.Refusals as refusals;

@@ -1,5 +1,5 @@
 //! Files, variables and values, joined.
-ghost use Rattle.std.specs.Prelude.{◌≡◌, ℕ, ◌≤◌, [], IfOk};
+ghost use Rattle.std.specs.Prelude.{◌≡◌, ◌≤◌, [], IfOk};
 ghost use Rattle.gk_world.specs.Listing.{IsListing};
 ghost use Rattle.gk_world.specs.Sandbox as sandbox;
 ghost use Rattle.gk_world.specs.State.{state_of};
