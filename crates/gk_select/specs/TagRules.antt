@@ -55,6 +55,10 @@ pub record ReadsTags (text : List ℕ) (rule : List AlternativeValue) : Type 0 w
   pub old_form : list_any is_of_new_form text ≡ false
   pub says : map alternative (pieces text) ≡ map Some rule
 
+-- A text that spells no rule. (behave's documentation: tag expressions)
+abbrev pub SpellsNone : List ℕ → Type 0
+SpellsNone text = (rule : List AlternativeValue) → ReadsTags text rule → ⊥
+
 -- A text over which memory can run out: it has no blank and no parenthesis, and its first alternative says something. (this project's profile)
 abbrev pub NeedsMemory : List ℕ → Type 0
 NeedsMemory text = (list_any is_of_new_form text ≡ false) × IsSome (alternative (slice_index_or (pieces text) 0 []))

@@ -7,7 +7,7 @@ ghost use Rattle.gk_gherkin.specs.Feature.{texts};
 ghost use Rattle.gk_select.specs.declared.select_fault.SelectFault.TheVariants.{BadTagText, Memory};
 ghost use Rattle.gk_select.specs.SelectFault.{Gives};
 ghost use Rattle.gk_select.specs.TagRules as spec;
-ghost use Rattle.gk_select.specs.TagRules.{AlternativeValue, ReadsTags, NeedsMemory, alternative_value, tag_rule_value};
+ghost use Rattle.gk_select.specs.TagRules.{AlternativeValue, ReadsTags, SpellsNone, NeedsMemory, alternative_value, tag_rule_value};
 
 use crate::select_fault::SelectFault;
 use std::alloc::Global;
@@ -105,11 +105,12 @@ pub fn read_tags(alloc: Global, text: &str) -> Result<TagRule, SelectFault>
     // What is answered is what the text spells.
     ensures found { IfOk result (λ r. ReadsTags text.now (tag_rule_value r)) }
     // What the text spells is answered, unless memory runs out.
-    ensures only { (rule : List AlternativeValue) → ReadsTags text.now rule → Gives tag_rule_value result (Some rule) }
+    ensures only { (rule : List AlternativeValue) → ReadsTags text.now rule →
+        Gives tag_rule_value result (Some rule) }
     // Memory runs out only after the first alternative was read.
     ensures memory { result ≡ Err Memory → NeedsMemory text.now }
     // Which fault it is: a bad text spells nothing.
-    ensures fault { IfErr result (λ e. (e ≡ Memory) ⊎ ((e ≡ BadTagText) × ((rule : List AlternativeValue) → ReadsTags text.now rule → ⊥))) }
+    ensures fault { IfErr result (λ e. (e ≡ Memory) ⊎ ((e ≡ BadTagText) × SpellsNone text.now)) }
 {
     if is_of_new_form(text) {
         return Err(SelectFault::BadTagText);
@@ -123,5 +124,6 @@ pub fn read_tags(alloc: Global, text: &str) -> Result<TagRule, SelectFault>
 
 /// No text spells two different rules. (behave's documentation: tag expressions; this project's profile)
 pub fn texts_have_one_rule()
-    ensures { (text : List ℕ) (a b : List AlternativeValue) → ReadsTags text a → ReadsTags text b → a ≡ b }
+    ensures { (text : List ℕ) (a b : List AlternativeValue) →
+        ReadsTags text a → ReadsTags text b → a ≡ b }
 {}

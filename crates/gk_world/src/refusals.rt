@@ -1,4 +1,4 @@
-//! Which names and texts there may be.
+//! Which changes of names and texts are refused, and why.
 ghost use Rattle.std.specs.Prelude.{◌≡◌, ◌++◌, IfOk, None, string_bytes};
 ghost use Rattle.gk_world.specs.Refusals as refusals;
 
@@ -41,7 +41,8 @@ pub fn put_refusal(name: &str, text: &str) -> Option<WorldFault>
 /// A name and a text that may be put, copied.
 pub fn copied_for_put(alloc: Global, name: &str, text: &str) -> Result<(String, String), WorldFault>
     ensures answer { refusals.IsAnswer (refusals.put_refusal name.now text.now) result }
-    ensures copies { IfOk result (λ copies. (string_bytes copies.0 ≡ name.now) × (string_bytes copies.1 ≡ text.now)) }
+    ensures copies { IfOk result (λ copies.
+        (string_bytes copies.0 ≡ name.now) × (string_bytes copies.1 ≡ text.now)) }
 {
     if let Some(fault) = put_refusal(name, text) {
         return Err(fault);
