@@ -64,7 +64,8 @@ pub fn is_word(text: &str, word: &str) -> bool
 }
 
 pub fn begins_word(text: &str, word: &str) -> bool
-    ensures { result ≡ (spec.begins text.now word.now && is_blank (slice_index text.now (length word.now))) }
+    ensures { result
+        ≡ (spec.begins text.now word.now && is_blank (slice_index text.now (length word.now))) }
 {
     let bytes = text.as_bytes();
     let word = word.as_bytes();

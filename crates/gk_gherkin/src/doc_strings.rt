@@ -55,7 +55,8 @@ fn with_content(
     column: u32,
     line: &Piece<'_>,
 ) -> Result<String, ReadFault>
-    ensures { Gives string_bytes result (Ok (string_bytes text ++ spec.content_of fence (column - 1) (piece_value line.now))) }
+    ensures { Gives string_bytes result
+        (Ok (string_bytes text ++ spec.content_of fence (column - 1) (piece_value line.now))) }
 {
     let mut text = text;
     let mut rest = without_margin(column.saturating_sub(1) as usize, line.text);
@@ -82,7 +83,9 @@ pub fn with_line(
     column: u32,
     line: &Piece<'_>,
 ) -> Result<String, ReadFault>
-    ensures { Gives string_bytes result (Ok (machine.with_line (option_map string_bytes content) (spec.content_of fence (column - 1) (piece_value line.now)))) }
+    ensures { let next = spec.content_of fence (column - 1) (piece_value line.now) in
+        Gives string_bytes result
+        (Ok (machine.with_line (option_map string_bytes content) next)) }
 {
     match content {
         Some(text) => {

@@ -10,7 +10,9 @@ ghost use Rattle.gk_gherkin.specs.HooksGrammar.{heading_of};
 ghost use Rattle.gk_gherkin.specs.Machine.{Gives};
 ghost use Rattle.gk_gherkin.specs.Machine.Views.{body_value};
 ghost use Rattle.gk_gherkin.specs.HooksMachine as spec;
-ghost use Rattle.gk_gherkin.specs.HooksMachine.Views.{opened_value, place_value, quote_value, state_value, IsQuote};
+ghost use Rattle.gk_gherkin.specs.HooksMachine.Views.{place_value, quote_value, state_value};
+ghost use Rattle.gk_gherkin.specs.HooksMachine.Views.{IsQuote, EndsDocString};
+ghost use Rattle.gk_gherkin.specs.HooksMachine.Views as views;
 ghost use Rattle.gk_gherkin.specs.declared.class.Fence as classes;
 ghost use Rattle.gk_gherkin.specs.declared.read_fault.ReadFault.TheVariants.{BadHook};
 
@@ -93,7 +95,8 @@ fn is_same_kind(a: HookKind, b: HookKind) -> bool
 }
 
 fn is_same_tag(a: &Option<String>, b: &Option<&str>) -> bool
-    ensures { result ≡ spec.is_same_tag (option_map string_bytes a.now) (option_map (λ t. t.now) b.now) }
+    ensures { result
+        ≡ spec.is_same_tag (option_map string_bytes a.now) (option_map (λ t. t.now) b.now) }
 {
     match a {
         None => b.is_none(),
@@ -105,13 +108,13 @@ fn is_same_tag(a: &Option<String>, b: &Option<&str>) -> bool
 }
 
 fn is_same_heading(hook: &Hook, heading: &Heading<'_>) -> bool
-    ensures { result ≡ spec.is_same_heading (heading_of (hook_value hook.now)) (heading_value heading.now) }
+    ensures { result ≡ views.has_heading hook.now heading.now }
 {
     is_same_kind(hook.kind, heading.kind) && is_same_tag(&hook.tag, &heading.tag)
 }
 
 fn has_heading(hooks: &[Hook], heading: &Heading<'_>) -> bool
-    ensures { result ≡ list_any (λ hook. spec.is_same_heading (heading_of (hook_value hook)) (heading_value heading.now)) hooks.now }
+    ensures { result ≡ list_any (λ hook. views.has_heading hook heading.now) hooks.now }
 {
     hooks.iter().any(|hook| is_same_heading(hook, heading))
 }
@@ -143,7 +146,8 @@ fn bad_hook(line: &Piece<'_>) -> ReadFault
 #[inline(never)]
 #[tactic(auto, unfolding(crate::specs::HooksMachine::on_hook))]
 fn on_hook(alloc: Global, place: &mut HooksPlace, line: &Piece<'_>) -> Result<(), ReadFault>
-    ensures { Gives (λ _. place_value place.new) result (spec.on_hook (place_value place.old) (piece_value line.now)) }
+    ensures { Gives (λ _. place_value place.new) result
+        (spec.on_hook (place_value place.old) (piece_value line.now)) }
 {
     match hook_heading(line) {
         None => Err(bad_hook(line)),
@@ -177,7 +181,8 @@ fn on_hook_body(
     line: &Piece<'_>,
     class: Class,
 ) -> Result<(), ReadFault>
-    ensures { Gives (λ _. body_value body.new) result (spec.on_hook_body (body_value body.old) (piece_value line.now) class) }
+    ensures { Gives (λ _. body_value body.new) result
+        (spec.on_hook_body (body_value body.old) (piece_value line.now) class) }
 {
     match body {
         Body::Describing => match class {
@@ -195,7 +200,8 @@ fn on_hooks_place(
     line: &Piece<'_>,
     class: Class,
 ) -> Result<(), ReadFault>
-    ensures { Gives (λ _. place_value place.new) result (spec.on_hooks_place (place_value place.old) (piece_value line.now) class) }
+    ensures { Gives (λ _. place_value place.new) result
+        (spec.on_hooks_place (place_value place.old) (piece_value line.now) class) }
 {
     match place {
         HooksPlace::NoHook => Err(unexpected(line)),
@@ -233,7 +239,9 @@ fn on_fence(
     line: &Piece<'_>,
     fence: Fence,
 ) -> Result<HooksState, ReadFault>
-    ensures { Gives state_value result (spec.on_fence (spec.quote_of (place_value place.old)) (place_value place.old) (piece_value line.now) fence) }
+    ensures { let old = place_value place.old in
+        Gives state_value result
+        (spec.on_fence (spec.quote_of old) old (piece_value line.now) fence) }
 {
     match quote_of(mem::replace(place, HooksPlace::NoHook)) {
         Ok(quote) => Ok(HooksState::Quoted {
@@ -254,7 +262,8 @@ fn on_fence(
 }
 
 fn after_quote(alloc: Global, quote: HookQuote, content: Option<String>) -> HooksPlace
-    ensures { place_value result ≡ spec.after_quote (quote_value quote) (option_map string_bytes content) }
+    ensures { place_value result
+        ≡ spec.after_quote (quote_value quote) (option_map string_bytes content) }
 {
     let text = whole_text(alloc, content);
     let step = quote.step;
@@ -275,7 +284,7 @@ fn after_quote(alloc: Global, quote: HookQuote, content: Option<String>) -> Hook
 
 // The end of a doc string: the state is at the place after it.
 fn end_quote(alloc: Global, state: &mut HooksState)
-    ensures { (quote : spec.HookQuoteValue) (fence : classes.Fence) (column n : ℕ) (content : Option (List ℕ)) → state_value state.old ≡ spec.Quoted quote fence column n content → state_value state.new ≡ spec.At (spec.after_quote quote content) }
+    ensures { EndsDocString state.old state.new }
 {
     let place = HooksPlace::NoHook;
     match mem::replace(state, HooksState::At { place }) {
@@ -297,7 +306,8 @@ fn change(
     class: HooksClass,
 ) -> Result<(), ReadFault>
     requires { spec.Changes (state_value state.old) (piece_value line.now) class }
-    ensures { Gives (λ _. state_value state.new) result (spec.on (state_value state.old) (piece_value line.now) class) }
+    ensures { Gives (λ _. state_value state.new) result
+        (spec.on (state_value state.old) (piece_value line.now) class) }
 {
     match state {
         HooksState::At { place } => {
@@ -318,7 +328,8 @@ pub fn next_hooks_state(
     state: &mut HooksState,
     line: &Piece<'_>,
 ) -> Result<(), ReadFault>
-    ensures { Gives (λ _. state_value state.new) result (spec.step (state_value state.old) (piece_value line.now)) }
+    ensures { Gives (λ _. state_value state.new) result
+        (spec.step (state_value state.old) (piece_value line.now)) }
 {
     let class = hooks_class(line);
     match state {

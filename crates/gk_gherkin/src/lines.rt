@@ -3,7 +3,8 @@ ghost use Rattle.std.specs.Prelude.{◌≡◌, ◌≤◌, ◌==◌, map, length,
 ghost use Rattle.std.specs.List.{prefix_len};
 ghost use Rattle.std.specs.Str.Lines.{lines};
 ghost use Rattle.gk_gherkin.specs.Lines as spec;
-ghost use Rattle.gk_gherkin.specs.Lines.{is_blank, line_value, piece_value, line_at, numbered_from, lines_of, IsText};
+ghost use Rattle.gk_gherkin.specs.Lines.{is_blank, line_value, piece_value, line_at};
+ghost use Rattle.gk_gherkin.specs.Lines.{numbered_from, lines_of, IsText};
 ghost use Rattle.gk_gherkin.specs.ReadFault.{LinesFaultSays};
 ghost use Rattle.gk_gherkin.specs.declared.read_fault.ReadFault.TheVariants.{Memory};
 
@@ -135,7 +136,8 @@ pub fn piece_from<'a>(line: u32, text: &'a str) -> Piece<'a>
 
 fn lines_from(alloc: Global, text: &str) -> Result<Document, ReadFault>
     requires { length text.now ≤ LIMIT }
-    ensures ok { IfOk result (λ d. map line_value d.lines.items ≡ numbered_from 1 (lines text.now)) }
+    ensures ok { IfOk result (λ d.
+        map line_value d.lines.items ≡ numbered_from 1 (lines text.now)) }
     ensures fault { IfErr result (λ e. e ≡ Memory) }
 {
     let mut lines = Vec::new(alloc);
@@ -173,7 +175,8 @@ pub fn text_of(bytes: &[u8]) -> Result<&str, ReadFault>
 /// where a growth was refused. A refusal answers no line. (this project's profile)
 pub fn read_lines(alloc: Global, bytes: &[u8]) -> Result<Document, ReadFault>
     // What is answered is the text's lines.
-    ensures ok { IfOk result (λ d. IsText bytes.now × (map line_value d.lines.items ≡ lines_of bytes.now)) }
+    ensures ok { IfOk result (λ d.
+        IsText bytes.now × (map line_value d.lines.items ≡ lines_of bytes.now)) }
     // Which fault it is.
     ensures fault { IfErr result (λ e. LinesFaultSays e bytes.now) }
 {

@@ -5,7 +5,9 @@ ghost use Rattle.gk_gherkin.specs.Feature.{texts};
 ghost use Rattle.std.specs.String.{string_bytes};
 ghost use Rattle.gk_gherkin.specs.Machine as spec;
 ghost use Rattle.gk_gherkin.specs.Machine.{Gives};
-ghost use Rattle.gk_gherkin.specs.Machine.Views.{top_value, body_value, owner_value, place_value, quote_value, state_value, content_value, IsQuote};
+ghost use Rattle.gk_gherkin.specs.Machine.Views.{top_value, bodied_value, place_value, quote_value};
+ghost use Rattle.gk_gherkin.specs.Machine.Views.{state_value, content_value, IsQuote};
+ghost use Rattle.gk_gherkin.specs.Machine.Views.{AddsTags, EndsDocString};
 ghost use Rattle.gk_gherkin.specs.Tags as tagging;
 ghost use Rattle.gk_gherkin.specs.DocStrings as quoting;
 ghost use Rattle.std.specs.Str.Lines.{lines};
@@ -24,7 +26,8 @@ use std::alloc::Global;
 use std::mem;
 
 fn check_comment(place: &Place, line: &Piece<'_>) -> Result<(), ReadFault>
-    ensures { (state : spec.State) → Gives (λ _. state) result (spec.on_comment (place_value place.now) state (piece_value line.now)) }
+    ensures { (state : spec.State) → Gives (λ _. state) result
+        (spec.on_comment (place_value place.now) state (piece_value line.now)) }
 {
     match place {
         Place::Above => match language_of(line) {
@@ -45,7 +48,7 @@ fn check_comment(place: &Place, line: &Piece<'_>) -> Result<(), ReadFault>
 
 // The tags of a line after those before it.
 fn tag_line(alloc: Global, tags: &mut Vec<String>, line: &Piece<'_>) -> Result<(), ReadFault>
-    ensures { (place : spec.Place) → Gives (λ _. spec.Tagged place (texts tags.new.items) (piece_value line.now).line) result (spec.tag_line (tagging.tags_of (piece_value line.now)) place (texts tags.old.items) (piece_value line.now)) }
+    ensures { AddsTags tags.old.items line.now result tags.new.items line.now.place.line }
 {
     match tags_of(alloc, line)? {
         Some(more) => {
@@ -61,7 +64,7 @@ fn tag_line(alloc: Global, tags: &mut Vec<String>, line: &Piece<'_>) -> Result<(
 
 // The step of a body that a doc string may stand under, with what is before it; or the place as it is.
 fn quote_in(top: Top, owner: Owner, body: Body) -> Result<Quote, Place>
-    ensures { IsQuote (spec.Inside (top_value top) (spec.Bodied (owner_value owner) (body_value body))) result }
+    ensures { IsQuote (spec.Inside (top_value top) (bodied_value owner body)) result }
 {
     match body {
         Body::Describing => Err(Place::Inside {
@@ -107,7 +110,9 @@ fn on_fence(
     line: &Piece<'_>,
     fence: Fence,
 ) -> Result<State, ReadFault>
-    ensures { Gives state_value result (spec.on_fence (spec.quote_of (place_value place.old)) (place_value place.old) (piece_value line.now) fence) }
+    ensures { let old = place_value place.old in
+        Gives state_value result
+        (spec.on_fence (spec.quote_of old) old (piece_value line.now) fence) }
 {
     match quote_of(mem::replace(place, Place::Above)) {
         Ok(quote) => Ok(State::Quoted {
@@ -128,7 +133,8 @@ fn on_fence(
 }
 
 fn after_quote(alloc: Global, quote: Quote, content: Option<String>) -> Place
-    ensures { place_value result ≡ spec.after_quote (quote_value quote) (option_map string_bytes content) }
+    ensures { place_value result
+        ≡ spec.after_quote (quote_value quote) (option_map string_bytes content) }
 {
     let text = whole_text(alloc, content);
     let step = quote.step;
@@ -157,7 +163,8 @@ pub fn add_line(
     column: u32,
     line: &Piece<'_>,
 ) -> Result<(), ReadFault>
-    ensures { Gives (λ _. content_value content.new) result (Ok (spec.text_after (content_value content.old) fence column (piece_value line.now))) }
+    ensures { Gives (λ _. content_value content.new) result
+        (Ok (spec.text_after (content_value content.old) fence column (piece_value line.now))) }
 {
     let before = mem::replace(content, None);
     *content = Some(with_line(alloc, before, fence, column, line)?);
@@ -166,7 +173,8 @@ pub fn add_line(
 
 // The first tags at a place.
 fn first_tags(alloc: Global, place: &mut Place, line: &Piece<'_>) -> Result<State, ReadFault>
-    ensures { Gives state_value result (spec.tag_line (tagging.tags_of (piece_value line.now)) (place_value place.old) [] (piece_value line.now)) }
+    ensures { Gives state_value result
+        (spec.on_tags (place_value place.old) [] (piece_value line.now)) }
 {
     let mut tags = Vec::new(alloc);
     tag_line(alloc, &mut tags, line)?;
@@ -186,7 +194,8 @@ fn tags_or_fence(
     class: Class,
 ) -> Result<State, ReadFault>
     requires { spec.Changes (spec.At (place_value place.old)) (piece_value line.now) class }
-    ensures { Gives state_value result (spec.on (spec.At (place_value place.old)) (piece_value line.now) class) }
+    ensures { Gives state_value result
+        (spec.on (spec.At (place_value place.old)) (piece_value line.now) class) }
 {
     match class {
         Class::TagLine => first_tags(alloc, place, line),
@@ -204,7 +213,7 @@ fn more_tags(
     last: &mut u32,
     line: &Piece<'_>,
 ) -> Result<(), ReadFault>
-    ensures { (place : spec.Place) → Gives (λ _. spec.Tagged place (texts tags.new.items) last.new) result (spec.tag_line (tagging.tags_of (piece_value line.now)) place (texts tags.old.items) (piece_value line.now)) }
+    ensures { AddsTags tags.old.items line.now result tags.new.items last.new }
 {
     tag_line(alloc, tags, line)?;
     *last = line.place.line;
@@ -219,7 +228,9 @@ fn heading_after_tags(
     line: &Piece<'_>,
     class: Class,
 ) -> Result<State, ReadFault>
-    ensures { Gives state_value result (spec.placed (spec.on_heading (place_value place.old) (texts tags.old.items) (piece_value line.now) class)) }
+    ensures { let old = place_value place.old in
+        Gives state_value result
+        (spec.placed (spec.on_heading old (texts tags.old.items) (piece_value line.now) class)) }
 {
     let tags = mem::replace(tags, Vec::new(alloc));
     on_heading(alloc, place, tags, line, class)?;
@@ -230,7 +241,7 @@ fn heading_after_tags(
 
 // The end of a doc string: the state is at the place after it.
 fn end_quote(alloc: Global, state: &mut State)
-    ensures { (quote : spec.QuoteValue) (fence : classes.Fence) (column n : ℕ) (content : Option (List ℕ)) → state_value state.old ≡ spec.Quoted quote fence column n content → state_value state.new ≡ spec.At (spec.after_quote quote content) }
+    ensures { EndsDocString state.old state.new }
 {
     let place = Place::Above;
     match mem::replace(state, State::At { place }) {
@@ -247,7 +258,8 @@ fn end_quote(alloc: Global, state: &mut State)
 #[tactic(auto, unfolding(crate::specs::Machine::on))]
 fn change(alloc: Global, state: &mut State, line: &Piece<'_>, class: Class) -> Result<(), ReadFault>
     requires { spec.Changes (state_value state.old) (piece_value line.now) class }
-    ensures { Gives (λ _. state_value state.new) result (spec.on (state_value state.old) (piece_value line.now) class) }
+    ensures { Gives (λ _. state_value state.new) result
+        (spec.on (state_value state.old) (piece_value line.now) class) }
 {
     match state {
         State::At { place } => {
@@ -274,7 +286,8 @@ fn change(alloc: Global, state: &mut State, line: &Piece<'_>, class: Class) -> R
 
 #[tactic(auto, unfolding(crate::specs::Machine::step, crate::specs::Machine::on))]
 pub fn next_state(alloc: Global, state: &mut State, line: &Piece<'_>) -> Result<(), ReadFault>
-    ensures { Gives (λ _. state_value state.new) result (spec.step (state_value state.old) (piece_value line.now)) }
+    ensures { Gives (λ _. state_value state.new) result
+        (spec.step (state_value state.old) (piece_value line.now)) }
 {
     let class = class_of_line(line);
     match state {
