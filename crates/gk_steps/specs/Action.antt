@@ -1,5 +1,5 @@
 -- The built-in actions by name, and the fields that each needs and uses.
-use Rattle.std.specs.Prelude.{codes, ℕ, List, [], ◌∷◌, ◌++◌, Option, find, if◌then◌else◌}
+use Rattle.std.specs.Prelude.{codes, ℕ, List, [], ◌∷◌, ◌++◌, Option, option_map, find, if◌then◌else◌}
 use Rattle.std.specs.Str.{bytes_eq}
 use Rattle.gk_steps.specs.declared.pattern.FieldKind.{FieldKind}
 use Rattle.gk_steps.specs.declared.pattern.FieldKind.TheVariants.{Plain, Decimal}
@@ -82,6 +82,10 @@ other_rows =
 -- The table of actions. (this project's profile)
 abbrev pub action_table : List ActionRow
 action_table = file_rows ++ other_rows
+
+-- The action of a name in some rows; none where no row has that name.
+abbrev pub action_in : List ActionRow → List ℕ → Option Action
+action_in rows name = option_map (λ (row : ActionRow). row.action) (find (λ (row : ActionRow). bytes_eq row.name name) rows)
 
 -- The row of a name; none where no action has that name.
 unfoldable pub action_row : List ℕ → Option ActionRow

@@ -14,7 +14,11 @@ use Rattle.gk_steps.specs.declared.library_fault.LibraryFault.TheVariants as fau
 use Rattle.gk_steps.specs.Pattern.{PieceValue, SpellsPattern, field_kind}
 use Rattle.gk_steps.specs.Action.{ActionRow, action_row, kind_of_field, name_word, to_word, text_word, number_word, step_word}
 use Rattle.gk_steps.specs.Finding.{EntryValue}
-use Rattle.gk_steps.specs.LibraryFile.{SpellsEntry, is_ignored, type_of, sides_of, HasNeededFields, HasRightKinds, IsBadType, IsBadPattern, IsUnknownAction, IsMissingField, IsOtherKind, IsAmbiguous, StopsLibraryAt}
+use Rattle.gk_steps.specs.LibraryFile.{Sides, SpellsEntry, is_ignored, type_of, sides_of, HasNeededFields, HasRightKinds, IsBadType, IsBadPattern, IsUnknownAction, IsMissingField, IsOtherKind, IsAmbiguous, StopsLibraryAt}
+
+-- The two sides of an arrow. (the texts of a pair)
+abbrev pub sides : List ℕ → List ℕ → Sides
+sides pattern action = record { pattern = pattern; action = action }
 
 -- The fields that an action uses.
 abbrev pub uses_of : Action → Uses

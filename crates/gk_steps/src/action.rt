@@ -1,6 +1,6 @@
 //! The built-in actions.
 ghost use Rattle.std.specs.Prelude.{◌≡◌, find, option_map};
-ghost use Rattle.gk_steps.specs.Action.{ActionRow, action_row, file_rows, other_rows};
+ghost use Rattle.gk_steps.specs.Action.{ActionRow, action_in, action_row, file_rows, other_rows};
 ghost use Rattle.std.specs.Str.{bytes_eq};
 ghost use Rattle.gk_steps.specs.LibraryLine.{uses_of};
 
@@ -53,7 +53,7 @@ fn is_named(name: &str, other: &str) -> bool
 
 // The action on files of a name.
 fn file_action(name: &str) -> Option<Action>
-    ensures { result ≡ option_map (λ (row : ActionRow). row.action) (find (λ (row : ActionRow). bytes_eq row.name name.now) file_rows) }
+    ensures { result ≡ action_in file_rows name.now }
 {
     if is_named("write_file", name) {
         Some(Action::WriteFile)
@@ -80,7 +80,7 @@ fn file_action(name: &str) -> Option<Action>
 
 // The other action of a name.
 fn other_action(name: &str) -> Option<Action>
-    ensures { result ≡ option_map (λ (row : ActionRow). row.action) (find (λ (row : ActionRow). bytes_eq row.name name.now) other_rows) }
+    ensures { result ≡ action_in other_rows name.now }
 {
     if is_named("set_env", name) {
         Some(Action::SetEnv)

@@ -3,10 +3,11 @@ ghost use Rattle.std.specs.Prelude.{◌≡◌, ℕ, List, map, IfOk, IfErr, OnOk
 ghost use Rattle.gk_steps.specs.declared.library_fault.LibraryFault.TheVariants.{Memory};
 ghost use Rattle.gk_gherkin.specs.ReadFault.{LinesFaultSays};
 ghost use Rattle.gk_gherkin.specs.Lines.{line_value, lines_of, IsText};
-ghost use Rattle.gk_steps.specs.Finding.{LibraryValue, entry_value, library_value};
+ghost use Rattle.gk_steps.specs.Finding.{LibraryValue, entries_said, library_value};
 ghost use Rattle.gk_steps.specs.LibraryFile.{ReadsLibrary, AnswersLibrary, LibraryReadingIsUnique};
 ghost use Rattle.gk_steps.specs.LibraryFault.{LibraryFaultSays};
-ghost use Rattle.gk_steps.specs.LibraryLine.{EntryFaultSays, LineFaultSays, AddsEntry, AddsLine, LibraryLinesFaultSays};
+ghost use Rattle.gk_steps.specs.LibraryLine.{EntryFaultSays, LineFaultSays, LibraryLinesFaultSays};
+ghost use Rattle.gk_steps.specs.LibraryLine.{AddsEntry, AddsLine};
 
 use crate::library::{Entry, Library};
 use crate::library_fault::LibraryFault;
@@ -28,8 +29,10 @@ fn lines_fault(fault: ReadFault) -> LibraryFault
 
 // Adds the entry that a line spells.
 fn add_entry(entries: &mut Vec<Entry>, alloc: Global, line: &Line) -> Result<(), LibraryFault>
-    ensures added { OnOk result (AddsEntry (map entry_value entries.old.items) (line_value line.now) (map entry_value entries.new.items)) }
-    ensures fault { IfErr result (λ f. EntryFaultSays f (map entry_value entries.old.items) (line_value line.now)) }
+    ensures added { OnOk result (AddsEntry (entries_said entries.old.items)
+        (line_value line.now) (entries_said entries.new.items)) }
+    ensures fault { IfErr result (λ f.
+        EntryFaultSays f (entries_said entries.old.items) (line_value line.now)) }
 {
     match read_entry(alloc, entries, line) {
         Ok(entry) => {
@@ -42,8 +45,10 @@ fn add_entry(entries: &mut Vec<Entry>, alloc: Global, line: &Line) -> Result<(),
 
 // Adds what a line says, where it isn't ignored.
 fn add_line(entries: &mut Vec<Entry>, alloc: Global, line: &Line) -> Result<(), LibraryFault>
-    ensures added { OnOk result (AddsLine (map entry_value entries.old.items) (line_value line.now) (map entry_value entries.new.items)) }
-    ensures fault { IfErr result (λ f. LineFaultSays f (map entry_value entries.old.items) (line_value line.now)) }
+    ensures added { OnOk result (AddsLine (entries_said entries.old.items)
+        (line_value line.now) (entries_said entries.new.items)) }
+    ensures fault { IfErr result (λ f.
+        LineFaultSays f (entries_said entries.old.items) (line_value line.now)) }
 {
     if is_ignored(line) {
         return Ok(());
@@ -56,7 +61,8 @@ fn add_line(entries: &mut Vec<Entry>, alloc: Global, line: &Line) -> Result<(), 
 
 // The entries that the lines spell.
 fn read_entries(alloc: Global, lines: &[Line]) -> Result<Vec<Entry>, LibraryFault>
-    ensures found { IfOk result (λ es. ReadsLibrary (map line_value lines.now) (map entry_value es.items)) }
+    ensures found { IfOk result (λ es.
+        ReadsLibrary (map line_value lines.now) (entries_said es.items)) }
     ensures fault { IfErr result (λ f. LibraryLinesFaultSays f (map line_value lines.now)) }
 {
     let mut entries = Vec::new(alloc);
@@ -78,9 +84,11 @@ fn read_entries(alloc: Global, lines: &[Line]) -> Result<Vec<Entry>, LibraryFaul
 /// implementations; this project's profile)
 pub fn read_library(alloc: Global, bytes: &[u8]) -> Result<Library, LibraryFault>
     // What is answered is what the lines say.
-    ensures found { IfOk result (λ l. IsText bytes.now × ReadsLibrary (lines_of bytes.now) (library_value l)) }
+    ensures found { IfOk result (λ l.
+        IsText bytes.now × ReadsLibrary (lines_of bytes.now) (library_value l)) }
     // What the lines say is answered, unless memory runs out.
-    ensures only { (entries : LibraryValue) → IsText bytes.now → ReadsLibrary (lines_of bytes.now) entries → AnswersLibrary result entries }
+    ensures only { (entries : LibraryValue) → IsText bytes.now
+        → ReadsLibrary (lines_of bytes.now) entries → AnswersLibrary result entries }
     // Which fault it is.
     ensures fault { IfErr result (λ e. LibraryFaultSays e bytes.now) }
 {

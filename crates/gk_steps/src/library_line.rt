@@ -4,12 +4,14 @@ ghost use Rattle.gk_gherkin.specs.Class.{begins};
 ghost use Rattle.std.specs.List.{prefix_len, position_or_len, before_first, after_first};
 ghost use Rattle.gk_gherkin.specs.Lines as lines;
 ghost use Rattle.gk_gherkin.specs.Lines.{line_value};
-ghost use Rattle.gk_steps.specs.Pattern.{PieceValue, piece_value, pattern_value, SpellsPattern, field_kind as field_kind_of};
-ghost use Rattle.gk_steps.specs.Finding.{entry_value};
+ghost use Rattle.gk_steps.specs.Pattern.{pattern_value, pieces_said, SpellsPattern};
+ghost use Rattle.gk_steps.specs.Pattern.{field_kind as field_kind_of};
+ghost use Rattle.gk_steps.specs.Finding.{entries_said, entry_value};
 ghost use Rattle.gk_steps.specs.LibraryFile as spec;
 ghost use Rattle.gk_steps.specs.LibraryFile.{Sides, SpellsEntry};
 ghost use Rattle.gk_steps.specs.LibraryLine as machinery;
-ghost use Rattle.gk_steps.specs.LibraryLine.{FitsAction, ActionFaultSays, PatternFaultSays, IsCut, CutFaultSays, EntryFaultSays};
+ghost use Rattle.gk_steps.specs.LibraryLine.{FitsAction, ActionFaultSays, PatternFaultSays};
+ghost use Rattle.gk_steps.specs.LibraryLine.{IsCut, CutFaultSays, EntryFaultSays};
 
 use crate::action::{Action, Uses};
 use crate::finding::find_of;
@@ -120,7 +122,8 @@ fn is_arrow(bytes: &[u8]) -> bool
 
 // The two sides of the last arrow.
 fn last_arrow<'a>(text: &'a str) -> Option<(&'a str, &'a str)>
-    ensures { option_map (λ p. let s : Sides = record { pattern = p.0.now; action = p.1.now } in s) result ≡ spec.last_arrow text.entry.now }
+    ensures { option_map (λ p. machinery.sides p.0.now p.1.now) result
+        ≡ spec.last_arrow text.entry.now }
 {
     let bytes = text.as_bytes();
     let mut place = bytes.len();
@@ -165,7 +168,7 @@ fn pattern_at(alloc: Global, line: u32, text: &str) -> Result<Pattern, LibraryFa
 }
 
 fn has_needed(uses: Uses, pieces: &[Piece]) -> bool
-    ensures { result ≡ machinery.has_needed uses (map piece_value pieces.now) }
+    ensures { result ≡ machinery.has_needed uses (pieces_said pieces.now) }
 {
     match uses {
         Uses::Nothing => true,
@@ -183,7 +186,8 @@ fn has_needed(uses: Uses, pieces: &[Piece]) -> bool
 
 // Whether the field of a name is of a kind, where there is one.
 fn is_none_or_kind(pieces: &[Piece], name: &str, kind: FieldKind) -> bool
-    ensures { result ≡ machinery.is_none_or_kind (field_kind_of (map piece_value pieces.now) name.now) kind }
+    ensures { result
+        ≡ machinery.is_none_or_kind (field_kind_of (pieces_said pieces.now) name.now) kind }
 {
     match field_kind(pieces, name) {
         None => true,
@@ -201,7 +205,7 @@ fn is_none_or_kind(pieces: &[Piece], name: &str, kind: FieldKind) -> bool
 }
 
 fn has_right_kinds(uses: Uses, pieces: &[Piece]) -> bool
-    ensures { result ≡ machinery.has_right_kinds uses (map piece_value pieces.now) }
+    ensures { result ≡ machinery.has_right_kinds uses (pieces_said pieces.now) }
 {
     match uses {
         Uses::Nothing => true,
@@ -224,8 +228,8 @@ fn has_right_kinds(uses: Uses, pieces: &[Piece]) -> bool
 
 // The action of a name, with the fields that it needs and of the kinds that it uses.
 fn action_at(line: u32, name: &str, pieces: &[Piece]) -> Result<Action, LibraryFault>
-    ensures action { IfOk result (λ a. FitsAction name.now (map piece_value pieces.now) a) }
-    ensures fault { IfErr result (λ f. ActionFaultSays f line name.now (map piece_value pieces.now)) }
+    ensures action { IfOk result (λ a. FitsAction name.now (pieces_said pieces.now) a) }
+    ensures fault { IfErr result (λ f. ActionFaultSays f line name.now (pieces_said pieces.now)) }
 {
     match Action::named(name) {
         None => Err(LibraryFault::UnknownAction { line }),
@@ -251,8 +255,10 @@ fn entry_from(
     name: &str,
 ) -> Result<Entry, LibraryFault>
     requires { IsCut (line_value line.now) step_type text.now name.now }
-    ensures entry { IfOk result (λ e. SpellsEntry (map entry_value earlier.now) (line_value line.now) (entry_value e)) }
-    ensures fault { IfErr result (λ f. EntryFaultSays f (map entry_value earlier.now) (line_value line.now)) }
+    ensures entry { IfOk result (λ e.
+        SpellsEntry (entries_said earlier.now) (line_value line.now) (entry_value e)) }
+    ensures fault { IfErr result (λ f.
+        EntryFaultSays f (entries_said earlier.now) (line_value line.now)) }
 {
     let number = line.place.line;
     let pattern = match pattern_at(alloc, number, text) {
@@ -279,8 +285,10 @@ pub(crate) fn read_entry(
     earlier: &[Entry],
     line: &Line,
 ) -> Result<Entry, LibraryFault>
-    ensures entry { IfOk result (λ e. SpellsEntry (map entry_value earlier.now) (line_value line.now) (entry_value e)) }
-    ensures fault { IfErr result (λ f. EntryFaultSays f (map entry_value earlier.now) (line_value line.now)) }
+    ensures entry { IfOk result (λ e.
+        SpellsEntry (entries_said earlier.now) (line_value line.now) (entry_value e)) }
+    ensures fault { IfErr result (λ f.
+        EntryFaultSays f (entries_said earlier.now) (line_value line.now)) }
 {
     match cut(line) {
         Ok((step_type, text, name)) => entry_from(alloc, earlier, line, step_type, text, name),
