@@ -2,7 +2,7 @@
 ghost use Rattle.std.specs.Prelude.{Option, option_map, map, Ok, ◌≡◌, ℕ, List};
 ghost use Rattle.std.specs.List.{list_any};
 ghost use Rattle.std.specs.String.{string_bytes};
-ghost use Rattle.gk_gherkin.specs.Lines.{piece_value};
+ghost use Rattle.gk_gherkin.specs.Lines.{borrowed_value};
 ghost use Rattle.gk_gherkin.specs.Feature.{step_value};
 ghost use Rattle.gk_gherkin.specs.Hooks.{hook_value};
 ghost use Rattle.gk_gherkin.specs.HookHeadings.{heading_value};
@@ -21,7 +21,7 @@ use crate::doc_strings::{closes, whole_text};
 use crate::feature::{Block, Step};
 use crate::hook_headings::{Heading, HooksClass, hook_heading, hooks_class};
 use crate::hooks::{Hook, HookKind};
-use crate::lines::Piece;
+use crate::lines::BorrowedLine;
 use crate::machine::{Body, on_body, put, steps_of, unexpected};
 use crate::read_fault::ReadFault;
 use crate::states::add_line;
@@ -135,7 +135,7 @@ fn tag_of(alloc: Global, heading: &Heading<'_>) -> Result<Option<String>, ReadFa
     }
 }
 
-fn bad_hook(line: &Piece<'_>) -> ReadFault
+fn bad_hook(line: &BorrowedLine<'_>) -> ReadFault
     ensures { result ≡ BadHook line.now.place.line }
 {
     ReadFault::BadHook {
@@ -145,9 +145,9 @@ fn bad_hook(line: &Piece<'_>) -> ReadFault
 
 #[inline(never)]
 #[tactic(auto, unfolding(crate::specs::HooksMachine::on_hook))]
-fn on_hook(alloc: Global, place: &mut HooksPlace, line: &Piece<'_>) -> Result<(), ReadFault>
+fn on_hook(alloc: Global, place: &mut HooksPlace, line: &BorrowedLine<'_>) -> Result<(), ReadFault>
     ensures { Gives (λ _. place_value place.new) result
-        (spec.on_hook (place_value place.old) (piece_value line.now)) }
+        (spec.on_hook (place_value place.old) (borrowed_value line.now)) }
 {
     match hook_heading(line) {
         None => Err(bad_hook(line)),
@@ -178,11 +178,11 @@ fn on_hook(alloc: Global, place: &mut HooksPlace, line: &Piece<'_>) -> Result<()
 fn on_hook_body(
     alloc: Global,
     body: &mut Body,
-    line: &Piece<'_>,
+    line: &BorrowedLine<'_>,
     class: Class,
 ) -> Result<(), ReadFault>
     ensures { Gives (λ _. body_value body.new) result
-        (spec.on_hook_body (body_value body.old) (piece_value line.now) class) }
+        (spec.on_hook_body (body_value body.old) (borrowed_value line.now) class) }
 {
     match body {
         Body::Describing => match class {
@@ -197,11 +197,11 @@ fn on_hook_body(
 fn on_hooks_place(
     alloc: Global,
     place: &mut HooksPlace,
-    line: &Piece<'_>,
+    line: &BorrowedLine<'_>,
     class: Class,
 ) -> Result<(), ReadFault>
     ensures { Gives (λ _. place_value place.new) result
-        (spec.on_hooks_place (place_value place.old) (piece_value line.now) class) }
+        (spec.on_hooks_place (place_value place.old) (borrowed_value line.now) class) }
 {
     match place {
         HooksPlace::NoHook => Err(unexpected(line)),
@@ -236,12 +236,12 @@ fn quote_of(place: HooksPlace) -> Result<HookQuote, HooksPlace>
 fn on_fence(
     alloc: Global,
     place: &mut HooksPlace,
-    line: &Piece<'_>,
+    line: &BorrowedLine<'_>,
     fence: Fence,
 ) -> Result<HooksState, ReadFault>
     ensures { let old = place_value place.old in
         Gives state_value result
-        (spec.on_fence (spec.quote_of old) old (piece_value line.now) fence) }
+        (spec.on_fence (spec.quote_of old) old (borrowed_value line.now) fence) }
 {
     match quote_of(mem::replace(place, HooksPlace::NoHook)) {
         Ok(quote) => Ok(HooksState::Quoted {
@@ -302,12 +302,12 @@ fn end_quote(alloc: Global, state: &mut HooksState)
 fn change(
     alloc: Global,
     state: &mut HooksState,
-    line: &Piece<'_>,
+    line: &BorrowedLine<'_>,
     class: HooksClass,
 ) -> Result<(), ReadFault>
-    requires { spec.Changes (state_value state.old) (piece_value line.now) class }
+    requires { spec.Changes (state_value state.old) (borrowed_value line.now) class }
     ensures { Gives (λ _. state_value state.new) result
-        (spec.on (state_value state.old) (piece_value line.now) class) }
+        (spec.on (state_value state.old) (borrowed_value line.now) class) }
 {
     match state {
         HooksState::At { place } => {
@@ -326,10 +326,10 @@ fn change(
 pub fn next_hooks_state(
     alloc: Global,
     state: &mut HooksState,
-    line: &Piece<'_>,
+    line: &BorrowedLine<'_>,
 ) -> Result<(), ReadFault>
     ensures { Gives (λ _. state_value state.new) result
-        (spec.step (state_value state.old) (piece_value line.now)) }
+        (spec.step (state_value state.old) (borrowed_value line.now)) }
 {
     let class = hooks_class(line);
     match state {

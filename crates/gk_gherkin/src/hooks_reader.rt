@@ -11,7 +11,7 @@ ghost use Rattle.gk_gherkin.specs.HooksMachine.Views.{state_value};
 
 use crate::hooks::HookFile;
 use crate::hooks_machine::{HooksPlace, HooksState, hooks_of, next_hooks_state};
-use crate::lines::{LIMIT, piece_from, text_of};
+use crate::lines::{LIMIT, borrowed_line, text_of};
 use crate::read_fault::ReadFault;
 use std::alloc::Global;
 use std::mem;
@@ -24,7 +24,7 @@ fn run(alloc: Global, state: &mut HooksState, text: &str) -> Result<(), ReadFaul
 {
     let mut number: u32 = 1;
     for part in text.lines() {
-        next_hooks_state(alloc, state, &piece_from(number, part))?;
+        next_hooks_state(alloc, state, &borrowed_line(number, part))?;
         number += 1;
     }
     Ok(())

@@ -1,7 +1,7 @@
 //! What was read so far, the finished parts and the open part of each depth, and how a line goes on
 //! at a place.
 ghost use Rattle.std.specs.Prelude.{Option, option_map, map, Ok, IfOk, IfErr, ◌≡◌};
-ghost use Rattle.gk_gherkin.specs.Lines.{numbered_from, piece_value, lines_of, IsText};
+ghost use Rattle.gk_gherkin.specs.Lines.{numbered_from, borrowed_value, lines_of, IsText};
 ghost use Rattle.gk_gherkin.specs.Feature.{texts, block_value, step_value, examples_value};
 ghost use Rattle.gk_gherkin.specs.Feature.{scenario_value, feature_value, rule_value};
 ghost use Rattle.std.specs.String.{string_bytes};
@@ -27,7 +27,7 @@ ghost use Rattle.gk_gherkin.specs.declared.class.Class.TheVariants.{RuleHeading}
 
 use crate::class::{Class, Fence, heading_keyword, heading_name, step_parts};
 use crate::feature::{Background, Block, Examples, Feature, Row, Rule, Scenario, Step, StepType};
-use crate::lines::Piece;
+use crate::lines::BorrowedLine;
 use crate::read_fault::ReadFault;
 use crate::rows::cells_of;
 use crate::step_types::type_after;
@@ -151,7 +151,7 @@ pub fn put<T: Drop>(slot: &mut T, next: T)
     *slot = next;
 }
 
-pub fn unexpected(line: &Piece<'_>) -> ReadFault
+pub fn unexpected(line: &BorrowedLine<'_>) -> ReadFault
     ensures { result ≡ Unexpected line.now.place.line }
 {
     ReadFault::Unexpected {
@@ -159,9 +159,9 @@ pub fn unexpected(line: &Piece<'_>) -> ReadFault
     }
 }
 
-fn head_from(alloc: Global, tags: Vec<String>, line: &Piece<'_>) -> Result<Head, ReadFault>
+fn head_from(alloc: Global, tags: Vec<String>, line: &BorrowedLine<'_>) -> Result<Head, ReadFault>
     ensures { Gives head_value result
-        (Ok (spec.head_from (texts tags.items) (piece_value line.now))) }
+        (Ok (spec.head_from (texts tags.items) (borrowed_value line.now))) }
 {
     let name = String::from_str(alloc, heading_name(line))?;
     Ok(Head {
@@ -171,8 +171,8 @@ fn head_from(alloc: Global, tags: Vec<String>, line: &Piece<'_>) -> Result<Head,
     })
 }
 
-fn step_from(alloc: Global, before: StepType, line: &Piece<'_>) -> Result<Step, ReadFault>
-    ensures { Gives step_value result (Ok (spec.step_from before (piece_value line.now))) }
+fn step_from(alloc: Global, before: StepType, line: &BorrowedLine<'_>) -> Result<Step, ReadFault>
+    ensures { Gives step_value result (Ok (spec.step_from before (borrowed_value line.now))) }
 {
     let (keyword, text) = step_parts(line);
     let step_type = type_after(before, keyword);
@@ -376,9 +376,9 @@ fn feature_heading(
     alloc: Global,
     place: &mut Place,
     tags: Vec<String>,
-    line: &Piece<'_>,
+    line: &BorrowedLine<'_>,
 ) -> Result<(), ReadFault>
-    ensures { let head = spec.head_from (texts tags.items) (piece_value line.now) in
+    ensures { let head = spec.head_from (texts tags.items) (borrowed_value line.now) in
         Gives (λ _. place_value place.new) result
         (Ok (spec.Inside (spec.OfFeature head) spec.Headed)) }
 {
@@ -399,7 +399,7 @@ fn rule_heading(
     alloc: Global,
     place: &mut Place,
     tags: Vec<String>,
-    line: &Piece<'_>,
+    line: &BorrowedLine<'_>,
 ) -> Result<(), ReadFault>
     ensures { TakesHeading place.old tags.items line.now RuleHeading result place.new }
 {
@@ -494,11 +494,11 @@ fn scenario_heading(
     alloc: Global,
     part: &mut Open,
     tags: Vec<String>,
-    line: &Piece<'_>,
+    line: &BorrowedLine<'_>,
 ) -> Result<(), ReadFault>
     ensures { let section = spec.section_of (open_value part.old) in
         Gives (λ _. open_value part.new) result
-        (Ok (spec.scenario_from section (texts tags.items) (piece_value line.now))) }
+        (Ok (spec.scenario_from section (texts tags.items) (borrowed_value line.now))) }
 {
     let keyword = String::from_str(alloc, heading_keyword(line))?;
     let head = head_from(alloc, tags, line)?;
@@ -513,9 +513,9 @@ fn examples_heading(
     alloc: Global,
     part: &mut Open,
     tags: Vec<String>,
-    line: &Piece<'_>,
+    line: &BorrowedLine<'_>,
 ) -> Result<(), ReadFault>
-    ensures { AddsExamples part.old (texts tags.items) (piece_value line.now) result part.new }
+    ensures { AddsExamples part.old (texts tags.items) (borrowed_value line.now) result part.new }
 {
     match outline_of(alloc, mem::replace(part, Open::Headed))? {
         Some(outline) => {
@@ -540,7 +540,7 @@ pub fn on_heading(
     alloc: Global,
     place: &mut Place,
     tags: Vec<String>,
-    line: &Piece<'_>,
+    line: &BorrowedLine<'_>,
     class: Class,
 ) -> Result<(), ReadFault>
     ensures { TakesHeading place.old tags.items line.now class result place.new }
@@ -560,8 +560,12 @@ pub fn on_heading(
 }
 
 #[tactic(auto, unfolding(crate::specs::Machine::on_row))]
-fn on_row(alloc: Global, width: Option<usize>, line: &Piece<'_>) -> Result<Vec<String>, ReadFault>
-    ensures { Gives (λ v. texts v.items) result (spec.on_row width (piece_value line.now)) }
+fn on_row(
+    alloc: Global,
+    width: Option<usize>,
+    line: &BorrowedLine<'_>,
+) -> Result<Vec<String>, ReadFault>
+    ensures { Gives (λ v. texts v.items) result (spec.on_row width (borrowed_value line.now)) }
 {
     match cells_of(alloc, line)? {
         Some(cells) => match width {
@@ -592,9 +596,9 @@ fn width_of(rows: &Vec<Vec<String>>) -> Option<usize>
 }
 
 #[tactic(auto, unfolding(crate::specs::Machine::on_block))]
-fn on_block(alloc: Global, block: &mut Block, line: &Piece<'_>) -> Result<(), ReadFault>
+fn on_block(alloc: Global, block: &mut Block, line: &BorrowedLine<'_>) -> Result<(), ReadFault>
     ensures { Gives (λ _. block_value block.new) result
-        (spec.on_block (block_value block.old) (piece_value line.now)) }
+        (spec.on_block (block_value block.old) (borrowed_value line.now)) }
 {
     match block {
         Block::Empty => {
@@ -618,11 +622,11 @@ fn on_block(alloc: Global, block: &mut Block, line: &Piece<'_>) -> Result<(), Re
 pub fn on_grid(
     alloc: Global,
     grid: &mut Grid,
-    line: &Piece<'_>,
+    line: &BorrowedLine<'_>,
     class: Class,
 ) -> Result<(), ReadFault>
     ensures { Gives (λ _. grid_value grid.new) result
-        (spec.on_grid (grid_value grid.old) (piece_value line.now) class) }
+        (spec.on_grid (grid_value grid.old) (borrowed_value line.now) class) }
 {
     match grid {
         Grid::NoRows => match class {
@@ -658,11 +662,11 @@ pub fn on_grid(
 pub fn on_body(
     alloc: Global,
     body: &mut Body,
-    line: &Piece<'_>,
+    line: &BorrowedLine<'_>,
     class: Class,
 ) -> Result<(), ReadFault>
     ensures { Gives (λ _. body_value body.new) result
-        (spec.on_body (body_value body.old) (piece_value line.now) class) }
+        (spec.on_body (body_value body.old) (borrowed_value line.now) class) }
 {
     match body {
         Body::Describing => match class {
@@ -693,9 +697,14 @@ pub fn on_body(
 }
 
 #[tactic(auto, unfolding(crate::specs::Machine::on_open))]
-fn on_open(alloc: Global, part: &mut Open, line: &Piece<'_>, class: Class) -> Result<(), ReadFault>
+fn on_open(
+    alloc: Global,
+    part: &mut Open,
+    line: &BorrowedLine<'_>,
+    class: Class,
+) -> Result<(), ReadFault>
     ensures { Gives (λ _. open_value part.new) result
-        (spec.on_open (open_value part.old) (piece_value line.now) class) }
+        (spec.on_open (open_value part.old) (borrowed_value line.now) class) }
 {
     match part {
         Open::Headed => match class {
@@ -723,11 +732,11 @@ fn on_open(alloc: Global, part: &mut Open, line: &Piece<'_>, class: Class) -> Re
 pub fn on_place(
     alloc: Global,
     place: &mut Place,
-    line: &Piece<'_>,
+    line: &BorrowedLine<'_>,
     class: Class,
 ) -> Result<(), ReadFault>
     ensures { Gives (λ _. place_value place.new) result
-        (spec.on_place (place_value place.old) (piece_value line.now) class) }
+        (spec.on_place (place_value place.old) (borrowed_value line.now) class) }
 {
     match place {
         Place::Above => Err(unexpected(line)),

@@ -1,6 +1,6 @@
 //! Reading a feature file line by line.
 ghost use Rattle.std.specs.Prelude.{Option, option_map, map, Ok, IfOk, IfErr, ◌≡◌};
-ghost use Rattle.gk_gherkin.specs.Lines.{numbered_from, piece_value, lines_of, IsText};
+ghost use Rattle.gk_gherkin.specs.Lines.{numbered_from, borrowed_value, lines_of, IsText};
 ghost use Rattle.gk_gherkin.specs.Feature.{FeatureValue, feature_value};
 ghost use Rattle.std.specs.String.{string_bytes};
 ghost use Rattle.gk_gherkin.specs.Grammar.{Reads};
@@ -20,7 +20,7 @@ ghost use Rattle.gk_gherkin.specs.Class as words;
 ghost use Rattle.gk_gherkin.specs.declared.read_fault.ReadFault.TheVariants.{Unexpected};
 
 use crate::feature::Feature;
-use crate::lines::{LIMIT, piece_from, text_of};
+use crate::lines::{LIMIT, borrowed_line, text_of};
 use crate::machine::{Place, State, feature_at};
 use crate::read_fault::ReadFault;
 use crate::states::next_state;
@@ -35,7 +35,7 @@ fn run(alloc: Global, state: &mut State, text: &str) -> Result<(), ReadFault>
 {
     let mut number: u32 = 1;
     for part in text.lines() {
-        next_state(alloc, state, &piece_from(number, part))?;
+        next_state(alloc, state, &borrowed_line(number, part))?;
         number += 1;
     }
     Ok(())

@@ -1,11 +1,9 @@
 -- The lines of a step library.
-use Rattle.std.proofs.Common.{◌≡◌, ℕ, zero, suc, ◌+◌, ◌<◌, Bool, true, false, cond, not, List, [], ◌∷◌, ◌++◌, length, take, drop, get_or, map, Option, Some, None, refl, ap, sym, subst, ◌∙◌, arith, append_assoc}
+use Rattle.std.proofs.Common.{◌≡◌, ℕ, zero, suc, ◌+◌, ◌<◌, Bool, true, false, cond, not, List, [], ◌∷◌, ◌++◌, length, take, drop, get_or, Option, Some, None, refl, ap, sym, subst, ◌∙◌, arith, append_assoc}
 use Rattle.std.specs.Prelude.{filter}
-use Rattle.std.proofs.lemmas.List.{map-append}
 use Rattle.std.proofs.lemmas.List.Elements.{filter-append}
 use Rattle.gk_gherkin.specs.declared.feature.StepType.{StepType}
-use Rattle.gk_gherkin.specs.declared.lines.Line.{Line}
-use Rattle.gk_gherkin.specs.Lines.{LineValue, Lines, line_value, lines_of, IsText}
+use Rattle.gk_gherkin.specs.Lines.{LineValue, Lines, lines_of, IsText}
 use Rattle.gk_steps.specs.declared.action.Action.{Action}
 use Rattle.gk_steps.specs.declared.library_fault.LibraryFault.{LibraryFault}
 use Rattle.gk_steps.specs.declared.library_fault.LibraryFault.TheVariants as faults
@@ -102,25 +100,25 @@ ignored_more xs l es e h = subst (λ (q : Lines). SpellEntries [] q es) (sym (ke
 entry_more : (xs : Lines) (l : LineValue) (es : LibraryValue) (x : EntryValue) → is_ignored l ≡ false → ReadsLibrary xs es → SpellsEntry es l x → ReadsLibrary (xs ++ l ∷ []) (es ++ x ∷ [])
 entry_more xs l es x e h s = subst (λ (q : Lines). SpellEntries [] q (es ++ x ∷ [])) (sym (kept xs l false e)) (one_more [] (filter (λ line. not (is_ignored line)) xs) es l x h s)
 
-pub record IsCutAt (ls : List Line) (i : ℕ) (x : Line) : Type 0 where
+pub record IsCutAt (ls : Lines) (i : ℕ) (x : LineValue) : Type 0 where
   pub whole : ls ≡ take i ls ++ x ∷ drop (suc i) ls
   pub more : take (suc i) ls ≡ take i ls ++ x ∷ []
 
-cut_at : (ls : List Line) (i : ℕ) (x : Line) → i < length ls → x ≡ get_or ls i x → IsCutAt ls i x
+cut_at : (ls : Lines) (i : ℕ) (x : LineValue) → i < length ls → x ≡ get_or ls i x → IsCutAt ls i x
 cut_at [] i x l e = absurd (omega arith)
-cut_at (y ∷ ys) zero x l e = record { whole = ap (λ (z : Line). z ∷ ys) (sym e); more = ap (λ (z : Line). z ∷ []) (sym e) }
-cut_at (y ∷ ys) (suc i) x l e = let c = cut_at ys i x (omega arith) e in record { whole = ap (λ (zs : List Line). y ∷ zs) c.whole; more = ap (λ (zs : List Line). y ∷ zs) c.more }
+cut_at (y ∷ ys) zero x l e = record { whole = ap (λ (z : LineValue). z ∷ ys) (sym e); more = ap (λ (z : LineValue). z ∷ []) (sym e) }
+cut_at (y ∷ ys) (suc i) x l e = let c = cut_at ys i x (omega arith) e in record { whole = ap (λ (zs : Lines). y ∷ zs) c.whole; more = ap (λ (zs : Lines). y ∷ zs) c.more }
 
-values_more : (ls : List Line) (i : ℕ) (x : Line) → i < length ls → x ≡ get_or ls i x → map line_value (take (i + 1) ls) ≡ map line_value (take i ls) ++ line_value x ∷ []
+values_more : (ls : Lines) (i : ℕ) (x : LineValue) → i < length ls → x ≡ get_or ls i x → take (i + 1) ls ≡ take i ls ++ x ∷ []
 values_more ls i x l e =
     let next : i + 1 ≡ suc i = omega arith in
-    ap (λ (k : ℕ). map line_value (take k ls)) next ∙ ap (map line_value) (cut_at ls i x l e).more ∙ map-append line_value (take i ls) (x ∷ [])
+    ap (λ (k : ℕ). take k ls) next ∙ (cut_at ls i x l e).more
 
-pub ignored_at : (ls : List Line) (i : ℕ) (x : Line) (es : LibraryValue) → i < length ls → x ≡ get_or ls i x → is_ignored (line_value x) ≡ true → ReadsLibrary (map line_value (take i ls)) es → ReadsLibrary (map line_value (take (i + 1) ls)) es
-ignored_at ls i x es l e ignored h = subst (λ (q : Lines). ReadsLibrary q es) (sym (values_more ls i x l e)) (ignored_more (map line_value (take i ls)) (line_value x) es ignored h)
+pub ignored_at : (ls : Lines) (i : ℕ) (x : LineValue) (es : LibraryValue) → i < length ls → x ≡ get_or ls i x → is_ignored x ≡ true → ReadsLibrary (take i ls) es → ReadsLibrary (take (i + 1) ls) es
+ignored_at ls i x es l e ignored h = subst (λ (q : Lines). ReadsLibrary q es) (sym (values_more ls i x l e)) (ignored_more (take i ls) x es ignored h)
 
-pub entry_at : (ls : List Line) (i : ℕ) (x : Line) (es : LibraryValue) (entry : EntryValue) → i < length ls → x ≡ get_or ls i x → is_ignored (line_value x) ≡ false → ReadsLibrary (map line_value (take i ls)) es → SpellsEntry es (line_value x) entry → ReadsLibrary (map line_value (take (i + 1) ls)) (es ++ entry ∷ [])
-entry_at ls i x es entry l e counts h s = subst (λ (q : Lines). ReadsLibrary q (es ++ entry ∷ [])) (sym (values_more ls i x l e)) (entry_more (map line_value (take i ls)) (line_value x) es entry counts h s)
+pub entry_at : (ls : Lines) (i : ℕ) (x : LineValue) (es : LibraryValue) (entry : EntryValue) → i < length ls → x ≡ get_or ls i x → is_ignored x ≡ false → ReadsLibrary (take i ls) es → SpellsEntry es x entry → ReadsLibrary (take (i + 1) ls) (es ++ entry ∷ [])
+entry_at ls i x es entry l e counts h s = subst (λ (q : Lines). ReadsLibrary q (es ++ entry ∷ [])) (sym (values_more ls i x l e)) (entry_more (take i ls) x es entry counts h s)
 
 -- a faulty line ends every reading
 kept_rest : (xs : Lines) (l : LineValue) (more : Lines) → is_ignored l ≡ false → filter (λ line. not (is_ignored line)) (xs ++ l ∷ more) ≡ filter (λ line. not (is_ignored line)) xs ++ l ∷ filter (λ line. not (is_ignored line)) more
@@ -139,18 +137,18 @@ stopped before line entries fits counts never more r =
     let first = first_spelled cut.first line (filter (λ l. not (is_ignored l)) more) cut.second cut.after in
     never first.0 (subst (λ (q : LibraryValue). SpellsEntry q line first.0) same first.1)
 
-stop_at : (Fault : LibraryValue → LineValue → Type 0) (n : ℕ) (ls : List Line) (i : ℕ) (x : Line) (es : LibraryValue) → i < length ls → x ≡ get_or ls i x → is_ignored (line_value x) ≡ false → ReadsLibrary (map line_value (take i ls)) es
-    → n ≡ (line_value x).line → Fault es (line_value x) → ((e : EntryValue) → SpellsEntry es (line_value x) e → ⊥) → StopsLibraryAt (map line_value ls) n Fault
+stop_at : (Fault : LibraryValue → LineValue → Type 0) (n : ℕ) (ls : Lines) (i : ℕ) (x : LineValue) (es : LibraryValue) → i < length ls → x ≡ get_or ls i x → is_ignored x ≡ false → ReadsLibrary (take i ls) es
+    → n ≡ x.line → Fault es x → ((e : EntryValue) → SpellsEntry es x e → ⊥) → StopsLibraryAt (ls) n Fault
 stop_at Fault n ls i x es l e counts h number fault never = record {
-  before = map line_value (take i ls);
-  line = line_value x;
-  after = map line_value (drop (suc i) ls);
-  whole = ap (map line_value) (cut_at ls i x l e).whole ∙ map-append line_value (take i ls) (x ∷ drop (suc i) ls);
+  before = take i ls;
+  line = x;
+  after = drop (suc i) ls;
+  whole = (cut_at ls i x l e).whole;
   number = sym number;
   entries = es;
   fits = h;
   counts = counts;
-  stops = stopped (map line_value (take i ls)) (line_value x) es h counts never;
+  stops = stopped (take i ls) x es h counts never;
   fault = fault;
 }
 
@@ -196,14 +194,14 @@ never_ambiguous es l f e s =
     let none : NoneMatches (f.before ++ f.entry ∷ f.after) e.step_type s.sides.pattern = subst (λ (q : LibraryValue). NoneMatches q e.step_type s.sides.pattern) f.whole s.unambiguous in
     none_there f.before f.entry f.after e.step_type s.sides.pattern none (f.same ∙ sym types) f.spans (subst (λ (x : Sides). Matches f.entry.pattern x.pattern f.spans) sides f.matches)
 
-pub fault_at : (f : LibraryFault) (ls : List Line) (i : ℕ) (x : Line) (es : LibraryValue) → i < length ls → x ≡ get_or ls i x → is_ignored (line_value x) ≡ false → ReadsLibrary (map line_value (take i ls)) es → EntryFaultSays f es (line_value x) → LibraryLinesFaultSays f (map line_value ls)
+pub fault_at : (f : LibraryFault) (ls : Lines) (i : ℕ) (x : LineValue) (es : LibraryValue) → i < length ls → x ≡ get_or ls i x → is_ignored x ≡ false → ReadsLibrary (take i ls) es → EntryFaultSays f es x → LibraryLinesFaultSays f (ls)
 fault_at faults.Memory ls i x es l e counts h f = tt
-fault_at (faults.BadType n) ls i x es l e counts h f = stop_at IsBadType n ls i x es l e counts h f.0 f.1 (never_type es (line_value x) f.1)
-fault_at (faults.BadPattern n) ls i x es l e counts h f = stop_at IsBadPattern n ls i x es l e counts h f.0 f.1 (never_pattern es (line_value x) f.1)
-fault_at (faults.UnknownAction n) ls i x es l e counts h f = stop_at IsUnknownAction n ls i x es l e counts h f.0 f.1 (never_action es (line_value x) f.1)
-fault_at (faults.MissingField n) ls i x es l e counts h f = stop_at IsMissingField n ls i x es l e counts h f.0 f.1 (never_needs es (line_value x) f.1)
-fault_at (faults.FieldKind n) ls i x es l e counts h f = stop_at IsOtherKind n ls i x es l e counts h f.0 f.1 (never_kinds es (line_value x) f.1)
-fault_at (faults.Ambiguous n) ls i x es l e counts h f = stop_at IsAmbiguous n ls i x es l e counts h f.0 f.1 (never_ambiguous es (line_value x) f.1)
+fault_at (faults.BadType n) ls i x es l e counts h f = stop_at IsBadType n ls i x es l e counts h f.0 f.1 (never_type es x f.1)
+fault_at (faults.BadPattern n) ls i x es l e counts h f = stop_at IsBadPattern n ls i x es l e counts h f.0 f.1 (never_pattern es x f.1)
+fault_at (faults.UnknownAction n) ls i x es l e counts h f = stop_at IsUnknownAction n ls i x es l e counts h f.0 f.1 (never_action es x f.1)
+fault_at (faults.MissingField n) ls i x es l e counts h f = stop_at IsMissingField n ls i x es l e counts h f.0 f.1 (never_needs es x f.1)
+fault_at (faults.FieldKind n) ls i x es l e counts h f = stop_at IsOtherKind n ls i x es l e counts h f.0 f.1 (never_kinds es x f.1)
+fault_at (faults.Ambiguous n) ls i x es l e counts h f = stop_at IsAmbiguous n ls i x es l e counts h f.0 f.1 (never_ambiguous es x f.1)
 fault_at (faults.NotUtf8 n) ls i x es l e counts h f = absurd f
 fault_at faults.TooLong ls i x es l e counts h f = absurd f
 
@@ -234,11 +232,11 @@ says_so (faults.NotUtf8 n) bytes is f = absurd f
 says_so faults.TooLong bytes is f = absurd f
 
 -- a line more
-pub added_at : (ls : List Line) (i : ℕ) (x : Line) (es after : LibraryValue) → i < length ls → x ≡ get_or ls i x → ReadsLibrary (map line_value (take i ls)) es → AddsLine es (line_value x) after → ReadsLibrary (map line_value (take (i + 1) ls)) after
-added_at ls i x es after l e h (Ignored ignored same) = subst (λ (q : LibraryValue). ReadsLibrary (map line_value (take (i + 1) ls)) q) (sym same) (ignored_at ls i x es l e ignored h)
-added_at ls i x es after l e h (Spelled counts a) = subst (λ (q : LibraryValue). ReadsLibrary (map line_value (take (i + 1) ls)) q) (sym a.added) (entry_at ls i x es a.entry l e counts h a.spells)
+pub added_at : (ls : Lines) (i : ℕ) (x : LineValue) (es after : LibraryValue) → i < length ls → x ≡ get_or ls i x → ReadsLibrary (take i ls) es → AddsLine es x after → ReadsLibrary (take (i + 1) ls) after
+added_at ls i x es after l e h (Ignored ignored same) = subst (λ (q : LibraryValue). ReadsLibrary (take (i + 1) ls) q) (sym same) (ignored_at ls i x es l e ignored h)
+added_at ls i x es after l e h (Spelled counts a) = subst (λ (q : LibraryValue). ReadsLibrary (take (i + 1) ls) q) (sym a.added) (entry_at ls i x es a.entry l e counts h a.spells)
 
-pub stopped_at : (f : LibraryFault) (ls : List Line) (i : ℕ) (x : Line) (es : LibraryValue) → i < length ls → x ≡ get_or ls i x → ReadsLibrary (map line_value (take i ls)) es → LineFaultSays f es (line_value x) → LibraryLinesFaultSays f (map line_value ls)
+pub stopped_at : (f : LibraryFault) (ls : Lines) (i : ℕ) (x : LineValue) (es : LibraryValue) → i < length ls → x ≡ get_or ls i x → ReadsLibrary (take i ls) es → LineFaultSays f es x → LibraryLinesFaultSays f (ls)
 stopped_at f ls i x es l e h s = fault_at f ls i x es l e s.counts h s.fault_is
 
 -- the whole file

@@ -1,16 +1,15 @@
 -- One line of a step library.
 use Rattle.std.proofs.Common.{◌≡◌, ℕ, zero, suc, ◌+◌, ◌-◌, ◌<◌, ◌≤◌, Bool, true, false, cond, ◌&&◌, nat_eq, List, [], ◌∷◌, ◌++◌, length, take, drop, get_or, codes, find, Option, Some, None, option_map, refl, ap, sym, subst, ◌∙◌, arith}
 use Rattle.std.specs.Prelude.{is_some, IsSome, slice_get}
-use Rattle.std.specs.List.{AllByRecursion, list_all, prefix_len, position_or_len, before_first, after_first}
+use Rattle.std.specs.List.{AllByRecursion, list_all}
 use Rattle.std.specs.Str.{IsUtf8, IsCharBoundary, bytes_eq}
 use Rattle.std.proofs.lemmas.Bool.Decides.{nat_tests}
 use Rattle.std.proofs.lemmas.List.{take_all, drop_all}
 use Rattle.std.proofs.Common.{length-drop}
-use Rattle.std.proofs.lemmas.List.Sums.{prefix_len_passes, prefix_len-le-length, passes_at_first}
-use Rattle.std.proofs.lemmas.Str.{IsCharBoundary-start, IsCharBoundary-after_ascii, IsCharBoundary-before_ascii}
+use Rattle.std.proofs.lemmas.Str.{IsCharBoundary-after_ascii, IsCharBoundary-before_ascii}
 use Rattle.gk_gherkin.specs.declared.feature.StepType.{StepType}
-use Rattle.gk_gherkin.specs.Lines.{LineValue, is_blank}
-use Rattle.gk_gherkin.specs.Class.{begins}
+use Rattle.gk_gherkin.specs.Lines.{LineValue}
+use Rattle.gk_gherkin.specs.Text.{begins}
 use Rattle.gk_steps.specs.declared.action.Action.{Action}
 use Rattle.gk_steps.specs.declared.pattern.FieldKind.{FieldKind}
 use Rattle.gk_steps.specs.declared.pattern.FieldKind.TheVariants.{Plain, Decimal}
@@ -21,39 +20,6 @@ use Rattle.gk_steps.specs.Action.{ActionRow, action_row, action_table, kind_of_f
 use Rattle.gk_steps.specs.Finding.{EntryValue, LibraryValue, FoundValue, NoneFound, IsFirstFound, IsFoundOf}
 use Rattle.gk_steps.specs.LibraryFile.{Sides, into_sides, last_arrow, NoneMatches, SpellsEntry, HasPattern, IsAmbiguous}
 use Rattle.gk_steps.specs.LibraryLine.{uses_of, needed_names, used_names, is_same_kind, is_none_or_kind, has_needed, has_right_kinds, FitsAction, LacksField, HasOtherKind, ActionFaultSays, PatternFaultSays, IsCut, CutFaultSays, EntryFaultSays}
-
--- where blanks end, a text may be cut
-blank_ascii : (b : ℕ) → is_blank b ≡ true → b < 128
-blank_ascii b h = grind (arith, nat_tests)
-
-pub boundary_at : (bs : List ℕ) (n : ℕ) → IsUtf8 bs → n ≤ prefix_len is_blank bs → IsCharBoundary bs n
-boundary_at bs zero u le = IsCharBoundary-start bs u
-boundary_at bs (suc k) u le =
-    let within : k < length bs = omega (arith, prefix_len-le-length is_blank bs) in
-    let at : get_or bs k 0 < 128 = blank_ascii (get_or bs k 0) (prefix_len_passes is_blank bs k 0 (omega arith)) in
-    let e : k + 1 ≡ suc k = omega arith in
-    subst (IsCharBoundary bs) e (IsCharBoundary-after_ascii bs k u within at)
-
-pub before_first_blank : (bs : List ℕ) (n : ℕ) → n ≡ position_or_len is_blank bs → n < length bs → IsCharBoundary bs n
-before_first_blank bs n e h =
-    let at : get_or bs n 0 < 128 = subst (λ n. get_or bs n 0 < 128) (sym e) (blank_ascii (get_or bs (position_or_len is_blank bs) 0) (passes_at_first is_blank bs 0 (omega arith))) in
-    IsCharBoundary-before_ascii bs n h at
-
-pub after_first_blank : (bs : List ℕ) (n : ℕ) → IsUtf8 bs → n ≡ position_or_len is_blank bs → n < length bs → IsCharBoundary bs (n + 1)
-after_first_blank bs n u e h =
-    let at : get_or bs n 0 < 128 = subst (λ n. get_or bs n 0 < 128) (sym e) (blank_ascii (get_or bs (position_or_len is_blank bs) 0) (passes_at_first is_blank bs 0 (omega arith))) in
-    IsCharBoundary-after_ascii bs n u h at
-
-pub no_blank : (text : List ℕ) (n : ℕ) → n ≡ position_or_len is_blank text → length text ≤ n → after_first is_blank text ≡ []
-no_blank text n e h = drop_all (position_or_len is_blank text + 1) text (omega arith)
-
-pub to_blank : (text part : List ℕ) (n : ℕ) → n ≡ position_or_len is_blank text → part ≡ take (n - 0) text → part ≡ before_first is_blank text
-to_blank text part n e cut =
-    let whole : n - 0 ≡ position_or_len is_blank text = omega arith in
-    cut ∙ ap (λ (m : ℕ). take m text) whole
-
-pub past_blank : (text part : List ℕ) (n : ℕ) → n ≡ position_or_len is_blank text → part ≡ drop (n + 1) text → part ≡ after_first is_blank text
-past_blank text part n e cut = cut ∙ ap (λ (m : ℕ). drop (m + 1) text) e
 
 -- the last arrow
 arrow_not_here : (b : ℕ) (bs : List ℕ) (o : Option Sides) → o ≡ None → begins (b ∷ bs) (codes "=>") ≡ false → into_sides (b ∷ bs) o ≡ None

@@ -4,8 +4,9 @@ use Rattle.std.specs.List.{AllByRecursion, before_first, after_first}
 use Rattle.std.specs.Str.{bytes_eq}
 use Rattle.gk_gherkin.specs.declared.feature.StepType.{StepType}
 use Rattle.gk_gherkin.specs.declared.feature.StepType.TheVariants.{Given, When, Then}
-use Rattle.gk_gherkin.specs.Lines.{LineValue, Lines, is_blank, trim}
-use Rattle.gk_gherkin.specs.Class.{begins}
+use Rattle.gk_gherkin.specs.Lines.{LineValue, Lines}
+use Rattle.gk_gherkin.specs.Text.{is_blank, trim}
+use Rattle.gk_gherkin.specs.Text.{begins}
 use Rattle.gk_steps.specs.declared.pattern.FieldKind.{FieldKind}
 use Rattle.gk_steps.specs.declared.library.Library.{Library}
 use Rattle.gk_steps.specs.declared.library_fault.LibraryFault.{LibraryFault}

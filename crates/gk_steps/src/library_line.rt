@@ -1,9 +1,7 @@
 //! Reading one line of a step library file.
 ghost use Rattle.std.specs.Prelude.{◌≡◌, ◌≤◌, codes, length, map, option_map, IfOk, IfErr};
-ghost use Rattle.gk_gherkin.specs.Class.{begins};
-ghost use Rattle.std.specs.List.{prefix_len, position_or_len, before_first, after_first};
-ghost use Rattle.gk_gherkin.specs.Lines as lines;
-ghost use Rattle.gk_gherkin.specs.Lines.{line_value};
+ghost use Rattle.gk_gherkin.specs.Text as texts;
+ghost use Rattle.gk_gherkin.specs.Lines.{borrowed_value};
 ghost use Rattle.gk_steps.specs.Pattern.{pattern_value, pieces_said, SpellsPattern};
 ghost use Rattle.gk_steps.specs.Pattern.{field_kind as field_kind_of};
 ghost use Rattle.gk_steps.specs.Finding.{entries_said, entry_value};
@@ -20,80 +18,16 @@ use crate::library_fault::LibraryFault;
 use crate::pattern::{FieldKind, Pattern, Piece};
 use crate::pattern_fault::PatternFault;
 use crate::spelling::{field_kind, read_pattern};
-use gk_gherkin::{Line, StepType, trim_back};
+use gk_gherkin::text::{begins, split_word, trim};
+use gk_gherkin::{BorrowedLine, StepType};
 use std::alloc::Global;
 
-fn is_blank(byte: u8) -> bool
-    ensures { result ≡ lines.is_blank byte }
-{
-    byte == b' ' || byte == b'\t'
-}
-
-// How many blanks a text begins with.
-fn leading_blanks(text: &[u8]) -> usize
-    ensures value { result ≡ prefix_len lines.is_blank text.now }
-    ensures within { result ≤ length text.now }
-{
-    for (i, byte) in text.iter().enumerate() {
-        if !is_blank(*byte) {
-            return i;
-        }
-    }
-    text.len()
-}
-
-// How many bytes come before the first blank.
-fn word_len(text: &[u8]) -> usize
-    ensures value { result ≡ position_or_len lines.is_blank text.now }
-    ensures within { result ≤ length text.now }
-{
-    for (i, byte) in text.iter().enumerate() {
-        if is_blank(*byte) {
-            return i;
-        }
-    }
-    text.len()
-}
-
-fn trim_start(text: &str) -> &str
-    ensures { result.now ≡ lines.trim_front text.now }
-{
-    let blanks = leading_blanks(text.as_bytes());
-    &text[blanks..]
-}
-
-fn trim(text: &str) -> &str
-    ensures { result.now ≡ lines.trim text.now }
-{
-    trim_back(trim_start(text))
-}
-
 /// Whether a line is blank or a comment.
-pub(crate) fn is_ignored(line: &Line) -> bool
-    ensures { result ≡ spec.is_ignored (line_value line.now) }
+pub(crate) fn is_ignored(line: &BorrowedLine<'_>) -> bool
+    ensures { result ≡ spec.is_ignored (borrowed_value line.now) }
 {
-    let text = trim(&line.text).as_bytes();
-    text.len() == 0 || text.starts_with(b"#")
-}
-
-// The word before the first blank.
-fn first_word(text: &str) -> &str
-    ensures { result.now ≡ before_first lines.is_blank text.now }
-{
-    let end = word_len(text.as_bytes());
-    &text[..end]
-}
-
-// What stands after the first blank.
-fn after_word(text: &str) -> &str
-    ensures { result.now ≡ after_first lines.is_blank text.now }
-{
-    let end = word_len(text.as_bytes());
-    if end < text.len() {
-        &text[end + 1..]
-    } else {
-        ""
-    }
+    let text = trim(line.text);
+    text.is_empty() || begins(text, "#")
 }
 
 // The type that a word says.
@@ -115,7 +49,7 @@ fn entry_type(word: &str) -> Option<Option<StepType>>
 
 // Whether bytes begin with an arrow.
 fn is_arrow(bytes: &[u8]) -> bool
-    ensures { result ≡ begins bytes.now (codes "=>") }
+    ensures { result ≡ texts.begins bytes.now (codes "=>") }
 {
     bytes.starts_with(b"=>")
 }
@@ -138,15 +72,15 @@ fn last_arrow<'a>(text: &'a str) -> Option<(&'a str, &'a str)>
 
 // A line's type, and the trimmed sides of its arrow.
 #[tactic(auto, unfolding(crate::specs::LibraryFile::type_of, crate::specs::LibraryFile::sides_of))]
-fn cut<'a>(line: &'a Line) -> Result<(Option<StepType>, &'a str, &'a str), LibraryFault>
-    ensures cut { IfOk result (λ c. IsCut (line_value line.entry.now) c.0 c.1.now c.2.now) }
-    ensures fault { IfErr result (λ f. CutFaultSays f (line_value line.entry.now)) }
+fn cut<'a>(line: &BorrowedLine<'a>) -> Result<(Option<StepType>, &'a str, &'a str), LibraryFault>
+    ensures cut { IfOk result (λ c. IsCut (borrowed_value line.now) c.0 c.1.now c.2.now) }
+    ensures fault { IfErr result (λ f. CutFaultSays f (borrowed_value line.now)) }
 {
     let number = line.place.line;
-    let text = trim(&line.text);
-    match entry_type(first_word(text)) {
+    let (word, rest) = split_word(trim(line.text));
+    match entry_type(word) {
         None => Err(LibraryFault::BadType { line: number }),
-        Some(step_type) => match last_arrow(after_word(text)) {
+        Some(step_type) => match last_arrow(rest) {
             None => Err(LibraryFault::BadPattern { line: number }),
             Some((pattern, action)) => Ok((step_type, trim(pattern), trim(action))),
         },
@@ -249,16 +183,16 @@ fn action_at(line: u32, name: &str, pieces: &[Piece]) -> Result<Action, LibraryF
 fn entry_from(
     alloc: Global,
     earlier: &[Entry],
-    line: &Line,
+    line: &BorrowedLine<'_>,
     step_type: Option<StepType>,
     text: &str,
     name: &str,
 ) -> Result<Entry, LibraryFault>
-    requires { IsCut (line_value line.now) step_type text.now name.now }
+    requires { IsCut (borrowed_value line.now) step_type text.now name.now }
     ensures entry { IfOk result (λ e.
-        SpellsEntry (entries_said earlier.now) (line_value line.now) (entry_value e)) }
+        SpellsEntry (entries_said earlier.now) (borrowed_value line.now) (entry_value e)) }
     ensures fault { IfErr result (λ f.
-        EntryFaultSays f (entries_said earlier.now) (line_value line.now)) }
+        EntryFaultSays f (entries_said earlier.now) (borrowed_value line.now)) }
 {
     let number = line.place.line;
     let pattern = match pattern_at(alloc, number, text) {
@@ -283,12 +217,12 @@ fn entry_from(
 pub(crate) fn read_entry(
     alloc: Global,
     earlier: &[Entry],
-    line: &Line,
+    line: &BorrowedLine<'_>,
 ) -> Result<Entry, LibraryFault>
     ensures entry { IfOk result (λ e.
-        SpellsEntry (entries_said earlier.now) (line_value line.now) (entry_value e)) }
+        SpellsEntry (entries_said earlier.now) (borrowed_value line.now) (entry_value e)) }
     ensures fault { IfErr result (λ f.
-        EntryFaultSays f (entries_said earlier.now) (line_value line.now)) }
+        EntryFaultSays f (entries_said earlier.now) (borrowed_value line.now)) }
 {
     match cut(line) {
         Ok((step_type, text, name)) => entry_from(alloc, earlier, line, step_type, text, name),

@@ -20,8 +20,8 @@ use Rattle.gk_gherkin.specs.declared.machine.Quote.{Quote}
 use Rattle.gk_gherkin.specs.declared.machine.State.{State}
 use Rattle.gk_gherkin.specs.declared.machine.State.TheVariants as states
 use Rattle.gk_gherkin.specs.Feature.{FeatureValue, texts, step_value, row_value, background_value, scenario_value, feature_value}
-use Rattle.gk_gherkin.specs.Lines.{LineValue, piece_value}
-use Rattle.gk_gherkin.specs.declared.lines.Piece.{Piece}
+use Rattle.gk_gherkin.specs.Lines.{LineValue, borrowed_value}
+use Rattle.gk_gherkin.specs.declared.lines.BorrowedLine.{BorrowedLine}
 use Rattle.gk_gherkin.specs.declared.class.Class.{Class}
 use Rattle.gk_gherkin.specs.declared.class.Fence.{Fence}
 use Rattle.gk_gherkin.specs.declared.feature.Feature.{Feature}
@@ -103,12 +103,12 @@ abbrev pub AddsExamples : Open → List (List ℕ) → LineValue → Result Unit
 AddsExamples old tags line result new = (top : spec.Top) → spec.Gives (λ _. spec.Inside top (open_value new)) result (spec.examples_in (open_value old) top tags line)
 
 -- A heading at a place, after these tags, whatever it makes of the place. (proof machinery)
-abbrev pub TakesHeading : {Z : Type 0} → Place → List (String Z) → Piece → Class → Result Unit ReadFault → Place → Type 0
-TakesHeading old tags line class result new = spec.Gives (λ _. place_value new) result (spec.on_heading (place_value old) (texts tags) (piece_value line) class)
+abbrev pub TakesHeading : {Z : Type 0} → Place → List (String Z) → BorrowedLine → Class → Result Unit ReadFault → Place → Type 0
+TakesHeading old tags line class result new = spec.Gives (λ _. place_value new) result (spec.on_heading (place_value old) (texts tags) (borrowed_value line) class)
 
 -- The tags of a line after those before it, of which the last is on this line, at whatever place. (proof machinery)
-abbrev pub AddsTags : {Z : Type 0} → List (String Z) → Piece → Result Unit ReadFault → List (String Z) → ℕ → Type 0
-AddsTags old line result new last = (place : spec.Place) → spec.Gives (λ _. spec.Tagged place (texts new) last) result (spec.on_tags place (texts old) (piece_value line))
+abbrev pub AddsTags : {Z : Type 0} → List (String Z) → BorrowedLine → Result Unit ReadFault → List (String Z) → ℕ → Type 0
+AddsTags old line result new last = (place : spec.Place) → spec.Gives (λ _. spec.Tagged place (texts new) last) result (spec.on_tags place (texts old) (borrowed_value line))
 
 -- A state in a doc string is at the place after it from then on. (proof machinery)
 abbrev pub EndsDocString : State → State → Type 0
