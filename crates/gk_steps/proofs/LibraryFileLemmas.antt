@@ -9,7 +9,7 @@ use Rattle.gk_steps.specs.declared.library_fault.LibraryFault.{LibraryFault}
 use Rattle.gk_steps.specs.declared.library_fault.LibraryFault.TheVariants as faults
 use Rattle.gk_steps.specs.Pattern.{PieceValue, SpellsPattern}
 use Rattle.gk_steps.specs.Matching.{Matches, MatchesNot}
-use Rattle.gk_steps.specs.Action.{ActionRow, action_row}
+use Rattle.gk_steps.specs.Action.{ActionRowValue, action_row}
 use Rattle.gk_steps.specs.Finding.{EntryValue, LibraryValue}
 use Rattle.gk_steps.specs.LibraryFile.{Sides, is_ignored, sides_of, HasNeededFields, HasRightKinds, NoneMatches, SpellsEntry, SpellEntries, ReadsLibrary, IsReadableLibrary, HasPattern, IsBadType, IsBadPattern, IsUnknownAction, IsMissingField, IsOtherKind, IsAmbiguous, StopsLibraryAt, LibraryReadingIsUnique}
 use Rattle.gk_steps.specs.LibraryFault.{LibraryFaultSays}
@@ -26,7 +26,7 @@ some_not x e = let bad : ⊥ = cc in bad
 abbrev entry_from : Option StepType → List PieceValue → Action → EntryValue
 entry_from step_type ps action = record { step_type = step_type; pattern = ps; action = action }
 
-same_row : (a b : Sides) (r s : ActionRow) → a ≡ b → action_row a.action ≡ Some r → action_row b.action ≡ Some s → r ≡ s
+same_row : (a b : Sides) (r s : ActionRowValue) → a ≡ b → action_row a.action ≡ Some r → action_row b.action ≡ Some s → r ≡ s
 same_row a b r s e h k = some_same r s (sym h ∙ ap (λ (x : Sides). action_row x.action) e ∙ k)
 
 one_entry : (earlier : LibraryValue) (line : LineValue) (a b : EntryValue) → SpellsEntry earlier line a → SpellsEntry earlier line b → a ≡ b
@@ -35,7 +35,7 @@ one_entry earlier line a b h k =
     let sides : h.sides ≡ k.sides = some_same h.sides k.sides (sym h.is_cut ∙ k.is_cut) in
     let patterns : a.pattern ≡ b.pattern = spelling k.sides.pattern a.pattern b.pattern (subst (λ (s : Sides). SpellsPattern s.pattern a.pattern) sides h.is_pattern) k.is_pattern in
     let rows : h.row ≡ k.row = same_row h.sides k.sides h.row k.row sides h.is_action k.is_action in
-    let actions : a.action ≡ b.action = h.action ∙ ap (λ (r : ActionRow). r.action) rows ∙ sym k.action in
+    let actions : a.action ≡ b.action = h.action ∙ ap (λ (r : ActionRowValue). r.action) rows ∙ sym k.action in
     ap (λ t. entry_from t a.pattern a.action) types ∙ ap (λ ps. entry_from b.step_type ps a.action) patterns ∙ ap (λ x. entry_from b.step_type b.pattern x) actions
 
 one_by_one : (earlier : LibraryValue) (ls : Lines) (a b : LibraryValue) → SpellEntries earlier ls a → SpellEntries earlier ls b → a ≡ b
@@ -168,20 +168,20 @@ never_action es l f e s = some_not s.row (sym s.is_action ∙ ap (λ (x : Sides)
 pattern_same : (l : LineValue) (step_type : Option StepType) (a b : Sides) (ps qs : List PieceValue) → HasPattern l step_type a ps → sides_of l ≡ Some b → SpellsPattern b.pattern qs → qs ≡ ps
 pattern_same l step_type a b ps qs g cut s = spelling a.pattern qs ps (subst (λ (x : Sides). SpellsPattern x.pattern qs) (sym (sides_same l step_type a b ps g cut)) s) g.is_pattern
 
-row_same : (l : LineValue) (step_type : Option StepType) (a b : Sides) (ps : List PieceValue) (r q : ActionRow) → HasPattern l step_type a ps → sides_of l ≡ Some b → action_row a.action ≡ Some r → action_row b.action ≡ Some q → q ≡ r
+row_same : (l : LineValue) (step_type : Option StepType) (a b : Sides) (ps : List PieceValue) (r q : ActionRowValue) → HasPattern l step_type a ps → sides_of l ≡ Some b → action_row a.action ≡ Some r → action_row b.action ≡ Some q → q ≡ r
 row_same l step_type a b ps r q g cut h k = sym (same_row a b r q (sides_same l step_type a b ps g cut) h k)
 
 never_needs : (es : LibraryValue) (l : LineValue) → IsMissingField es l → (e : EntryValue) → SpellsEntry es l e → ⊥
 never_needs es l f e s =
     let ps = pattern_same l f.step_type f.sides s.sides f.ps e.pattern f.good s.is_cut s.is_pattern in
     let row = row_same l f.step_type f.sides s.sides f.ps f.row s.row f.good s.is_cut f.is_action s.is_action in
-    f.bad (subst (λ (q : List PieceValue). HasNeededFields f.row q) ps (subst (λ (r : ActionRow). HasNeededFields r e.pattern) row s.needs))
+    f.bad (subst (λ (q : List PieceValue). HasNeededFields f.row q) ps (subst (λ (r : ActionRowValue). HasNeededFields r e.pattern) row s.needs))
 
 never_kinds : (es : LibraryValue) (l : LineValue) → IsOtherKind es l → (e : EntryValue) → SpellsEntry es l e → ⊥
 never_kinds es l f e s =
     let ps = pattern_same l f.step_type f.sides s.sides f.ps e.pattern f.good s.is_cut s.is_pattern in
     let row = row_same l f.step_type f.sides s.sides f.ps f.row s.row f.good s.is_cut f.is_action s.is_action in
-    f.bad (subst (λ (q : List PieceValue). HasRightKinds f.row q) ps (subst (λ (r : ActionRow). HasRightKinds r e.pattern) row s.kinds))
+    f.bad (subst (λ (q : List PieceValue). HasRightKinds f.row q) ps (subst (λ (r : ActionRowValue). HasRightKinds r e.pattern) row s.kinds))
 
 none_there : (before : LibraryValue) (x : EntryValue) (after : LibraryValue) (step_type : Option StepType) (text : List ℕ) → NoneMatches (before ++ x ∷ after) step_type text → x.step_type ≡ step_type → MatchesNot x.pattern text
 none_there [] x after step_type text h = h.0

@@ -1,5 +1,5 @@
 //! Reading one line of a step library file.
-ghost use Rattle.std.specs.Prelude.{◌≡◌, ◌≤◌, codes, length, map, option_map, IfOk, IfErr};
+ghost use Rattle.std.specs.Prelude.{◌≡◌, is_some, ◌≤◌, codes, length, map, option_map, IfOk, IfErr};
 ghost use Rattle.gk_gherkin.specs.Text as texts;
 ghost use Rattle.gk_gherkin.specs.Lines.{borrowed_value};
 ghost use Rattle.gk_steps.specs.Pattern.{pattern_value, pieces_said, SpellsPattern};
@@ -7,11 +7,13 @@ ghost use Rattle.gk_steps.specs.Pattern.{field_kind as field_kind_of};
 ghost use Rattle.gk_steps.specs.Finding.{entries_said, entry_value};
 ghost use Rattle.gk_steps.specs.LibraryFile as spec;
 ghost use Rattle.gk_steps.specs.LibraryFile.{Sides, SpellsEntry};
+ghost use Rattle.gk_steps.specs.Action as actions;
 ghost use Rattle.gk_steps.specs.LibraryLine as machinery;
+ghost use Rattle.std.specs.List.{list_all};
 ghost use Rattle.gk_steps.specs.LibraryLine.{FitsAction, ActionFaultSays, PatternFaultSays};
 ghost use Rattle.gk_steps.specs.LibraryLine.{IsCut, CutFaultSays, EntryFaultSays};
 
-use crate::action::{Action, Uses};
+use crate::action::{Action, row_named};
 use crate::finding::find_of;
 use crate::library::Entry;
 use crate::library_fault::LibraryFault;
@@ -101,21 +103,18 @@ fn pattern_at(alloc: Global, line: u32, text: &str) -> Result<Pattern, LibraryFa
     }
 }
 
-fn has_needed(uses: Uses, pieces: &[Piece]) -> bool
-    ensures { result ≡ machinery.has_needed uses (pieces_said pieces.now) }
+// Whether pieces have the field of a name.
+fn has_field(pieces: &[Piece], name: &str) -> bool
+    ensures { result ≡ is_some (field_kind_of (pieces_said pieces.now) name.now) }
 {
-    match uses {
-        Uses::Nothing => true,
-        Uses::Name => field_kind(pieces, "name").is_some(),
-        Uses::NameAndText => field_kind(pieces, "name").is_some(),
-        Uses::NameAndTo => {
-            field_kind(pieces, "name").is_some() && field_kind(pieces, "to").is_some()
-        }
-        Uses::NameAndNumber => {
-            field_kind(pieces, "name").is_some() && field_kind(pieces, "n").is_some()
-        }
-        Uses::Step => field_kind(pieces, "step").is_some(),
-    }
+    field_kind(pieces, name).is_some()
+}
+
+fn has_needed(names: &[&str], pieces: &[Piece]) -> bool
+    ensures { result
+        ≡ list_all (λ name. is_some (field_kind_of (pieces_said pieces.now) name.now)) names.now }
+{
+    names.iter().all(|name| has_field(pieces, *name))
 }
 
 // Whether the field of a name is of a kind, where there is one.
@@ -138,26 +137,29 @@ fn is_none_or_kind(pieces: &[Piece], name: &str, kind: FieldKind) -> bool
     }
 }
 
-fn has_right_kinds(uses: Uses, pieces: &[Piece]) -> bool
-    ensures { result ≡ machinery.has_right_kinds uses (pieces_said pieces.now) }
+// The kind that a field of a name has to have.
+fn kind_of_field(name: &str) -> FieldKind
+    ensures { result ≡ actions.kind_of_field name.now }
 {
-    match uses {
-        Uses::Nothing => true,
-        Uses::Name => is_none_or_kind(pieces, "name", FieldKind::Plain),
-        Uses::NameAndText => {
-            is_none_or_kind(pieces, "name", FieldKind::Plain)
-                && is_none_or_kind(pieces, "text", FieldKind::Plain)
-        }
-        Uses::NameAndTo => {
-            is_none_or_kind(pieces, "name", FieldKind::Plain)
-                && is_none_or_kind(pieces, "to", FieldKind::Plain)
-        }
-        Uses::NameAndNumber => {
-            is_none_or_kind(pieces, "name", FieldKind::Plain)
-                && is_none_or_kind(pieces, "n", FieldKind::Decimal)
-        }
-        Uses::Step => is_none_or_kind(pieces, "step", FieldKind::Plain),
+    if name == "n" {
+        FieldKind::Decimal
+    } else {
+        FieldKind::Plain
     }
+}
+
+// Whether the field of a name is of its kind, where there is one.
+fn has_right_kind(pieces: &[Piece], name: &str) -> bool
+    ensures { result ≡ machinery.has_right_kind (pieces_said pieces.now) name.now }
+{
+    is_none_or_kind(pieces, name, kind_of_field(name))
+}
+
+fn has_right_kinds(names: &[&str], pieces: &[Piece]) -> bool
+    ensures { result
+        ≡ list_all (λ name. machinery.has_right_kind (pieces_said pieces.now) name.now) names.now }
+{
+    names.iter().all(|name| has_right_kind(pieces, *name))
 }
 
 // The action of a name, with the fields that it needs and of the kinds that it uses.
@@ -165,16 +167,16 @@ fn action_at(line: u32, name: &str, pieces: &[Piece]) -> Result<Action, LibraryF
     ensures action { IfOk result (λ a. FitsAction name.now (pieces_said pieces.now) a) }
     ensures fault { IfErr result (λ f. ActionFaultSays f line name.now (pieces_said pieces.now)) }
 {
-    match Action::named(name) {
+    match row_named(name) {
         None => Err(LibraryFault::UnknownAction { line }),
-        Some(action) => {
-            if !has_needed(action.uses(), pieces) {
+        Some(row) => {
+            if !has_needed(row.needs, pieces) {
                 return Err(LibraryFault::MissingField { line });
             }
-            if !has_right_kinds(action.uses(), pieces) {
+            if !has_right_kinds(row.uses, pieces) {
                 return Err(LibraryFault::FieldKind { line });
             }
-            Ok(action)
+            Ok(row.action)
         }
     }
 }
