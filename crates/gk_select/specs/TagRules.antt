@@ -3,8 +3,8 @@ use Rattle.std.specs.Prelude.{codes, not, ◌≡◌, ℕ, Bool, true, false, ◌
 use Rattle.std.specs.List.{list_any, slice_split}
 use Rattle.std.specs.String.{string_bytes}
 use Rattle.std.specs.Str.{bytes_eq}
-use Rattle.gk_gherkin.specs.Lines.{is_blank}
-use Rattle.gk_gherkin.specs.Class.{begins}
+use Rattle.gk_gherkin.specs.Text.{is_blank}
+use Rattle.gk_gherkin.specs.Text.{begins}
 use Rattle.gk_gherkin.specs.Tags.{is_tag}
 use Rattle.gk_select.specs.declared.tag_rules.Alternative.{Alternative}
 use Rattle.gk_select.specs.declared.tag_rules.TagRule.{TagRule}

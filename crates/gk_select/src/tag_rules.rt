@@ -2,7 +2,6 @@
 ghost use Rattle.std.specs.Prelude.{◌≡◌, ◌⊎◌, ℕ, List, Some, Err, IfOk, IfErr};
 ghost use Rattle.std.specs.List.{list_any};
 ghost use Rattle.std.specs.String.{string_bytes};
-ghost use Rattle.gk_gherkin.specs.Class as class;
 ghost use Rattle.gk_gherkin.specs.Feature.{texts};
 ghost use Rattle.gk_select.specs.declared.select_fault.SelectFault.TheVariants.{BadTagText, Memory};
 ghost use Rattle.gk_select.specs.SelectFault.{Gives};
@@ -10,6 +9,7 @@ ghost use Rattle.gk_select.specs.TagRules as spec;
 ghost use Rattle.gk_select.specs.TagRules.{AlternativeValue, ReadsTags, SpellsNone, NeedsMemory, alternative_value, tag_rule_value};
 
 use crate::select_fault::SelectFault;
+use gk_gherkin::text::{begins, is_blank};
 use std::alloc::Global;
 
 /// A tag, with its `@`, that has to be there, or to be absent.
@@ -48,16 +48,9 @@ impl TagRule {
 fn is_of_new_form(text: &str) -> bool
     ensures { result ≡ list_any spec.is_of_new_form text.now }
 {
-    text.as_bytes().iter().any(|byte| *byte == b' '
-        || *byte == b'\t'
-        || *byte == b'('
-        || *byte == b')')
-}
-
-fn begins(text: &str, start: &str) -> bool
-    ensures { result ≡ class.begins text.now start.now }
-{
-    text.as_bytes().starts_with(start.as_bytes())
+    text.as_bytes()
+        .iter()
+        .any(|byte| is_blank(*byte) || *byte == b'(' || *byte == b')')
 }
 
 fn tag_named(alloc: Global, text: &str) -> Result<String, SelectFault>
