@@ -1,5 +1,5 @@
 -- Readers and writers whose calls and failures are counted.
-use Rattle.std.specs.Prelude.{◌≤◌, ℕ, zero, suc, ◌+◌, ◌-◌, ◌^◌, min, List, [], ◌∷◌, length, take, Option, Result, Ok, Err}
+use Rattle.std.specs.Prelude.{◌≡◌, ◌≤◌, ℕ, zero, suc, ◌+◌, ◌-◌, ◌^◌, min, List, [], ◌∷◌, length, take, Option, Result, Ok, Err}
 use Rattle.std.specs.Io.KnownBytes.{Appends}
 use Rattle.gk_cli.specs.declared.counted.Counted.{Counted}
 
@@ -22,6 +22,22 @@ failures_of c = c.failures
 -- One more, up to the greatest `u64`. (this project's profile)
 abbrev pub one_more : ℕ → ℕ
 one_more n = min (n + 1) (2 ^ 64 - 1)
+
+-- It was called once. (this project's profile)
+abbrev pub IsCalledOnce : {T : Type 0} → Counted T → Counted T → Type 0
+IsCalledOnce old new = calls_of new ≡ one_more (calls_of old)
+
+-- It wasn't flushed. (this project's profile)
+abbrev pub IsUnflushed : {T : Type 0} → Counted T → Counted T → Type 0
+IsUnflushed old new = flushes_of new ≡ flushes_of old
+
+-- It didn't fail. (this project's profile)
+abbrev pub IsQuiet : {T : Type 0} → Counted T → Counted T → Type 0
+IsQuiet old new = failures_of new ≡ failures_of old
+
+-- It failed once. (this project's profile)
+abbrev pub HasFailedOnce : {T : Type 0} → Counted T → Counted T → Type 0
+HasFailedOnce old new = failures_of new ≡ one_more (failures_of old)
 
 -- The count of failures after a write: one that took no byte of a piece that isn't empty has failed. (this project's profile)
 abbrev pub counted_write : {E : Type 0} → Result ℕ E → List ℕ → ℕ → ℕ

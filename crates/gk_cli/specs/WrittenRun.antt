@@ -5,18 +5,24 @@ use Rattle.gk_gherkin.specs.Hooks.{hooks_value}
 use Rattle.gk_steps.specs.declared.library.Library.{Library}
 use Rattle.gk_steps.specs.Finding.{LibraryValue, library_value}
 use Rattle.gk_world.specs.Contents.{Contents}
-use Rattle.gk_world.specs.State.{State}
+use Rattle.gk_world.specs.State.{State, state_of}
+use Rattle.gk_world.specs.Sandbox.{SandboxValue}
+use Rattle.gk_run.specs.declared.chosen.Chosen.{Chosen}
+use Rattle.gk_run.specs.declared.open_run.Suite.{Suite}
 use Rattle.gk_run.specs.Results.{FeatureRow, Results}
-use Rattle.gk_run.specs.Alone.{Run}
-use Rattle.gk_run.specs.Chosen.{ChosenValue}
+use Rattle.gk_run.specs.Alone.{Run, run_of}
+use Rattle.gk_run.specs.Chosen.{ChosenValue, chosen_value}
 use Rattle.gk_run.specs.Features.{FeatureCuts, stays_open}
 use Rattle.gk_run.specs.Judged.{Judged}
 use Rattle.gk_run.specs.Running.{IsFeatureResult}
+use Rattle.gk_run.specs.OpenRun.{AreFeatures}
 use Rattle.gk_run.specs.DryRun.{dry_feature_of}
 use Rattle.gk_report.specs.declared.report.Style.{Style}
 use Rattle.gk_report.specs.Report.{report}
 use Rattle.gk_cli.specs.declared.growing_report.GrowingReport.{GrowingReport}
 use Rattle.gk_cli.specs.declared.run_fault.RunFault.{RunFault}
+use Rattle.gk_cli.specs.declared.written_run.Glue.{Glue}
+use Rattle.gk_cli.specs.declared.written_run.Progress.{Progress}
 use Rattle.gk_cli.specs.Suite.{Device, IsReported}
 use Rattle.gk_cli.specs.GrowingReport.{style_of, so_far, IsStopped, IsGrown, Grows, Stops}
 
@@ -72,3 +78,17 @@ AreWritten Give features old g new grown = (before : Device) → IsGrown before 
 abbrev pub AreWrittenUpTo : (List ChosenValue → List FeatureRow → Type 0) → List ChosenValue → Device → GrowingReport → Device → RunFault → Type 0
 AreWrittenUpTo Give features old g new fault =
     (before : Device) → IsGrown before old g [] → (done others : List ChosenValue) × (rows : List FeatureRow) × (features ≡ done ++ others) × Give done rows × IsStopped before new (so_far (style_of g) rows) fault
+
+-- The next feature of a run was run, and its part was written.
+abbrev pub RunsNext : Glue → SandboxValue → Chosen → Device → Progress → Device → Progress → Type 0
+RunsNext glue now feature old before new after =
+    IsRunNext (run_of glue.library.now glue.hooks.now before.suite.stop) (state_of now.now) before.suite.is_open after.suite.is_open (chosen_value feature) old before.report new after.report
+
+-- The next feature of a run has no result, or its part wasn't written whole.
+abbrev pub EndsRunNext : Glue → SandboxValue → Chosen → Device → Progress → Device → RunFault → Type 0
+EndsRunNext glue now feature old before new fault =
+    EndsNext (run_of glue.library.now glue.hooks.now before.suite.stop) (state_of now.now) before.suite.is_open (chosen_value feature) old before.report new fault
+
+-- The rows of features are those of some cuts in a run that was begun.
+abbrev pub AreRun : Glue → SandboxValue → Suite → List ChosenValue → List FeatureRow → Type 0
+AreRun glue now suite = AreFeatures (run_of glue.library.now glue.hooks.now suite.stop) (state_of now.now) suite.is_open

@@ -123,7 +123,8 @@ fn value_arg<'a>(
     help: &'a str,
     action: ArgAction,
 ) -> Arg<'a>
-    ensures { HasRule (record (new_rule name.entry.now) { long = Some name.entry.now; action = Some action; value_names = 1 }) result }
+    ensures { HasRule (record (new_rule name.entry.now)
+        { long = Some name.entry.now; action = Some action; value_names = 1 }) result }
 {
     Arg::new(alloc, name)
         .long(name)
@@ -238,7 +239,8 @@ fn command_of<'a>(alloc: Global) -> Result<Command<'a>, AllocError>
 }
 
 fn copied(alloc: Global, texts: &[&str]) -> Result<Vec<String>, AllocError>
-    ensures { IfOk result (λ copies. map string_bytes copies.items ≡ map (λ text. text.now) texts.now) }
+    ensures { IfOk result (λ copies. map string_bytes copies.items
+        ≡ map (λ text. text.now) texts.now) }
 {
     let mut copies = Vec::new(alloc);
     for text in texts {
@@ -249,7 +251,8 @@ fn copied(alloc: Global, texts: &[&str]) -> Result<Vec<String>, AllocError>
 
 fn numbers(alloc: Global, texts: &[&str]) -> Result<Vec<u32>, AllocError>
     requires { All IsLineNumber (map (λ text. text.now) texts.now) }
-    ensures { IfOk result (λ numbers. numbers.items ≡ map line_number (map (λ text. text.now) texts.now)) }
+    ensures { IfOk result (λ numbers. numbers.items
+        ≡ map line_number (map (λ text. text.now) texts.now)) }
 {
     let mut numbers = Vec::new(alloc);
     for text in texts {
@@ -285,7 +288,8 @@ fn variables(alloc: Global, texts: &[&str]) -> Result<Vec<(String, String)>, Wor
 }
 
 fn copied_text(alloc: Global, text: Option<&str>) -> Result<Option<String>, AllocError>
-    ensures { IfOk result (λ copy. option_map string_bytes copy ≡ option_map (λ text. text.now) text.entry) }
+    ensures { IfOk result (λ copy. option_map string_bytes copy
+        ≡ option_map (λ text. text.now) text.entry) }
 {
     match text {
         Some(text) => Ok(Some(String::from_str(alloc, text)?)),

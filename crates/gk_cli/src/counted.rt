@@ -1,7 +1,7 @@
 //! A reader or a writer whose calls are counted, and writing bytes whole.
 ghost use Rattle.std.specs.Prelude.{◌≡◌, ◌≤◌, ◌+◌, length, OnOk, OnErr};
 ghost use Rattle.std.specs.Io.KnownBytes.{Appends};
-ghost use Rattle.gk_cli.specs.Counted.{inner_of, calls_of, flushes_of, failures_of, one_more, IsPrefixWritten};
+ghost use Rattle.gk_cli.specs.Counted.{inner_of, calls_of, one_more, IsPrefixWritten, IsQuiet, HasFailedOnce, IsUnflushed};
 
 use std::io;
 use std::io::{Read, Write};
@@ -75,16 +75,18 @@ impl<W: Write> Write for Counted<W> {
     ghost use Rattle.std.specs.Prelude.{◌≡◌};
     ghost use Rattle.std.specs.Io.{WritesAtMost};
     ghost use Rattle.std.specs.Io.KnownBytes.{Keeps, WriteAppends};
-    ghost use Rattle.gk_cli.specs.Counted.{inner_of, calls_of, flushes_of, failures_of, one_more, counted_write, counted_flush};
+    ghost use Rattle.gk_cli.specs.Counted.{inner_of, calls_of, flushes_of, failures_of, one_more, counted_write, counted_flush, IsCalledOnce, IsUnflushed};
 
     ghost contents = { λ c. W.contents (inner_of c) };
 
     fn write(&mut self, buf: &[u8]) -> io::Result<usize>
         ensures bound { WritesAtMost result buf.now }
-        ensures bytes { WriteAppends (W.contents (inner_of self.old)) (W.contents (inner_of self.new)) result buf.now }
-        ensures calls { calls_of self.new ≡ one_more (calls_of self.old) }
-        ensures flushes { flushes_of self.new ≡ flushes_of self.old }
-        ensures failures { failures_of self.new ≡ counted_write result buf.now (failures_of self.old) }
+        ensures bytes { WriteAppends
+            (W.contents (inner_of self.old)) (W.contents (inner_of self.new)) result buf.now }
+        ensures calls { IsCalledOnce self.old self.new }
+        ensures flushes { IsUnflushed self.old self.new }
+        ensures failures { failures_of self.new
+            ≡ counted_write result buf.now (failures_of self.old) }
     {
         count_one(&mut self.calls);
         let taken = self.inner.write(buf);
@@ -121,15 +123,16 @@ impl<R: Read> Read for Counted<R> {
     ghost use Rattle.std.specs.Prelude.{◌≡◌};
     ghost use Rattle.std.specs.Io.{ReadsAtMost};
     ghost use Rattle.std.specs.Io.KnownBytes.{ReadConsumes};
-    ghost use Rattle.gk_cli.specs.Counted.{inner_of, calls_of, flushes_of, failures_of, one_more, counted_read};
+    ghost use Rattle.gk_cli.specs.Counted.{inner_of, failures_of, counted_read, IsCalledOnce, IsUnflushed};
 
     ghost remaining = { λ c. R.remaining (inner_of c) };
 
     fn read(&mut self, buf: &mut [u8]) -> io::Result<usize>
         ensures bound { ReadsAtMost result buf.new }
-        ensures bytes { ReadConsumes (R.remaining (inner_of self.old)) (R.remaining (inner_of self.new)) result buf.new }
-        ensures calls { calls_of self.new ≡ one_more (calls_of self.old) }
-        ensures flushes { flushes_of self.new ≡ flushes_of self.old }
+        ensures bytes { ReadConsumes
+            (R.remaining (inner_of self.old)) (R.remaining (inner_of self.new)) result buf.new }
+        ensures calls { IsCalledOnce self.old self.new }
+        ensures flushes { IsUnflushed self.old self.new }
         ensures failures { failures_of self.new ≡ counted_read result (failures_of self.old) }
     {
         count_one(&mut self.calls);
@@ -149,14 +152,16 @@ pub struct NotWritten;
 /// taken, or ends with `NotWritten`; then a prefix of the bytes was written. A writer that failed isn't asked
 /// again. Takes no memory. (this project's profile)
 pub fn write_whole<W: Write>(out: &mut Counted<W>, bytes: &[u8]) -> Result<(), NotWritten>
-    ensures ok { OnOk result (Appends (W.contents (inner_of out.old)) (W.contents (inner_of out.new)) bytes.now) }
-    ensures quiet { OnOk result (failures_of out.new ≡ failures_of out.old) }
-    ensures cut { OnErr result (IsPrefixWritten (W.contents (inner_of out.old)) (W.contents (inner_of out.new)) bytes.now) }
+    ensures ok { OnOk result
+        (Appends (W.contents (inner_of out.old)) (W.contents (inner_of out.new)) bytes.now) }
+    ensures quiet { OnOk result (IsQuiet out.old out.new) }
+    ensures cut { OnErr result (IsPrefixWritten
+        (W.contents (inner_of out.old)) (W.contents (inner_of out.new)) bytes.now) }
     // One failure ends it: no second call follows one that failed.
-    ensures failed { OnErr result (failures_of out.new ≡ one_more (failures_of out.old)) }
+    ensures failed { OnErr result (HasFailedOnce out.old out.new) }
     // The writer is called no more often than there are bytes.
     ensures turns { calls_of out.new ≤ calls_of out.old + length bytes.now }
-    ensures unflushed { flushes_of out.new ≡ flushes_of out.old }
+    ensures unflushed { IsUnflushed out.old out.new }
 {
     let mut done = 0;
     while done < bytes.len() {

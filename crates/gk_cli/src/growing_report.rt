@@ -13,8 +13,10 @@ use std::alloc::Global;
 use std::io::Write;
 
 fn write_piece<W: Write>(out: &mut Counted<W>, text: &str) -> Result<(), RunFault>
-    ensures ok { OnOk result (IsWritten (device_of W.contents out.old) (device_of W.contents out.new) text.now) }
-    ensures err { IfErr result (IsStopped (device_of W.contents out.old) (device_of W.contents out.new) text.now) }
+    ensures ok { OnOk result
+        (IsWritten (device_of W.contents out.old) (device_of W.contents out.new) text.now) }
+    ensures err { IfErr result
+        (IsStopped (device_of W.contents out.old) (device_of W.contents out.new) text.now) }
 {
     match write_whole(out, text.as_bytes()) {
         Ok(()) => Ok(()),
@@ -53,9 +55,11 @@ impl GrowingReport {
         style: Style,
         out: &mut Counted<W>,
     ) -> Result<GrowingReport, RunFault>
-        ensures ok { IfOk result (λ g. IsGrown (device_of W.contents out.old) (device_of W.contents out.new) g []) }
+        ensures ok { IfOk result (λ g.
+            IsGrown (device_of W.contents out.old) (device_of W.contents out.new) g []) }
         ensures style { IfOk result (λ g. style_of g ≡ style) }
-        ensures err { IfErr result (IsStopped (device_of W.contents out.old) (device_of W.contents out.new) (so_far style [])) }
+        ensures err { IfErr result (IsStopped
+            (device_of W.contents out.old) (device_of W.contents out.new) (so_far style [])) }
     {
         let text = head(alloc, style)?;
         write_piece(out, text.as_str())?;
@@ -75,9 +79,11 @@ impl GrowingReport {
         feature: FeatureResult,
         out: &mut Counted<W>,
     ) -> Result<(), RunFault>
-        ensures ok { OnOk result (Grows (device_of W.contents out.old) self.old (device_of W.contents out.new) self.new (feature_row feature)) }
+        ensures ok { OnOk result (Grows (device_of W.contents out.old) self.old
+            (device_of W.contents out.new) self.new (feature_row feature)) }
         ensures style { style_of self.new ≡ style_of self.old }
-        ensures err { IfErr result (Stops (device_of W.contents out.old) self.old (device_of W.contents out.new) (feature_row feature)) }
+        ensures err { IfErr result (Stops (device_of W.contents out.old) self.old
+            (device_of W.contents out.new) (feature_row feature)) }
     {
         // No code runs here: the law says how a report grows by a part.
         reports_grow_by_parts();
@@ -97,10 +103,14 @@ impl GrowingReport {
         around: Status,
         out: &mut Counted<W>,
     ) -> Result<u8, RunFault>
-        ensures ok { IfOk result (λ status. (before : Device) (rows : List FeatureRow) → IsGrown before (device_of W.contents out.old) self rows →
-            IsReported (style_of self) before (device_of W.contents out.new) status (results_with rows around)) }
-        ensures err { IfErr result (λ fault. (before : Device) (rows : List FeatureRow) → IsGrown before (device_of W.contents out.old) self rows →
-            IsStopped before (device_of W.contents out.new) (report (style_of self) (results_with rows around)) fault) }
+        ensures ok { IfOk result (λ status. (before : Device) (rows : List FeatureRow) →
+            IsGrown before (device_of W.contents out.old) self rows →
+            IsReported (style_of self) before (device_of W.contents out.new)
+            status (results_with rows around)) }
+        ensures err { IfErr result (λ fault. (before : Device) (rows : List FeatureRow) →
+            IsGrown before (device_of W.contents out.old) self rows →
+            IsStopped before (device_of W.contents out.new)
+            (report (style_of self) (results_with rows around)) fault) }
     {
         // No code runs here: the law says what a whole report is.
         reports_grow_by_parts();

@@ -36,7 +36,8 @@ pub struct ReadInputs {
 }
 
 fn read_rules(alloc: Global, tags: &[String]) -> Result<Vec<TagRule>, SelectFault>
-    ensures rules { IfOk result (λ rules. AreRules (texts tags.now) (map tag_rule_value rules.items)) }
+    ensures rules { IfOk result (λ rules.
+        AreRules (texts tags.now) (map tag_rule_value rules.items)) }
     ensures fault { IfErr result (λ e. SaysTags (texts tags.now) e) }
 {
     let mut rules = Vec::new(alloc);
@@ -60,8 +61,10 @@ fn tags_fault(fault: SelectFault) -> RunFault
 }
 
 fn read_step_library(alloc: Global, library: Option<&[u8]>) -> Result<Library, LibraryFault>
-    ensures read { IfOk result (λ l. IsLibrary (option_map (λ bytes. bytes.now) library.entry) (library_value l)) }
-    ensures fault { IfErr result (λ e. SaysLibrary (option_map (λ bytes. bytes.now) library.entry) e) }
+    ensures read { IfOk result (λ l.
+        IsLibrary (option_map (λ bytes. bytes.now) library.entry) (library_value l)) }
+    ensures fault { IfErr result (λ e.
+        SaysLibrary (option_map (λ bytes. bytes.now) library.entry) e) }
 {
     match library {
         Some(bytes) => read_library(alloc, bytes),
@@ -80,7 +83,8 @@ fn library_fault(fault: LibraryFault) -> RunFault
 
 // Without a hooks file there are no hooks.
 fn read_hook_file(alloc: Global, hooks: Option<&[u8]>) -> Result<HookFile, ReadFault>
-    ensures read { IfOk result (λ file. AreHooks (option_map (λ bytes. bytes.now) hooks.entry) (hooks_value file)) }
+    ensures read { IfOk result (λ file.
+        AreHooks (option_map (λ bytes. bytes.now) hooks.entry) (hooks_value file)) }
     ensures fault { IfErr result (λ e. SaysHooks (option_map (λ bytes. bytes.now) hooks.entry) e) }
 {
     match hooks {
@@ -120,7 +124,8 @@ fn copied_texts(alloc: Global, from: &[String]) -> Result<Vec<String>, AllocErro
 
 // For each case whether it is chosen.
 fn selections(alloc: Global, choice: &Choice, cases: &[Case]) -> Result<Vec<bool>, AllocError>
-    ensures { IfOk result (λ selected. selected.items ≡ map (λ c. chosen_by choice.now (case_value c)) cases.now) }
+    ensures { IfOk result (λ selected. selected.items
+        ≡ map (λ c. chosen_by choice.now (case_value c)) cases.now) }
 {
     let mut selected = Vec::new(alloc);
     for case in cases {
@@ -152,7 +157,8 @@ fn chosen_of(
     feature: Feature,
 ) -> Result<Chosen, SelectFault>
     requires { IsExpandable (feature_value feature) }
-    ensures chosen { IfOk result (λ c. chosen_value c ≡ spec.chosen_of (chosen_by choice.now) source.now (feature_value feature)) }
+    ensures chosen { IfOk result (λ c. chosen_value c
+        ≡ spec.chosen_of (chosen_by choice.now) source.now (feature_value feature)) }
     ensures paired { IfOk result (λ c. IsPaired c) }
     ensures fault { IfErr result (λ e. SaysExpansion (feature_value feature) e) }
     ensures room { OnOk result (spec.HasRoom (Some (feature_value feature))) }
@@ -201,7 +207,8 @@ fn read_onto(
     source: &Source,
     features: &mut Vec<Chosen>,
 ) -> Result<(), RunFault>
-    ensures ok { OnOk result (IsReadOnto (chosen_by choice.now) (source_value source.now) features.old.items features.new.items) }
+    ensures ok { OnOk result (IsReadOnto (chosen_by choice.now) (source_value source.now)
+        features.old.items features.new.items) }
     ensures fault { IfErr result (λ e. SaysSourceAt input source.now.bytes.items e) }
 {
     let feature = match read_feature(alloc, source.bytes.as_slice()) {
@@ -220,9 +227,11 @@ fn read_onto(
 }
 
 fn read_sources(alloc: Global, choice: &Choice, sources: &[Source]) -> Result<Vec<Chosen>, RunFault>
-    ensures read { IfOk result (λ features. AreRead (chosen_by choice.now) (map source_value sources.now) (map chosen_value features.items)) }
+    ensures read { IfOk result (λ features. AreRead (chosen_by choice.now)
+        (map source_value sources.now) (map chosen_value features.items)) }
     ensures paired { IfOk result (λ features. AllByRecursion IsPaired features.items) }
-    ensures fault { IfErr result (λ e. SaysSources (chosen_by choice.now) (map source_value sources.now) e) }
+    ensures fault { IfErr result (λ e. SaysSources (chosen_by choice.now)
+        (map source_value sources.now) e) }
 {
     let mut features = Vec::new(alloc);
     for (input, source) in sources.iter().enumerate() {
@@ -242,9 +251,11 @@ pub fn read_inputs(
     hooks: Option<&[u8]>,
     sources: &[Source],
 ) -> Result<ReadInputs, RunFault>
-    ensures read { IfOk result (λ inputs. AreInputs (asked options.now library.entry hooks.entry sources.now) (inputs_value inputs)) }
+    ensures read { IfOk result (λ inputs. AreInputs
+        (asked options.now library.entry hooks.entry sources.now) (inputs_value inputs)) }
     ensures paired { IfOk result (λ inputs. AllByRecursion IsPaired inputs.features.items) }
-    ensures fault { IfErr result (λ e. IsUnread (asked options.now library.entry hooks.entry sources.now) e) }
+    ensures fault { IfErr result (λ e. IsUnread
+        (asked options.now library.entry hooks.entry sources.now) e) }
 {
     let rules = match read_rules(alloc, options.tags.as_slice()) {
         Ok(rules) => rules,

@@ -1,7 +1,7 @@
 //! The sources of a run, and reading one whole.
 ghost use Rattle.std.specs.Prelude.{◌≡◌, ◌≢◌, ◌≤◌, ◌+◌, [], Some, IfOk, IfSome, IsErrOf, vec_len};
 ghost use Rattle.gk_gherkin.specs.Lines.{limit};
-ghost use Rattle.gk_cli.specs.Counted.{inner_of, calls_of, failures_of, one_more};
+ghost use Rattle.gk_cli.specs.Counted.{inner_of, calls_of, IsQuiet, HasFailedOnce};
 ghost use Rattle.gk_cli.specs.Source.{StopsAfter};
 
 use crate::counted::Counted;
@@ -38,16 +38,19 @@ const PIECE: usize = 16_384;
 /// no byte after number `gk_gherkin::LIMIT` + 1, so one that never ends is `TooLong`. A reader that failed
 /// isn't asked again. (this project's profile)
 pub fn read_source<R: Read>(alloc: Global, reader: &mut Counted<R>) -> Result<Vec<u8>, SourceFault>
-    ensures whole { IfOk result (λ v. IfSome (R.remaining (inner_of reader.old)) (λ xs. v.items ≡ xs)) }
+    ensures whole { IfOk result (λ v.
+        IfSome (R.remaining (inner_of reader.old)) (λ xs. v.items ≡ xs)) }
     ensures within { IfOk result (λ v. vec_len v ≤ limit) }
-    ensures quiet { IfOk result (λ v. failures_of reader.new ≡ failures_of reader.old) }
+    ensures quiet { IfOk result (λ v. IsQuiet reader.old reader.new) }
     // `TooLong`: the reader gave one byte more than the limit, and never failed.
-    ensures long { IsErrOf result SourceFault.TooLong → StopsAfter (limit + 1) (R.remaining (inner_of reader.old)) (R.remaining (inner_of reader.new)) }
-    ensures long_quiet { IsErrOf result SourceFault.TooLong → failures_of reader.new ≡ failures_of reader.old }
+    ensures long { IsErrOf result SourceFault.TooLong →
+        StopsAfter (limit + 1)
+        (R.remaining (inner_of reader.old)) (R.remaining (inner_of reader.new)) }
+    ensures long_quiet { IsErrOf result SourceFault.TooLong → IsQuiet reader.old reader.new }
     // `Device` comes of one failure, and only of that.
-    ensures device { IsErrOf result SourceFault.Device → failures_of reader.new ≡ one_more (failures_of reader.old) }
+    ensures device { IsErrOf result SourceFault.Device → HasFailedOnce reader.old reader.new }
     // `Memory` never comes where the reader has no byte.
-    ensures spare { IsErrOf result SourceFault.Memory → failures_of reader.new ≡ failures_of reader.old }
+    ensures spare { IsErrOf result SourceFault.Memory → IsQuiet reader.old reader.new }
     ensures free { IsErrOf result SourceFault.Memory → R.remaining (inner_of reader.old) ≢ Some [] }
     // Each turn but the last gives a byte, and none is asked for after number LIMIT + 1.
     ensures turns { IfOk result (λ v. calls_of reader.new ≤ calls_of reader.old + vec_len v + 1) }

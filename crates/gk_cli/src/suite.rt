@@ -2,7 +2,7 @@
 ghost use Rattle.std.specs.Prelude.{◌≡◌, ◌-◌, ◌^◌, ◌<◌, IfOk, IfErr, OnOk};
 ghost use Rattle.gk_world.specs.Sandbox.{depth};
 ghost use Rattle.gk_run.specs.Running.{IsSame};
-ghost use Rattle.gk_cli.specs.Counted.{failures_of, flushes_of};
+ghost use Rattle.gk_cli.specs.Counted.{failures_of, IsQuiet, IsUnflushed};
 ghost use Rattle.gk_cli.specs.Inputs.{asked};
 ghost use Rattle.gk_cli.specs.Suite.{device_of, Reported, JudgedReport, Plain, SaysFault, InputsAreUnique};
 
@@ -53,19 +53,26 @@ pub fn run_suite<W: Write>(
     requires outside { depth sandbox.old ≡ 0 }
 
     // What was written and what is answered are the report and the status of one list of results.
-    ensures reported { IfOk result (Reported options.now.style (device_of W.contents out.old) (device_of W.contents out.new)) }
+    ensures reported { IfOk result (Reported options.now.style
+        (device_of W.contents out.old) (device_of W.contents out.new)) }
     // That list is judged: each selected scenario that was reached has in it the verdict and the step statuses
     // that plain maps give it alone from its section's state, rows marked memory excepted.
-    ensures judged { IfOk result (JudgedReport (asked options.now library.entry hooks.entry sources.now) sandbox.old.now (device_of W.contents out.old) (device_of W.contents out.new)) }
+    ensures judged { IfOk result (JudgedReport
+        (asked options.now library.entry hooks.entry sources.now) sandbox.old.now
+        (device_of W.contents out.old) (device_of W.contents out.new)) }
     // At each status but 4 that list is the one that plain maps give, and there is no other.
-    ensures plain { IfOk result (Plain (asked options.now library.entry hooks.entry sources.now) sandbox.old.now (device_of W.contents out.old) (device_of W.contents out.new)) }
+    ensures plain { IfOk result (Plain
+        (asked options.now library.entry hooks.entry sources.now) sandbox.old.now
+        (device_of W.contents out.old) (device_of W.contents out.new)) }
     // Whatever is answered, files, variables, values and layers are as they were.
     ensures same { IsSame sandbox.old sandbox.new }
     // Which fault it is, and what was written.
-    ensures fault { IfErr result (SaysFault (asked options.now library.entry hooks.entry sources.now) sandbox.old.now (device_of W.contents out.old) (device_of W.contents out.new)) }
+    ensures fault { IfErr result (SaysFault
+        (asked options.now library.entry hooks.entry sources.now) sandbox.old.now
+        (device_of W.contents out.old) (device_of W.contents out.new)) }
     // A status comes only where the writer didn't fail.
-    ensures quiet { OnOk result (failures_of out.new ≡ failures_of out.old) }
-    ensures unflushed { flushes_of out.new ≡ flushes_of out.old }
+    ensures quiet { OnOk result (IsQuiet out.old out.new) }
+    ensures unflushed { IsUnflushed out.old out.new }
 {
     // No code runs in these two: the laws say that what is asked for reads in one way, and that results
     // without a mark of memory are the plain ones.

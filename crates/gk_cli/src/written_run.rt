@@ -1,18 +1,17 @@
 //! A run whose report is written as its features end.
 ghost use Rattle.std.specs.Prelude.{◌≡◌, ◌<◌, suc, map, IfOk, IfErr, OnOk};
 ghost use Rattle.std.specs.List.{AllByRecursion};
-ghost use Rattle.gk_world.specs.State.{state_of};
 ghost use Rattle.gk_world.specs.Sandbox.{depth, layers};
 ghost use Rattle.gk_steps.specs.Finding.{library_value};
 ghost use Rattle.gk_run.specs.Alone.{run_of};
 ghost use Rattle.gk_run.specs.Chosen.{chosen_value, IsPaired};
 ghost use Rattle.gk_run.specs.Running.{IsSame};
-ghost use Rattle.gk_run.specs.OpenRun.{IsKept, AreFeatures};
+ghost use Rattle.gk_run.specs.OpenRun.{IsKept};
 ghost use Rattle.gk_run.specs.DryRun.{AreDryFeatures};
 ghost use Rattle.gk_cli.specs.Inputs.{inputs_value};
 ghost use Rattle.gk_cli.specs.Suite.{device_of, run_by};
 ghost use Rattle.gk_cli.specs.GrowingReport.{style_of};
-ghost use Rattle.gk_cli.specs.WrittenRun.{IsRunNext, EndsNext, IsDryNext, EndsDryNext, AreWritten, AreWrittenUpTo, IsWhole, IsPart, Finishes, Ends, dry_run_of};
+ghost use Rattle.gk_cli.specs.WrittenRun.{RunsNext, EndsRunNext, AreRun, IsDryNext, EndsDryNext, AreWritten, AreWrittenUpTo, IsWhole, IsPart, dry_run_of};
 ghost use Rattle.gk_world.specs.Contents.{Contents};
 
 use crate::arguments::Options;
@@ -31,74 +30,92 @@ use gk_world::Sandbox;
 use std::alloc::Global;
 use std::io::Write;
 
-// What stays the same during a run, and where its memory comes from.
+/// What the steps and the hooks of a run are looked up in, and where its memory comes from.
 #[derive(Clone, Copy)]
-struct Setup<'a> {
+struct Glue<'a> {
     alloc: Global,
     library: &'a Library,
     hooks: &'a HookFile,
-    stop: bool,
+}
+
+/// How far a run has come: the run that was begun, and its report so far.
+struct Progress {
+    suite: Suite,
+    report: GrowingReport,
 }
 
 // Runs the next feature of a run, and writes its part.
 fn run_next<W: Write>(
-    setup: &Setup<'_>,
+    glue: &Glue<'_>,
     sandbox: &mut Sandbox,
-    suite: &mut Suite,
+    progress: &mut Progress,
     feature: Chosen,
-    report: &mut GrowingReport,
     out: &mut Counted<W>,
 ) -> Result<(), RunFault>
     requires layer { suc (depth sandbox.old) < layers }
     requires paired { IsPaired feature }
-    ensures ok { OnOk result (IsRunNext (run_of setup.now.library.now setup.now.hooks.now suite.old.stop) (state_of sandbox.old.now) suite.old.is_open suite.new.is_open (chosen_value feature) (device_of W.contents out.old) report.old (device_of W.contents out.new) report.new) }
-    ensures err { IfErr result (EndsNext (run_of setup.now.library.now setup.now.hooks.now suite.old.stop) (state_of sandbox.old.now) suite.old.is_open (chosen_value feature) (device_of W.contents out.old) report.old (device_of W.contents out.new)) }
-    ensures style { style_of report.new ≡ style_of report.old }
-    ensures kept { IsKept suite.old suite.new }
+    ensures ok { OnOk result (RunsNext glue.now sandbox.old feature
+        (device_of W.contents out.old) progress.old
+        (device_of W.contents out.new) progress.new) }
+    ensures err { IfErr result (EndsRunNext glue.now sandbox.old feature
+        (device_of W.contents out.old) progress.old (device_of W.contents out.new)) }
+    ensures style { style_of progress.new.report ≡ style_of progress.old.report }
+    ensures kept { IsKept progress.old.suite progress.new.suite }
     ensures same { IsSame sandbox.old sandbox.new }
 {
-    match suite.feature(setup.alloc, sandbox, setup.library, setup.hooks, feature) {
-        Ok(result) => report.add(setup.alloc, result, out),
+    let suite = &mut progress.suite;
+    match suite.feature(glue.alloc, sandbox, glue.library, glue.hooks, feature) {
+        Ok(result) => progress.report.add(glue.alloc, result, out),
         Err(NoRoom) => Err(RunFault::Memory),
     }
 }
 
 // Runs the features of a run that was begun, one after another, and writes the part of each.
 fn run_features<W: Write>(
-    setup: &Setup<'_>,
+    glue: &Glue<'_>,
     sandbox: &mut Sandbox,
-    suite: &mut Suite,
+    progress: &mut Progress,
     features: Vec<Chosen>,
-    report: &mut GrowingReport,
     out: &mut Counted<W>,
 ) -> Result<(), RunFault>
     requires layer { suc (depth sandbox.old) < layers }
     requires paired { AllByRecursion IsPaired features.items }
-    ensures ok { OnOk result (AreWritten (AreFeatures (run_of setup.now.library.now setup.now.hooks.now suite.old.stop) (state_of sandbox.old.now) suite.old.is_open) (map chosen_value features.items) (device_of W.contents out.old) report.old (device_of W.contents out.new) report.new) }
-    ensures err { IfErr result (AreWrittenUpTo (AreFeatures (run_of setup.now.library.now setup.now.hooks.now suite.old.stop) (state_of sandbox.old.now) suite.old.is_open) (map chosen_value features.items) (device_of W.contents out.old) report.old (device_of W.contents out.new)) }
-    ensures style { style_of report.new ≡ style_of report.old }
-    ensures kept { IsKept suite.old suite.new }
+    ensures ok { OnOk result (AreWritten (AreRun glue.now sandbox.old progress.old.suite)
+        (map chosen_value features.items)
+        (device_of W.contents out.old) progress.old.report
+        (device_of W.contents out.new) progress.new.report) }
+    ensures err { IfErr result (AreWrittenUpTo (AreRun glue.now sandbox.old progress.old.suite)
+        (map chosen_value features.items)
+        (device_of W.contents out.old) progress.old.report (device_of W.contents out.new)) }
+    ensures style { style_of progress.new.report ≡ style_of progress.old.report }
+    ensures kept { IsKept progress.old.suite progress.new.suite }
     ensures same { IsSame sandbox.old sandbox.new }
 {
     for feature in features {
-        run_next(setup, sandbox, suite, feature, report, out)?;
+        run_next(glue, sandbox, progress, feature, out)?;
     }
     Ok(())
 }
 
-// Runs features as one run, of whose report the head is written. Where the report can't grow, the run is
-// finished, its answer is given up, and nothing more is written.
+// Runs features as one run, and writes its report. Where the report can't grow, the run is finished, its
+// answer is given up, and nothing more is written.
 fn run_all<W: Write>(
-    setup: &Setup<'_>,
+    alloc: Global,
     sandbox: &mut Sandbox,
-    features: Vec<Chosen>,
-    report: GrowingReport,
+    options: &Options,
+    inputs: ReadInputs,
     out: &mut Counted<W>,
 ) -> Result<u8, RunFault>
     requires outside { depth sandbox.old ≡ 0 }
-    requires paired { AllByRecursion IsPaired features.items }
-    ensures ok { IfOk result (Finishes (run_of setup.now.library.now setup.now.hooks.now setup.now.stop) sandbox.old.now (map chosen_value features.items) (device_of W.contents out.old) report (device_of W.contents out.new)) }
-    ensures err { IfErr result (Ends (run_of setup.now.library.now setup.now.hooks.now setup.now.stop) sandbox.old.now (map chosen_value features.items) (device_of W.contents out.old) report (device_of W.contents out.new)) }
+    requires paired { AllByRecursion IsPaired inputs.features.items }
+    ensures ok { IfOk result (IsWhole
+        (run_of inputs.library inputs.hooks options.now.stop) sandbox.old.now
+        (map chosen_value inputs.features.items) options.now.style
+        (device_of W.contents out.old) (device_of W.contents out.new)) }
+    ensures err { IfErr result (IsPart
+        (run_of inputs.library inputs.hooks options.now.stop) sandbox.old.now
+        (map chosen_value inputs.features.items) options.now.style
+        (device_of W.contents out.old) (device_of W.contents out.new)) }
     ensures same { IsSame sandbox.old sandbox.new }
 {
     // No code runs in these three: the laws say that the results of a run are judged, that its results so far
@@ -106,12 +123,24 @@ fn run_all<W: Write>(
     finished_runs_are_judged();
     unfinished_runs_are_judged();
     reports_grow_by_parts();
-    let mut report = report;
-    let mut suite = Suite::start(setup.alloc, sandbox, setup.library, setup.hooks, setup.stop);
-    let written = run_features(setup, sandbox, &mut suite, features, &mut report, out);
-    let around = suite.finish(setup.alloc, sandbox, setup.library, setup.hooks);
+    let ReadInputs {
+        library,
+        hooks,
+        features,
+    } = inputs;
+    let report = GrowingReport::start(alloc, options.style, out)?;
+    let suite = Suite::start(alloc, sandbox, &library, &hooks, options.stop);
+    let mut progress = Progress { suite, report };
+    let glue = Glue {
+        alloc,
+        library: &library,
+        hooks: &hooks,
+    };
+    let written = run_features(&glue, sandbox, &mut progress, features, out);
+    let Progress { suite, report } = progress;
+    let around = suite.finish(alloc, sandbox, &library, &hooks);
     match written {
-        Ok(()) => report.finish(setup.alloc, around, out),
+        Ok(()) => report.finish(alloc, around, out),
         Err(fault) => Err(fault),
     }
 }
@@ -125,8 +154,10 @@ fn dry_next<W: Write>(
     out: &mut Counted<W>,
 ) -> Result<(), RunFault>
     requires paired { IsPaired feature }
-    ensures ok { OnOk result (IsDryNext (library_value library.now) (chosen_value feature) (device_of W.contents out.old) report.old (device_of W.contents out.new) report.new) }
-    ensures err { IfErr result (EndsDryNext (library_value library.now) (chosen_value feature) (device_of W.contents out.old) report.old (device_of W.contents out.new)) }
+    ensures ok { OnOk result (IsDryNext (library_value library.now) (chosen_value feature)
+        (device_of W.contents out.old) report.old (device_of W.contents out.new) report.new) }
+    ensures err { IfErr result (EndsDryNext (library_value library.now) (chosen_value feature)
+        (device_of W.contents out.old) report.old (device_of W.contents out.new)) }
     ensures style { style_of report.new ≡ style_of report.old }
 {
     match dry_feature(alloc, library, feature) {
@@ -143,8 +174,12 @@ fn dry_features<W: Write>(
     out: &mut Counted<W>,
 ) -> Result<(), RunFault>
     requires paired { AllByRecursion IsPaired features.items }
-    ensures ok { OnOk result (AreWritten (AreDryFeatures (library_value library.now)) (map chosen_value features.items) (device_of W.contents out.old) report.old (device_of W.contents out.new) report.new) }
-    ensures err { IfErr result (AreWrittenUpTo (AreDryFeatures (library_value library.now)) (map chosen_value features.items) (device_of W.contents out.old) report.old (device_of W.contents out.new)) }
+    ensures ok { OnOk result (AreWritten (AreDryFeatures (library_value library.now))
+        (map chosen_value features.items)
+        (device_of W.contents out.old) report.old (device_of W.contents out.new) report.new) }
+    ensures err { IfErr result (AreWrittenUpTo (AreDryFeatures (library_value library.now))
+        (map chosen_value features.items)
+        (device_of W.contents out.old) report.old (device_of W.contents out.new)) }
     ensures style { style_of report.new ≡ style_of report.old }
 {
     for feature in features {
@@ -153,25 +188,36 @@ fn dry_features<W: Write>(
     Ok(())
 }
 
-// A dry run of features, of whose report the head is written.
+// A dry run of features, and its report.
 fn dry_all<W: Write>(
-    setup: &Setup<'_>,
-    features: Vec<Chosen>,
-    report: GrowingReport,
+    alloc: Global,
+    options: &Options,
+    inputs: ReadInputs,
     out: &mut Counted<W>,
 ) -> Result<u8, RunFault>
-    requires paired { AllByRecursion IsPaired features.items }
-    ensures ok { IfOk result (λ status. (contents : Contents) → Finishes (dry_run_of setup.now.library.now setup.now.hooks.now setup.now.stop) contents (map chosen_value features.items) (device_of W.contents out.old) report (device_of W.contents out.new) status) }
-    ensures err { IfErr result (λ fault. (contents : Contents) → Ends (dry_run_of setup.now.library.now setup.now.hooks.now setup.now.stop) contents (map chosen_value features.items) (device_of W.contents out.old) report (device_of W.contents out.new) fault) }
+    requires paired { AllByRecursion IsPaired inputs.features.items }
+    ensures ok { IfOk result (λ status. (contents : Contents) → IsWhole
+        (dry_run_of inputs.library inputs.hooks options.now.stop) contents
+        (map chosen_value inputs.features.items) options.now.style
+        (device_of W.contents out.old) (device_of W.contents out.new) status) }
+    ensures err { IfErr result (λ fault. (contents : Contents) → IsPart
+        (dry_run_of inputs.library inputs.hooks options.now.stop) contents
+        (map chosen_value inputs.features.items) options.now.style
+        (device_of W.contents out.old) (device_of W.contents out.new) fault) }
 {
     // No code runs in these three: the laws say that the results of a dry run are judged, that its results so
     // far begin some judged list, and that their parts begin its report.
     dry_runs_are_judged();
     unfinished_dry_runs_are_judged();
     reports_grow_by_parts();
-    let mut report = report;
-    match dry_features(setup.alloc, setup.library, features, &mut report, out) {
-        Ok(()) => report.finish(setup.alloc, Status::Passed, out),
+    let ReadInputs {
+        library,
+        hooks: _,
+        features,
+    } = inputs;
+    let mut report = GrowingReport::start(alloc, options.style, out)?;
+    match dry_features(alloc, &library, features, &mut report, out) {
+        Ok(()) => report.finish(alloc, Status::Passed, out),
         Err(fault) => Err(fault),
     }
 }
@@ -189,26 +235,16 @@ pub fn write_run<W: Write>(
 ) -> Result<u8, RunFault>
     requires outside { depth sandbox.old ≡ 0 }
     requires paired { AllByRecursion IsPaired inputs.features.items }
-    ensures ok { IfOk result (IsWhole (run_by options.now (inputs_value inputs)) sandbox.old.now (map chosen_value inputs.features.items) options.now.style (device_of W.contents out.old) (device_of W.contents out.new)) }
-    ensures err { IfErr result (IsPart (run_by options.now (inputs_value inputs)) sandbox.old.now (map chosen_value inputs.features.items) options.now.style (device_of W.contents out.old) (device_of W.contents out.new)) }
+    ensures ok { IfOk result (IsWhole (run_by options.now (inputs_value inputs)) sandbox.old.now
+        (map chosen_value inputs.features.items) options.now.style
+        (device_of W.contents out.old) (device_of W.contents out.new)) }
+    ensures err { IfErr result (IsPart (run_by options.now (inputs_value inputs)) sandbox.old.now
+        (map chosen_value inputs.features.items) options.now.style
+        (device_of W.contents out.old) (device_of W.contents out.new)) }
     ensures same { IsSame sandbox.old sandbox.new }
 {
-    // No code runs here: the law says that the head begins each report.
-    reports_grow_by_parts();
-    let ReadInputs {
-        library,
-        hooks,
-        features,
-    } = inputs;
-    let report = GrowingReport::start(alloc, options.style, out)?;
-    let setup = Setup {
-        alloc,
-        library: &library,
-        hooks: &hooks,
-        stop: options.stop,
-    };
     if options.dry_run {
-        return dry_all(&setup, features, report, out);
+        return dry_all(alloc, options, inputs, out);
     }
-    run_all(&setup, sandbox, features, report, out)
+    run_all(alloc, sandbox, options, inputs, out)
 }

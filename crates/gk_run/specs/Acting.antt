@@ -411,6 +411,18 @@ pub record IsActed (done : Done) (old : SandboxValue) (outcome : Outcome) (new :
   pub carried_out : IsDone done outcome (state_of new.now)
   pub layers : KeepsLayers old new
 
+-- What the row of an action leaves, as the program holds the library, what was found and the block.
+abbrev pub carried_out_of : Library → Found → Block → State → Done
+carried_out_of library found block s = carried_out (library_value library) (found_value found) (block_value block) s
+
+-- An action was carried out as its row of the table says, or memory was refused in it.
+abbrev pub Performs : Action → Arguments → SandboxValue → Outcome → SandboxValue → Type 0
+Performs action arguments old outcome new = IsActed (table action (given_value arguments) (state_of old.now)) old outcome new
+
+-- An action that changes nothing was carried out as its row of the table says.
+abbrev pub Checks : Action → Arguments → SandboxValue → Outcome → Type 0
+Checks action arguments now outcome = IsExactly (table action (given_value arguments) (state_of now.now)) outcome (state_of now.now)
+
 -- An action that changes nothing has this outcome at every state.
 abbrev pub IsOutcome : (State → Done) → Outcome → Type 0
 IsOutcome row outcome = (s : State) → IsExactly (row s) outcome s

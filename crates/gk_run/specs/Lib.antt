@@ -14,4 +14,6 @@ pub mod Features
 pub mod DryRun
 pub mod Judged
 pub mod Running
+pub mod Reserved
+pub mod Calls
 pub mod OpenRun

@@ -13,7 +13,7 @@ use Rattle.gk_run.specs.declared.results.Mark.{Mark}
 use Rattle.gk_run.specs.declared.results.Mark.TheVariants.{Acted, Skipped, Untested}
 use Rattle.gk_run.specs.declared.ending.Ending.{Ending}
 use Rattle.gk_run.specs.declared.ending.Ending.TheVariants as endings
-use Rattle.gk_run.specs.declared.features.Run as shared
+use Rattle.gk_run.specs.declared.run.Run as shared
 use Rattle.gk_run.specs.declared.section_hooks.Level.{Level}
 use Rattle.gk_run.specs.Results.{StepRow, CaseRow, FeatureRow}
 use Rattle.gk_run.specs.Ending.{ended_of, ending_of_turn}

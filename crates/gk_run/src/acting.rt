@@ -7,7 +7,7 @@ ghost use Rattle.gk_world.specs.Sandbox.{depth};
 ghost use Rattle.gk_world.specs.Refusals as refusals;
 ghost use Rattle.gk_run.specs.Cleanups.{cleanups_value};
 ghost use Rattle.gk_run.specs.Acting as words;
-ghost use Rattle.gk_run.specs.Acting.{given, given_value, table, carried_out, registers, act_of, changes_nothing, may_skip, may_register, IsDone, IsExactly, IsExact, IsActed, HasRegistered, KeepsLayers, IsHeld, IsNotHeld, IsText, HasText, NeedsCandidate, CleanupNeedsCandidate};
+ghost use Rattle.gk_run.specs.Acting.{given, given_value, table, carried_out_of, registers, act_of, Performs, changes_nothing, may_skip, may_register, IsDone, IsExactly, IsExact, IsActed, HasRegistered, KeepsLayers, IsHeld, IsNotHeld, IsText, HasText, NeedsCandidate, CleanupNeedsCandidate};
 
 mod file_actions;
 mod number_actions;
@@ -146,14 +146,16 @@ fn doc_string(block: &Block) -> Option<&str>
 
 // A field's text; the empty one where the pattern has no such field.
 fn field_text<'a>(library: &Library, found: &'a Found, field: &str) -> &'a str
-    ensures { result.now ≡ unwrap_or (text_field (library_value library.now) (found_value found.now) field.now) [] }
+    ensures { result.now
+        ≡ unwrap_or (text_field (library_value library.now) (found_value found.now) field.now) [] }
 {
     library.text(found, field).unwrap_or("")
 }
 
 // What a step's action works with.
 fn arguments_of<'a>(library: &Library, found: &'a Found, block: &'a Block) -> Arguments<'a>
-    ensures { given_value result ≡ given (library_value library.now) (found_value found.now) (block_value block.now) }
+    ensures { given_value result
+        ≡ given (library_value library.now) (found_value found.now) (block_value block.now) }
 {
     Arguments {
         name: field_text(library, found, "name"),
@@ -173,8 +175,10 @@ fn perform(
     arguments: &Arguments<'_>,
 ) -> Outcome
     requires { 0 < depth sandbox.old }
-    ensures acted { IsActed (table action (given_value arguments.now) (state_of sandbox.old.now)) sandbox.old result sandbox.new }
-    ensures exact { changes_nothing action ≡ true → IsExactly (table action (given_value arguments.now) (state_of sandbox.old.now)) result (state_of sandbox.new.now) }
+    ensures acted { Performs action arguments.now sandbox.old result sandbox.new }
+    ensures exact { changes_nothing action ≡ true →
+        IsExactly (table action (given_value arguments.now) (state_of sandbox.old.now))
+        result (state_of sandbox.new.now) }
 {
     match action {
         Action::WriteFile => write_file(sandbox, arguments),
@@ -213,8 +217,12 @@ pub(crate) fn carry_out(
     block: &Block,
 ) -> Outcome
     requires begun { 0 < depth sandbox.old }
-    ensures done { IsDone (carried_out (library_value library.now) (found_value found.now) (block_value block.now) (state_of sandbox.old.now)) result (state_of sandbox.new.now) }
-    ensures exact { IsExact library.now found.now (carried_out (library_value library.now) (found_value found.now) (block_value block.now) (state_of sandbox.old.now)) result (state_of sandbox.new.now) }
+    ensures done { IsDone
+        (carried_out_of library.now found.now block.now (state_of sandbox.old.now))
+        result (state_of sandbox.new.now) }
+    ensures exact { IsExact library.now found.now
+        (carried_out_of library.now found.now block.now (state_of sandbox.old.now))
+        result (state_of sandbox.new.now) }
     ensures layers { KeepsLayers sandbox.old sandbox.new }
 {
     let arguments = arguments_of(library, found, block);
@@ -252,8 +260,12 @@ fn register(
     text: &str,
     block: &Block,
 ) -> Outcome
-    ensures done { (s : State) → IsDone (words.done_of (registers s (block_value block.now) (found_any (library_value library.now) text.now))) result s }
-    ensures registered { (s : State) → HasRegistered (registers s (block_value block.now) (found_any (library_value library.now) text.now)) (cleanups_value cleanups.old) result (cleanups_value cleanups.new) }
+    ensures done { (s : State) → IsDone (words.done_of
+        (registers s (block_value block.now) (found_any (library_value library.now) text.now)))
+        result s }
+    ensures registered { (s : State) → HasRegistered
+        (registers s (block_value block.now) (found_any (library_value library.now) text.now))
+        (cleanups_value cleanups.old) result (cleanups_value cleanups.new) }
     ensures memory { NeedsCandidate (library_value library.now) text.now result }
 {
     match library.find_any(alloc, text) {
@@ -272,17 +284,18 @@ fn at_cleanup(
     cleanups: &mut Cleanups,
     library: &Library,
     site: Site,
-    found: &Found,
-    block: &Block,
+    arguments: &Arguments<'_>,
 ) -> Outcome
-    ensures done { (s : State) → IsDone (words.done_of (words.registers_at site s (library_value library.now) (words.given (library_value library.now) (found_value found.now) (block_value block.now)))) result s }
-    ensures registered { (s : State) → HasRegistered (words.registers_at site s (library_value library.now) (words.given (library_value library.now) (found_value found.now) (block_value block.now))) (cleanups_value cleanups.old) result (cleanups_value cleanups.new) }
-    ensures memory { let arguments = given (library_value library.now) (found_value found.now) (block_value block.now) in NeedsCandidate (library_value library.now) arguments.step result }
+    ensures done { (s : State) → IsDone (words.done_of (words.registers_at
+        site s (library_value library.now) (given_value arguments.now))) result s }
+    ensures registered { (s : State) → HasRegistered (words.registers_at
+        site s (library_value library.now) (given_value arguments.now))
+        (cleanups_value cleanups.old) result (cleanups_value cleanups.new) }
+    ensures memory { NeedsCandidate (library_value library.now) arguments.now.step.now result }
 {
     if !may_register(site) {
         return Outcome::Failed(Reason::NotHere);
     }
-    let arguments = arguments_of(library, found, block);
     register(alloc, cleanups, library, arguments.step, arguments.block)
 }
 
@@ -306,14 +319,23 @@ pub fn act(
     block: &Block,
 ) -> Outcome
     requires begun { 0 < depth sandbox.old }
-    ensures done { IsDone (words.done_of (act_of library.now site found.now block.now (state_of sandbox.old.now))) result (state_of sandbox.new.now) }
-    ensures exact { IsExact library.now found.now (words.done_of (act_of library.now site found.now block.now (state_of sandbox.old.now))) result (state_of sandbox.new.now) }
-    ensures registered { HasRegistered (act_of library.now site found.now block.now (state_of sandbox.old.now)) (cleanups_value cleanups.old) result (cleanups_value cleanups.new) }
+    ensures done { IsDone (words.done_of
+        (act_of library.now site found.now block.now (state_of sandbox.old.now)))
+        result (state_of sandbox.new.now) }
+    ensures exact { IsExact library.now found.now (words.done_of
+        (act_of library.now site found.now block.now (state_of sandbox.old.now)))
+        result (state_of sandbox.new.now) }
+    ensures registered { HasRegistered
+        (act_of library.now site found.now block.now (state_of sandbox.old.now))
+        (cleanups_value cleanups.old) result (cleanups_value cleanups.new) }
     ensures memory { CleanupNeedsCandidate library.now found.now block.now result }
     ensures layers { KeepsLayers sandbox.old sandbox.new }
 {
     match library.action(found) {
-        Action::AtCleanup => at_cleanup(alloc, cleanups, library, site, found, block),
+        Action::AtCleanup => {
+            let arguments = arguments_of(library, found, block);
+            at_cleanup(alloc, cleanups, library, site, &arguments)
+        }
         Action::SkipScenario => skip(site),
         _ => carry_out(alloc, sandbox, library, found, block),
     }

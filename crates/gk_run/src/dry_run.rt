@@ -1,19 +1,22 @@
 //! Dry runs.
-ghost use Rattle.std.specs.Prelude.{◌≡◌, ◌≤◌, false, cond, [], List, map, length, vec_capacity, IfOk};
+ghost use Rattle.std.specs.Prelude.{◌≡◌, false, cond, List, map, length, IfOk};
 ghost use Rattle.gk_gherkin.specs.Feature.{step_value};
 ghost use Rattle.gk_select.specs.Case.{case_value};
 ghost use Rattle.gk_steps.specs.Finding.{library_value};
 ghost use Rattle.gk_run.specs.declared.results.Status.TheVariants as statuses;
 ghost use Rattle.gk_run.specs.Results.{step_row, case_row, feature_row};
 ghost use Rattle.gk_run.specs.Section.{Cut};
-ghost use Rattle.gk_run.specs.Chosen.{member_of, members_of, chosen_value, IsPaired};
+ghost use Rattle.gk_run.specs.Chosen.{member_of, chosen_value, IsPaired};
 ghost use Rattle.gk_run.specs.Features.{FeatureCuts};
 ghost use Rattle.gk_run.specs.DryRun.{dry_row, dry_case_of, dry_cases_of, dry_feature_of, IsDryStep, AreDrySteps};
+ghost use Rattle.gk_run.specs.Reserved.{members_in};
 
 use crate::chosen::Chosen;
 use crate::features::feature_status;
+use crate::reserved::{ReservedCase, ReservedCases, ReservedSteps};
+use crate::reserving::{reserve_case, reserve_cases};
 use crate::results::{CaseResult, FeatureResult, Mark, NoRoom, Outcome, Status, StepResult};
-use crate::running::told_case;
+use crate::running::{CaseEnd, case_result, told_case};
 use crate::walk::row_of;
 use gk_gherkin::Step;
 use gk_select::Case;
@@ -29,7 +32,8 @@ struct DryStep {
 
 // Looks a step up, unless memory was refused before it.
 fn dry_step(alloc: Global, library: &Library, is_refused: bool, step: &Step) -> DryStep
-    ensures { IsDryStep (library_value library.now) is_refused (step_value step.now) result.mark result.is_refused }
+    ensures { IsDryStep (library_value library.now) is_refused (step_value step.now)
+        result.mark result.is_refused }
 {
     if is_refused {
         return DryStep {
@@ -53,24 +57,29 @@ fn dry_step(alloc: Global, library: &Library, is_refused: bool, step: &Step) -> 
     }
 }
 
-// Looks the steps of a case up; `results` has room for theirs. Answers whether memory was refused at one.
-fn dry_steps(
-    alloc: Global,
-    library: &Library,
-    steps: Vec<Step>,
-    results: &mut Vec<StepResult>,
-) -> bool
-    requires empty { results.old.items ≡ [] }
-    requires room { length steps.items ≤ vec_capacity results.old }
-    ensures { AreDrySteps (library_value library.now) false (map step_value steps.items) (map step_row results.new.items) result }
+/// The results of steps, and whether memory was refused at one.
+#[derive(Drop)]
+struct DrySteps {
+    results: Vec<StepResult>,
+    is_refused: bool,
+}
+
+// Looks the steps of a case up.
+fn dry_steps(alloc: Global, library: &Library, steps: ReservedSteps) -> DrySteps
+    ensures { AreDrySteps (library_value library.now) false (map step_value steps.steps.items)
+        (map step_row result.results.items) result.is_refused }
 {
+    let ReservedSteps { steps, mut results } = steps;
     let mut is_refused = false;
     for step in steps {
         let looked = dry_step(alloc, library, is_refused, &step);
         is_refused = looked.is_refused;
         results.push_reserved(row_of(step, looked.mark));
     }
-    is_refused
+    DrySteps {
+        results,
+        is_refused,
+    }
 }
 
 fn dry_status(is_refused: bool) -> Status
@@ -84,30 +93,23 @@ fn dry_status(is_refused: bool) -> Status
 
 // The result of a selected case.
 fn dry_case(alloc: Global, library: &Library, case: Case) -> Result<CaseResult, NoRoom>
-    ensures { IfOk result (λ r. (cut : Cut) × (case_row r ≡ dry_row (library_value library.now) cut (case_value case))) }
+    ensures { IfOk result (λ r. (cut : Cut) × (case_row r
+        ≡ dry_row (library_value library.now) cut (case_value case))) }
 {
-    let Case {
-        keyword,
-        name,
-        line,
-        steps,
-        tags: _,
+    let reserved = reserve_case(alloc, case)?;
+    let ReservedCase {
+        heading,
         own_tags: _,
-    } = case;
-    let mut results = match Vec::with_capacity(alloc, steps.len()) {
-        Ok(results) => results,
-        Err(AllocError) => return Err(NoRoom),
-    };
-    let is_refused = dry_steps(alloc, library, steps, &mut results);
-    Ok(CaseResult {
-        keyword,
-        name,
-        line,
-        status: dry_status(is_refused),
+        steps,
+    } = reserved;
+    let looked = dry_steps(alloc, library, steps);
+    let end = CaseEnd {
+        status: dry_status(looked.is_refused),
         around: Status::Passed,
         cleanups: Vec::new(alloc),
-        steps: results,
-    })
+        steps: looked.results,
+    };
+    Ok(case_result(heading, end))
 }
 
 // The result of a case, selected or not.
@@ -117,7 +119,8 @@ fn dry_member(
     case: Case,
     selected: bool,
 ) -> Result<CaseResult, NoRoom>
-    ensures { IfOk result (λ r. (cut : Cut) × (case_row r ≡ dry_case_of (library_value library.now) cut (member_of case selected))) }
+    ensures { IfOk result (λ r. (cut : Cut) × (case_row r
+        ≡ dry_case_of (library_value library.now) cut (member_of case selected))) }
 {
     if !selected {
         return told_case(alloc, case, Status::Skipped, Mark::Skipped);
@@ -129,16 +132,16 @@ fn dry_member(
 fn dry_cases(
     alloc: Global,
     library: &Library,
-    cases: Vec<Case>,
-    selected: &[bool],
+    cases: ReservedCases,
 ) -> Result<Vec<CaseResult>, NoRoom>
-    requires paired { length selected.now ≡ length cases.items }
-    ensures { IfOk result (λ rs. (cuts : List Cut) × (map case_row rs.items ≡ dry_cases_of (library_value library.now) cuts (members_of cases.items selected.now))) }
+    ensures { IfOk result (λ rs. (cuts : List Cut) × (map case_row rs.items
+        ≡ dry_cases_of (library_value library.now) cuts (members_in cases))) }
 {
-    let mut results = match Vec::with_capacity(alloc, cases.len()) {
-        Ok(results) => results,
-        Err(AllocError) => return Err(NoRoom),
-    };
+    let ReservedCases {
+        cases,
+        selected,
+        mut results,
+    } = cases;
     let mut place = 0;
     for case in cases {
         results.push_reserved(dry_member(alloc, library, case, selected[place])?);
@@ -159,7 +162,8 @@ pub fn dry_feature(
     chosen: Chosen,
 ) -> Result<FeatureResult, NoRoom>
     requires paired { IsPaired chosen }
-    ensures row { IfOk result (λ r. (cuts : FeatureCuts) × (feature_row r ≡ dry_feature_of (library_value library.now) cuts (chosen_value chosen))) }
+    ensures row { IfOk result (λ r. (cuts : FeatureCuts) × (feature_row r
+        ≡ dry_feature_of (library_value library.now) cuts (chosen_value chosen))) }
 {
     let Chosen {
         source,
@@ -169,7 +173,8 @@ pub fn dry_feature(
         cases,
         selected,
     } = chosen;
-    let cases = dry_cases(alloc, library, cases, selected.as_slice())?;
+    let reserved = reserve_cases(alloc, cases, selected)?;
+    let cases = dry_cases(alloc, library, reserved)?;
     Ok(FeatureResult {
         source,
         name,

@@ -1,46 +1,37 @@
 //! Running a feature.
-ghost use Rattle.std.specs.Prelude.{◌≡◌, ◌≤◌, ◌<◌, Bool, true, false, ◌&&◌, ◌||◌, suc, [], map, length, vec_capacity, IfOk};
+ghost use Rattle.std.specs.Prelude.{◌≡◌, ◌<◌, Bool, true, false, ◌&&◌, ◌||◌, suc, length, map, IfOk};
 ghost use Rattle.std.specs.List.{list_any};
 ghost use Rattle.gk_gherkin.specs.Feature.{texts};
-ghost use Rattle.gk_gherkin.specs.Hooks.{hooks_value};
-ghost use Rattle.gk_steps.specs.Finding.{library_value};
 ghost use Rattle.gk_world.specs.State.{State, state_of, enter};
 ghost use Rattle.gk_world.specs.Sandbox.{depth, layers};
 ghost use Rattle.gk_run.specs.Acting.{KeepsLayers};
-ghost use Rattle.gk_run.specs.Cleanups.{cleanups_value};
 ghost use Rattle.gk_run.specs.Ending as endings;
-ghost use Rattle.gk_run.specs.SectionHooks.{begun};
 ghost use Rattle.gk_run.specs.Results as rows;
 ghost use Rattle.gk_run.specs.Results.{case_row, feature_row};
-ghost use Rattle.gk_run.specs.Section.{Cut};
 ghost use Rattle.gk_run.specs.Alone.{run_of};
-ghost use Rattle.gk_run.specs.Chosen.{member_of, members_of, chosen_value, IsPaired};
+ghost use Rattle.gk_run.specs.Chosen.{member_of, chosen_value, IsPaired};
 ghost use Rattle.gk_run.specs.Features as spec;
-ghost use Rattle.gk_run.specs.Features.{FeatureCuts, case_of, feature_of, case_statuses, feature_verdict};
-ghost use Rattle.gk_run.specs.Running.{IsSame, run_value, AreCases, IsWalked, IsSectionEnd, IsFeatureEnd, IsFeatureResult};
+ghost use Rattle.gk_run.specs.Features.{FeatureCuts, feature_of, case_statuses, feature_verdict};
+ghost use Rattle.gk_run.specs.Running.{IsSame, run_value, AreCases, IsSectionEnd, IsFeatureResult};
+ghost use Rattle.gk_run.specs.Reserved.{members_in};
+ghost use Rattle.gk_run.specs.Calls.{IsCaseResult, IsBegun, EndsFeature};
 
 use crate::chosen::Chosen;
 use crate::cleanups::Cleanups;
 use crate::closing::close;
 use crate::ending::{Ending, around_status, has_passed, is_memory, worse};
+use crate::reserved::ReservedCases;
+use crate::reserving::reserve_cases;
 use crate::results::{CaseResult, FeatureResult, Mark, NoRoom, Status};
-use crate::running::{run_case, told_case};
-use crate::section_hooks::Level;
+use crate::run::Run;
+use crate::running::{case_in, told_case};
+use crate::section_hooks::{Level, Section};
 use crate::walk::walk_before;
 use gk_gherkin::HookFile;
 use gk_select::Case;
 use gk_steps::Library;
 use gk_world::{Sandbox, layers_enter};
-use std::alloc::{AllocError, Global};
-
-/// What stays the same during a run, and where its memory comes from.
-#[derive(Clone, Copy)]
-pub(crate) struct Run<'a> {
-    pub(crate) alloc: Global,
-    pub(crate) library: &'a Library,
-    pub(crate) hooks: &'a HookFile,
-    pub(crate) stop: bool,
-}
+use std::alloc::Global;
 
 // The result of a case in a section that is open, or isn't.
 fn run_member(
@@ -51,8 +42,8 @@ fn run_member(
     selected: bool,
 ) -> Result<CaseResult, NoRoom>
     requires room { depth sandbox.old < layers }
-    ensures row { IfOk result (λ r. (section : State) → (is_open ≡ true → state_of sandbox.old.now ≡ section) →
-        (cut : Cut) × (case_row r ≡ case_of (run_value run.now) section is_open cut (member_of case selected))) }
+    ensures row { IfOk result
+        (IsCaseResult run.now sandbox.old is_open (member_of case selected)) }
     ensures same { IsSame sandbox.old sandbox.new }
 {
     if !selected {
@@ -61,7 +52,7 @@ fn run_member(
     if !is_open {
         return told_case(run.alloc, case, Status::Untested, Mark::Untested);
     }
-    run_case(run.alloc, sandbox, run.library, run.hooks, case)
+    case_in(run, sandbox, case)
 }
 
 /// Whether both hold.
@@ -90,22 +81,23 @@ pub fn stays_open(stop: bool, status: Status) -> bool
     !(stop && is_bad(status))
 }
 
-// Runs the cases of a section that is open, or isn't; `results` has room for theirs.
+// Runs the cases of a section that is open, or isn't.
 fn run_cases(
     run: &Run<'_>,
     sandbox: &mut Sandbox,
     is_open: bool,
-    cases: Vec<Case>,
-    selected: &[bool],
-    results: &mut Vec<CaseResult>,
-) -> Result<(), NoRoom>
+    cases: ReservedCases,
+) -> Result<Vec<CaseResult>, NoRoom>
     requires layer { depth sandbox.old < layers }
-    requires empty { results.old.items ≡ [] }
-    requires paired { length selected.now ≡ length cases.items }
-    requires room { length cases.items ≤ vec_capacity results.old }
-    ensures rows { IfOk result (λ done. AreCases (run_value run.now) (state_of sandbox.old.now) is_open (members_of cases.items selected.now) (map case_row results.new.items)) }
+    ensures rows { IfOk result (λ rows. AreCases (run_value run.now)
+        (state_of sandbox.old.now) is_open (members_in cases) (map case_row rows.items)) }
     ensures same { IsSame sandbox.old sandbox.new }
 {
+    let ReservedCases {
+        cases,
+        selected,
+        mut results,
+    } = cases;
     let mut is_open = is_open;
     let mut place = 0;
     for case in cases {
@@ -114,7 +106,7 @@ fn run_cases(
         is_open = both(is_open, stays_open(run.stop, row.status));
         results.push_reserved(row);
     }
-    Ok(())
+    Ok(results)
 }
 
 // Closes a feature or the run, whose before list ended so, and leaves its layer open. Answers how its hooks
@@ -122,61 +114,54 @@ fn run_cases(
 pub(crate) fn close_section(
     run: &Run<'_>,
     sandbox: &mut Sandbox,
-    level: Level,
-    tags: &[String],
+    section: &Section<'_>,
     before: Ending,
     cleanups: Cleanups,
 ) -> Status
     requires begun { 0 < depth sandbox.old }
-    ensures around { (outside : State) (stop : Bool) → IsWalked (begun (library_value run.now.library.now) (hooks_value run.now.hooks.now) level (texts tags.now) outside) before (state_of sandbox.old.now) (cleanups_value cleanups) →
-        IsSectionEnd (run_of run.now.library.now run.now.hooks.now stop) level (texts tags.now) outside result (endings.has_passed before) }
+    ensures around { (outside : State) (stop : Bool) →
+        IsBegun run.now section.now outside before sandbox.old cleanups →
+        IsSectionEnd (run_of run.now.library.now run.now.hooks.now stop) section.now.level
+        (texts section.now.tags.now) outside result (endings.has_passed before) }
     ensures layers { KeepsLayers sandbox.old sandbox.new }
 {
     if is_memory(before) {
         return Status::Memory;
     }
-    let closed = close(
-        run.alloc,
-        sandbox,
-        cleanups,
-        run.library,
-        run.hooks,
-        level,
-        tags,
-    );
+    let closed = close(run, sandbox, cleanups, section);
     around_status(worse(before, closed.ending))
 }
 
-// Runs a feature in the layer that was begun for it; `results` has room for its cases.
+/// What a feature comes to.
+#[derive(Drop)]
+struct FeatureEnd {
+    around: Status,
+    cases: Vec<CaseResult>,
+}
+
+// Runs a feature in the layer that was begun for it.
 fn in_feature(
     run: &Run<'_>,
     sandbox: &mut Sandbox,
     tags: &[String],
-    cases: Vec<Case>,
-    selected: &[bool],
-    results: &mut Vec<CaseResult>,
-) -> Result<Status, NoRoom>
+    cases: ReservedCases,
+) -> Result<FeatureEnd, NoRoom>
     requires begun { 0 < depth sandbox.old }
     requires layer { depth sandbox.old < layers }
-    requires empty { results.old.items ≡ [] }
-    requires paired { length selected.now ≡ length cases.items }
-    requires room { length cases.items ≤ vec_capacity results.old }
-    ensures end { IfOk result (λ around. (outside : State) → state_of sandbox.old.now ≡ enter outside →
-        IsFeatureEnd (run_value run.now) Level.Feature outside true (texts tags.now) (members_of cases.items selected.now) around (map case_row results.new.items)) }
+    ensures end { IfOk result (λ end. (outside : State) →
+        state_of sandbox.old.now ≡ enter outside →
+        EndsFeature run.now tags.now cases outside true end) }
     ensures layers { KeepsLayers sandbox.old sandbox.new }
 {
-    let mut cleanups = Cleanups::new(run.alloc);
-    let before = walk_before(
-        run.alloc,
-        sandbox,
-        &mut cleanups,
-        run.library,
-        run.hooks,
-        Level::Feature,
+    let section = Section {
+        level: Level::Feature,
         tags,
-    );
-    run_cases(run, sandbox, has_passed(before), cases, selected, results)?;
-    Ok(close_section(run, sandbox, Level::Feature, tags, before, cleanups))
+    };
+    let mut cleanups = Cleanups::new(run.alloc);
+    let before = walk_before(run, sandbox, &mut cleanups, &section);
+    let cases = run_cases(run, sandbox, has_passed(before), cases)?;
+    let around = close_section(run, sandbox, &section, before, cleanups);
+    Ok(FeatureEnd { around, cases })
 }
 
 fn has_selected(selected: &[bool]) -> bool
@@ -249,21 +234,17 @@ fn begin_feature(
     run: &Run<'_>,
     sandbox: &mut Sandbox,
     tags: &[String],
-    cases: Vec<Case>,
-    selected: &[bool],
-    results: &mut Vec<CaseResult>,
-) -> Result<Status, NoRoom>
+    cases: ReservedCases,
+) -> Result<FeatureEnd, NoRoom>
     requires layer { suc (depth sandbox.old) < layers }
-    requires empty { results.old.items ≡ [] }
-    requires paired { length selected.now ≡ length cases.items }
-    requires room { length cases.items ≤ vec_capacity results.old }
-    ensures end { IfOk result (λ around. IsFeatureEnd (run_value run.now) Level.Feature (state_of sandbox.old.now) true (texts tags.now) (members_of cases.items selected.now) around (map case_row results.new.items)) }
+    ensures end { IfOk result
+        (EndsFeature run.now tags.now cases (state_of sandbox.old.now) true) }
     ensures same { IsSame sandbox.old sandbox.new }
 {
     // No code runs here: the law says that the layer's state is the run's, entered.
     layers_enter();
     let layer = sandbox.begin();
-    let end = in_feature(run, sandbox, tags, cases, selected, results);
+    let end = in_feature(run, sandbox, tags, cases);
     sandbox.end(layer);
     end
 }
@@ -274,23 +255,22 @@ fn feature_end(
     sandbox: &mut Sandbox,
     is_begun: bool,
     tags: &[String],
-    cases: Vec<Case>,
-    selected: &[bool],
-    results: &mut Vec<CaseResult>,
-) -> Result<Status, NoRoom>
+    cases: ReservedCases,
+) -> Result<FeatureEnd, NoRoom>
     requires layer { suc (depth sandbox.old) < layers }
-    requires empty { results.old.items ≡ [] }
-    requires paired { length selected.now ≡ length cases.items }
-    requires room { length cases.items ≤ vec_capacity results.old }
-    ensures end { IfOk result (λ around. (outside : State) → (is_begun ≡ true → state_of sandbox.old.now ≡ outside) →
-        IsFeatureEnd (run_value run.now) Level.Feature outside is_begun (texts tags.now) (members_of cases.items selected.now) around (map case_row results.new.items)) }
+    ensures end { IfOk result (λ end. (outside : State) →
+        (is_begun ≡ true → state_of sandbox.old.now ≡ outside) →
+        EndsFeature run.now tags.now cases outside is_begun end) }
     ensures same { IsSame sandbox.old sandbox.new }
 {
     if is_begun {
-        return begin_feature(run, sandbox, tags, cases, selected, results);
+        return begin_feature(run, sandbox, tags, cases);
     }
-    run_cases(run, sandbox, false, cases, selected, results)?;
-    Ok(Status::Passed)
+    let cases = run_cases(run, sandbox, false, cases)?;
+    Ok(FeatureEnd {
+        around: Status::Passed,
+        cases,
+    })
 }
 
 // Runs a feature of a run that is open, or isn't.
@@ -302,7 +282,8 @@ pub(crate) fn feature_in(
 ) -> Result<FeatureResult, NoRoom>
     requires layer { suc (depth sandbox.old) < layers }
     requires paired { IsPaired chosen }
-    ensures row { IfOk result (λ r. IsFeatureResult (run_value run.now) (state_of sandbox.old.now) is_open (chosen_value chosen) (feature_row r)) }
+    ensures row { IfOk result (λ r. IsFeatureResult (run_value run.now)
+        (state_of sandbox.old.now) is_open (chosen_value chosen) (feature_row r)) }
     ensures same { IsSame sandbox.old sandbox.new }
 {
     let Chosen {
@@ -313,27 +294,16 @@ pub(crate) fn feature_in(
         cases,
         selected,
     } = chosen;
-    let mut results = match Vec::with_capacity(run.alloc, cases.len()) {
-        Ok(results) => results,
-        Err(AllocError) => return Err(NoRoom),
-    };
     let is_begun = both(is_open, has_selected(selected.as_slice()));
-    let around = feature_end(
-        run,
-        sandbox,
-        is_begun,
-        tags.as_slice(),
-        cases,
-        selected.as_slice(),
-        &mut results,
-    )?;
+    let reserved = reserve_cases(run.alloc, cases, selected)?;
+    let end = feature_end(run, sandbox, is_begun, tags.as_slice(), reserved)?;
     Ok(FeatureResult {
         source,
         name,
         line,
-        status: feature_status(around, results.as_slice()),
-        around,
-        cases: results,
+        status: feature_status(end.around, end.cases.as_slice()),
+        around: end.around,
+        cases: end.cases,
     })
 }
 
@@ -354,7 +324,9 @@ pub fn run_feature(
 ) -> Result<FeatureResult, NoRoom>
     requires layer { suc (depth sandbox.old) < layers }
     requires paired { IsPaired chosen }
-    ensures row { IfOk result (λ r. (cuts : FeatureCuts) × (feature_row r ≡ feature_of (run_of library.now hooks.now stop) (state_of sandbox.old.now) true cuts (chosen_value chosen))) }
+    ensures row { IfOk result (λ r. (cuts : FeatureCuts) × (feature_row r
+        ≡ feature_of (run_of library.now hooks.now stop)
+        (state_of sandbox.old.now) true cuts (chosen_value chosen))) }
     ensures same { IsSame sandbox.old sandbox.new }
 {
     let run = Run {

@@ -17,9 +17,10 @@ ghost use Rattle.gk_run.specs.OpenRun.{IsStarted, IsKept, FinishedRunsAreJudged,
 use crate::chosen::Chosen;
 use crate::cleanups::Cleanups;
 use crate::ending::{Ending, has_passed};
-use crate::features::{Run, both, close_section, feature_in, stays_open};
+use crate::features::{both, close_section, feature_in, stays_open};
 use crate::results::{FeatureResult, NoRoom, Status};
-use crate::section_hooks::Level;
+use crate::run::Run;
+use crate::section_hooks::{Level, Section};
 use crate::walk::walk_before;
 use gk_gherkin::HookFile;
 use gk_steps::Library;
@@ -52,19 +53,21 @@ impl Suite {
         requires { depth sandbox.old < layers }
         ensures { IsStarted (run_of library.now hooks.now stop) sandbox.old sandbox.new result }
     {
+        let run = Run {
+            alloc,
+            library,
+            hooks,
+            stop,
+        };
         // No code runs here: the law says that the layer's state is the one outside, entered.
         layers_enter();
         let layer = sandbox.begin();
         let mut cleanups = Cleanups::new(alloc);
-        let before = walk_before(
-            alloc,
-            sandbox,
-            &mut cleanups,
-            library,
-            hooks,
-            Level::Run,
-            &[],
-        );
+        let section = Section {
+            level: Level::Run,
+            tags: &[],
+        };
+        let before = walk_before(&run, sandbox, &mut cleanups, &section);
         Suite {
             layer,
             before,
@@ -88,8 +91,11 @@ impl Suite {
     ) -> Result<FeatureResult, NoRoom>
         requires layer { suc (depth sandbox.old) < layers }
         requires paired { IsPaired chosen }
-        ensures row { IfOk result (λ r. IsFeatureResult (run_of library.now hooks.now self.old.stop) (state_of sandbox.old.now) self.old.is_open (chosen_value chosen) (feature_row r)) }
-        ensures next { IfOk result (λ r. self.new.is_open ≡ (self.old.is_open && stays_open_by self.old.stop r.status)) }
+        ensures row { IfOk result (λ r. IsFeatureResult
+            (run_of library.now hooks.now self.old.stop) (state_of sandbox.old.now)
+            self.old.is_open (chosen_value chosen) (feature_row r)) }
+        ensures next { IfOk result (λ r. self.new.is_open
+            ≡ (self.old.is_open && stays_open_by self.old.stop r.status)) }
         ensures kept { IsKept self.old self.new }
         ensures err { OnErr result (self.new.is_open ≡ self.old.is_open) }
         ensures same { IsSame sandbox.old sandbox.new }
@@ -116,8 +122,12 @@ impl Suite {
         hooks: &HookFile,
     ) -> Status
         requires innermost { self.layer ≡ depth sandbox.old }
-        ensures around { (outside : State) (stop : Bool) → IsWalked (begun (library_value library.now) (hooks_value hooks.now) Level.Run [] outside) self.before (state_of sandbox.old.now) (cleanups_value self.cleanups) →
-            IsSectionEnd (run_of library.now hooks.now stop) Level.Run [] outside result (endings.has_passed self.before) }
+        ensures around { (outside : State) (stop : Bool) →
+            IsWalked
+            (begun (library_value library.now) (hooks_value hooks.now) Level.Run [] outside)
+            self.before (state_of sandbox.old.now) (cleanups_value self.cleanups) →
+            IsSectionEnd (run_of library.now hooks.now stop) Level.Run [] outside result
+            (endings.has_passed self.before) }
         ensures ends { Ends sandbox.old sandbox.new }
     {
         let Suite {
@@ -133,7 +143,11 @@ impl Suite {
             hooks,
             stop,
         };
-        let around = close_section(&run, sandbox, Level::Run, &[], before, cleanups);
+        let section = Section {
+            level: Level::Run,
+            tags: &[],
+        };
+        let around = close_section(&run, sandbox, &section, before, cleanups);
         sandbox.end(layer);
         around
     }

@@ -35,7 +35,8 @@ impl Cleanups {
     /// Registers a cleanup as the last, with a copy of the block, and reserves the place of its
     /// outcome. A refusal changes nothing. (behave's documentation: cleanups)
     pub(crate) fn add(&mut self, found: Found, block: &Block) -> Result<(), AllocError>
-        ensures ok { OnOk result (cleanups_value self.new ≡ cleanups_value self.old ++ record { found = found_value found; block = block_value block.now } ∷ []) }
+        ensures ok { OnOk result (cleanups_value self.new ≡ cleanups_value self.old
+            ++ record { found = found_value found; block = block_value block.now } ∷ []) }
         ensures err { OnErr result (cleanups_value self.new ≡ cleanups_value self.old) }
     {
         self.outcomes.reserve(self.list.len() + 1)?;

@@ -1,92 +1,119 @@
 //! Running a case.
-ghost use Rattle.std.specs.Prelude.{◌≡◌, ◌≤◌, ◌<◌, [], map, length, vec_capacity, IfOk, false};
-ghost use Rattle.gk_gherkin.specs.Feature.{step_value, texts};
+ghost use Rattle.std.specs.Prelude.{◌≡◌, ◌<◌, map, IfOk, false};
+ghost use Rattle.gk_gherkin.specs.Feature.{step_value};
 ghost use Rattle.gk_select.specs.Case.{case_value};
 ghost use Rattle.gk_world.specs.State.{State, state_of, enter};
 ghost use Rattle.gk_world.specs.Sandbox.{depth, layers};
 ghost use Rattle.gk_run.specs.Acting.{KeepsLayers};
-ghost use Rattle.gk_run.specs.Cleanups.{cleanups_value};
 ghost use Rattle.gk_run.specs.Results.{step_row, case_row};
-ghost use Rattle.gk_run.specs.Alone.{run_of, told_row};
-ghost use Rattle.gk_run.specs.Running.{IsSame, IsReached, IsCaseEnd, marks_of, ran};
+ghost use Rattle.gk_run.specs.Alone.{run_of, told_row, row_of_step};
+ghost use Rattle.gk_run.specs.Running.{IsSame, IsReached, marks_of, run_value};
+ghost use Rattle.gk_run.specs.Calls.{EndsCase, row_with};
 
 use crate::cleanups::Cleanups;
 use crate::closing::close;
 use crate::ending::{around_status, is_memory, verdict_status, worse};
+use crate::reserved::{Heading, ReservedCase, ReservedSteps};
+use crate::reserving::reserve_case;
 use crate::results::{CaseResult, Mark, NoRoom, Outcome, Status, StepResult};
-use crate::section_hooks::Level;
-use crate::walk::{row_of, run_steps, walk_before};
-use gk_gherkin::{HookFile, Step};
+use crate::run::Run;
+use crate::section_hooks::{Level, Section};
+use crate::walk::{StepsEnd, row_of, run_steps, walk_before};
+use gk_gherkin::HookFile;
 use gk_select::Case;
 use gk_steps::Library;
 use gk_world::{Sandbox, layers_enter};
-use std::alloc::{AllocError, Global};
+use std::alloc::Global;
 
 /// What a case comes to.
 #[derive(Drop)]
-struct CaseEnd {
-    status: Status,
-    around: Status,
-    cleanups: Vec<Outcome>,
+pub struct CaseEnd {
+    pub status: Status,
+    pub around: Status,
+    pub cleanups: Vec<Outcome>,
+    pub steps: Vec<StepResult>,
 }
 
-// Runs a case in the layer that was begun for it; `results` has room for its steps.
-fn in_layer(
-    alloc: Global,
-    sandbox: &mut Sandbox,
-    library: &Library,
-    hooks: &HookFile,
-    tags: &[String],
-    steps: Vec<Step>,
-    results: &mut Vec<StepResult>,
-) -> CaseEnd
+/// The result of a case that came to this.
+pub fn case_result(heading: Heading, end: CaseEnd) -> CaseResult
+    ensures { case_row result ≡ row_with heading end }
+{
+    let Heading {
+        keyword,
+        name,
+        line,
+    } = heading;
+    let CaseEnd {
+        status,
+        around,
+        cleanups,
+        steps,
+    } = end;
+    CaseResult {
+        keyword,
+        name,
+        line,
+        status,
+        around,
+        cleanups,
+        steps,
+    }
+}
+
+// Runs a case in the layer that was begun for it.
+fn in_layer(run: &Run<'_>, sandbox: &mut Sandbox, tags: &[String], steps: ReservedSteps) -> CaseEnd
     requires begun { 0 < depth sandbox.old }
-    requires empty { results.old.items ≡ [] }
-    requires room { length steps.items ≤ vec_capacity results.old }
     ensures end { (outside : State) → state_of sandbox.old.now ≡ enter outside →
-        IsCaseEnd (run_of library.now hooks.now false) outside (ran (texts tags.now) (map step_value steps.items)) result.status result.around result.cleanups.items (map step_row results.new.items) }
+        EndsCase run.now tags.now steps outside result }
     ensures layers { KeepsLayers sandbox.old sandbox.new }
 {
-    let mut cleanups = Cleanups::new(alloc);
-    let before = walk_before(
-        alloc,
-        sandbox,
-        &mut cleanups,
-        library,
-        hooks,
-        Level::Scenario,
+    let section = Section {
+        level: Level::Scenario,
         tags,
-    );
-    let ending = run_steps(
-        alloc,
-        sandbox,
-        &mut cleanups,
-        library,
-        before,
-        steps,
-        results,
-    );
+    };
+    let mut cleanups = Cleanups::new(run.alloc);
+    let before = walk_before(run, sandbox, &mut cleanups, &section);
+    let StepsEnd { ending, results } = run_steps(run, sandbox, &mut cleanups, before, steps);
     if is_memory(ending) {
         return CaseEnd {
             status: Status::Memory,
             around: around_status(before),
             cleanups: cleanups.none(),
+            steps: results,
         };
     }
-    let closed = close(
-        alloc,
-        sandbox,
-        cleanups,
-        library,
-        hooks,
-        Level::Scenario,
-        tags,
-    );
+    let closed = close(run, sandbox, cleanups, &section);
     CaseEnd {
         status: verdict_status(worse(ending, closed.ending)),
         around: around_status(worse(before, closed.ending)),
         cleanups: closed.outcomes,
+        steps: results,
     }
+}
+
+/// Runs a case of a run in a layer of its own.
+pub(crate) fn case_in(
+    run: &Run<'_>,
+    sandbox: &mut Sandbox,
+    case: Case,
+) -> Result<CaseResult, NoRoom>
+    requires room { depth sandbox.old < layers }
+    ensures row { IfOk result (λ r. IsReached (run_value run.now)
+        (state_of sandbox.old.now) (case_value case) (case_row r)) }
+    ensures same { IsSame sandbox.old sandbox.new }
+{
+    let reserved = reserve_case(run.alloc, case)?;
+    let ReservedCase {
+        heading,
+        own_tags,
+        steps,
+    } = reserved;
+    // No code runs here: the law says that the layer's state is the section's, entered.
+    layers_enter();
+    let layer = sandbox.begin();
+    let end = in_layer(run, sandbox, own_tags.as_slice(), steps);
+    sandbox.end(layer);
+    Ok(case_result(heading, end))
 }
 
 /// Runs a case in a layer of its own: its before hooks, its steps, its after hooks and its cleanups.
@@ -103,43 +130,29 @@ pub fn run_case(
     case: Case,
 ) -> Result<CaseResult, NoRoom>
     requires room { depth sandbox.old < layers }
-    ensures row { IfOk result (λ r. IsReached (run_of library.now hooks.now false) (state_of sandbox.old.now) (case_value case) (case_row r)) }
+    ensures row { IfOk result (λ r. IsReached (run_of library.now hooks.now false)
+        (state_of sandbox.old.now) (case_value case) (case_row r)) }
     ensures same { IsSame sandbox.old sandbox.new }
 {
-    let Case {
-        keyword,
-        name,
-        line,
-        steps,
-        own_tags,
-        tags: _,
-    } = case;
-    let mut results = match Vec::with_capacity(alloc, steps.len()) {
-        Ok(results) => results,
-        Err(AllocError) => return Err(NoRoom),
-    };
-    // No code runs here: the law says that the layer's state is the section's, entered.
-    layers_enter();
-    let layer = sandbox.begin();
-    let end = in_layer(
+    let run = Run {
         alloc,
-        sandbox,
         library,
         hooks,
-        own_tags.as_slice(),
-        steps,
-        &mut results,
-    );
-    sandbox.end(layer);
-    Ok(CaseResult {
-        keyword,
-        name,
-        line,
-        status: end.status,
-        around: end.around,
-        cleanups: end.cleanups,
-        steps: results,
-    })
+        stop: false,
+    };
+    case_in(&run, sandbox, case)
+}
+
+// The results of steps of which nothing but this mark becomes.
+fn told_steps(steps: ReservedSteps, mark: Mark) -> Vec<StepResult>
+    ensures { map step_row result.items
+        ≡ map (λ step. row_of_step step mark) (map step_value steps.steps.items) }
+{
+    let ReservedSteps { steps, mut results } = steps;
+    for step in steps {
+        results.push_reserved(row_of(step, mark));
+    }
+    results
 }
 
 /// The result of a case in which nothing happens: it has this verdict, and each of its steps this mark.
@@ -149,30 +162,20 @@ pub fn told_case(
     status: Status,
     mark: Mark,
 ) -> Result<CaseResult, NoRoom>
-    ensures { IfOk result (λ r. case_row r ≡ told_row (case_value case) status (marks_of mark (case_value case))) }
+    ensures { IfOk result (λ r. case_row r
+        ≡ told_row (case_value case) status (marks_of mark (case_value case))) }
 {
-    let Case {
-        keyword,
-        name,
-        line,
-        steps: told,
-        tags: _,
+    let reserved = reserve_case(alloc, case)?;
+    let ReservedCase {
+        heading,
         own_tags: _,
-    } = case;
-    let mut steps = match Vec::with_capacity(alloc, told.len()) {
-        Ok(steps) => steps,
-        Err(AllocError) => return Err(NoRoom),
-    };
-    for step in told {
-        steps.push_reserved(row_of(step, mark));
-    }
-    Ok(CaseResult {
-        keyword,
-        name,
-        line,
+        steps,
+    } = reserved;
+    let end = CaseEnd {
         status,
         around: Status::Passed,
         cleanups: Vec::new(alloc),
-        steps,
-    })
+        steps: told_steps(steps, mark),
+    };
+    Ok(case_result(heading, end))
 }

@@ -7,12 +7,19 @@ ghost use Rattle.gk_run.specs.SectionHooks as spec;
 use crate::acting::Site;
 use gk_gherkin::{Hook, HookFile, HookKind, Step};
 
-/// A section of a run, which has a layer of its own. (behave's documentation: context layers)
+/// What a section of a run is, which has a layer of its own. (behave's documentation: context layers)
 #[derive(Clone, Copy, Debug, PartialEq, Eq)]
 pub enum Level {
     Run,
     Feature,
     Scenario,
+}
+
+/// A section of a run: its level, and the tags at its heading.
+#[derive(Clone, Copy)]
+pub struct Section<'a> {
+    pub level: Level,
+    pub tags: &'a [String],
 }
 
 /// The hook before a section.
@@ -96,7 +103,8 @@ fn is_hook(hook: &Hook, kind: HookKind, tag: Option<&str>) -> bool
 
 /// The steps of the hook of a kind and a tag; one that isn't in the file has none.
 pub fn hook_steps<'a>(hooks: &'a HookFile, kind: HookKind, tag: Option<&str>) -> &'a [Step]
-    ensures { map step_value result.now ≡ spec.hook_steps (hooks_value hooks.now) kind (option_copied tag.entry) }
+    ensures { map step_value result.now
+        ≡ spec.hook_steps (hooks_value hooks.now) kind (option_copied tag.entry) }
 {
     for hook in &hooks.hooks {
         if is_hook(hook, kind, tag) {

@@ -5,7 +5,7 @@ ghost use Rattle.gk_gherkin.specs.Feature.{texts};
 ghost use Rattle.gk_steps.specs.declared.action.Action.TheVariants as actions;
 ghost use Rattle.gk_world.specs.State.{state_of};
 ghost use Rattle.gk_run.specs.Acting as words;
-ghost use Rattle.gk_run.specs.Acting.{given_value, table, IsExactly, IsActed};
+ghost use Rattle.gk_run.specs.Acting.{IsActed, Performs, Checks};
 
 use crate::acting::{Arguments, exists, has_text, is_absent, is_bad_name, is_text, outcome_of};
 use crate::results::{Outcome, Reason};
@@ -15,20 +15,22 @@ use std::alloc::{AllocError, Global};
 
 // A file has a text.
 fn put(sandbox: &mut Sandbox, name: &str, text: &str) -> Outcome
-    ensures { IsActed (words.write_file (state_of sandbox.old.now) name.now text.now) sandbox.old result sandbox.new }
+    ensures { IsActed (words.write_file (state_of sandbox.old.now) name.now text.now)
+        sandbox.old result sandbox.new }
 {
     outcome_of(sandbox.put_file(name, text))
 }
 
 // A file is gone.
 fn remove(sandbox: &mut Sandbox, name: &str) -> Outcome
-    ensures { IsActed (words.remove_file (state_of sandbox.old.now) name.now) sandbox.old result sandbox.new }
+    ensures { IsActed (words.remove_file (state_of sandbox.old.now) name.now)
+        sandbox.old result sandbox.new }
 {
     outcome_of(sandbox.remove_file(name))
 }
 
 pub fn write_file(sandbox: &mut Sandbox, arguments: &Arguments<'_>) -> Outcome
-    ensures { IsActed (table actions.WriteFile (given_value arguments.now) (state_of sandbox.old.now)) sandbox.old result sandbox.new }
+    ensures { Performs actions.WriteFile arguments.now sandbox.old result sandbox.new }
 {
     match arguments.text {
         None => Outcome::Failed(Reason::NoText),
@@ -37,7 +39,7 @@ pub fn write_file(sandbox: &mut Sandbox, arguments: &Arguments<'_>) -> Outcome
 }
 
 pub fn append_file(sandbox: &mut Sandbox, arguments: &Arguments<'_>) -> Outcome
-    ensures { IsActed (table actions.AppendFile (given_value arguments.now) (state_of sandbox.old.now)) sandbox.old result sandbox.new }
+    ensures { Performs actions.AppendFile arguments.now sandbox.old result sandbox.new }
 {
     match arguments.text {
         None => Outcome::Failed(Reason::NoText),
@@ -46,14 +48,15 @@ pub fn append_file(sandbox: &mut Sandbox, arguments: &Arguments<'_>) -> Outcome
 }
 
 pub fn remove_file(sandbox: &mut Sandbox, arguments: &Arguments<'_>) -> Outcome
-    ensures { IsActed (table actions.RemoveFile (given_value arguments.now) (state_of sandbox.old.now)) sandbox.old result sandbox.new }
+    ensures { Performs actions.RemoveFile arguments.now sandbox.old result sandbox.new }
 {
     remove(sandbox, arguments.name)
 }
 
 // A text is written under the new name, and then the old name is removed.
 fn put_and_remove(sandbox: &mut Sandbox, name: &str, to: &str, text: &str) -> Outcome
-    ensures { IsActed (words.put_and_remove (state_of sandbox.old.now) name.now to.now text.now) sandbox.old result sandbox.new }
+    ensures { IsActed (words.put_and_remove (state_of sandbox.old.now) name.now to.now text.now)
+        sandbox.old result sandbox.new }
 {
     let written = put(sandbox, to, text);
     match written {
@@ -63,7 +66,7 @@ fn put_and_remove(sandbox: &mut Sandbox, name: &str, to: &str, text: &str) -> Ou
 }
 
 pub fn rename_file(alloc: Global, sandbox: &mut Sandbox, arguments: &Arguments<'_>) -> Outcome
-    ensures { IsActed (table actions.RenameFile (given_value arguments.now) (state_of sandbox.old.now)) sandbox.old result sandbox.new }
+    ensures { Performs actions.RenameFile arguments.now sandbox.old result sandbox.new }
 {
     let Some(held) = sandbox.file(arguments.name) else {
         return Outcome::Failed(Reason::Absent);
@@ -111,7 +114,8 @@ fn have_two_cells(rows: &[Vec<String>]) -> bool
 
 // A row as a file that is written.
 fn write_row(sandbox: &mut Sandbox, row: &[String]) -> Outcome
-    ensures { IsActed (words.write_row (state_of sandbox.old.now) (texts row.now)) sandbox.old result sandbox.new }
+    ensures { IsActed (words.write_row (state_of sandbox.old.now) (texts row.now))
+        sandbox.old result sandbox.new }
 {
     match row {
         [name, text] => put(sandbox, name.as_str(), text.as_str()),
@@ -121,7 +125,9 @@ fn write_row(sandbox: &mut Sandbox, row: &[String]) -> Outcome
 
 // Each row in turn as a file that is written.
 fn write_rows(sandbox: &mut Sandbox, rows: &[Vec<String>]) -> Outcome
-    ensures { IsActed (words.write_rows (state_of sandbox.old.now) (map (λ row. texts row.items) rows.now)) sandbox.old result sandbox.new }
+    ensures { IsActed
+        (words.write_rows (state_of sandbox.old.now) (map (λ row. texts row.items) rows.now))
+        sandbox.old result sandbox.new }
 {
     'rows: for row in rows {
         let written = write_row(sandbox, row);
@@ -134,7 +140,7 @@ fn write_rows(sandbox: &mut Sandbox, rows: &[Vec<String>]) -> Outcome
 }
 
 pub fn write_files(sandbox: &mut Sandbox, arguments: &Arguments<'_>) -> Outcome
-    ensures { IsActed (table actions.WriteFiles (given_value arguments.now) (state_of sandbox.old.now)) sandbox.old result sandbox.new }
+    ensures { Performs actions.WriteFiles arguments.now sandbox.old result sandbox.new }
 {
     let Block::Table(rows) = arguments.block else {
         return Outcome::Failed(Reason::NoTable);
@@ -150,25 +156,25 @@ pub fn write_files(sandbox: &mut Sandbox, arguments: &Arguments<'_>) -> Outcome
 }
 
 pub fn file_exists(sandbox: &Sandbox, arguments: &Arguments<'_>) -> Outcome
-    ensures { IsExactly (table actions.FileExists (given_value arguments.now) (state_of sandbox.now.now)) result (state_of sandbox.now.now) }
+    ensures { Checks actions.FileExists arguments.now sandbox.now result }
 {
     exists(sandbox.file(arguments.name))
 }
 
 pub fn file_absent(sandbox: &Sandbox, arguments: &Arguments<'_>) -> Outcome
-    ensures { IsExactly (table actions.FileAbsent (given_value arguments.now) (state_of sandbox.now.now)) result (state_of sandbox.now.now) }
+    ensures { Checks actions.FileAbsent arguments.now sandbox.now result }
 {
     is_absent(sandbox.file(arguments.name))
 }
 
 pub fn file_is(sandbox: &Sandbox, arguments: &Arguments<'_>) -> Outcome
-    ensures { IsExactly (table actions.FileIs (given_value arguments.now) (state_of sandbox.now.now)) result (state_of sandbox.now.now) }
+    ensures { Checks actions.FileIs arguments.now sandbox.now result }
 {
     is_text(sandbox.file(arguments.name), arguments.text)
 }
 
 pub fn file_contains(sandbox: &Sandbox, arguments: &Arguments<'_>) -> Outcome
-    ensures { IsExactly (table actions.FileContains (given_value arguments.now) (state_of sandbox.now.now)) result (state_of sandbox.now.now) }
+    ensures { Checks actions.FileContains arguments.now sandbox.now result }
 {
     has_text(sandbox.file(arguments.name), arguments.text)
 }

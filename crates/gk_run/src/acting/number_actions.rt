@@ -5,7 +5,7 @@ ghost use Rattle.gk_steps.specs.declared.action.Action.TheVariants as actions;
 ghost use Rattle.gk_world.specs.State.{state_of};
 ghost use Rattle.gk_world.specs.Refusals as refusals;
 ghost use Rattle.gk_world.specs.Sandbox.{depth};
-ghost use Rattle.gk_run.specs.Acting.{given_value, table, passes, with_own, IsNumber, IsExactly, IsActed};
+ghost use Rattle.gk_run.specs.Acting.{passes, with_own, IsNumber, IsActed, Performs, Checks};
 
 use crate::acting::value_actions::set;
 use crate::acting::{Arguments, is_bad_name};
@@ -18,7 +18,9 @@ use std::alloc::{AllocError, Global};
 fn put_number(alloc: Global, sandbox: &mut Sandbox, name: &str, number: i64) -> Outcome
     requires open { 0 < depth sandbox.old }
     requires good { refusals.is_bad_name name.now ≡ false }
-    ensures { IsActed (passes (with_own (state_of sandbox.old.now) name.now (signed_decimal number))) sandbox.old result sandbox.new }
+    ensures { IsActed
+        (passes (with_own (state_of sandbox.old.now) name.now (signed_decimal number)))
+        sandbox.old result sandbox.new }
 {
     match number.to_string(alloc) {
         Err(AllocError) => Outcome::Memory,
@@ -28,7 +30,7 @@ fn put_number(alloc: Global, sandbox: &mut Sandbox, name: &str, number: i64) -> 
 
 pub fn set_number(alloc: Global, sandbox: &mut Sandbox, arguments: &Arguments<'_>) -> Outcome
     requires { 0 < depth sandbox.old }
-    ensures { IsActed (table actions.SetNumber (given_value arguments.now) (state_of sandbox.old.now)) sandbox.old result sandbox.new }
+    ensures { Performs actions.SetNumber arguments.now sandbox.old result sandbox.new }
 {
     if is_bad_name(arguments.name) {
         return Outcome::Failed(Reason::BadName);
@@ -38,7 +40,7 @@ pub fn set_number(alloc: Global, sandbox: &mut Sandbox, arguments: &Arguments<'_
 
 pub fn add_number(alloc: Global, sandbox: &mut Sandbox, arguments: &Arguments<'_>) -> Outcome
     requires { 0 < depth sandbox.old }
-    ensures { IsActed (table actions.AddNumber (given_value arguments.now) (state_of sandbox.old.now)) sandbox.old result sandbox.new }
+    ensures { Performs actions.AddNumber arguments.now sandbox.old result sandbox.new }
 {
     if is_bad_name(arguments.name) {
         return Outcome::Failed(Reason::BadName);
@@ -73,7 +75,7 @@ fn is_number(held: Option<&str>, number: i64) -> Outcome
 }
 
 pub fn number_is(sandbox: &Sandbox, arguments: &Arguments<'_>) -> Outcome
-    ensures { IsExactly (table actions.NumberIs (given_value arguments.now) (state_of sandbox.now.now)) result (state_of sandbox.now.now) }
+    ensures { Checks actions.NumberIs arguments.now sandbox.now result }
 {
     is_number(sandbox.value(arguments.name), arguments.number)
 }

@@ -1,10 +1,10 @@
-use Rattle.std.proofs.Common.{cond, ◌∙◌, sym, subst}
+use Rattle.std.proofs.Common.{ap, cond, ◌∙◌, sym, subst}
 use Rattle.gk_gherkin.specs.Feature.{block_value}
 use Rattle.gk_steps.specs.declared.action.Action.TheVariants as actions
 use Rattle.gk_steps.specs.Finding.{library_value, found_value, action_of}
 use Rattle.gk_world.specs.State.{state_of}
 use Rattle.gk_run.specs.declared.results.Reason.TheVariants as reasons
-use Rattle.gk_run.specs.Acting.{Acted, skips, fails, done_of, may_skip, carried_out, IsDone, IsExactly, HasRegistered}
+use Rattle.gk_run.specs.Acting.{Acted, Given, registers_at, NeedsCandidate, skips, fails, done_of, may_skip, carried_out, IsDone, IsExactly, HasRegistered}
 use Rattle.gk_run.specs.Cleanups.{cleanups_value}
 use Rattle.gk_run.proofs.ActingLemmas.{act_is, act_row_is, row_by, none_registered, skip_exact, exact_done}
 use Rattle.gk_run.proofs.acting.act.Goals as goal
@@ -13,15 +13,21 @@ pub returns-in-AtCleanup-clause-done : goal.returns-in-AtCleanup-clause-done
 returns-in-AtCleanup-clause-done c =
     let library = library_value c.args.library.now in
     let s = state_of c.args.sandbox.now.now in
-    let is = act_is library c.args.site (found_value c.args.found.now) (block_value c.args.block.now) s actions.AtCleanup (sym c.in-AtCleanup.is ∙ c.action.ensures) in
-    subst (λ (acted : Acted). IsDone (done_of acted) c.at_cleanup.result s) (sym is) (c.at_cleanup.ensures.done s)
+    let is = ap (registers_at c.args.site s library) c.arguments_of-arguments.ensures
+    ∙ sym (act_is library c.args.site (found_value c.args.found.now) (block_value c.args.block.now) s actions.AtCleanup (sym c.in-AtCleanup.is ∙ c.action.ensures)) in
+    subst (λ (acted : Acted). IsDone (done_of acted) c.at_cleanup.result s) is (c.at_cleanup.ensures.done s)
 
 pub returns-in-AtCleanup-clause-registered : goal.returns-in-AtCleanup-clause-registered
 returns-in-AtCleanup-clause-registered c =
     let library = library_value c.args.library.now in
     let s = state_of c.args.sandbox.now.now in
-    let is = act_is library c.args.site (found_value c.args.found.now) (block_value c.args.block.now) s actions.AtCleanup (sym c.in-AtCleanup.is ∙ c.action.ensures) in
-    subst (λ (acted : Acted). HasRegistered acted (cleanups_value c.args.cleanups.now) c.at_cleanup.result (cleanups_value c.at_cleanup.new.cleanups)) (sym is) (c.at_cleanup.ensures.registered s)
+    let is = ap (registers_at c.args.site s library) c.arguments_of-arguments.ensures
+    ∙ sym (act_is library c.args.site (found_value c.args.found.now) (block_value c.args.block.now) s actions.AtCleanup (sym c.in-AtCleanup.is ∙ c.action.ensures)) in
+    subst (λ (acted : Acted). HasRegistered acted (cleanups_value c.args.cleanups.now) c.at_cleanup.result (cleanups_value c.at_cleanup.new.cleanups)) is (c.at_cleanup.ensures.registered s)
+
+pub returns-in-AtCleanup-clause-memory : goal.returns-in-AtCleanup-clause-memory
+returns-in-AtCleanup-clause-memory c _ =
+    subst (λ (g : Given). NeedsCandidate (library_value c.args.library.now) g.step c.at_cleanup.result) c.arguments_of-arguments.ensures c.at_cleanup.ensures.memory
 
 pub returns-in-SkipScenario-clause-done : goal.returns-in-SkipScenario-clause-done
 returns-in-SkipScenario-clause-done c =

@@ -17,7 +17,7 @@ popped list left last is = ap (map cleanup_value) is ∙ map_push cleanup_value 
 
 pub returns-then-is_memory-clause-cleaned : goal.returns-then-is_memory-clause-cleaned
 returns-then-is_memory-clause-cleaned c =
-    let library = library_value c.args.library.now in
+    let library = library_value c.args.run.now.library.now in
     let first = state_of c.args.sandbox.now.now in
     let all = map cleanup_value c.args.list.items in
     subst (λ (e : Ending). IsCleaned (cleaned library first all) e c.push_reserved.new.self.items) (sym c.ending_of-this.ensures)
@@ -27,7 +27,7 @@ returns-then-is_memory-clause-cleaned c =
 
 pub loop-cleanup-preserved : goal.loop-cleanup-preserved
 loop-cleanup-preserved c =
-    let library = library_value c.args.library.now in
+    let library = library_value c.args.run.now.library.now in
     let first = state_of c.args.sandbox.now.now in
     let all = map cleanup_value c.args.list.items in
     let new = state_of c.clean_one-outcome.new.sandbox.now in
@@ -45,5 +45,5 @@ loop-cleanup-preserved c =
 pub returns-clause-cleaned : goal.returns-clause-cleaned
 returns-clause-cleaned c =
     let none : c.loop-cleanup.list.items ≡ [] = nothing_in c.loop-cleanup.list.items (let q = c.loop-cleanup.list.ok.0 in omega (arith, c.in_default.ensures.cases)) in
-    clean_done (library_value c.args.library.now) (state_of c.args.sandbox.now.now) (map cleanup_value c.args.list.items) (state_of c.loop-cleanup.sandbox.now) (map cleanup_value c.loop-cleanup.list.items) c.loop-cleanup.ending c.loop-cleanup.outcomes.items
+    clean_done (library_value c.args.run.now.library.now) (state_of c.args.sandbox.now.now) (map cleanup_value c.args.list.items) (state_of c.loop-cleanup.sandbox.now) (map cleanup_value c.loop-cleanup.list.items) c.loop-cleanup.ending c.loop-cleanup.outcomes.items
     (ap (map cleanup_value) none) c.loop-cleanup.invariant.goes

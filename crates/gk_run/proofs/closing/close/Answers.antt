@@ -38,30 +38,30 @@ closed_both x endings.Skipped endings.Skipped os m p h = (both x endings.Skipped
 
 pub returns-then-is_memory-clause-closed : goal.returns-then-is_memory-clause-closed
 returns-then-is_memory-clause-closed c =
-    let library = library_value c.args.library.now in
-    let hooks = hooks_value c.args.hooks.now in
-    let tags = texts c.args.tags.now in
+    let library = library_value c.args.run.now.library.now in
+    let hooks = hooks_value c.args.run.now.hooks.now in
+    let tags = texts c.args.section.now.tags.now in
     let s = state_of c.args.sandbox.now.now in
     let cs = cleanups_value c.args.cleanups in
     let e = c.walk_after-after.result in
     let m = is_memory e (sym c.is_memory.ensures ∙ c.if-is_memory.true) in
-    let w = subst (λ (x : Ending). IsWalked (walk_each library s cs (after_lists hooks c.args.level tags)) x (state_of c.walk_after-after.new.sandbox.now) (cleanups_value c.walk_after-after.new.cleanups)) m c.walk_after-after.ensures.walked in
-    subst (λ (x : Ending). IsClosed (closing library hooks c.args.level tags s cs) x c.none.result.items) (sym m) (inl (w.0, w.1, c.none.ensures))
+    let w = subst (λ (x : Ending). IsWalked (walk_each library s cs (after_lists hooks c.args.section.now.level tags)) x (state_of c.walk_after-after.new.sandbox.now) (cleanups_value c.walk_after-after.new.cleanups)) m c.walk_after-after.ensures.walked in
+    subst (λ (x : Ending). IsClosed (closing library hooks c.args.section.now.level tags s cs) x c.none.result.items) (sym m) (inl (w.0, w.1, c.none.ensures))
 
 pub returns-clause-closed : goal.returns-clause-closed
 returns-clause-closed c =
-    let library = library_value c.args.library.now in
-    let hooks = hooks_value c.args.hooks.now in
-    let tags = texts c.args.tags.now in
+    let library = library_value c.args.run.now.library.now in
+    let hooks = hooks_value c.args.run.now.hooks.now in
+    let tags = texts c.args.section.now.tags.now in
     let s = state_of c.args.sandbox.now.now in
     let cs = cleanups_value c.args.cleanups in
     let this = c.walk_after-after.result in
     let new = state_of c.walk_after-after.new.sandbox.now in
     let left = cleanups_value c.walk_after-after.new.cleanups in
-    let each = walk_each library s cs (after_lists hooks c.args.level tags) in
+    let each = walk_each library s cs (after_lists hooks c.args.section.now.level tags) in
     let e = c.clean-ending.result.ending in
     let os = c.clean-ending.result.outcomes.items in
     let m = not_memory this (sym c.is_memory.ensures ∙ c.if-is_memory.false) in
     let w = exact each this new left m c.walk_after-after.ensures.walked in
     let cleaned = subst (λ (x : State). IsCleaned (cleaned library x each.cleanups) e os) w.1 (subst (λ (x : List CleanupValue). IsCleaned (cleaned library new x) e os) w.2 c.clean-ending.ensures.cleaned) in
-    subst (λ (x : Ending). IsClosed (closing library hooks c.args.level tags s cs) x os) (sym c.worse.ensures) (closed_both (closing library hooks c.args.level tags s cs) this e os m w.0 cleaned)
+    subst (λ (x : Ending). IsClosed (closing library hooks c.args.section.now.level tags s cs) x os) (sym c.worse.ensures) (closed_both (closing library hooks c.args.section.now.level tags s cs) this e os m w.0 cleaned)

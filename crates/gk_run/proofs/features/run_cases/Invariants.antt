@@ -4,6 +4,7 @@ use Rattle.gk_world.specs.State.{state_of}
 use Rattle.gk_run.specs.Results.{case_row}
 use Rattle.gk_run.specs.Alone.{run_of}
 use Rattle.gk_run.specs.Chosen.{members_of}
+use Rattle.gk_run.specs.Reserved.{members_in}
 use Rattle.gk_run.specs.Running.{IsSame}
 use Rattle.gk_run.proofs.CasesLemmas.{GoesCases}
 use Rattle.gk_run.proofs.features.run_cases.Given as goal
@@ -11,10 +12,10 @@ use Rattle.gk_run.proofs.features.run_cases.Given as goal
 -- however what is left is cut, the whole has cuts with these rows before the others
 abbrev pub invariant-loop-case : goal.invariant-loop-case
 invariant-loop-case l = record {
-  goes : GoesCases (run_of l.run.library.now l.run.hooks.now l.run.stop) (state_of l.fn.sandbox.now) l.fn.is_open (members_of l.fn.cases.items l.selected) (map case_row l.results.items) l.is_open (members_of (into_iter_items l.case-iterator) (drop l.place l.selected));
+  goes : GoesCases (run_of l.run.library.now l.run.hooks.now l.run.stop) (state_of l.fn.sandbox.now) l.fn.is_open (members_in l.fn.cases) (map case_row l.results.items) l.is_open (members_of (into_iter_items l.case-iterator) (drop l.place l.selected.items));
   same : IsSame l.fn.sandbox l.sandbox;
   earlier : l.is_open ≡ true → l.fn.is_open ≡ true;
-  paired : l.place + length (into_iter_items l.case-iterator) ≡ length l.selected;
+  paired : l.place + length (into_iter_items l.case-iterator) ≡ length l.selected.items;
   room : vec_len l.results + length (into_iter_items l.case-iterator) ≤ vec_capacity l.results;
   counted : length (into_iter_items l.case-iterator) ≡ into_iter_len l.case-iterator;
 }

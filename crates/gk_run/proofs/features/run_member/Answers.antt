@@ -34,6 +34,6 @@ returns-clause-row c =
     let m = member_of c.args.case c.args.selected in
     let now = state_of c.args.sandbox.now.now in
     if_ok (λ (r : CaseResult). IsReached run now m.scenario (case_row r)) (λ (r : CaseResult). (section : State) → (c.args.is_open ≡ true → now ≡ section) → (x : Cut) × (case_row r ≡ case_of run section c.args.is_open x m))
-    c.run_case.result
+    c.case_in.result
     (λ r reached section opens. reached_is run section c.args.is_open m (case_row r) c.if-not-selected.false c.if-not-is_open.false (subst (λ (s : State). IsReached run s m.scenario (case_row r)) (opens c.if-not-is_open.false) reached))
-    c.run_case.ensures.row
+    c.case_in.ensures.row

@@ -1,4 +1,4 @@
-use Rattle.std.proofs.Common.{◌∙◌, List, [], map, sym, ap, subst, false}
+use Rattle.std.proofs.Common.{◌∙◌, List, [], map, sym, ap, subst}
 use Rattle.gk_gherkin.specs.Feature.{texts, step_value}
 use Rattle.gk_world.specs.State.{State, state_of, enter}
 use Rattle.gk_run.specs.declared.results.Outcome.{Outcome}
@@ -19,13 +19,13 @@ use Rattle.gk_run.proofs.running.in_layer.Goals as goal
 
 pub returns-then-is_memory-clause-end : goal.returns-then-is_memory-clause-end
 returns-then-is_memory-clause-end c = λ outside here.
-    let run = run_of c.args.library.now c.args.hooks.now false in
-    let case = ran (texts c.args.tags.now) (map step_value c.args.steps.items) in
+    let run = run_of c.args.run.now.library.now c.args.run.now.hooks.now c.args.run.now.stop in
+    let case = ran (texts c.args.tags.now) (map step_value c.args.steps.steps.items) in
     let b = c.walk_before-before.result in
     let s = state_of c.walk_before-before.new.sandbox.now in
     let cs = cleanups_value c.walk_before-before.new.cleanups in
-    let rows = map step_row c.run_steps-ending.new.results.items in
-    let e = c.run_steps-ending.result in
+    let rows = map step_row c.run_steps-ending.result.results.items in
+    let e = c.run_steps-ending.result.ending in
     let last = state_of c.run_steps-ending.new.sandbox.now in
     let ls = cleanups_value c.run_steps-ending.new.cleanups in
     let walked : IsWalked (begun run.library run.hooks levels.Scenario case.own_tags outside) b s cs =
@@ -37,13 +37,13 @@ returns-then-is_memory-clause-end c = λ outside here.
 
 pub returns-clause-end : goal.returns-clause-end
 returns-clause-end c = λ outside here.
-    let run = run_of c.args.library.now c.args.hooks.now false in
-    let case = ran (texts c.args.tags.now) (map step_value c.args.steps.items) in
+    let run = run_of c.args.run.now.library.now c.args.run.now.hooks.now c.args.run.now.stop in
+    let case = ran (texts c.args.tags.now) (map step_value c.args.steps.steps.items) in
     let b = c.walk_before-before.result in
     let s = state_of c.walk_before-before.new.sandbox.now in
     let cs = cleanups_value c.walk_before-before.new.cleanups in
-    let rows = map step_row c.run_steps-ending.new.results.items in
-    let e = c.run_steps-ending.result in
+    let rows = map step_row c.run_steps-ending.result.results.items in
+    let e = c.run_steps-ending.result.ending in
     let last = state_of c.run_steps-ending.new.sandbox.now in
     let ls = cleanups_value c.run_steps-ending.new.cleanups in
     let l = c.close-closed.result.ending in

@@ -13,18 +13,18 @@ use Rattle.gk_run.proofs.walk.run_steps.Goals as goal
 
 pub loop-step-init : goal.loop-step-init
 loop-step-init c =
-    let here : into_iter_items c.into_iter-step-iterator.result ≡ c.args.steps.items = c.into_iter-step-iterator.ensures.into_iter_gives.0 in
-    let library = library_value c.args.library.now in
+    let here : into_iter_items c.into_iter-step-iterator.result ≡ c.args.steps.steps.items = c.into_iter-step-iterator.ensures.into_iter_gives.0 in
+    let library = library_value c.args.run.now.library.now in
     let first = state_of c.args.sandbox.now.now in
     let cs0 = cleanups_value c.args.cleanups.now in
-    let steps = map step_value c.args.steps.items in
+    let steps = map step_value c.args.steps.steps.items in
     record {
       goes =
-          subst (λ (rows : List StepRow). GoesSteps library c.args.before first cs0 (map step_value (into_iter_items c.into_iter-step-iterator.result)) rows c.args.before first cs0 steps) (sym (ap (map step_row) c.requires.empty))
+          subst (λ (rows : List StepRow). GoesSteps library c.args.before first cs0 (map step_value (into_iter_items c.into_iter-step-iterator.result)) rows c.args.before first cs0 steps) (sym (ap (map step_row) c.args.steps.empty))
           (subst (λ (left : List StepValue). GoesSteps library c.args.before first cs0 left [] c.args.before first cs0 steps) (sym (ap (map step_value) here)) (steps_first library c.args.before first cs0 steps));
       layers = record { saved = refl; marks = refl };
-      room = let e : length c.args.results.now.items ≡ 0 = ap length c.requires.empty in let f = ap length here in let v = c.args.results.now.ok.0 in omega arith;
-      counted = let l = c.into_iter-step-iterator.ensures.into_iter_gives.1 in let v = c.args.steps.ok.0 in let f = ap length here in omega arith;
+      room = let e : length c.args.steps.results.items ≡ 0 = ap length c.args.steps.empty in let f = ap length here in let v = c.args.steps.results.ok.0 in omega arith;
+      counted = let l = c.into_iter-step-iterator.ensures.into_iter_gives.1 in let v = c.args.steps.steps.ok.0 in let f = ap length here in omega arith;
     }
 
 pub next_step-next-requires : goal.next_step-next-requires
@@ -32,11 +32,11 @@ next_step-next-requires c = record { begun = rw (ap length c.loop-step.invariant
 
 pub loop-step-preserved : goal.loop-step-preserved
 loop-step-preserved c =
-    let library = library_value c.args.library.now in
+    let library = library_value c.args.run.now.library.now in
     let before = c.args.before in
     let first = state_of c.args.sandbox.now.now in
     let cs0 = cleanups_value c.args.cleanups.now in
-    let all = map step_value c.args.steps.items in
+    let all = map step_value c.args.steps.steps.items in
     let s = c.in-Some.ensures.steps in
     let f = ap length s.0 in
     let step = step_value c.in-Some.step in
@@ -61,5 +61,5 @@ loop-step-preserved c =
 pub returns-clause-stepped : goal.returns-clause-stepped
 returns-clause-stepped c =
     let none : into_iter_items c.loop-step.step-iterator ≡ [] = nothing_in (into_iter_items c.loop-step.step-iterator) (c.loop-step.invariant.counted ∙ c.in-None.ensures.steps.0) in
-    steps_last (library_value c.args.library.now) c.args.before (state_of c.args.sandbox.now.now) (cleanups_value c.args.cleanups.now) (map step_value c.args.steps.items) c.loop-step.ending (state_of c.loop-step.sandbox.now) (cleanups_value c.loop-step.cleanups)
+    steps_last (library_value c.args.run.now.library.now) c.args.before (state_of c.args.sandbox.now.now) (cleanups_value c.args.cleanups.now) (map step_value c.args.steps.steps.items) c.loop-step.ending (state_of c.loop-step.sandbox.now) (cleanups_value c.loop-step.cleanups)
     (map step_value (into_iter_items c.loop-step.step-iterator)) (map step_row c.loop-step.results.items) (ap (map step_value) none) c.loop-step.invariant.goes

@@ -12,7 +12,7 @@ use Rattle.gk_run.proofs.walk.run_steps.Given as goal
 -- whatever the steps that are left come to, all come to, with these rows before theirs
 abbrev pub invariant-loop-step : goal.invariant-loop-step
 invariant-loop-step l = record {
-  goes : GoesSteps (library_value l.library) l.ending (state_of l.sandbox.now) (cleanups_value l.cleanups) (map step_value (into_iter_items l.step-iterator)) (map step_row l.results.items) l.fn.before (state_of l.fn.sandbox.now) (cleanups_value l.fn.cleanups) (map step_value l.fn.steps.items);
+  goes : GoesSteps (library_value l.run.library.now) l.ending (state_of l.sandbox.now) (cleanups_value l.cleanups) (map step_value (into_iter_items l.step-iterator)) (map step_row l.results.items) l.fn.before (state_of l.fn.sandbox.now) (cleanups_value l.fn.cleanups) (map step_value l.fn.steps.steps.items);
   layers : KeepsLayers l.fn.sandbox l.sandbox;
   room : vec_len l.results + length (into_iter_items l.step-iterator) ≤ vec_capacity l.results;
   counted : length (into_iter_items l.step-iterator) ≡ into_iter_len l.step-iterator;

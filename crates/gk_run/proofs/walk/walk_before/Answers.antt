@@ -14,9 +14,9 @@ use Rattle.gk_run.proofs.walk.walk_before.Goals as goal
 
 pub returns-then-not-has_passed-clause-walked : goal.returns-then-not-has_passed-clause-walked
 returns-then-not-has_passed-clause-walked c =
-    let library = library_value c.args.library.now in
-    let hooks = hooks_value c.args.hooks.now in
-    let tags = c.args.tags.now in
+    let library = library_value c.args.run.now.library.now in
+    let hooks = hooks_value c.args.run.now.hooks.now in
+    let tags = c.args.section.now.tags.now in
     let i = c.loop-tag.tag-index in
     let tag = c.tag-item.result in
     let s = state_of c.loop-tag.sandbox.now in
@@ -24,18 +24,18 @@ returns-then-not-has_passed-clause-walked c =
     let this = c.walk_hook-ending.result in
     let new = state_of c.walk_hook-ending.new.sandbox.now in
     let left = cleanups_value c.walk_hook-ending.new.cleanups in
-    let site = before_site c.args.level in
+    let site = before_site c.args.section.now.level in
     let steps = c.hook_steps-steps.ensures ∙ ap (λ (t : List ℕ). hook_steps hooks kinds.BeforeTag (Some t)) c.as_str.ensures.value in
     let walked = subst (λ (xs : List StepValue). IsWalked (walk library site s cs xs) this new left) steps
     (subst (λ (x : Site). IsWalked (walk library x s cs (map step_value c.hook_steps-steps.result.now)) this new left) c.before_site-site.ensures c.walk_hook-ending.ensures.walked) in
-    before_off library site hooks c.args.level (state_of c.args.sandbox.now.now) (cleanups_value c.args.cleanups.now) (texts tags) (texts (drop i tags)) (texts (drop (i + 1) tags)) (string_bytes tag) s new cs left this
+    before_off library site hooks c.args.section.now.level (state_of c.args.sandbox.now.now) (cleanups_value c.args.cleanups.now) (texts tags) (texts (drop i tags)) (texts (drop (i + 1) tags)) (string_bytes tag) s new cs left this
     (drop_next string_bytes tags i tag c.loop-tag-test.true c.tag-item.is) walked (sym c.has_passed.ensures ∙ c.if-not-has_passed.true) c.loop-tag.invariant.goes
 
 pub loop-tag-preserved : goal.loop-tag-preserved
 loop-tag-preserved c =
-    let library = library_value c.args.library.now in
-    let hooks = hooks_value c.args.hooks.now in
-    let tags = c.args.tags.now in
+    let library = library_value c.args.run.now.library.now in
+    let hooks = hooks_value c.args.run.now.hooks.now in
+    let tags = c.args.section.now.tags.now in
     let i = c.loop-tag.tag-index in
     let tag = c.tag-item.result in
     let s = state_of c.loop-tag.sandbox.now in
@@ -43,30 +43,30 @@ loop-tag-preserved c =
     let this = c.walk_hook-ending.result in
     let new = state_of c.walk_hook-ending.new.sandbox.now in
     let left = cleanups_value c.walk_hook-ending.new.cleanups in
-    let site = before_site c.args.level in
+    let site = before_site c.args.section.now.level in
     let steps = c.hook_steps-steps.ensures ∙ ap (λ (t : List ℕ). hook_steps hooks kinds.BeforeTag (Some t)) c.as_str.ensures.value in
     let walked = subst (λ (xs : List StepValue). IsWalked (walk library site s cs xs) this new left) steps
     (subst (λ (x : Site). IsWalked (walk library x s cs (map step_value c.hook_steps-steps.result.now)) this new left) c.before_site-site.ensures c.walk_hook-ending.ensures.walked) in
     record {
-      goes = before_on library site hooks c.args.level (state_of c.args.sandbox.now.now) (cleanups_value c.args.cleanups.now) (texts tags) (texts (drop i tags)) (texts (drop (i + 1) tags)) (string_bytes tag) s new cs left this
+      goes = before_on library site hooks c.args.section.now.level (state_of c.args.sandbox.now.now) (cleanups_value c.args.cleanups.now) (texts tags) (texts (drop i tags)) (texts (drop (i + 1) tags)) (string_bytes tag) s new cs left this
           (drop_next string_bytes tags i tag c.loop-tag-test.true c.tag-item.is) walked (sym c.has_passed.ensures ∙ c.if-not-has_passed.false) c.loop-tag.invariant.goes;
       layers = record { saved = c.walk_hook-ending.ensures.layers.saved ∙ c.loop-tag.invariant.layers.saved; marks = c.walk_hook-ending.ensures.layers.marks ∙ c.loop-tag.invariant.layers.marks };
     }
 
 pub returns-clause-walked : goal.returns-clause-walked
 returns-clause-walked c =
-    let library = library_value c.args.library.now in
-    let hooks = hooks_value c.args.hooks.now in
-    let tags = c.args.tags.now in
+    let library = library_value c.args.run.now.library.now in
+    let hooks = hooks_value c.args.run.now.hooks.now in
+    let tags = c.args.section.now.tags.now in
     let i = c.loop-tag.tag-index in
     let s = state_of c.loop-tag.sandbox.now in
     let cs = cleanups_value c.loop-tag.cleanups in
     let e = c.walk_hook.result in
     let new = state_of c.walk_hook.new.sandbox.now in
     let left = cleanups_value c.walk_hook.new.cleanups in
-    let site = before_site c.args.level in
-    let steps : map step_value c.hook_steps-steps-2.result.now ≡ hook_steps hooks (before_kind c.args.level) None = c.hook_steps-steps-2.ensures ∙ rw c.before_kind.ensures refl in
+    let site = before_site c.args.section.now.level in
+    let steps : map step_value c.hook_steps-steps-2.result.now ≡ hook_steps hooks (before_kind c.args.section.now.level) None = c.hook_steps-steps-2.ensures ∙ rw c.before_kind.ensures refl in
     let walked = subst (λ (xs : List StepValue). IsWalked (walk library site s cs xs) e new left) steps
     (subst (λ (x : Site). IsWalked (walk library x s cs (map step_value c.hook_steps-steps-2.result.now)) e new left) c.before_site-site.ensures c.walk_hook.ensures.walked) in
-    before_done library site hooks c.args.level (state_of c.args.sandbox.now.now) (cleanups_value c.args.cleanups.now) (texts tags) (texts (drop i tags)) s cs
+    before_done library site hooks c.args.section.now.level (state_of c.args.sandbox.now.now) (cleanups_value c.args.cleanups.now) (texts tags) (texts (drop i tags)) s cs
     (drop_none string_bytes tags i c.loop-tag-test.false) c.loop-tag.invariant.goes e new left walked

@@ -12,6 +12,6 @@ use Rattle.gk_run.proofs.walk.walk_before.Given as goal
 -- whatever the before list of the tags that are left comes to, that of all comes to
 abbrev pub invariant-loop-tag : goal.invariant-loop-tag
 invariant-loop-tag l = record {
-  goes : GoesBefore (library_value l.fn.library) (before_site l.level) (hooks_value l.fn.hooks) l.level (state_of l.sandbox.now) (cleanups_value l.cleanups) (texts (drop l.tag-index l.tags)) (state_of l.fn.sandbox.now) (cleanups_value l.fn.cleanups) (texts l.tags);
+  goes : GoesBefore (library_value l.fn.run.library.now) (before_site l.fn.section.level) (hooks_value l.fn.run.hooks.now) l.fn.section.level (state_of l.sandbox.now) (cleanups_value l.cleanups) (texts (drop l.tag-index l.fn.section.tags.now)) (state_of l.fn.sandbox.now) (cleanups_value l.fn.cleanups) (texts l.fn.section.tags.now);
   layers : KeepsLayers l.fn.sandbox l.sandbox;
 }

@@ -18,7 +18,7 @@ loop-step-preserved c =
     let is = drop_next step_value steps i step c.loop-step-test.true c.step-item.is in
     let passes : has_passed (ending_of_turn c.turn.result) ≡ true = let a = c.ending_of-ending.ensures in let b = c.has_passed.ensures in let d = c.if-not-has_passed.false in cc in
     record {
-      goes = hook_on (library_value c.args.library.now) c.args.site (state_of c.args.sandbox.now.now) (cleanups_value c.args.cleanups.now) (map step_value steps) (map step_value (drop i steps)) (map step_value (drop (i + 1) steps)) (step_value step)
+      goes = hook_on (library_value c.args.run.now.library.now) c.args.site (state_of c.args.sandbox.now.now) (cleanups_value c.args.cleanups.now) (map step_value steps) (map step_value (drop i steps)) (map step_value (drop (i + 1) steps)) (step_value step)
           (state_of c.loop-step.sandbox.now) (state_of c.turn.new.sandbox.now) (cleanups_value c.loop-step.cleanups) (cleanups_value c.turn.new.cleanups) c.turn.result is c.turn.ensures.turn passes c.loop-step.invariant.goes;
       layers = record { saved = c.turn.ensures.layers.saved ∙ c.loop-step.invariant.layers.saved; marks = c.turn.ensures.layers.marks ∙ c.loop-step.invariant.layers.marks };
     }
@@ -34,14 +34,14 @@ returns-then-not-has_passed-clause-walked c =
     let before = cleanups_value c.args.cleanups.now in
     let new = state_of c.turn.new.sandbox.now in
     let left = cleanups_value c.turn.new.cleanups in
-    let whole = walk (library_value c.args.library.now) c.args.site first before (map step_value steps) in
+    let whole = walk (library_value c.args.run.now.library.now) c.args.site first before (map step_value steps) in
     subst (λ (e : Ending). IsWalked whole e new left) (sym c.ending_of-ending.ensures)
-    (hook_off (library_value c.args.library.now) c.args.site first before (map step_value steps) (map step_value (drop i steps)) (map step_value (drop (i + 1) steps)) (step_value step)
+    (hook_off (library_value c.args.run.now.library.now) c.args.site first before (map step_value steps) (map step_value (drop i steps)) (map step_value (drop (i + 1) steps)) (step_value step)
     (state_of c.loop-step.sandbox.now) new (cleanups_value c.loop-step.cleanups) left c.turn.result is c.turn.ensures.turn ends c.loop-step.invariant.goes)
 
 pub returns-clause-walked : goal.returns-clause-walked
 returns-clause-walked c =
     let steps = c.args.steps.now in
     let i = c.loop-step.step-index in
-    hook_done (library_value c.args.library.now) c.args.site (state_of c.args.sandbox.now.now) (cleanups_value c.args.cleanups.now) (map step_value steps) (map step_value (drop i steps)) (state_of c.loop-step.sandbox.now) (cleanups_value c.loop-step.cleanups)
+    hook_done (library_value c.args.run.now.library.now) c.args.site (state_of c.args.sandbox.now.now) (cleanups_value c.args.cleanups.now) (map step_value steps) (map step_value (drop i steps)) (state_of c.loop-step.sandbox.now) (cleanups_value c.loop-step.cleanups)
     (drop_none step_value steps i c.loop-step-test.false) c.loop-step.invariant.goes

@@ -10,6 +10,6 @@ use Rattle.gk_run.proofs.walk.walk_hook.Given as goal
 -- whatever the walk of what is left comes to, the walk of all comes to
 abbrev pub invariant-loop-step : goal.invariant-loop-step
 invariant-loop-step l = record {
-  goes : Goes (library_value l.fn.library) l.site (state_of l.sandbox.now) (cleanups_value l.cleanups) (map step_value (drop l.step-index l.steps)) (state_of l.fn.sandbox.now) (cleanups_value l.fn.cleanups) (map step_value l.steps);
+  goes : Goes (library_value l.fn.run.library.now) l.site (state_of l.sandbox.now) (cleanups_value l.cleanups) (map step_value (drop l.step-index l.steps)) (state_of l.fn.sandbox.now) (cleanups_value l.fn.cleanups) (map step_value l.steps);
   layers : KeepsLayers l.fn.sandbox l.sandbox;
 }

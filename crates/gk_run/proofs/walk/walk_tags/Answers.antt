@@ -16,8 +16,8 @@ use Rattle.gk_run.proofs.walk.walk_tags.Goals as goal
 
 pub returns-then-is_memory-clause-walked : goal.returns-then-is_memory-clause-walked
 returns-then-is_memory-clause-walked c =
-    let library = library_value c.args.library.now in
-    let hooks = hooks_value c.args.hooks.now in
+    let library = library_value c.args.run.now.library.now in
+    let hooks = hooks_value c.args.run.now.hooks.now in
     let tags = c.args.tags.now in
     let i = c.loop-tag.tag-index in
     let tag = c.tag-item.result in
@@ -33,8 +33,8 @@ returns-then-is_memory-clause-walked c =
 
 pub loop-tag-preserved : goal.loop-tag-preserved
 loop-tag-preserved c =
-    let library = library_value c.args.library.now in
-    let hooks = hooks_value c.args.hooks.now in
+    let library = library_value c.args.run.now.library.now in
+    let hooks = hooks_value c.args.run.now.hooks.now in
     let tags = c.args.tags.now in
     let i = c.loop-tag.tag-index in
     let tag = c.tag-item.result in
@@ -58,5 +58,5 @@ pub returns-clause-walked : goal.returns-clause-walked
 returns-clause-walked c =
     let tags = c.args.tags.now in
     let i = c.loop-tag.tag-index in
-    tags_done (library_value c.args.library.now) (hooks_value c.args.hooks.now) (state_of c.args.sandbox.now.now) (cleanups_value c.args.cleanups.now) (texts tags) (texts (drop i tags)) (state_of c.loop-tag.sandbox.now) (cleanups_value c.loop-tag.cleanups) c.loop-tag.ending
+    tags_done (library_value c.args.run.now.library.now) (hooks_value c.args.run.now.hooks.now) (state_of c.args.sandbox.now.now) (cleanups_value c.args.cleanups.now) (texts tags) (texts (drop i tags)) (state_of c.loop-tag.sandbox.now) (cleanups_value c.loop-tag.cleanups) c.loop-tag.ending
     (drop_none string_bytes tags i c.loop-tag-test.false) c.loop-tag.invariant.goes

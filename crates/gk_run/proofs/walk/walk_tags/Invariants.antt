@@ -11,6 +11,6 @@ use Rattle.gk_run.proofs.walk.walk_tags.Given as goal
 -- whatever the lists of the tags that are left come to, those of all come to
 abbrev pub invariant-loop-tag : goal.invariant-loop-tag
 invariant-loop-tag l = record {
-  goes : GoesEach (library_value l.fn.library) (hooks_value l.fn.hooks) (state_of l.sandbox.now) (cleanups_value l.cleanups) (texts (drop l.tag-index l.tags)) l.ending (state_of l.fn.sandbox.now) (cleanups_value l.fn.cleanups) (texts l.tags);
+  goes : GoesEach (library_value l.fn.run.library.now) (hooks_value l.fn.run.hooks.now) (state_of l.sandbox.now) (cleanups_value l.cleanups) (texts (drop l.tag-index l.tags)) l.ending (state_of l.fn.sandbox.now) (cleanups_value l.fn.cleanups) (texts l.tags);
   layers : KeepsLayers l.fn.sandbox l.sandbox;
 }

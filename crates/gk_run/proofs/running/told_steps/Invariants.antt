@@ -3,12 +3,12 @@ use Rattle.std.specs.Vec.Iter.{into_iter_items, into_iter_len}
 use Rattle.gk_gherkin.specs.Feature.{StepValue, step_value}
 use Rattle.gk_run.specs.Results.{step_row}
 use Rattle.gk_run.specs.Alone.{row_of_step}
-use Rattle.gk_run.proofs.running.told_case.Given as goal
+use Rattle.gk_run.proofs.running.told_steps.Given as goal
 
 -- the rows so far and those of the steps that are left are those of all
 abbrev pub invariant-loop-step : goal.invariant-loop-step
 invariant-loop-step l = record {
-  rows : map step_row l.steps.items ++ map (λ (s : StepValue). row_of_step s l.mark) (map step_value (into_iter_items l.step-iterator)) ≡ map (λ (s : StepValue). row_of_step s l.mark) (map step_value l.fn.case.steps.items);
-  room : vec_len l.steps + length (into_iter_items l.step-iterator) ≤ vec_capacity l.steps;
+  rows : map step_row l.results.items ++ map (λ (s : StepValue). row_of_step s l.mark) (map step_value (into_iter_items l.step-iterator)) ≡ map (λ (s : StepValue). row_of_step s l.mark) (map step_value l.fn.steps.steps.items);
+  room : vec_len l.results + length (into_iter_items l.step-iterator) ≤ vec_capacity l.results;
   counted : length (into_iter_items l.step-iterator) ≡ into_iter_len l.step-iterator;
 }

@@ -1,0 +1,27 @@
+-- Cases and steps, with room reserved for their results.
+use Rattle.std.specs.Prelude.{◌≡◌, Bool, List, Vec}
+use Rattle.std.specs.declared.alloc.Global.{Global}
+use Rattle.gk_select.specs.declared.case.Case.{Case}
+use Rattle.gk_run.specs.declared.reserved.Heading.{Heading}
+use Rattle.gk_run.specs.declared.reserved.ReservedCase.{ReservedCase}
+use Rattle.gk_run.specs.declared.reserved.ReservedCases.{ReservedCases}
+use Rattle.gk_run.specs.Chosen.{MemberValue, members_of}
+
+-- The heading of a case.
+abbrev pub heading_of : Case → Heading
+heading_of case = record { keyword = case.keyword; name = case.name; line = case.line }
+
+-- Room is reserved for the results of this case's steps.
+pub record IsCaseReserved (case : Case) (reserved : ReservedCase) : Type 0 where
+  pub heading : reserved.heading ≡ heading_of case
+  pub own_tags : reserved.own_tags ≡ case.own_tags
+  pub steps : reserved.steps.steps ≡ case.steps
+
+-- Room is reserved for the results of these cases.
+pub record AreCasesReserved (cases : Vec Case Global) (selected : Vec Bool Global) (reserved : ReservedCases) : Type 0 where
+  pub same_cases : reserved.cases ≡ cases
+  pub same_choice : reserved.selected ≡ selected
+
+-- Cases, each with whether it is selected.
+abbrev pub members_in : ReservedCases → List MemberValue
+members_in reserved = members_of reserved.cases.items reserved.selected.items

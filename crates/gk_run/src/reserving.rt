@@ -1,0 +1,55 @@
+//! Reserving room for results.
+ghost use Rattle.std.specs.Prelude.{◌≡◌, length, IfOk};
+ghost use Rattle.gk_run.specs.Reserved.{IsCaseReserved, AreCasesReserved};
+
+use crate::reserved::{Heading, ReservedCase, ReservedCases, ReservedSteps};
+use crate::results::NoRoom;
+use gk_select::Case;
+use std::alloc::{AllocError, Global};
+
+/// Reserves room for the results of a case's steps.
+pub fn reserve_case(alloc: Global, case: Case) -> Result<ReservedCase, NoRoom>
+    ensures { IfOk result (IsCaseReserved case) }
+{
+    let Case {
+        keyword,
+        name,
+        line,
+        steps,
+        own_tags,
+        tags: _,
+    } = case;
+    let results = match Vec::with_capacity(alloc, steps.len()) {
+        Ok(results) => results,
+        Err(AllocError) => return Err(NoRoom),
+    };
+    Ok(ReservedCase {
+        heading: Heading {
+            keyword,
+            name,
+            line,
+        },
+        own_tags,
+        steps: ReservedSteps { steps, results },
+    })
+}
+
+/// Reserves room for the results of cases.
+pub fn reserve_cases(
+    alloc: Global,
+    cases: Vec<Case>,
+    selected: Vec<bool>,
+) -> Result<ReservedCases, NoRoom>
+    requires { length selected.items ≡ length cases.items }
+    ensures { IfOk result (AreCasesReserved cases selected) }
+{
+    let results = match Vec::with_capacity(alloc, cases.len()) {
+        Ok(results) => results,
+        Err(AllocError) => return Err(NoRoom),
+    };
+    Ok(ReservedCases {
+        cases,
+        selected,
+        results,
+    })
+}

@@ -1,0 +1,15 @@
+//! What stays the same during a run.
+
+use gk_gherkin::HookFile;
+use gk_steps::Library;
+use std::alloc::Global;
+
+/// What stays the same during a run, and where its memory comes from.
+#[derive(Clone, Copy)]
+pub struct Run<'a> {
+    pub alloc: Global,
+    pub library: &'a Library,
+    pub hooks: &'a HookFile,
+    /// The first case or feature that is failed or memory stops the run.
+    pub stop: bool,
+}
