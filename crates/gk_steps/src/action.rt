@@ -3,8 +3,8 @@ ghost use Rattle.std.specs.Prelude.{◌≡◌, find, map, option_copied, option_
 ghost use Rattle.std.specs.Str.{bytes_eq};
 ghost use Rattle.gk_steps.specs.Action.{action_row, action_row_value, row_among};
 
-/// What a step does that finds an entry. What each needs of its pattern and does to the sandbox stands
-/// in the guide. (this project's profile)
+/// What a step does that finds an entry. What each does to the sandbox stands in the guide. (this
+/// project's profile)
 #[derive(Clone, Copy, Debug, PartialEq, Eq)]
 pub enum Action {
     WriteFile,
@@ -44,7 +44,7 @@ pub(crate) struct ActionRow {
 }
 
 /// The table of actions. (this project's profile)
-const ACTIONS: [ActionRow; 24] = [
+static ACTIONS: [ActionRow; 24] = [
     ActionRow {
         name: "write_file",
         action: Action::WriteFile,
