@@ -1,7 +1,7 @@
 -- Cases and features, one after another.
 use Rattle.std.specs.List.{list_any}
 use Rattle.std.specs.Prelude.{Err, IfOk, Ok, Result}
-use Rattle.std.proofs.Common.{Bool, List, [], ap, append_assoc, arith, cond, drop, false, get_or, length, map, refl, subst, sym, true, ℕ, ◌&&◌, ◌++◌, ◌+◌, ◌<◌, ◌≤◌, ◌||◌, ◌∙◌, ◌∷◌, ◌≡◌}
+use Rattle.std.proofs.Common.{◌⊎◌, inl, inr, Bool, List, [], ap, append_assoc, arith, cond, drop, false, get_or, length, map, refl, subst, sym, true, ℕ, ◌&&◌, ◌++◌, ◌+◌, ◌<◌, ◌≤◌, ◌||◌, ◌∙◌, ◌∷◌, ◌≡◌}
 use Rattle.std.proofs.lemmas.List.{append-nil, at_drop_all, at_drop_more}
 use Rattle.gk_gherkin.specs.Feature.{StepValue}
 use Rattle.gk_select.specs.declared.case.Case.{Case}
@@ -16,13 +16,14 @@ use Rattle.gk_run.specs.declared.section_hooks.Level.{Level}
 use Rattle.gk_run.specs.declared.section_hooks.Level.TheVariants as levels
 use Rattle.gk_run.specs.Acting.{CleanupValue, passes}
 use Rattle.gk_run.specs.Alone.{Run, reached_row, row_of_step, rows_of_steps, told_row, unreached_row, unselected_row}
-use Rattle.gk_run.specs.Chosen.{ChosenValue, MemberValue, has_selected, member_of, members_of}
+use Rattle.gk_run.specs.Chosen.{ChosenValue, MemberValue, has_selected, members_of}
 use Rattle.gk_run.specs.Ending.{has_passed}
 use Rattle.gk_run.specs.Features.{case_of, case_statuses, cases_of, feature_row_of, feature_verdict, happened_in, section_state, stays_open}
 use Rattle.gk_run.specs.Results.{CaseRow, FeatureRow, StepRow, case_row}
 use Rattle.gk_run.specs.Running.{AreCases, IsFeatureEnd, IsFeatureResult, IsReached, IsSectionEnd, IsWalked, marks_of}
 use Rattle.gk_run.specs.Section.{Cut, around_of, nowhere}
 use Rattle.gk_run.specs.SectionHooks.{begun}
+use Rattle.gk_run.proofs.Nothing.{nothing_in}
 use Rattle.gk_run.proofs.SectionLemmas.{passed_state}
 
 -- a test of statuses, as the code makes it
@@ -59,9 +60,15 @@ selected_any [] (s ∷ ss) h = absurd (omega arith)
 selected_any (c ∷ cs) [] h = absurd (omega arith)
 selected_any (c ∷ cs) (s ∷ ss) h = ap (λ b. s || b) (selected_any cs ss (omega arith))
 
--- the first case that is left, with whether it is selected
-pub paired_on : (cases left : List Case) (c : Case) (selected : List Bool) (place : ℕ) (d : Bool) → cases ≡ c ∷ left → place < length selected → members_of cases (drop place selected) ≡ member_of c (get_or selected place d) ∷ members_of left (drop (place + 1) selected)
-paired_on cases left c selected place d e lt = ap (λ cs. members_of cs (drop place selected)) e ∙ at_drop_more (λ ss. members_of (c ∷ left) ss) selected place d lt
+-- without a choice there are no members
+members_nil : (cases : List Case) → members_of cases [] ≡ []
+members_nil [] = refl
+members_nil (c ∷ cs) = refl
+
+-- where the cases or the choices have ended, so have the members
+pub members_end : (cases : List Case) (choices : List Bool) → (length cases ≡ 0) ⊎ (length choices ≡ 0) → members_of cases choices ≡ []
+members_end cases choices (inl e) = ap (λ cs. members_of cs choices) (nothing_in cases e)
+members_end cases choices (inr e) = ap (members_of cases) (nothing_in choices e) ∙ members_nil cases
 
 -- the same mark for each step
 pub all_told : (mark : Mark) (steps : List StepValue) → rows_of_steps steps (map (λ (step : StepValue). mark) steps) ≡ map (λ (step : StepValue). row_of_step step mark) steps

@@ -142,10 +142,8 @@ fn dry_cases(
         selected,
         mut results,
     } = cases;
-    let mut place = 0;
-    for case in cases {
-        results.push_reserved(dry_member(alloc, library, case, selected[place])?);
-        place += 1;
+    for (case, selected) in cases.into_iter().zip(selected) {
+        results.push_reserved(dry_member(alloc, library, case, selected)?);
     }
     Ok(results)
 }

@@ -99,10 +99,8 @@ fn run_cases(
         mut results,
     } = cases;
     let mut is_open = is_open;
-    let mut place = 0;
-    for case in cases {
-        let row = run_member(run, sandbox, is_open, case, selected[place])?;
-        place += 1;
+    for (case, selected) in cases.into_iter().zip(selected) {
+        let row = run_member(run, sandbox, is_open, case, selected)?;
         is_open = both(is_open, stays_open(run.stop, row.status));
         results.push_reserved(row);
     }

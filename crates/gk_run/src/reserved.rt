@@ -36,7 +36,6 @@ pub struct ReservedCases {
     pub cases: Vec<Case>,
     pub selected: Vec<bool>,
     pub results: Vec<CaseResult>,
-    ghost paired: { length selected.items ≡ length cases.items },
     ghost empty: { results.items ≡ [] },
     ghost room: { length cases.items ≤ vec_capacity results },
 }

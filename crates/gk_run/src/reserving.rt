@@ -1,5 +1,5 @@
 //! Reserving room for results.
-ghost use Rattle.std.specs.Prelude.{◌≡◌, length, IfOk};
+ghost use Rattle.std.specs.Prelude.{IfOk};
 ghost use Rattle.gk_run.specs.Reserved.{IsCaseReserved, AreCasesReserved};
 
 use crate::reserved::{Heading, ReservedCase, ReservedCases, ReservedSteps};
@@ -40,7 +40,6 @@ pub fn reserve_cases(
     cases: Vec<Case>,
     selected: Vec<bool>,
 ) -> Result<ReservedCases, NoRoom>
-    requires { length selected.items ≡ length cases.items }
     ensures { IfOk result (AreCasesReserved cases selected) }
 {
     let results = match Vec::with_capacity(alloc, cases.len()) {

@@ -1,4 +1,4 @@
-use Rattle.std.proofs.Common.{◌≡◌, ◌+◌, ◌≤◌, true, drop, map, length, vec_len, vec_capacity}
+use Rattle.std.proofs.Common.{◌≡◌, ◌+◌, ◌≤◌, true, map, length, vec_len, vec_capacity}
 use Rattle.std.specs.Vec.Iter.{into_iter_items, into_iter_len}
 use Rattle.gk_world.specs.State.{state_of}
 use Rattle.gk_run.specs.Results.{case_row}
@@ -12,10 +12,10 @@ use Rattle.gk_run.proofs.features.run_cases.Given as goal
 -- however what is left is cut, the whole has cuts with these rows before the others
 abbrev pub invariant-loop-case : goal.invariant-loop-case
 invariant-loop-case l = record {
-  goes : GoesCases (run_of l.run.library.now l.run.hooks.now l.run.stop) (state_of l.fn.sandbox.now) l.fn.is_open (members_in l.fn.cases) (map case_row l.results.items) l.is_open (members_of (into_iter_items l.case-iterator) (drop l.place l.selected.items));
+  goes : GoesCases (run_of l.run.library.now l.run.hooks.now l.run.stop) (state_of l.fn.sandbox.now) l.fn.is_open (members_in l.fn.cases) (map case_row l.results.items) l.is_open (members_of (into_iter_items l.case-iterator.a) (into_iter_items l.case-iterator.b));
   same : IsSame l.fn.sandbox l.sandbox;
   earlier : l.is_open ≡ true → l.fn.is_open ≡ true;
-  paired : l.place + length (into_iter_items l.case-iterator) ≡ length l.selected.items;
-  room : vec_len l.results + length (into_iter_items l.case-iterator) ≤ vec_capacity l.results;
-  counted : length (into_iter_items l.case-iterator) ≡ into_iter_len l.case-iterator;
+  room : vec_len l.results + length (into_iter_items l.case-iterator.a) ≤ vec_capacity l.results;
+  cases_counted : length (into_iter_items l.case-iterator.a) ≡ into_iter_len l.case-iterator.a;
+  choices_counted : length (into_iter_items l.case-iterator.b) ≡ into_iter_len l.case-iterator.b;
 }
