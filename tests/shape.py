@@ -23,6 +23,7 @@ SHARED = 10  # lines that two places may not share
 ROOTS = ("lib", "main")
 # A comment of specs/Lib.antt that marks the modules below it, up to the next comment.
 MACHINERY = "-- Proof machinery"
+BEGINS_LEFT_OUT = re.compile(r"(pub )?(ghost )?use\b|(pub )?(const|static) \w+: \[.*\] = \[$")
 WORKED_EXAMPLES = re.compile(r"(Worked.*|.*Examples)\.antt")
 # Words that a line's shape keeps.
 KEYWORDS = frozenset("""
@@ -207,13 +208,13 @@ def shape(line):
 def shapes_of(path):
     """The numbers and shapes of the lines of a file.
 
-    Imports, comments and lines without letters are left out."""
-    is_import = False
+    Imports, comments, a constant that is a table, and lines without letters are left out."""
+    is_left_out = False
     for number, line in enumerate(lines_of(path), 1):
         line = line.strip()
-        is_import = is_import or re.match(r"(pub )?(ghost )?use\b", line) is not None
-        if is_import:
-            is_import = path.endswith(".rt") and not line.endswith(";")
+        is_left_out = is_left_out or BEGINS_LEFT_OUT.match(line) is not None
+        if is_left_out:
+            is_left_out = path.endswith(".rt") and not line.endswith(";")
         elif re.search(r"[A-Za-z]", line) and not line.startswith(("//", "--", "#!")):
             yield number, shape(line)
 
