@@ -3,15 +3,17 @@
 
 Fails where
 - a document names a clause, file, crate, function, definition or must-fail edit that isn't there;
-- a must-fail edit isn't listed in docs/PROOFS.md, or is listed twice;
+- a must-fail edit isn't listed in docs/TRIALS.md, or is listed twice;
 - a relative link leads nowhere, or to a heading that isn't there;
-- a run that a document shows gives something else (a `console` block over the files above it);
+- a run that a document shows gives something else (a `console` block over the files above it, and, on a page of
+  docs/guide/, over those of the guide's other pages);
+- two pages of docs/guide/ have files of the same name;
 - a definition of specs/ has no comment above it, or a broken one;
 - two crates have modules of the same name;
 - README.md has more than 120 lines;
 - a fault text or a reason of the program has no entry in docs/FAULTS.md, or an entry has no such text;
 - examples/default.steps isn't the built-in library;
-- README.md or a page of docs/ has a word of WORDS; elsewhere such words are counted only.
+- a page at the top or of docs/ has a word of WORDS; elsewhere such words are counted only.
 """
 
 import os
@@ -46,7 +48,7 @@ CRATES = [line.split(":")[0] for line in read("crates.txt").splitlines() if line
 # The crate of tests, whose texts are no faults of the program.
 TESTS = "crates/gk_tests/"
 DOCUMENTS = [it for it in FILES if it.endswith(".md")]
-PAGES = [it for it in DOCUMENTS if it == "README.md" or it.startswith("docs/")]
+PAGES = [it for it in DOCUMENTS if "/" not in it or it.startswith("docs/")]
 
 
 def without_blocks(text):
@@ -102,7 +104,8 @@ PLAIN_WORDS = set("""
 """.split())
 # The pages for users name words of features and libraries, not of the code: of them only names that can't
 # be anything else are looked up.
-USERS_PAGES = ("docs/GUIDE.md", "docs/FAULTS.md", "examples/README.md", "tests/runs/README.md", "bench/README.md")
+GUIDE = [it for it in PAGES if it.startswith("docs/guide/")]
+USERS_PAGES = (*GUIDE, "docs/FAULTS.md", "examples/README.md", "tests/runs/README.md", "bench/README.md")
 
 
 def members():
@@ -138,7 +141,7 @@ def path_is_there(name, page):
 
 def named_wrongly(page, names, owned):
     """Names in code style that nothing of the repository has, with their lines."""
-    shown = {kind.split()[1] for _, kind, _ in blocks(page) if len(kind.split()) == 2}
+    shown = {name for other in [page, *guide_beside(page)] for _, name, _ in shown_files(other)}
     for number, line in enumerate(without_blocks(read(page)).split("\n"), 1):
         for text in re.findall(r"(?<!`)`([^`\n]+)`(?!`)", line):
             if re.fullmatch(r"\.?[A-Za-z0-9_./-]+", text) and ("/" in text or text.endswith(SOURCES)):
@@ -160,7 +163,7 @@ def named_wrongly(page, names, owned):
 
 
 def named_clauses(page):
-    """Each pair 'public call, clause' of a table of docs/PROOFS.md or README.md whose clause isn't there.
+    """Each pair 'public call, clause' of a table of a page whose clause isn't there.
 
     A cell `call`: `clause`, `clause` names clauses of one function."""
     clauses = clauses_by_function()
@@ -202,10 +205,10 @@ def edits():
 
 
 def listed_edits():
-    """The edits that docs/PROOFS.md lists, by crate: the first cells of the table below the heading
-    `### Edits of CRATE`."""
+    """The edits that docs/TRIALS.md lists, by crate: the first cells of the table below the heading
+    `## Edits of CRATE`."""
     found, crate = {}, None
-    for line in read("docs/PROOFS.md").split("\n"):
+    for line in read("docs/TRIALS.md").split("\n"):
         heading = re.match(r"#+ (.*)", line)
         if heading:
             named = re.fullmatch(r"Edits of `?([a-z_]+)`?", heading.group(1))
@@ -221,10 +224,10 @@ def edit_differences():
         for name in there.get(crate, []):
             count = listed.get(crate, []).count(name)
             if count != 1:
-                yield f"docs/PROOFS.md lists the edit {name} of {crate} {count} times"
+                yield f"docs/TRIALS.md lists the edit {name} of {crate} {count} times"
         for name in listed.get(crate, []):
             if name not in there.get(crate, []):
-                yield f"docs/PROOFS.md lists {name}, which is no edit of {crate}"
+                yield f"docs/TRIALS.md lists {name}, which is no edit of {crate}"
 
 
 # ---- links
@@ -283,14 +286,41 @@ def shown_runs(text):
         yield command, printed
 
 
+def shown_files(page):
+    """The files that a page shows: the line, the name and the text."""
+    for number, kind, text in blocks(page):
+        names = kind.split()
+        if len(names) == 2 and names[0] in ("gherkin", "text"):
+            yield number, names[1], text
+
+
+def guide_beside(page):
+    """The other pages of the guide, where a page is one of its."""
+    return [it for it in GUIDE if it != page] if page in GUIDE else []
+
+
+def shown_twice():
+    """Files of the guide that two of its pages show."""
+    found = {}
+    for page in GUIDE:
+        for number, name, _ in shown_files(page):
+            other = found.setdefault(name, page)
+            if other != page:
+                yield f"{page}:{number}: {other} shows a file {name} as well"
+
+
 def run_differences(page, program, room):
-    """Runs what a page shows, over the files that stand above it on the page."""
+    """Runs what a page shows, over the files that stand above it on the page, and on other pages of the guide."""
     folder = os.path.join(room, page.replace("/", "_"))
     os.makedirs(folder)
     with open(os.path.join(folder, "run"), "w", encoding="utf-8") as file:
         file.write(f'#!/bin/sh\nexec "{program}" "$@"\n')
     os.chmod(os.path.join(folder, "run"), 0o755)
     os.symlink(os.path.join(HOME, "examples"), os.path.join(folder, "examples"))
+    for other in guide_beside(page):
+        for _, name, text in shown_files(other):
+            with open(os.path.join(folder, name), "w", encoding="utf-8") as file:
+                file.write(text)
     for number, kind, text in blocks(page):
         names = kind.split()
         if len(names) == 2 and names[0] in ("gherkin", "text"):
@@ -466,6 +496,7 @@ def main():
         tests.check(f"clauses in {page}", lines_of(page, named_clauses(page)))
         for number, difference in run_differences(page, program, room):
             tests.check(f"{page}:{number}", [difference] if difference else [])
+    tests.check("files of docs/guide/", shown_twice())
     tests.check("must-fail edits", edit_differences())
     for path in FILES:
         if re.match(r"crates/[^/]+/specs/", path) and path.endswith(".antt"):
@@ -476,7 +507,7 @@ def main():
     tests.check("entries of docs/FAULTS.md", fault_differences())
     tests.check("the built-in library", library_difference())
     faults, elsewhere = counted_words()
-    tests.check("words in README.md and docs/", [f"{path}:{number}: {text}" for path, number, text in faults])
+    tests.check("words in pages", [f"{path}:{number}: {text}" for path, number, text in faults])
     if elsewhere:
         print("such words elsewhere: " + ", ".join(f"{count} in {top}" for top, count in sorted(elsewhere.items())))
     print(f"{tests.passed} passed, {tests.failed} failed")

@@ -2,9 +2,9 @@
 # Runs each example and compares what it prints, and its status, with what is stored beside it:
 # tests/examples.sh [PROGRAM]
 #
-# PROGRAM is the built program; without it, the one that ./run builds.
-# Closes with one line 'N passed, M failed'. An example may have arguments of its own, one a line of its
-# file NAME.arguments, which come before the feature file.
+# PROGRAM is the built program; without it, the one that ./run runs. Closes with one line 'N
+# passed, M failed'. An example may have arguments of its own, one a line of its file
+# NAME.arguments, which come before the feature file.
 set -eu
 
 . "$(dirname -- "$(readlink -f -- "$0")")/setup.sh"

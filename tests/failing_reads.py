@@ -1,11 +1,14 @@
 #!/usr/bin/env python3
-"""Runs the program with files that fail: failing_reads.py PROGRAM ROOM. Called by tests/failing_reads.sh."""
+"""Runs the program with files that fail: failing_reads.py PROGRAM ROOM.
+
+Called by tests/failing_reads.sh, which says what has to come out.
+"""
 
 import errno
 import os
 import sys
 
-import several
+import driver
 
 PIECE = 16_384  # bytes, as the program reads them
 STEP = "    Given it passes\n"
@@ -17,16 +20,11 @@ FILES = {
     "b.feature": "Feature: two\n  Scenario: second\n" + STEP + "  Scenario: third\n" + STEP,
 }
 ARGUMENTS = ["--library", "l.steps", "--hooks", "h.hooks", "a.feature", "b.feature"]
-REASONS = (errno.EPERM, errno.ENOENT, errno.EIO, errno.ENXIO, errno.EACCES, errno.EBUSY, errno.ENODEV, errno.ENOTDIR, errno.EISDIR,
-           errno.EINVAL, errno.ENFILE, errno.EMFILE, errno.ETXTBSY, errno.ENAMETOOLONG, errno.ELOOP, errno.EOVERFLOW, errno.ESTALE)
+OPEN_REASONS = (errno.EPERM, errno.ENOENT, errno.EIO, errno.ENXIO, errno.EACCES, errno.EBUSY,
+                errno.ENODEV, errno.ENOTDIR, errno.EISDIR, errno.EINVAL, errno.ENFILE, errno.EMFILE,
+                errno.ETXTBSY, errno.ENAMETOOLONG, errno.ELOOP, errno.EOVERFLOW, errno.ESTALE)
+READ_REASONS = (errno.EIO, errno.EINTR, errno.EAGAIN, errno.EISDIR, errno.ENOMEM)
 OUT_OF_MEMORY = (4, b"", b"gherkin_run: out of memory\n")
-
-
-def write(folder, files):
-    os.makedirs(folder)
-    for name, text in files.items():
-        with open(os.path.join(folder, name), "w", encoding="utf-8") as file:
-            file.write(text)
 
 
 def unread(name):
@@ -45,56 +43,69 @@ class Runs:
 
     def __init__(self, program, room):
         self.program, self.room, self.folder = program, room, os.path.join(room, "whole")
-        write(self.folder, FILES)
-        self.ample = several.start(program, ARGUMENTS, self.folder)
+        driver.write(self.folder, FILES)
+        self.ample = driver.start(program, ARGUMENTS, self.folder)
+
+    def unlimited(self):
+        """What is wrong with the run whose files don't fail, or nothing."""
+        is_well = self.ample[0] == 0 and not self.ample[2]
+        return "" if is_well else f"with files that don't fail: {str(self.ample)[:800]}"
 
     def trouble(self, name, wanted, **limits):
         """What is wrong with a run whose files are limited, or nothing."""
-        environment = {**os.environ, **{name: str(it) for name, it in limits.items()}, "LD_PRELOAD": os.path.join(self.room, "refuse.so")}
-        ended = several.start(self.program, ARGUMENTS, self.folder, environment)
-        return "" if ended == wanted else f"{name}: {str(ended)[:800]}, and not {str(wanted)[:800]}"
+        environment = driver.limited(self.room, **limits)
+        ended = driver.start(self.program, ARGUMENTS, self.folder, environment)
+        return driver.trouble(name, ended, wanted)
 
     def opened(self, name):
         """What is wrong with the runs in which this file can't be opened."""
-        for reason in REASONS:
-            yield self.trouble(f"{name}, opened with error {reason}", unread(name), OPEN_FAILS=name, OPEN_ERROR=reason)
-        yield self.trouble(f"{name}, opened without memory", OUT_OF_MEMORY, OPEN_FAILS=name, OPEN_ERROR=errno.ENOMEM)
+        for reason in OPEN_REASONS:
+            yield self.trouble(f"{name}, opened with error {reason}", unread(name),
+                               OPEN_FAILS=name, OPEN_ERROR=reason)
+        yield self.trouble(f"{name}, opened without memory", OUT_OF_MEMORY,
+                           OPEN_FAILS=name, OPEN_ERROR=errno.ENOMEM)
 
     def read(self):
-        """What is wrong with the runs in which a call of read fails, and with those whose calls give few bytes."""
+        """What is wrong with the runs in which a call of read fails, or gives few bytes."""
         for piece in (1, 7):
             yield self.trouble(f"{piece} bytes a call", self.ample, READ_PIECE=piece)
         each = list(calls())
         for number, name in enumerate(each, 1):
-            for reason in (errno.EIO, errno.EINTR, errno.EAGAIN, errno.EISDIR, errno.ENOMEM):
-                yield self.trouble(f"error {reason} at call {number}", unread(name), READ_FAILS=number, READ_ERROR=reason)
-        yield self.trouble("no call left to fail", self.ample, READ_FAILS=len(each) + 1, READ_ERROR=errno.EIO)
+            for reason in READ_REASONS:
+                yield self.trouble(f"error {reason} at call {number}", unread(name),
+                                   READ_FAILS=number, READ_ERROR=reason)
+        yield self.trouble("no call left to fail", self.ample,
+                           READ_FAILS=len(each) + 1, READ_ERROR=errno.EIO)
 
     def ended(self, name):
-        """What is wrong with the runs in which this file, read byte by byte, ends before its last byte. Each ends as
-        one whose file has these bytes alone."""
-        before = sum(len(text) + 1 for other, text in FILES.items() if list(FILES).index(other) < list(FILES).index(name))
-        for length in range(0, len(FILES[name]), max(1, len(FILES[name]) // 20)):
+        """What is wrong with the runs in which this file ends before its last byte.
+
+        It is read byte by byte. Each run ends as one whose file has these bytes alone."""
+        text, earlier = FILES[name], list(FILES)[:list(FILES).index(name)]
+        before = sum(len(FILES[other]) + 1 for other in earlier)
+        for length in range(0, len(text), max(1, len(text) // 20)):
             folder = os.path.join(self.room, f"{name}-{length}")
-            write(folder, {**FILES, name: FILES[name][:length]})
-            wanted = several.start(self.program, ARGUMENTS, folder)
-            yield self.trouble(f"{name} ends after {length} bytes", wanted, READ_PIECE=1, READ_FAILS=before + length + 1)
+            driver.write(folder, {**FILES, name: text[:length]})
+            wanted = driver.start(self.program, ARGUMENTS, folder)
+            yield self.trouble(f"{name} ends after {length} bytes", wanted,
+                               READ_PIECE=1, READ_FAILS=before + length + 1)
+
+    def parts(self):
+        """The groups of runs, which are made at the same time: functions that answer troubles."""
+        yield self.read
+        for group in (self.opened, self.ended):
+            for name in FILES:
+                yield lambda group=group, name=name: group(name)
 
 
 def main():
     runs = Runs(sys.argv[1], sys.argv[2])
-    passed = failed = 0
-    if runs.ample[0] != 0 or runs.ample[2]:
-        failed += 1
-        print(f"with files that don't fail: {str(runs.ample)[:800]}")
-    work = [runs.read, *(lambda name=name: runs.opened(name) for name in FILES), *(lambda name=name: runs.ended(name) for name in FILES)]
-    for troubles in several.on_all_processors(lambda it: list(it()), work):
-        passed += troubles.count("")
-        for text in filter(None, troubles):
-            failed += 1
-            print(text)
-    print(f"{passed} passed, {failed} failed")
-    return 1 if failed else 0
+    tests = driver.Tests()
+    if runs.unlimited():
+        tests.add(runs.unlimited())
+    for troubles in driver.on_all_processors(lambda part: list(part()), runs.parts()):
+        tests.add_all(troubles)
+    return tests.close()
 
 
 if __name__ == "__main__":

@@ -1,12 +1,13 @@
 #!/bin/sh
 # Runs the program with files that fail: tests/failing_reads.sh [PROGRAM]
 #
-# A library, hooks and two feature files, one of them longer than a piece, of which each in turn can't be opened,
-# for each of some reasons, and whose reading fails at call 1, 2, 3, .. Then the run has to end with status 3 and
-# name that file as one that can't be read, with nothing on standard output; where opening one is refused memory,
-# with status 4 and 'out of memory'. Files that give one byte a call, or seven, are read as always, and a file ends
-# where a call gives no byte, though there are more. PROGRAM is the built program; without it, the one that ./run
-# builds. A C compiler, cc, is needed. Closes with one line 'N passed, M failed'; a run is one test.
+# A library, hooks and two feature files, one of them longer than a piece, of which each in turn
+# can't be opened, for each of some reasons, and whose reading fails at call 1, 2, 3, .. Then the
+# run has to end with status 3 and name that file as one that can't be read, with nothing on
+# standard output; where opening one is refused memory, with status 4 and 'out of memory'. Files
+# that give one byte a call, or seven, are read as always, and a file ends where a call gives no
+# byte, though there are more. PROGRAM is the built program; without it, the one that ./run runs.
+# A C compiler, cc, is needed. Closes with one line 'N passed, M failed'; a run is one test.
 set -eu
 
 . "$(dirname -- "$(readlink -f -- "$0")")/setup.sh"

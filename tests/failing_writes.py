@@ -1,14 +1,17 @@
 #!/usr/bin/env python3
-"""Runs the program with a standard output that fails: failing_writes.py PROGRAM ROOM. Called by tests/failing_writes.sh."""
+"""Runs the program with a standard output that fails: failing_writes.py PROGRAM ROOM.
+
+Called by tests/failing_writes.sh, which says what has to come out.
+"""
 
 import errno
 import os
 import sys
 
-import several
+import driver
 from reports import Report, style_of
 
-ONE = "Feature: one\n  Scenario: first\n    Given it passes\n"
+ONE = driver.feature("Given it passes", name="one", scenario="first")
 HOOKS = """before_all:
 Given a file named "f" containing "x"
 after_scenario:
@@ -17,14 +20,23 @@ after_all:
 Given at cleanup it fails
 """
 TWO_FILES = {"a.feature": ONE, "b.feature": ONE}
-RUNS = [(style + arguments, files) for style in ([], ["--format", "progress"], ["--format", "json"]) for arguments, files in (
+CHOSEN_FILES = {
+    "a.feature": ONE,
+    "b.feature": "@a\n" + ONE + "And it fails\n",
+    "c.feature": "@a\n" + ONE,
+}
+STYLES = ([], ["--format", "progress"], ["--format", "json"])
+# Arguments and files of the runs, each of which is made in each of the styles.
+RUNS = (
     (["a.feature", "b.feature"], TWO_FILES),
     (["a.feature"], {"a.feature": ""}),
     (["--hooks", "h.hooks", "--stop", "a.feature", "b.feature"], {"h.hooks": HOOKS, **TWO_FILES}),
-    (["--no-skipped", "--tags", "@a", "a.feature", "b.feature", "c.feature"],
-     {"a.feature": ONE, "b.feature": "@a\n" + ONE + "And it fails\n", "c.feature": "@a\n" + ONE}),
+    (["--no-skipped", "--tags", "@a", "a.feature", "b.feature", "c.feature"], CHOSEN_FILES),
     (["--dry-run", "a.feature", "b.feature"], TWO_FILES),
-)]
+)
+# Errors of a call; 0 is none, where the call takes no byte.
+PIECE_ERRORS = (0, errno.EIO, errno.EINTR)
+BYTE_ERRORS = (0, errno.EIO, errno.ENOSPC, errno.EINTR)
 CANNOT_WRITE = b"gherkin_run: cannot write\n"
 
 
@@ -34,16 +46,8 @@ class Case:
     def __init__(self, program, room, arguments, files, number):
         self.program, self.room, self.arguments = program, room, arguments
         self.folder = os.path.join(room, str(number))
-        os.makedirs(self.folder)
-        for name, text in files.items():
-            with open(os.path.join(self.folder, name), "w", encoding="utf-8") as file:
-                file.write(text)
-        self.ample = several.start(program, arguments, self.folder)
-
-    def start(self, **limits):
-        environment = {**os.environ, **{name: str(it) for name, it in limits.items()},
-                       "LD_PRELOAD": os.path.join(self.room, "refuse.so")}
-        return several.start(self.program, self.arguments, self.folder, environment)
+        driver.write(self.folder, files)
+        self.ample = driver.start(program, arguments, self.folder)
 
     def beginnings(self):
         """What was written before each piece of the report that isn't empty."""
@@ -52,38 +56,50 @@ class Case:
 
     def trouble(self, name, wanted, **limits):
         """What is wrong with a run whose standard output is limited, or nothing."""
-        ended = self.start(**limits)
-        return "" if ended == wanted else f"{self.arguments}, {name}: {ended}, and not {wanted}"
+        environment = driver.limited(self.room, **limits)
+        ended = driver.start(self.program, self.arguments, self.folder, environment)
+        return driver.trouble(f"{self.arguments}, {name}", ended, wanted)
 
     def troubles(self):
-        """What is wrong with each run. Each piece is written by one call, and by one for each byte where a call takes
-        one. Where a call fails, or takes nothing, what was taken before it is all that is written."""
-        everything = self.ample[1]
+        """What is wrong with each run, or nothing.
+
+        Each piece is written by one call, and by one for each byte where a call takes one. Where a
+        call fails, or takes nothing, what was taken before it is all that is written."""
         for piece in (1, 7):
             yield self.trouble(f"{piece} bytes a call", self.ample, WRITE_PIECE=piece)
+        yield from self.piece_troubles()
+        yield from self.byte_troubles()
+
+    def piece_troubles(self):
+        """What is wrong with the runs whose call for a piece fails."""
         beginnings = self.beginnings()
         for number, before in enumerate(beginnings, 1):
-            for kind in (0, errno.EIO, errno.EINTR):
-                yield self.trouble(f"error {kind} at piece {number}", (3, before, CANNOT_WRITE), WRITE_FAILS=number, WRITE_ERROR=kind)
-        yield self.trouble("no call left to fail", self.ample, WRITE_FAILS=len(beginnings) + 1, WRITE_ERROR=errno.EIO)
+            for error in PIECE_ERRORS:
+                yield self.trouble(f"error {error} at piece {number}", (3, before, CANNOT_WRITE),
+                                   WRITE_FAILS=number, WRITE_ERROR=error)
+        yield self.trouble("no call left to fail", self.ample,
+                           WRITE_FAILS=len(beginnings) + 1, WRITE_ERROR=errno.EIO)
+
+    def byte_troubles(self):
+        """What is wrong with the runs whose call for a byte fails."""
+        everything = self.ample[1]
         for number in range(1, len(everything) + 1):
+            error = BYTE_ERRORS[number % len(BYTE_ERRORS)]
             wanted = (3, everything[:number - 1], CANNOT_WRITE)
-            kind = (0, errno.EIO, errno.ENOSPC, errno.EINTR)[number % 4]
-            yield self.trouble(f"error {kind} at byte {number}", wanted, WRITE_PIECE=1, WRITE_FAILS=number, WRITE_ERROR=kind)
-        yield self.trouble("no byte left to fail", self.ample, WRITE_PIECE=1, WRITE_FAILS=len(everything) + 1, WRITE_ERROR=errno.EIO)
+            yield self.trouble(f"error {error} at byte {number}", wanted,
+                               WRITE_PIECE=1, WRITE_FAILS=number, WRITE_ERROR=error)
+        yield self.trouble("no byte left to fail", self.ample,
+                           WRITE_PIECE=1, WRITE_FAILS=len(everything) + 1, WRITE_ERROR=errno.EIO)
 
 
 def main():
     program, room = sys.argv[1], sys.argv[2]
-    cases = [Case(program, room, arguments, files, number) for number, (arguments, files) in enumerate(RUNS)]
-    passed = failed = 0
-    for troubles in several.on_all_processors(lambda case: list(case.troubles()), cases):
-        passed += troubles.count("")
-        for text in filter(None, troubles):
-            failed += 1
-            print(text)
-    print(f"{passed} passed, {failed} failed")
-    return 1 if failed else 0
+    runs = [(style + arguments, files) for style in STYLES for arguments, files in RUNS]
+    cases = [Case(program, room, *run, number) for number, run in enumerate(runs)]
+    tests = driver.Tests()
+    for troubles in driver.on_all_processors(lambda case: list(case.troubles()), cases):
+        tests.add_all(troubles)
+    return tests.close()
 
 
 if __name__ == "__main__":

@@ -1,19 +1,27 @@
 """The large runs of tests/runs.sh: at the limits, near them, and far beyond what a person writes.
 
-Each function below makes one run: the arguments, the input files, and what has to come out. The input
-isn't stored, since it is large. What has to come out is worked out beside it, and not taken from the
-program.
+Each function that is marked as a large run makes one: the arguments, the input files, and what has
+to come out. The input isn't stored, since it is large. What has to come out is worked out beside
+it, and not taken from the program.
 """
 
 import os
-import subprocess
+import shutil
 import threading
+
+import driver
 
 PATIENCE = 120  # seconds
 FILE_LIMIT = 16_777_216
 TEXT_LIMIT = 1_048_576
 STEPS_LIMIT = 1_000_000
 TOO_LONG = "longer than 16777216 bytes"
+TOO_MANY = "more than 1000000 steps"
+JSON = ["--format", "json"]
+PROGRESS = ["--format", "progress"]
+LIBRARY = ["--library", "l.steps", "a.feature"]
+HOOKS = ["--hooks", "h.hooks", "a.feature"]
+RUNS = []
 
 
 class Run:
@@ -26,6 +34,18 @@ class Run:
         self.stdout = stdout
         self.stderr = stderr
 
+    def wanted(self):
+        """The status and the bytes on standard output and standard error."""
+        return self.status, self.stdout.encode(), self.stderr.encode()
+
+
+def large_run(make):
+    """Marks a function that makes a large run."""
+    RUNS.append(make)
+    return make
+
+
+# ---- reports
 
 def counted(noun, passed, failed=0, skipped=0, undefined=None):
     """One of the closing lines."""
@@ -35,184 +55,285 @@ def counted(noun, passed, failed=0, skipped=0, undefined=None):
 
 
 def closing(features, scenarios, steps):
-    """The closing lines; each of the three is a number passed, or numbers passed, failed, skipped, undefined."""
-    features, scenarios, steps = ((it,) if isinstance(it, int) else it for it in (features, scenarios, steps))
-    return counted("feature", *features) + counted("scenario", *scenarios) + counted("step", *(tuple(steps) + (0, 0, 0))[:4])
+    """The closing lines.
+
+    Each of the three is a number passed, or numbers passed, failed, skipped and undefined."""
+    def numbers(it):
+        return (it,) if isinstance(it, int) else it
+    of_steps = (*numbers(steps), 0, 0, 0)[:4]
+    return (counted("feature", *numbers(features)) + counted("scenario", *numbers(scenarios))
+            + counted("step", *of_steps))
+
+
+def rows(steps, status):
+    """Steps, each with the same status."""
+    return [(step, status) for step in steps]
+
+
+def case(name, status, steps, keyword="Scenario"):
+    """The rows of a scenario in a report. A step is its text and its status."""
+    below = "".join(f"    {step} ... {own}\n" for step, own in steps)
+    return f"  {keyword}: {name} ... {status}\n{below}"
+
+
+def part(status, cases, feature="f"):
+    """The part of a feature in a report, of the rows of its scenarios."""
+    return f"Feature: {feature} ... {status}\n" + "".join(cases) + "\n"
 
 
 def passing(feature, scenarios, steps):
     """The part of a feature whose scenarios, given by their names, pass with the same steps."""
-    below = "".join(f"    {step} ... passed\n" for step in steps)
-    return f"Feature: {feature} ... passed\n" + "".join(f"  Scenario: {name} ... passed\n{below}" for name in scenarios) + "\n"
+    below = rows(steps, "passed")
+    return part("passed", [case(name, "passed", below) for name in scenarios], feature)
+
+
+def one_passing(steps):
+    """The report of one feature with one scenario that passes."""
+    return passing("f", ["s"], steps) + closing(1, 1, len(steps))
+
+
+def one_undefined(step):
+    """The report of one feature with one scenario of an undefined step."""
+    return (part("failed", [case("s", "failed", [(step, "undefined")])])
+            + closing((0, 1), (0, 1), (0, 0, 0, 1)))
 
 
 def refused(name, text):
+    """What is printed on standard error where a file is refused."""
     return f"gherkin_run: {name}: {text}\n"
 
 
+def scenario(name, steps):
+    """The lines of a scenario."""
+    return "".join(f"{line}\n" for line in (f"Scenario: {name}", *steps))
+
+
+# ---- many scenarios and files
+
+@large_run
 def many_scenarios():
     names = [f"s{number}" for number in range(100_000)]
     steps = ['Given the variable "A" is set to "x"', 'Then the variable "A" should be "x"']
-    text = "Feature: many\n" + "".join(f"Scenario: {name}\n" + "\n".join(steps) + "\n" for name in names)
+    text = "Feature: many\n" + "".join(scenario(name, steps) for name in names)
     return Run({"a.feature": text}, 0, passing("many", names, steps) + closing(1, 100_000, 200_000))
 
 
-def json_row(number):
+def json_step(keyword, line, text):
+    """The object of a step that passes."""
+    return f'{{"keyword":"{keyword}","line":{line},"status":"passed","text":"{text}"}}'
+
+
+def json_case(number):
     """The object of a scenario of the runs of many scenarios."""
-    def step(keyword, line, text):
-        return f'{{"keyword":"{keyword}","line":{line},"status":"passed","text":"{text}"}}'
     line = 2 + 3 * number
-    steps = [step("Given", line + 1, 'the variable \\"A\\" is set to \\"x\\"'), step("Then", line + 2, 'the variable \\"A\\" should be \\"x\\"')]
-    return (f'{{"around":"passed","keyword":"Scenario","line":{line},"name":"s{number}","status":"passed","steps":[{",".join(steps)}]}}')
+    steps = ",".join([json_step("Given", line + 1, 'the variable \\"A\\" is set to \\"x\\"'),
+                      json_step("Then", line + 2, 'the variable \\"A\\" should be \\"x\\"')])
+    return (f'{{"around":"passed","keyword":"Scenario","line":{line},"name":"s{number}",'
+            f'"status":"passed","steps":[{steps}]}}')
 
 
-def json_counts(passed, undefined=False):
-    names = ["failed", "memory", "passed", "skipped", *(["undefined"] if undefined else []), "untested"]
-    return "{" + ",".join(f'"{it}":{passed if it == "passed" else 0}' for it in names) + "}"
+def json_feature(name, line, scenarios, source, status):
+    """The object of a feature."""
+    return (f'{{"around":"passed","line":{line},"name":"{name}","scenarios":[{scenarios}],'
+            f'"source":"{source}","status":"{status}"}}')
 
 
+def json_counts(noun, numbers):
+    """The object of the counts of a noun. Only steps have a count of what is undefined."""
+    last = ["undefined", "untested"] if noun == "steps" else ["untested"]
+    names = ["failed", "memory", "passed", "skipped", *last]
+    return "{" + ",".join(f'"{it}":{numbers.get(it, 0)}' for it in names) + "}"
+
+
+def json_report(objects, status, **numbers):
+    """A whole report, of the objects of its features, and of the counts that aren't 0 by noun."""
+    counts = {noun: numbers.get(noun, {}) for noun in ("features", "scenarios", "steps")}
+    summary = ",".join(f'"{noun}":{json_counts(noun, own)}' for noun, own in counts.items())
+    return (f'{{"features":[{",".join(objects)}],"run":"passed","status":{status},'
+            f'"summary":{{{summary}}}}}\n')
+
+
+@large_run
 def many_scenarios_as_json():
-    rows = ",".join(json_row(number) for number in range(100_000))
-    report = (f'{{"features":[{{"around":"passed","line":1,"name":"many","scenarios":[{rows}],"source":"a.feature","status":"passed"}}],'
-              f'"run":"passed","status":0,"summary":{{"features":{json_counts(1)},"scenarios":{json_counts(100_000)},'
-              f'"steps":{json_counts(200_000, True)}}}}}\n')
-    return Run(many_scenarios().files, 0, report, arguments=["--format", "json", "a.feature"])
+    scenarios = ",".join(json_case(number) for number in range(100_000))
+    report = json_report(
+        [json_feature("many", 1, scenarios, "a.feature", "passed")], 0, features={"passed": 1},
+        scenarios={"passed": 100_000}, steps={"passed": 200_000})
+    return Run(many_scenarios().files, 0, report, arguments=[*JSON, "a.feature"])
 
 
+@large_run
 def many_scenarios_as_progress():
-    return Run(many_scenarios().files, 0, f"a.feature  {'.' * 100_000}  passed\n" + closing(1, 100_000, 200_000),
-               arguments=["--format", "progress", "a.feature"])
+    report = f"a.feature  {'.' * 100_000}  passed\n" + closing(1, 100_000, 200_000)
+    return Run(many_scenarios().files, 0, report, arguments=[*PROGRESS, "a.feature"])
 
 
+@large_run
 def many_scenarios_after_the_one_that_stops_the_run():
-    run = many_scenarios()
-    files = {"0.feature": "Feature: f\nScenario: s\nGiven it fails\n", **run.files}
-    report = f"0.feature  F  failed\na.feature  {'U' * 100_000}  untested\n" + counted("feature", 0, 1).replace("\n", ", 1 untested\n")
-    report += counted("scenario", 0, 1).replace("\n", ", 100000 untested\n") + counted("step", 0, 1, 0, 0).replace("\n", ", 200000 untested\n")
-    return Run(files, 1, report, arguments=["--stop", "--format", "progress", *files])
+    def untested(line, number):
+        return line.replace("\n", f", {number} untested\n")
+    files = {"0.feature": driver.feature("Given it fails"), **many_scenarios().files}
+    report = f"0.feature  F  failed\na.feature  {'U' * 100_000}  untested\n"
+    report += untested(counted("feature", 0, 1), 1)
+    report += untested(counted("scenario", 0, 1), 100_000)
+    report += untested(counted("step", 0, 1, 0, 0), 200_000)
+    return Run(files, 1, report, arguments=["--stop", *PROGRESS, *files])
 
 
+@large_run
 def many_files_as_json():
     files = {f"{number}.feature": "Feature: f\n" for number in range(300)}
-    rows = ",".join(f'{{"around":"passed","line":1,"name":"f","scenarios":[],"source":"{it}","status":"skipped"}}' for it in files)
-    counts = json_counts(0).replace('"skipped":0', '"skipped":300')
-    report = (f'{{"features":[{rows}],"run":"passed","status":0,"summary":{{"features":{counts},"scenarios":{json_counts(0)},'
-              f'"steps":{json_counts(0, True)}}}}}\n')
-    return Run(files, 0, report, arguments=["--format", "json", *files])
+    report = json_report([json_feature("f", 1, "", it, "skipped") for it in files], 0,
+                         features={"skipped": 300})
+    return Run(files, 0, report, arguments=[*JSON, *files])
 
 
+@large_run
 def long_names_as_json():
     name = '\u00e9"\\' * 100_000
     written = '\u00e9\\"\\\\' * 100_000
     step = f'{{"keyword":"Given","line":3,"status":"undefined","text":"{written}"}}'
-    scenario = f'{{"around":"passed","keyword":"Scenario","line":2,"name":"{written}","status":"failed","steps":[{step}]}}'
-    failed = json_counts(0).replace('"failed":0', '"failed":1')
-    undefined = json_counts(0, True).replace('"undefined":0', '"undefined":1')
-    report = (f'{{"features":[{{"around":"passed","line":1,"name":"{written}","scenarios":[{scenario}],"source":"a.feature","status":"failed"}}],'
-              f'"run":"passed","status":1,"summary":{{"features":{failed},"scenarios":{failed},"steps":{undefined}}}}}\n')
-    return Run({"a.feature": f"Feature: {name}\nScenario: {name}\nGiven {name}\n"}, 1, report, arguments=["--format", "json", "a.feature"])
+    own = (f'{{"around":"passed","keyword":"Scenario","line":2,"name":"{written}",'
+           f'"status":"failed","steps":[{step}]}}')
+    report = json_report(
+        [json_feature(written, 1, own, "a.feature", "failed")], 1, features={"failed": 1},
+        scenarios={"failed": 1}, steps={"undefined": 1})
+    files = {"a.feature": driver.feature(f"Given {name}", name=name, scenario=name)}
+    return Run(files, 1, report, arguments=[*JSON, "a.feature"])
 
 
+@large_run
 def many_files():
-    files = {f"{number}.feature": f"Feature: f{number}\nScenario: s{number}\nGiven the variable \"V{number}\" should be unset\n"
-             f"And the variable \"V{number}\" is set to \"x\"\n" for number in range(100)}
-    report = "".join(passing(f"f{number}", [f"s{number}"], [f'Given the variable "V{number}" should be unset',
-                                                             f'And the variable "V{number}" is set to "x"'])
-                     for number in range(100))
+    files, report = {}, ""
+    for number in range(100):
+        name, own = f"f{number}", f"s{number}"
+        steps = [f'Given the variable "V{number}" should be unset',
+                 f'And the variable "V{number}" is set to "x"']
+        files[f"{number}.feature"] = driver.feature(*steps, name=name, scenario=own)
+        report += passing(name, [own], steps)
     return Run(files, 0, report + closing(100, 100, 200))
 
 
+@large_run
 def many_files_backwards():
     run = many_files()
     report = run.stdout[:run.stdout.index("100 features")]
     parts = report.split("\n\n")[:-1]
-    stdout = "".join(part + "\n\n" for part in reversed(parts)) + closing(100, 100, 200)
+    stdout = "".join(f"{it}\n\n" for it in reversed(parts)) + closing(100, 100, 200)
     return Run(run.files, 0, stdout, arguments=list(reversed(run.files)))
 
 
+@large_run
 def fault_of_the_last_of_many_files():
     files = {f"{number}.feature": "Feature: f\n" for number in range(100)}
     files["99.feature"] = "Feature: f\nFeature: g\n"
     return Run(files, 3, "", "gherkin_run: 99.feature:2: unexpected line\n")
 
 
+@large_run
 def many_rules_examples_and_rows():
-    rules = "".join(f"Rule: r{number}\nBackground:\nGiven it passes\nExample: e{number}\n" for number in range(300))
-    parts = "".join(f"Examples: e{number}\n| a |\n| {number} |\n| x |\n" for number in range(300))
-    rows = "".join(
-        f"  Scenario Outline: o -- @{number + 1}.{row} e{number} ... passed\n"
-        f"    Given a file named \"{cell}\" containing \"x\" ... passed\n"
-        for number in range(300) for row, cell in ((1, number), (2, "x")))
-    text = "Feature: f\nScenario Outline: o\nGiven a file named \"<a>\" containing \"x\"\n" + parts + rules
-    report = "Feature: f ... passed\n" + rows + "".join(
-        f"  Example: e{number} ... passed\n    Given it passes ... passed\n" for number in range(300)) + "\n"
-    return Run({"a.feature": text}, 0, report + closing(1, 900, 900))
+    step = 'Given a file named "{}" containing "x"'
+    text = f"Feature: f\nScenario Outline: o\n{step.format('<a>')}\n"
+    cases = []
+    for number in range(300):
+        text += f"Examples: e{number}\n| a |\n| {number} |\n| x |\n"
+        for row, cell in ((1, number), (2, "x")):
+            name = f"o -- @{number + 1}.{row} e{number}"
+            cases.append(case(name, "passed", [(step.format(cell), "passed")], "Scenario Outline"))
+    for number in range(300):
+        text += f"Rule: r{number}\nBackground:\nGiven it passes\nExample: e{number}\n"
+        cases.append(case(f"e{number}", "passed", [("Given it passes", "passed")], "Example"))
+    return Run({"a.feature": text}, 0, part("passed", cases) + closing(1, 900, 900))
 
 
+# ---- lines
+
+@large_run
 def late_line():
-    text = "Feature: f\nScenario: s\nGiven it passes\n" + "# nothing\n" * 70_000 + "stray\n"
+    text = driver.feature("Given it passes") + "# nothing\n" * 70_000 + "stray\n"
     return Run({"a.feature": text}, 3, "", "gherkin_run: a.feature:70004: unexpected line\n")
 
 
 def chosen_line(line, blank_lines):
     """A scenario chosen by its line, which is large."""
-    text = "Feature: f\nScenario: no\nGiven it fails\n" + "\n" * blank_lines + "Scenario: yes\nGiven it passes\n"
+    text = "Feature: f\n" + scenario("no", ["Given it fails"])
+    text += "\n" * blank_lines + scenario("yes", ["Given it passes"])
     assert line == 4 + blank_lines
-    report = ("Feature: f ... passed\n  Scenario: no ... skipped\n    Given it fails ... skipped\n"
-              "  Scenario: yes ... passed\n    Given it passes ... passed\n\n")
-    return Run({"a.feature": text}, 0, report + closing(1, (1, 0, 1), (1, 0, 1)), arguments=["--line", str(line), "a.feature"])
+    report = part("passed", [case("no", "skipped", [("Given it fails", "skipped")]),
+                             case("yes", "passed", [("Given it passes", "passed")])])
+    return Run({"a.feature": text}, 0, report + closing(1, (1, 0, 1), (1, 0, 1)),
+               arguments=["--line", str(line), "a.feature"])
 
 
+@large_run
 def chosen_line_65535():
     return chosen_line(65_535, 65_531)
 
 
+@large_run
 def chosen_line_65536():
     return chosen_line(65_536, 65_532)
 
 
+@large_run
 def chosen_line_1000000():
     return chosen_line(1_000_000, 999_996)
 
 
+# ---- files of the greatest length
+
+@large_run
 def longest_file_of_a_comment():
     return Run({"a.feature": "#" + "x" * (FILE_LIMIT - 1)}, 0, closing(0, 0, 0))
 
 
+@large_run
 def longest_file_of_a_scenario():
-    text = "Feature: f\nScenario: s\nGiven it passes\n"
+    text = driver.feature("Given it passes")
     text += "#" * (FILE_LIMIT - len(text) - 1) + "\n"
-    return Run({"a.feature": text}, 0, passing("f", ["s"], ["Given it passes"]) + closing(1, 1, 1))
+    return Run({"a.feature": text}, 0, one_passing(["Given it passes"]))
 
 
+@large_run
 def file_one_byte_too_long():
     return Run({"a.feature": "#" + "x" * FILE_LIMIT}, 3, "", refused("a.feature", TOO_LONG))
 
 
+@large_run
 def second_file_one_byte_too_long():
-    return Run({"a.feature": "Feature: a\n", "b.feature": "\n" * (FILE_LIMIT + 1)}, 3, "", refused("b.feature", TOO_LONG))
+    files = {"a.feature": "Feature: a\n", "b.feature": "\n" * (FILE_LIMIT + 1)}
+    return Run(files, 3, "", refused("b.feature", TOO_LONG))
 
 
+@large_run
 def too_long_before_not_utf8():
     return Run({"a.feature": b"\xff" * (FILE_LIMIT + 1)}, 3, "", refused("a.feature", TOO_LONG))
 
 
+@large_run
 def longest_file_not_utf8():
-    return Run({"a.feature": b"#\n" * (FILE_LIMIT // 2 - 1) + b"#\xff"}, 3, "", f"gherkin_run: a.feature:{FILE_LIMIT // 2}: not UTF-8\n")
+    lines = FILE_LIMIT // 2
+    return Run({"a.feature": b"#\n" * (lines - 1) + b"#\xff"}, 3, "",
+               f"gherkin_run: a.feature:{lines}: not UTF-8\n")
 
 
+@large_run
 def longest_library():
     entry = "step x => pass\n"
     library = entry + "#" * (FILE_LIMIT - len(entry))
-    return Run({"a.feature": "Feature: f\nScenario: s\nGiven x\n", "l.steps": library}, 0,
-               passing("f", ["s"], ["Given x"]) + closing(1, 1, 1), arguments=["--library", "l.steps", "a.feature"])
+    return Run({"a.feature": driver.feature("Given x"), "l.steps": library}, 0,
+               one_passing(["Given x"]), arguments=LIBRARY)
 
 
+@large_run
 def library_one_byte_too_long():
-    return Run({"a.feature": "Feature: f\n", "l.steps": "#" * (FILE_LIMIT + 1)}, 3, "", refused("l.steps", TOO_LONG),
-               arguments=["--library", "l.steps", "a.feature"])
+    return Run({"a.feature": "Feature: f\n", "l.steps": "#" * (FILE_LIMIT + 1)}, 3, "",
+               refused("l.steps", TOO_LONG), arguments=LIBRARY)
 
 
+# ---- texts of the greatest length
+
+@large_run
 def longest_texts():
     """Texts of a file and of a table's cell at the limit and beyond; an append at the limit."""
     text = "x" * TEXT_LIMIT
@@ -262,345 +383,379 @@ Given these files:
     return Run({"a.feature": feature}, 1, report + closing((0, 1), (1, 3), (4, 3)))
 
 
+@large_run
 def longest_variable_and_value():
     text = "x" * TEXT_LIMIT
-    steps = [(f'Given the variable "V" is set to "{text}"', "passed"), (f'Then the variable "V" should be "{text}"', "passed"),
-             (f'Given the value "v" is set to "{text}"', "passed"), (f'Then the value "v" should be "{text}"', "passed"),
+    steps = [*rows([f'Given the variable "V" is set to "{text}"',
+                    f'Then the variable "V" should be "{text}"',
+                    f'Given the value "v" is set to "{text}"',
+                    f'Then the value "v" should be "{text}"'], "passed"),
              ('When the number "v" grows by 1', "failed: not a number")]
-    beyond = [(f'Given the variable "V" is set to "{text}x"', "failed: text too long"), ('Then the variable "V" should be unset', "skipped")]
-    also = [(f'Given the value "v" is set to "{text}x"', "failed: text too long"), ('Then the value "v" should be absent', "skipped")]
-    cases = [("a", "failed", steps), ("b", "failed", beyond), ("c", "failed", also)]
-    feature = "Feature: f\n" + "".join(f"Scenario: {name}\n" + "".join(f"{step}\n" for step, _ in rows) for name, _, rows in cases)
-    report = "Feature: f ... failed\n" + "".join(
-        f"  Scenario: {name} ... {verdict}\n" + "".join(f"    {step} ... {status}\n" for step, status in rows)
-        for name, verdict, rows in cases) + "\n"
-    return Run({"a.feature": feature}, 1, report + closing((0, 1), (0, 3), (4, 3, 2)))
+    beyond = [(f'Given the variable "V" is set to "{text}x"', "failed: text too long"),
+              ('Then the variable "V" should be unset', "skipped")]
+    also = [(f'Given the value "v" is set to "{text}x"', "failed: text too long"),
+            ('Then the value "v" should be absent', "skipped")]
+    feature, cases = "Feature: f\n", []
+    for name, own in (("a", steps), ("b", beyond), ("c", also)):
+        feature += scenario(name, [step for step, _ in own])
+        cases.append(case(name, "failed", own))
+    return Run({"a.feature": feature}, 1,
+               part("failed", cases) + closing((0, 1), (0, 3), (4, 3, 2)))
 
 
+@large_run
 def text_in_characters_of_more_bytes():
     """The limit counts bytes: 524,288 characters of two bytes are kept, and one more isn't."""
     text = "\u00e9" * (TEXT_LIMIT // 2)
-    feature = f'Feature: f\nScenario: s\nGiven a file named "f" with:\n"""\n{text}\n"""\nGiven a file named "g" with:\n"""\n{text}\u00e9\n"""\n'
-    report = ('Feature: f ... failed\n  Scenario: s ... failed\n    Given a file named "f" with: ... passed\n'
-              '    Given a file named "g" with: ... failed: text too long\n\n')
+    steps = [('Given a file named "f" with:', "passed"),
+             ('Given a file named "g" with:', "failed: text too long")]
+    feature = driver.feature(f'{steps[0][0]}\n"""\n{text}\n"""',
+                             f'{steps[1][0]}\n"""\n{text}\u00e9\n"""')
+    report = part("failed", [case("s", "failed", steps)])
     return Run({"a.feature": feature}, 1, report + closing((0, 1), (0, 1), (1, 1)))
 
 
+@large_run
 def name_in_characters_of_more_bytes():
     name = "n" + "\u00e9" * 127
-    steps = [(f'Given a file named "{name}" containing "x"', "passed"), (f'And a file named "n{name}" containing "x"', "failed: bad name")]
-    feature = "Feature: f\nScenario: s\n" + "".join(f"{step}\n" for step, _ in steps)
-    report = "Feature: f ... failed\n  Scenario: s ... failed\n" + "".join(f"    {step} ... {status}\n" for step, status in steps) + "\n"
+    steps = [(f'Given a file named "{name}" containing "x"', "passed"),
+             (f'And a file named "n{name}" containing "x"', "failed: bad name")]
+    feature = driver.feature(*(step for step, _ in steps))
+    report = part("failed", [case("s", "failed", steps)])
     return Run({"a.feature": feature}, 1, report + closing((0, 1), (0, 1), (1, 1)))
 
 
-def outline_of_steps(steps, rows):
+# ---- many steps
+
+def outline_of_steps(steps, examples):
     """An outline of so many steps and rows."""
-    return ("Feature: f\nScenario Outline: o\n" + "Given it passes\n" * steps + "Examples:\n| a |\n" + "| x |\n" * rows)
+    return ("Feature: f\nScenario Outline: o\n" + "Given it passes\n" * steps
+            + "Examples:\n| a |\n" + "| x |\n" * examples)
 
 
+def outline_cases(steps, examples, status):
+    """The rows of an outline of so many steps and rows, all of one status."""
+    below = rows(["Given it passes"] * steps, status)
+    return [case(f"o -- @1.{row}", status, below, "Scenario Outline")
+            for row in range(1, examples + 1)]
+
+
+def background_of_steps(step, scenarios):
+    """A background of 1,000 steps, and so many scenarios."""
+    return ("Feature: f\nBackground:\n" + f"{step}\n" * 1000
+            + "".join(f"Scenario: s{number}\n" for number in range(scenarios)))
+
+
+@large_run
 def outline_of_a_million_steps():
-    below = "    Given it passes ... passed\n" * 1000
-    report = "Feature: f ... passed\n" + "".join(
-        f"  Scenario Outline: o -- @1.{row} ... passed\n{below}" for row in range(1, 1001)) + "\n"
-    return Run({"a.feature": outline_of_steps(1000, 1000)}, 0, report + closing(1, 1000, STEPS_LIMIT))
+    report = part("passed", outline_cases(1000, 1000, "passed"))
+    return Run({"a.feature": outline_of_steps(1000, 1000)}, 0,
+               report + closing(1, 1000, STEPS_LIMIT))
 
 
+@large_run
 def outline_of_more_than_a_million_steps():
-    return Run({"a.feature": outline_of_steps(1000, 1001)}, 3, "", refused("a.feature", "more than 1000000 steps"))
+    return Run({"a.feature": outline_of_steps(1000, 1001)}, 3, "", refused("a.feature", TOO_MANY))
 
 
+@large_run
 def outline_of_a_million_and_one_steps():
-    text = outline_of_steps(1000, 1000) + "Scenario: s\nGiven it passes\n"
-    return Run({"a.feature": text}, 3, "", refused("a.feature", "more than 1000000 steps"))
+    text = outline_of_steps(1000, 1000) + scenario("s", ["Given it passes"])
+    return Run({"a.feature": text}, 3, "", refused("a.feature", TOO_MANY))
 
 
+@large_run
 def outline_of_very_many_steps():
     """5 * 10^11 steps: they are counted and not made."""
-    return Run({"a.feature": outline_of_steps(500_000, 1_000_000)}, 3, "", refused("a.feature", "more than 1000000 steps"))
+    return Run({"a.feature": outline_of_steps(500_000, 1_000_000)}, 3, "",
+               refused("a.feature", TOO_MANY))
 
 
+@large_run
 def background_steps_count():
-    text = "Feature: f\nBackground:\n" + "Given it passes\n" * 1000 + "".join(f"Scenario: s{number}\n" for number in range(1001))
-    return Run({"a.feature": text}, 3, "", refused("a.feature", "more than 1000000 steps"))
+    return Run({"a.feature": background_of_steps("Given it passes", 1001)}, 3, "",
+               refused("a.feature", TOO_MANY))
 
 
+@large_run
 def background_steps_at_the_limit():
     """Every scenario is unselected, so that the report is all that takes time."""
-    text = "Feature: f\nBackground:\n" + "Given it fails\n" * 1000 + "".join(f"Scenario: s{number}\n" for number in range(1000))
-    below = "    Given it fails ... skipped\n" * 1000
-    report = "Feature: f ... skipped\n" + "".join(f"  Scenario: s{number} ... skipped\n{below}" for number in range(1000)) + "\n"
-    return Run({"a.feature": text}, 0, report + closing((0, 0, 1), (0, 0, 1000), (0, 0, STEPS_LIMIT)),
+    step = "Given it fails"
+    below = rows([step] * 1000, "skipped")
+    report = part("skipped", [case(f"s{number}", "skipped", below) for number in range(1000)])
+    return Run({"a.feature": background_of_steps(step, 1000)}, 0,
+               report + closing((0, 0, 1), (0, 0, 1000), (0, 0, STEPS_LIMIT)),
                arguments=["--tags", "@no", "a.feature"])
 
 
+@large_run
 def the_limit_of_steps_is_for_each_file():
     text = outline_of_steps(1000, 600)
-    below = "    Given it passes ... skipped\n" * 1000
-    report = "Feature: f ... skipped\n" + "".join(
-        f"  Scenario Outline: o -- @1.{row} ... skipped\n{below}" for row in range(1, 601)) + "\n"
-    return Run({"a.feature": text, "b.feature": text}, 0, report * 2 + closing((0, 0, 2), (0, 0, 1200), (0, 0, 1_200_000)),
+    report = part("skipped", outline_cases(1000, 600, "skipped"))
+    return Run({"a.feature": text, "b.feature": text}, 0,
+               report * 2 + closing((0, 0, 2), (0, 0, 1200), (0, 0, 1_200_000)),
                arguments=["--line", "1", "a.feature", "b.feature"])
 
 
+@large_run
 def fault_before_the_steps_of_a_later_file():
-    return Run({"a.feature": outline_of_steps(1000, 1001), "b.feature": "stray\n"}, 3, "", refused("a.feature", "more than 1000000 steps"))
+    return Run({"a.feature": outline_of_steps(1000, 1001), "b.feature": "stray\n"}, 3, "",
+               refused("a.feature", TOO_MANY))
 
 
+# ---- long blocks and many changes
+
+@large_run
 def long_table():
-    rows = "".join(f"| f{number} | {number} |\n" for number in range(70_000))
-    feature = ('Feature: f\nScenario: s\nGiven these files:\n| name | text |\n' + rows
-               + 'Then the file "f69999" should be "69999"\nAnd the file "f0" should be "0"\nAnd the file "f70000" should not exist\n')
-    steps = ["Given these files:", 'Then the file "f69999" should be "69999"', 'And the file "f0" should be "0"',
-             'And the file "f70000" should not exist']
-    return Run({"a.feature": feature}, 0, passing("f", ["s"], steps) + closing(1, 1, 4))
+    table = "".join(f"\n| f{number} | {number} |" for number in range(70_000))
+    steps = ["Given these files:", 'Then the file "f69999" should be "69999"',
+             'And the file "f0" should be "0"', 'And the file "f70000" should not exist']
+    feature = driver.feature(f"{steps[0]}\n| name | text |{table}", *steps[1:])
+    return Run({"a.feature": feature}, 0, one_passing(steps))
 
 
+@large_run
 def many_changes_of_one_name():
-    """100,000 changes of each of a value, a variable and a file, in one scenario: its end takes all of them back."""
+    """100,000 changes of each of a value, a variable and a file, in one scenario.
+
+    Its end takes all of them back."""
     count = 100_000
     grown = ['And the number "n" grows by 1'] * count
     put = ['And the variable "V" is set to "x"', 'And the variable "V" is unset'] * (count // 2)
     written = ['And a file named "f" containing "x"', 'And the file "f" is removed'] * (count // 2)
-    first = ['Given the number "n" is set to 0', *grown, *put, *written, 'Then the number "n" should be 100000',
-             'And the variable "V" should be unset', 'And the file "f" should not exist']
-    second = ['Then the value "n" should be absent', 'And the variable "V" should be unset', 'And the file "f" should not exist']
-    cases = [("changes", first), ("after them", second)]
-    feature = "Feature: f\n" + "".join(f"Scenario: {name}\n" + "".join(f"{step}\n" for step in steps) for name, steps in cases)
-    report = "Feature: f ... passed\n" + "".join(
-        f"  Scenario: {name} ... passed\n" + "".join(f"    {step} ... passed\n" for step in steps) for name, steps in cases) + "\n"
-    return Run({"a.feature": feature}, 0, report + closing(1, 2, len(first) + len(second)))
+    gone = ['And the variable "V" should be unset', 'And the file "f" should not exist']
+    first = ['Given the number "n" is set to 0', *grown, *put, *written,
+             'Then the number "n" should be 100000', *gone]
+    second = ['Then the value "n" should be absent', *gone]
+    feature, cases = "Feature: f\n", []
+    for name, steps in (("changes", first), ("after them", second)):
+        feature += scenario(name, steps)
+        cases.append(case(name, "passed", rows(steps, "passed")))
+    return Run({"a.feature": feature}, 0,
+               part("passed", cases) + closing(1, 2, len(first) + len(second)))
 
 
+@large_run
 def many_cleanups():
     """100,000 cleanups of one scenario, and then one with a table of 10,000 rows."""
     count = 100_000
     grown = ['And at cleanup the number "n" grows by 1'] * count
-    rows = "| name | text |\n" + "".join(f"| f{number} | {number} |\n" for number in range(10_000))
-    table = "And at cleanup these files:"
-    steps = [f'Given at cleanup the number "n" should be {count}', 'And at cleanup the file "f9999" should be "9999"', *grown,
-             'And at cleanup the number "n" is set to 0', table]
-    feature = "Feature: f\nScenario: s\n" + "".join(f"{step}\n" for step in steps) + rows
-    return Run({"a.feature": feature}, 0, passing("f", ["s"], steps) + closing(1, 1, len(steps)))
+    table = "".join(f"| f{number} | {number} |\n" for number in range(10_000))
+    steps = [f'Given at cleanup the number "n" should be {count}',
+             'And at cleanup the file "f9999" should be "9999"', *grown,
+             'And at cleanup the number "n" is set to 0', "And at cleanup these files:"]
+    feature = driver.feature(*steps) + "| name | text |\n" + table
+    return Run({"a.feature": feature}, 0, one_passing(steps))
 
 
+@large_run
 def wide_row():
     cells = "".join(f" c{number} |" for number in range(100_000))
-    feature = f"Feature: f\nScenario: s\nGiven it passes\n|{cells}\n|{cells}\n|{cells} one more |\n"
-    return Run({"a.feature": feature}, 3, "", "gherkin_run: a.feature:6: row with another number of cells\n")
+    feature = driver.feature("Given it passes", f"|{cells}", f"|{cells}", f"|{cells} one more |")
+    return Run({"a.feature": feature}, 3, "",
+               "gherkin_run: a.feature:6: row with another number of cells\n")
 
 
+@large_run
 def long_doc_string():
     lines = "".join(f"line {number}\n" for number in range(80_000))
-    feature = (f'Feature: f\nScenario: s\nGiven a file named "f" with:\n"""\n{lines}"""\n'
-               'Then the file "f" should contain "line 79999"\nAnd the file "f" should contain "80000"\n')
-    report = ('Feature: f ... failed\n  Scenario: s ... failed\n    Given a file named "f" with: ... passed\n'
-              '    Then the file "f" should contain "line 79999" ... passed\n'
-              '    And the file "f" should contain "80000" ... failed: differs\n\n')
+    steps = [('Given a file named "f" with:', "passed"),
+             ('Then the file "f" should contain "line 79999"', "passed"),
+             ('And the file "f" should contain "80000"', "failed: differs")]
+    first, *others = [step for step, _ in steps]
+    feature = driver.feature(f'{first}\n"""\n{lines}"""', *others)
+    report = part("failed", [case("s", "failed", steps)])
     return Run({"a.feature": feature}, 1, report + closing((0, 1), (0, 1), (2, 1)))
 
 
+@large_run
 def long_names():
     name = "n" * 1_000_000
-    feature = f"Feature: {name}\nScenario: {name}\nGiven {name}\n"
-    report = f"Feature: {name} ... failed\n  Scenario: {name} ... failed\n    Given {name} ... undefined\n\n"
-    return Run({"a.feature": feature}, 1, report + closing((0, 1), (0, 1), (0, 0, 0, 1)))
+    report = part("failed", [case(name, "failed", [(f"Given {name}", "undefined")])], name)
+    return Run({"a.feature": driver.feature(f"Given {name}", name=name, scenario=name)}, 1,
+               report + closing((0, 1), (0, 1), (0, 0, 0, 1)))
 
 
+# ---- options
+
+@large_run
 def many_tags():
     tags = " ".join(f"@t{number}" for number in range(70_000))
-    feature = f"{tags}\nFeature: f\nScenario: s\nGiven it passes\n"
-    return Run({"a.feature": feature}, 0, passing("f", ["s"], ["Given it passes"]) + closing(1, 1, 1),
+    feature = f"{tags}\n" + driver.feature("Given it passes")
+    return Run({"a.feature": feature}, 0, one_passing(["Given it passes"]),
                arguments=["--tags", "@t69999", "--tags", "~@t70000", "a.feature"])
 
 
+@large_run
 def many_options():
     arguments = [it for number in range(1000) for it in ("--tags", f"~@t{number}")]
     arguments += [it for number in range(1000, 0, -1) for it in ("--line", str(number))]
     arguments += [it for number in range(1000) for it in ("--env", f"V{number}={number}")]
     steps = ['Then the variable "V0" should be "0"', 'And the variable "V999" should be "999"']
-    feature = "Feature: f\nScenario: s\n" + "\n".join(steps) + "\n"
-    return Run({"a.feature": feature}, 0, passing("f", ["s"], steps) + closing(1, 1, 2), arguments=[*arguments, "a.feature"])
+    return Run({"a.feature": driver.feature(*steps)}, 0, one_passing(steps),
+               arguments=[*arguments, "a.feature"])
 
 
+@large_run
 def long_option():
     text = "x" * 100_000
     steps = [f'Then the variable "V" should be "{text}"']
-    feature = "Feature: f\nScenario: s\n" + steps[0] + "\n"
-    return Run({"a.feature": feature}, 0, passing("f", ["s"], steps) + closing(1, 1, 1),
+    return Run({"a.feature": driver.feature(*steps)}, 0, one_passing(steps),
                arguments=["--env", f"V={text}", "--tags", "~@" + "t" * 100_000, "a.feature"])
 
 
+# ---- libraries
+
+def entries_of(count):
+    """A library of so many entries."""
+    return "".join(f"step w{number} {{name}} is {{text}} => set_env\n" for number in range(count))
+
+
+@large_run
 def many_entries():
-    library = "".join(f"step w{number} {{name}} is {{text}} => set_env\n" for number in range(1000))
-    library += "then {name} = {text} => env_is\n"
+    library = entries_of(1000) + "then {name} = {text} => env_is\n"
     steps = ["Given w0 A is 1", "Given w999 B is 2", "Then A = 1", "Then B = 2"]
-    feature = "Feature: f\nScenario: s\n" + "\n".join(steps) + "\n"
-    return Run({"a.feature": feature, "l.steps": library}, 0, passing("f", ["s"], steps) + closing(1, 1, 4),
-               arguments=["--library", "l.steps", "a.feature"])
+    return Run({"a.feature": driver.feature(*steps), "l.steps": library}, 0, one_passing(steps),
+               arguments=LIBRARY)
 
 
+@large_run
 def fault_of_the_last_of_many_entries():
-    library = "".join(f"step w{number} {{name}} is {{text}} => set_env\n" for number in range(1000))
-    return Run({"a.feature": "", "l.steps": library + "step w7 {x} is {y} => pass\n"}, 3, "",
-               "gherkin_run: l.steps:1001: ambiguous with an earlier line\n", arguments=["--library", "l.steps", "a.feature"])
+    library = entries_of(1000) + "step w7 {x} is {y} => pass\n"
+    return Run({"a.feature": "", "l.steps": library}, 3, "",
+               "gherkin_run: l.steps:1001: ambiguous with an earlier line\n", arguments=LIBRARY)
 
 
+@large_run
 def hopeless_pattern():
     """Taking the fields' lengths one after another would not end."""
-    text = "a" * 400 + "x"
-    report = f"Feature: f ... failed\n  Scenario: s ... failed\n    Given {text} ... undefined\n\n"
-    return Run({"a.feature": f"Feature: f\nScenario: s\nGiven {text}\n", "l.steps": "step {a}{b}{c}{d}{e}{f}{g}{h}z{i}x => pass\n"},
-               1, report + closing((0, 1), (0, 1), (0, 0, 0, 1)), arguments=["--library", "l.steps", "a.feature"])
+    step = "Given " + "a" * 400 + "x"
+    library = "step {a}{b}{c}{d}{e}{f}{g}{h}z{i}x => pass\n"
+    return Run({"a.feature": driver.feature(step), "l.steps": library}, 1, one_undefined(step),
+               arguments=LIBRARY)
 
 
+@large_run
 def hopeless_pattern_of_numbers():
-    text = "1" * 400
-    report = f"Feature: f ... failed\n  Scenario: s ... failed\n    Given {text} ... undefined\n\n"
+    step = "Given " + "1" * 400
     fields = "".join(f"{{n{number}:d}}" for number in range(12))
-    return Run({"a.feature": f"Feature: f\nScenario: s\nGiven {text}\n", "l.steps": f"step {fields} => pass\n"},
-               1, report + closing((0, 1), (0, 1), (0, 0, 0, 1)), arguments=["--library", "l.steps", "a.feature"])
+    return Run({"a.feature": driver.feature(step), "l.steps": f"step {fields} => pass\n"}, 1,
+               one_undefined(step), arguments=LIBRARY)
 
 
+# ---- hooks
+
+@large_run
 def hook_of_many_steps():
     hooks = "before_tag @a:\n" + "* it passes\n" * 70_000 + '* the variable "A" is set to "x"\n'
     steps = ['Then the variable "A" should be "x"']
-    return Run({"a.feature": "@a\nFeature: f\nScenario: s\n" + steps[0] + "\n", "h.hooks": hooks}, 0,
-               passing("f", ["s"], steps) + closing(1, 1, 1), arguments=["--hooks", "h.hooks", "a.feature"])
+    return Run({"a.feature": "@a\n" + driver.feature(*steps), "h.hooks": hooks}, 0,
+               one_passing(steps), arguments=HOOKS)
 
 
+@large_run
 def many_hooks():
-    hooks = "".join(f"before_tag @t{number}:\n* the variable \"V{number}\" is set to \"x\"\n" for number in range(1000))
+    hooks = "".join(f'before_tag @t{number}:\n* the variable "V{number}" is set to "x"\n'
+                    for number in range(1000))
     steps = ['Then the variable "V999" should be "x"', 'And the variable "V0" should be unset']
-    return Run({"a.feature": "Feature: f\n@t999\nScenario: s\n" + "\n".join(steps) + "\n", "h.hooks": hooks}, 0,
-               passing("f", ["s"], steps) + closing(1, 1, 2), arguments=["--hooks", "h.hooks", "a.feature"])
+    feature = "Feature: f\n@t999\n" + scenario("s", steps)
+    return Run({"a.feature": feature, "h.hooks": hooks}, 0, one_passing(steps), arguments=HOOKS)
 
 
+@large_run
 def longest_hooks():
     hooks = "before_all:\n* it passes\n"
     hooks += "#" * (FILE_LIMIT - len(hooks))
-    return Run({"a.feature": "", "h.hooks": hooks}, 0, closing(0, 0, 0), arguments=["--hooks", "h.hooks", "a.feature"])
+    return Run({"a.feature": "", "h.hooks": hooks}, 0, closing(0, 0, 0), arguments=HOOKS)
 
 
+@large_run
 def hooks_one_byte_too_long():
-    return Run({"a.feature": "", "h.hooks": "#" * (FILE_LIMIT + 1)}, 3, "", refused("h.hooks", TOO_LONG),
-               arguments=["--hooks", "h.hooks", "a.feature"])
+    return Run({"a.feature": "", "h.hooks": "#" * (FILE_LIMIT + 1)}, 3, "",
+               refused("h.hooks", TOO_LONG), arguments=HOOKS)
 
+
+# ---- texts that could cost more than their length
 
 def filled(text):
     """An outline with a text in which nothing can be filled in."""
-    feature = f"Feature: f\nScenario Outline: o\nGiven {text}\nExamples:\n| a |\n| 1 |\n"
-    report = f"Feature: f ... failed\n  Scenario Outline: o -- @1.1 ... failed\n    Given {text} ... undefined\n\n"
-    return Run({"a.feature": feature}, 1, report + closing((0, 1), (0, 1), (0, 0, 0, 1)))
+    step = f"Given {text}"
+    feature = f"Feature: f\nScenario Outline: o\n{step}\nExamples:\n| a |\n| 1 |\n"
+    own = case("o -- @1.1", "failed", [(step, "undefined")], "Scenario Outline")
+    return Run({"a.feature": feature}, 1,
+               part("failed", [own]) + closing((0, 1), (0, 1), (0, 0, 0, 1)))
 
 
+@large_run
 def outline_of_openings():
     """A look-up at each `<` must not read on to the end."""
     return filled("<" * 1_048_576)
 
 
+@large_run
 def outline_of_openings_and_a_closing():
     return filled("<" * 1_048_576 + ">")
 
 
+@large_run
 def outline_of_closings():
     """What was filled before a `>` may not be copied there."""
     return filled(">" * 2_097_152)
 
 
+@large_run
 def many_alternatives():
     tags = "~@a," * 30_000 + "@b"
-    below = "Given it passes\n"
-    feature = f"Feature: f\n@a\nScenario: one\n{below}@a @b\nScenario: two\n{below}"
-    report = ("Feature: f ... passed\n  Scenario: one ... skipped\n    Given it passes ... skipped\n"
-              "  Scenario: two ... passed\n    Given it passes ... passed\n\n")
-    return Run({"a.feature": feature}, 0, report + closing(1, (1, 0, 1), (1, 0, 1)), arguments=["--tags", tags, "a.feature"])
+    step = "Given it passes"
+    feature = "Feature: f\n@a\n" + scenario("one", [step]) + "@a @b\n" + scenario("two", [step])
+    report = part("passed", [case("one", "skipped", [(step, "skipped")]),
+                             case("two", "passed", [(step, "passed")])])
+    return Run({"a.feature": feature}, 0, report + closing(1, (1, 0, 1), (1, 0, 1)),
+               arguments=["--tags", tags, "a.feature"])
 
 
+@large_run
 def doc_string_of_a_million_lines():
     """No line of a doc string may cost the whole text."""
     lines = "x\n" * 1_000_000 + "\\`\\`\\`" * 100_000 + "\n"
-    steps = ["* it passes"]
-    return Run({"a.feature": f"Feature: f\nScenario: s\n* it passes\n```\n{lines}```\n"}, 0,
-               passing("f", ["s"], steps) + closing(1, 1, 1))
+    feature = driver.feature("* it passes", f"```\n{lines}```")
+    return Run({"a.feature": feature}, 0, one_passing(["* it passes"]))
 
 
-RUNS = (many_scenarios, many_scenarios_as_json, many_scenarios_as_progress, many_scenarios_after_the_one_that_stops_the_run,
-        many_files_as_json, long_names_as_json, many_files, many_files_backwards, fault_of_the_last_of_many_files,
-        many_rules_examples_and_rows, late_line, chosen_line_65535, chosen_line_65536, chosen_line_1000000,
-        longest_file_of_a_comment, longest_file_of_a_scenario, file_one_byte_too_long, second_file_one_byte_too_long,
-        too_long_before_not_utf8, longest_file_not_utf8, longest_library, library_one_byte_too_long, longest_texts,
-        longest_variable_and_value, text_in_characters_of_more_bytes, name_in_characters_of_more_bytes,
-        outline_of_a_million_steps, outline_of_more_than_a_million_steps, outline_of_a_million_and_one_steps,
-        outline_of_very_many_steps, background_steps_count, background_steps_at_the_limit,
-        the_limit_of_steps_is_for_each_file, fault_before_the_steps_of_a_later_file, long_table,
-        many_changes_of_one_name, many_cleanups, wide_row, long_doc_string, long_names, many_tags, many_options,
-        long_option, many_entries, fault_of_the_last_of_many_entries, hopeless_pattern, hopeless_pattern_of_numbers,
-        hook_of_many_steps, many_hooks, longest_hooks, hooks_one_byte_too_long, outline_of_openings,
-        outline_of_openings_and_a_closing, outline_of_closings, many_alternatives, doc_string_of_a_million_lines)
+# ---- running them
 
-
-def shown(text):
-    text = text.decode("utf-8", "backslashreplace")
-    return repr(text if len(text) <= 600 else text[:300] + " .. " + text[-200:])
-
-
-def first_difference(printed, wanted):
-    """The place of the first byte that differs, and what stands there."""
-    place = next((at for at, (one, other) in enumerate(zip(printed, wanted)) if one != other), min(len(printed), len(wanted)))
-    around = slice(max(0, place - 40), place + 80)
-    return f"from byte {place} on: {shown(printed[around])}, and not {shown(wanted[around])}"
-
-
-def write_files(folder, files):
-    os.makedirs(folder)
-    for name, text in files.items():
-        with open(os.path.join(folder, name), "wb") as file:
-            file.write(text if isinstance(text, bytes) else text.encode())
-
-
-def differences(program, folder, run):
-    """What differs from what has to come out, in words."""
-    try:
-        done = subprocess.run([program, *run.arguments], cwd=folder, stdin=subprocess.DEVNULL, capture_output=True,
-                              timeout=PATIENCE, check=False)
-    except subprocess.TimeoutExpired:
-        return [f"  not ended after {PATIENCE} seconds"]
-    found = []
-    if done.returncode != run.status:
-        found.append(f"  status {done.returncode}, and not {run.status}")
-    for name, printed, wanted in (("stdout", done.stdout, run.stdout), ("stderr", done.stderr, run.stderr)):
-        if printed != wanted.encode():
-            found.append(f"  {name} differs {first_difference(printed, wanted.encode())}")
-    return found
+def trouble(program, folder, name, run):
+    """What is wrong with a large run in a folder, or nothing."""
+    ended = driver.start(program, run.arguments, folder, patience=PATIENCE)
+    return driver.trouble(f"large run {name}", ended, run.wanted())
 
 
 def from_a_pipe(program, folder):
-    """The program reads a file that is a pipe, which hands out a few bytes a call."""
-    run = Run({}, 0, passing("f", ["s"], ["Given it passes"]) + closing(1, 1, 1), arguments=["pipe"])
+    """What is wrong where the program reads a pipe that gives one byte at a time, or nothing."""
+    steps = ["Given it passes"]
+    run = Run({}, 0, one_passing(steps), arguments=["pipe"])
     os.makedirs(folder)
     path = os.path.join(folder, "pipe")
     os.mkfifo(path)
 
     def feed():
         with open(path, "wb", buffering=0) as pipe:
-            for byte in b"Feature: f\nScenario: s\nGiven it passes\n":
+            for byte in driver.feature(*steps).encode():
                 pipe.write(bytes([byte]))
 
     writer = threading.Thread(target=feed)
     writer.start()
-    found = differences(program, folder, run)
+    found = trouble(program, folder, "from_a_pipe", run)
     writer.join()
     return found
 
 
-def results(program, room):
-    """The name of each large run, and what differs from what has to come out."""
+def troubles(program, room):
+    """What is wrong with each large run, or nothing."""
     for make in RUNS:
         folder = os.path.join(room, make.__name__)
         run = make()
-        write_files(folder, run.files)
-        yield make.__name__, differences(program, folder, run)
-        for name in run.files:
-            os.remove(os.path.join(folder, name))
-    yield "from_a_pipe", from_a_pipe(program, os.path.join(room, "from_a_pipe"))
+        driver.write(folder, run.files)
+        yield trouble(program, folder, make.__name__, run)
+        shutil.rmtree(folder)
+    yield from_a_pipe(program, os.path.join(room, "from_a_pipe"))

@@ -1,11 +1,14 @@
 #!/usr/bin/env python3
-"""Compares random changes with plain maps: random_changes.py PROGRAM ROOM. Called by tests/random_changes.sh."""
+"""Compares random changes with plain maps: random_changes.py PROGRAM ROOM.
+
+Called by tests/random_changes.sh, which says what is compared.
+"""
 
 import os
 import random
 import sys
 
-import several
+import driver
 from reports import FORMATS, PLAIN, Ample, Feature, Report, Scenario
 
 FEATURES = 120
@@ -18,8 +21,9 @@ TEXTS = ["x", "y z", "1", "-7", "9223372036854775807", "\u00fc" * 40, "l" * 3000
 
 
 class World:
-    """Files, variables and values as plain maps. Each change answers the step's text, its block and, where
-    it fails, the reason."""
+    """Files, variables and values as plain maps.
+
+    Each change answers the step's text, its block and, where it fails, the reason."""
 
     def __init__(self):
         self.files, self.env, self.values = {}, {}, {}
@@ -71,7 +75,8 @@ class World:
         return self.take(chance, self.values, 'the value "{}" is deleted')
 
     def rename(self, chance):
-        name, to = self.name_in(chance, self.files), chance.choice(NAMES if chance.random() < 0.95 else [BAD_NAME])
+        name = self.name_in(chance, self.files)
+        to = chance.choice(NAMES if chance.random() < 0.95 else [BAD_NAME])
         step = f'the file "{name}" is renamed to "{to}"'
         if name not in self.files:
             return step, [], "absent"
@@ -83,8 +88,10 @@ class World:
         return step, [], None
 
     def write_files(self, chance):
-        rows = [(chance.choice([*NAMES, NAMES[0], NAMES[1]] + [BAD_NAME] * (chance.random() < 0.1)), chance.choice(TEXTS))
-                for _ in range(chance.randrange(4))]
+        rows = []
+        for _ in range(chance.randrange(4)):
+            names = [*NAMES, NAMES[0], NAMES[1]] + [BAD_NAME] * (chance.random() < 0.1)
+            rows.append((chance.choice(names), chance.choice(TEXTS)))
         block = ["| name | text |", *(f"| {name} | {text} |" for name, text in rows)]
         for name, text in rows:
             if name == BAD_NAME:
@@ -93,7 +100,8 @@ class World:
         return "these files:", block, None
 
     def grow(self, chance):
-        name, more = self.name_in(chance, self.values), chance.choice([0, 1, -3, 9223372036854775807])
+        name = self.name_in(chance, self.values)
+        more = chance.choice([0, 1, -3, 9223372036854775807])
         step = f'the number "{name}" grows by {more}'
         if name not in self.values:
             return step, [], "absent"
@@ -106,26 +114,27 @@ class World:
         self.values[name] = str(total)
         return step, [], None
 
-    CHANGES = (put_file, put_file, put_file_with_block, set_env, set_env, set_value, set_value, append, remove_file, unset, delete,
-               rename, write_files, grow)
+    CHANGES = (put_file, put_file, put_file_with_block, set_env, set_env, set_value, set_value,
+               append, remove_file, unset, delete, rename, write_files, grow)
 
     def checks(self):
         """Steps that pass where each name has what it has here."""
         for name in NAMES:
-            for maps, is_there, is_absent in (
-                    (self.files, None, f'the file "{name}" should not exist'),
-                    (self.env, f'the variable "{name}" should be "{{}}"', f'the variable "{name}" should be unset'),
-                    (self.values, f'the value "{name}" should be "{{}}"', f'the value "{name}" should be absent')):
-                if name not in maps:
-                    yield is_absent, []
-                elif is_there is None:
-                    yield f'the file "{name}" should be:', ['"""', *maps[name].split("\n"), '"""']
-                else:
-                    yield is_there.format(maps[name]), []
+            if name in self.files:
+                block = ['"""', *self.files[name].split("\n"), '"""']
+                yield f'the file "{name}" should be:', block
+            else:
+                yield f'the file "{name}" should not exist', []
+            for maps, noun, absent in (
+                    (self.env, "variable", "unset"), (self.values, "value", "absent")):
+                wanted = f'"{maps[name]}"' if name in maps else absent
+                yield f'the {noun} "{name}" should be {wanted}', []
 
 
 def scenario(chance, number):
-    """A scenario's lines, and the scenario in the report. It begins with nothing, whatever the others did."""
+    """A scenario's lines, and the scenario in the report.
+
+    It begins with nothing, whatever the others did."""
     world, lines, rows, reason = World(), [f"Scenario: s{number}"], [], None
     for step, block in world.checks():
         lines += [f"Given {step}", *block]
@@ -133,7 +142,8 @@ def scenario(chance, number):
     for _ in range(chance.randrange(CHANGES)):
         step, block, found = chance.choice(World.CHANGES)(world, chance)
         lines += [f"When {step}", *block]
-        rows.append((f"When {step}", "skipped" if reason else f"failed: {found}" if found else "passed"))
+        status = "skipped" if reason else f"failed: {found}" if found else "passed"
+        rows.append((f"When {step}", status))
         if reason:
             break
         reason = found
@@ -150,45 +160,51 @@ def feature(seed):
     lines = [line for own, _ in scenarios for line in own]
     rows = [row for _, row in scenarios]
     status = "failed" if any(it.status == "failed" for it in rows) else "passed"
-    return "\n".join(["Feature: f", *lines]) + "\n", Report(PLAIN, [Feature("Feature: f", status, rows)])
+    text = "\n".join(["Feature: f", *lines]) + "\n"
+    return text, Report(PLAIN, [Feature("Feature: f", status, rows)])
 
 
 def ample_of(program, folder, seed):
     """The same run in one of the formats, as the seed has it."""
     arguments = ["--format", FORMATS[seed % len(FORMATS)], "a.feature"]
-    return arguments, Ample(arguments, several.start(program, arguments, folder))
+    return arguments, Ample(arguments, driver.start(program, arguments, folder))
 
 
-def main():
-    program, room = sys.argv[1], sys.argv[2]
+class Runs:
+    """The runs of the features, each in a folder of its own."""
 
-    def found(seed):
-        """What is wrong with the runs of a feature."""
-        folder = os.path.join(room, f"feature{seed}")
-        os.makedirs(folder)
+    def __init__(self, program, room):
+        self.program, self.room = program, room
+
+    def troubles(self, seed):
+        """What is wrong with each run of the feature of a seed, or nothing."""
+        folder = os.path.join(self.room, f"feature{seed}")
         text, report = feature(seed)
-        with open(os.path.join(folder, "a.feature"), "w", encoding="utf-8") as file:
-            file.write(text)
-        plain = several.start(program, ["a.feature"], folder)
-        yield "" if plain == (report.status(), report.text(), b"") else f"feature of seed {seed}: status {plain[0]}, {plain[2]}, or another report"
-        arguments, ample = ample_of(program, folder, seed)
-        yield "" if ample.is_read_well() and ample.report.counts == report.counts else f"feature of seed {seed}, {arguments}: other counts"
+        driver.write(folder, {"a.feature": text})
+        plain = driver.start(self.program, ["a.feature"], folder)
+        wanted = (report.status(), report.text(), b"")
+        yield driver.trouble(f"feature of seed {seed}", plain, wanted)
+        arguments, ample = ample_of(self.program, folder, seed)
+        name = f"feature of seed {seed}, {arguments}"
+        is_well = ample.is_read_well() and ample.report.counts == report.counts
+        yield "" if is_well else f"{name}: other counts"
         chance = random.Random(seed)
         for _ in range(REFUSALS):
             number = int(10 ** chance.uniform(0, 4.5))
-            ended = several.start(program, arguments, folder,
-                                  {**os.environ, "REFUSE": str(number), "LD_PRELOAD": os.path.join(room, "refuse.so")})
-            yield "" if ample.ending(ended) else f"feature of seed {seed}, {arguments}, growth {number} refused: {ended[0]}, {ended[2]}"
+            environment = driver.limited(self.room, REFUSE=number)
+            ended = driver.start(self.program, arguments, folder, environment)
+            is_well = ample.ending(ended)
+            yield "" if is_well else f"{name}, growth {number} refused: {ended[0]}, {ended[2]}"
         os.remove(os.path.join(folder, "a.feature"))
 
-    passed = failed = 0
-    for wrong in several.on_all_processors(lambda seed: list(found(seed)), range(FEATURES)):
-        passed += wrong.count("")
-        for text in filter(None, wrong):
-            failed += 1
-            print(text)
-    print(f"{passed} passed, {failed} failed")
-    return 1 if failed else 0
+
+def main():
+    runs = Runs(sys.argv[1], sys.argv[2])
+    tests = driver.Tests()
+    each = driver.on_all_processors(lambda seed: list(runs.troubles(seed)), range(FEATURES))
+    for troubles in each:
+        tests.add_all(troubles)
+    return tests.close()
 
 
 if __name__ == "__main__":

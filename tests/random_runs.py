@@ -1,6 +1,9 @@
 #!/usr/bin/env python3
-"""Makes random suites and compares runs of them with each other: random_runs.py PROGRAM ROOM KEPT SEED COUNT.
-Called by tests/random_runs.sh, which says what is compared."""
+"""Makes random suites and compares runs of them with each other.
+
+random_runs.py PROGRAM ROOM KEPT SEED COUNT, called by tests/random_runs.sh, which says what is
+compared.
+"""
 
 import json
 import os
@@ -8,7 +11,7 @@ import random
 import shutil
 import sys
 
-import several
+import driver
 from reports import Feature, Report, Scenario, Style, verdict
 
 TAGS = ["@a", "@b", "@c"]
@@ -17,11 +20,14 @@ FILES = ["f", "g"]
 VALUES = ["v", "w"]
 
 # Steps of the built-in library, and below of one that each suite with an odd seed has.
-BUILT_IN = """a file named "F" containing "T"|the file "F" is extended with "T"|the file "F" is removed|the file "F" is renamed to "g"|
-the file "F" should exist|the file "F" should not exist|the file "F" should be "T"|the file "F" should contain "T"|the variable "V" is set to "T"|
-the variable "V" is unset|the variable "V" should be "T"|the variable "V" should be unset|the value "V" is set to "T"|the value "V" is deleted|
-the value "V" should be "T"|the value "V" should be absent|the number "V" is set to N|the number "V" grows by N|the number "V" should be N|
-it passes|it passes|it passes|it fails|the scenario is skipped|nothing knows F|at cleanup STEP|at cleanup STEP"""
+BUILT_IN = """a file named "F" containing "T"|the file "F" is extended with "T"|
+the file "F" is removed|the file "F" is renamed to "g"|the file "F" should exist|
+the file "F" should not exist|the file "F" should be "T"|the file "F" should contain "T"|
+the variable "V" is set to "T"|the variable "V" is unset|the variable "V" should be "T"|
+the variable "V" should be unset|the value "V" is set to "T"|the value "V" is deleted|
+the value "V" should be "T"|the value "V" should be absent|the number "V" is set to N|
+the number "V" grows by N|the number "V" should be N|it passes|it passes|it passes|it fails|
+the scenario is skipped|nothing knows F|at cleanup STEP|at cleanup STEP"""
 LIBRARY = """given put {name} as {text} => write_file
 step put {name} as {text} => write_file
 step put {text} on {name} => append_file
@@ -42,10 +48,21 @@ step ok => pass
 when bad => fail
 """
 # Texts of both that mostly pass, and make what others work on.
-BUILT_IN_CHANGES = """a file named "F" containing "T"|the variable "V" is set to "T"|the value "V" is set to "T"|the number "V" is set to N|
-it passes|the file "f" should exist|the file "f" should contain "x"|at cleanup STEP"""
-OWN_CHANGES = """put F as T|keep V T|ok|ok|see f as x|later STEP"""
-OWN = """put F as T|put T on F|drop F|see F as T|see F|no F|count V N|more V N|count V N|keep V T|lose V|leave|ok|ok|ok|bad|later STEP|later STEP|what F"""
+BUILT_IN_CHANGES = """a file named "F" containing "T"|the variable "V" is set to "T"|
+the value "V" is set to "T"|the number "V" is set to N|it passes|the file "f" should exist|
+the file "f" should contain "x"|at cleanup STEP"""
+OWN_CHANGES = "put F as T|keep V T|ok|ok|see f as x|later STEP"
+OWN = """put F as T|put T on F|drop F|see F as T|see F|no F|count V N|more V N|count V N|keep V T|
+lose V|leave|ok|ok|ok|bad|later STEP|later STEP|what F"""
+# Steps that pass, of the built-in library and of the other.
+BUILT_IN_PASSING = ['a file named "f" containing "x"', 'the number "v" is set to 1', "it passes"]
+OWN_PASSING = ["put f as x", "keep v 1", "ok"]
+KEYWORDS = ("Given", "When", "Then", "And", "But", "*")
+
+
+def texts_in(table):
+    """The texts of a table above, which has bars between them."""
+    return [it.strip() for it in table.split("|")]
 
 
 class Maker:
@@ -54,61 +71,81 @@ class Maker:
     def __init__(self, seed):
         self.chance = random.Random(seed)
         self.is_own = seed % 2 == 1
-        self.texts = [it.strip() for it in (OWN if self.is_own else BUILT_IN).split("|")]
-        self.changes = [it.strip() for it in (OWN_CHANGES if self.is_own else BUILT_IN_CHANGES).split("|")]
+        self.texts = texts_in(OWN if self.is_own else BUILT_IN)
+        self.changes = texts_in(OWN_CHANGES if self.is_own else BUILT_IN_CHANGES)
+
+    def word(self, kind):
+        """What stands in place of a word in capitals."""
+        chance = self.chance
+        if kind == "STEP":
+            return self.text()
+        if kind == "N":
+            return str(chance.choice([0, 1, -3, 7, 2**63 - 1]))
+        return chance.choice({"F": FILES, "V": VALUES, "T": TEXTS}[kind])
 
     def text(self):
         """A step's text."""
-        chance = self.chance
-        text = chance.choice(self.texts if chance.random() < 0.3 else self.changes)
-        words = {"STEP": lambda: self.text(), "F": lambda: chance.choice(FILES), "V": lambda: chance.choice(VALUES),
-                 "T": lambda: chance.choice(TEXTS), "N": lambda: str(chance.choice([0, 1, -3, 7, 2**63 - 1]))}
-        for word, made in words.items():
-            parts = text.split(f"{word}" if word == "STEP" else f'"{word}"' if f'"{word}"' in text else f" {word}")
-            if len(parts) == 2:
-                quoted = word != "STEP" and f'"{word}"' in text
-                lead = "" if word == "STEP" else '"' if quoted else " "
-                text = parts[0] + lead + made() + ('"' if quoted else "") + parts[1]
+        text = self.chance.choice(self.texts if self.chance.random() < 0.3 else self.changes)
+        for kind in ("STEP", "F", "V", "T", "N"):
+            quoted = f'"{kind}"'
+            mark = kind if kind == "STEP" else quoted if quoted in text else f" {kind}"
+            if text.count(mark) == 1:
+                text = text.replace(mark, mark.replace(kind, self.word(kind)))
         return text
 
-    def step(self, keywords=("Given", "When", "Then", "And", "But", "*")):
+    def step(self):
         """The lines of a step, some with a block."""
         chance = self.chance
-        lines = [f"{chance.choice(keywords)} {self.text()}"]
+        lines = [f"{chance.choice(KEYWORDS)} {self.text()}"]
         kind = chance.random()
         if kind < 0.08:
-            lines = ["Given " + ("put f" if self.is_own else 'a file named "f" with:'), '"""', chance.choice(["one", "two\n  three"]), '"""']
-        elif kind < 0.13:
-            rows = [f"| {chance.choice([*FILES, ''])} | {chance.choice(TEXTS)} |" for _ in range(chance.randrange(3))]
-            lines = ["When " + ("files" if self.is_own else "these files:"), "| name | text |", *rows]
-        elif kind < 0.16:
+            step = "put f" if self.is_own else 'a file named "f" with:'
+            return [f"Given {step}", '"""', chance.choice(["one", "two\n  three"]), '"""']
+        if kind < 0.13:
+            step = "files" if self.is_own else "these files:"
+            return [f"When {step}", "| name | text |", *self.rows(chance.randrange(3))]
+        if kind < 0.16:
             lines += ['"""', "a block", '"""']
         return lines
 
+    def rows(self, count):
+        """Rows of a table of files, of which some have no name."""
+        chance = self.chance
+        return [f"| {chance.choice([*FILES, ''])} | {chance.choice(TEXTS)} |" for _ in range(count)]
+
     def steps(self, most):
+        """The lines of some steps."""
         return [line for _ in range(self.chance.randrange(most + 1)) for line in self.step()]
 
     def tags(self):
+        """A line of tags, or none."""
         tags = [it for it in TAGS if self.chance.random() < 0.2]
         return [" ".join(tags)] if tags else []
 
     def scenario(self, name):
         """The lines of a scenario, or of an outline."""
-        if self.chance.random() < 0.75:
+        chance = self.chance
+        if chance.random() < 0.75:
             return [*self.tags(), f"Scenario: {name}", *self.steps(5)]
-        rows = [f"| {self.chance.choice(FILES)} | {row} |" for row in range(self.chance.randrange(1, 4))]
+        count = chance.randrange(1, 4)
+        rows = [f"| {chance.choice(FILES)} | {row} |" for row in range(count)]
         step = "see <name> as <row>" if self.is_own else 'the file "<name>" should be "<row>"'
-        return [*self.tags(), f"Scenario Outline: {name} <row>", *self.steps(3), f"Then {step}", *self.steps(1),
-                *self.tags(), "Examples: e", "| name | row |", *rows]
+        return [*self.tags(), f"Scenario Outline: {name} <row>", *self.steps(3), f"Then {step}",
+                *self.steps(1), *self.tags(), "Examples: e", "| name | row |", *rows]
+
+    def part(self, heading, name):
+        """The lines of a heading with its background, and those of each of its scenarios."""
+        chance = self.chance
+        background = ["Background:", *self.steps(2)] if chance.random() < 0.4 else []
+        count = chance.randrange(5)
+        scenarios = [self.scenario(f"{name}{number}") for number in range(count)]
+        return [*self.tags(), heading, *background], scenarios
 
     def feature(self, name):
-        """A feature's heading and background, its scenarios, and its rules, each with the like."""
-        def part(heading, own):
-            background = ["Background:", *self.steps(2)] if self.chance.random() < 0.4 else []
-            scenarios = [self.scenario(f"{own}{number}") for number in range(self.chance.randrange(5))]
-            return [*self.tags(), heading, *background], scenarios
-        rules = [part(f"Rule: r{number}", f"{name} r{number} ") for number in range(self.chance.choice([0, 0, 0, 1, 2]))]
-        return [part(f"Feature: {name}", f"{name} "), *rules]
+        """A feature's part, and those of its rules."""
+        count = self.chance.choice([0, 0, 0, 1, 2])
+        rules = [self.part(f"Rule: r{number}", f"{name} r{number} ") for number in range(count)]
+        return [self.part(f"Feature: {name}", f"{name} "), *rules]
 
     def hooks(self):
         """The lines of a hooks file, with most of its headings missing."""
@@ -121,22 +158,29 @@ class Maker:
         """Mostly a step that passes, so that something runs."""
         if self.chance.random() < 0.2:
             return self.step()
-        return ["Given " + self.chance.choice(["put f as x", "keep v 1", "ok"] if self.is_own
-                                               else ['a file named "f" containing "x"', 'the number "v" is set to 1', "it passes"])]
+        return ["Given " + self.chance.choice(OWN_PASSING if self.is_own else BUILT_IN_PASSING)]
 
 
-def lines_of(parts):
-    return "\n".join(line for heading, scenarios in parts for line in [*heading, *(it for own in scenarios for it in own)]) + "\n"
+def text_of(parts):
+    """The text of a feature file with these parts."""
+    lines = []
+    for heading, scenarios in parts:
+        lines += heading
+        for own in scenarios:
+            lines += own
+    return "\n".join(lines) + "\n"
 
 
 class Suite:
     """A suite in a folder of its own, and its runs."""
 
     def __init__(self, program, room, seed):
-        self.program, self.folder, self.seed, self.runs = program, os.path.join(room, str(seed)), seed, 0
-        os.makedirs(self.folder)
+        self.program, self.seed, self.runs = program, seed, 0
+        self.folder = os.path.join(room, str(seed))
         maker = Maker(seed)
-        self.features = {f"{number}.feature": maker.feature(f"f{number}") for number in range(1, maker.chance.randrange(2, 5))}
+        self.chance = maker.chance
+        names = [f"f{number}" for number in range(1, maker.chance.randrange(2, 5))]
+        self.features = {f"{name[1:]}.feature": maker.feature(name) for name in names}
         self.options = []
         if maker.is_own:
             self.write("l.steps", LIBRARY)
@@ -145,22 +189,22 @@ class Suite:
         if hooks:
             self.write("h.hooks", "\n".join(hooks) + "\n")
             self.options += ["--hooks", "h.hooks"]
-        if maker.chance.random() < 0.3:
+        if self.chance.random() < 0.3:
             self.options += ["--env", "v=x"]
-        tags = ["--tags", maker.chance.choice(["@a", "~@a", "@a,@b", "~@b,@c"])]
-        self.choices = tags if maker.chance.random() < 0.4 else []
+        tags = ["--tags", self.chance.choice(["@a", "~@a", "@a,@b", "~@b,@c"])]
+        self.choices = tags if self.chance.random() < 0.4 else []
         for name, parts in self.features.items():
-            self.write(name, lines_of(parts))
-        self.chance = maker.chance
+            self.write(name, text_of(parts))
 
     def write(self, name, text):
-        with open(os.path.join(self.folder, name), "w", encoding="utf-8") as file:
-            file.write(text)
+        """Writes one of its files."""
+        driver.write(self.folder, {name: text})
 
     def run(self, options, files=None):
         """What a run prints, and its status."""
         self.runs += 1
-        status, printed, err = several.start(self.program, [*self.options, *options, *(files or self.features)], self.folder)
+        arguments = [*self.options, *options, *(files or self.features)]
+        status, printed, err = driver.start(self.program, arguments, self.folder)
         if err or status not in (0, 1):
             raise ValueError(f"{options}, {files}: status {status}, {err}")
         return printed, status
@@ -178,9 +222,13 @@ class Suite:
         """What differs, in words."""
         try:
             whole, chosen = self.json([]), self.json(self.choices)
-            for claim in (self.alone(whole), self.turned_round(whole), self.file_by_file(whole), self.file_by_file(chosen, self.choices),
-                          self.dry(chosen), self.in_formats(chosen), self.stopped(chosen)):
-                yield from claim
+            yield from self.alone(whole)
+            yield from self.turned_round(whole)
+            yield from self.file_by_file(whole)
+            yield from self.file_by_file(chosen, self.choices)
+            yield from self.dry(chosen)
+            yield from self.in_formats(chosen)
+            yield from self.stopped(chosen)
         except ValueError as trouble:
             yield str(trouble)
 
@@ -190,26 +238,39 @@ class Suite:
             for scenario in feature["scenarios"]:
                 line = scenario["line"]
                 alone = self.json(["--line", str(line)], [feature["source"]])
-                own = [it for it in alone["features"][0]["scenarios"] if it["line"] == line]
-                if own != [scenario] or alone["features"][0]["around"] != feature["around"] or alone["run"] != whole["run"]:
-                    yield f"{feature['source']}:{line} alone: {own}, and not {scenario}, or other hooks"
+                found = alone["features"][0]
+                own = [it for it in found["scenarios"] if it["line"] == line]
+                hooks, wanted = (found["around"], alone["run"]), (feature["around"], whole["run"])
+                if own != [scenario] or hooks != wanted:
+                    yield (f"{feature['source']}:{line} alone: {own}, and not {scenario}, "
+                           "or other hooks")
 
     def turned_round(self, whole):
         """The scenarios of a file in another order have the same results."""
         for name, parts in self.features.items():
-            shuffled = [(heading, self.chance.sample(scenarios, len(scenarios))) for heading, scenarios in parts]
-            self.write("turned.feature", lines_of([shuffled[0], *self.chance.sample(shuffled[1:], len(shuffled) - 1)]))
+            self.write("turned.feature", text_of(self.turned(parts)))
             other = self.json([], ["turned.feature"])["features"][0]
             own = next(it for it in whole["features"] if it["source"] == name)
-            if by_name(other) != by_name(own) or other["around"] != own["around"] or other["status"] != own["status"]:
+            is_same = all(other[key] == own[key] for key in ("around", "status"))
+            if by_name(other) != by_name(own) or not is_same:
                 yield f"{name} in another order: {by_name(other)}, and not {by_name(own)}"
+
+    def turned(self, parts):
+        """The parts of a feature, the scenarios of each in another order, and the rules, too."""
+        shuffled = [(heading, self.shuffled(scenarios)) for heading, scenarios in parts]
+        return [shuffled[0], *self.shuffled(shuffled[1:])]
+
+    def shuffled(self, items):
+        """The items in a random order."""
+        return self.chance.sample(items, len(items))
 
     def file_by_file(self, whole, options=()):
         """A run over several files has the parts of the runs over each of them."""
         parts = [self.json(options, [name]) for name in self.features]
         if [it for part in parts for it in part["features"]] != whole["features"]:
             yield f"{options}: the files one by one have other results"
-        if any(part["run"] != whole["run"] for part in parts) or max(part["status"] for part in parts) != whole["status"]:
+        has_other_hooks = any(part["run"] != whole["run"] for part in parts)
+        if has_other_hooks or max(part["status"] for part in parts) != whole["status"]:
             yield f"{options}: the files one by one have another status, or other hooks"
         for noun, counts in whole["summary"].items():
             for status, number in counts.items():
@@ -225,7 +286,8 @@ class Suite:
             for scenario, own in zip(feature["scenarios"], other["scenarios"], strict=True):
                 for step, looked_up in zip(scenario["steps"], own["steps"], strict=True):
                     if not agree(scenario, step["status"], own["status"], looked_up["status"]):
-                        yield f"{feature['source']}:{scenario['line']}: {step} in a run, {looked_up} in a dry run"
+                        yield (f"{feature['source']}:{scenario['line']}: {step} in a run, "
+                               f"{looked_up} in a dry run")
 
     def in_formats(self, whole):
         """Each format says the same, with what is skipped and without."""
@@ -243,17 +305,23 @@ class Suite:
     def stopped(self, whole):
         """A run that stops has the same results up to the first failure, and after it none."""
         stopped, dry = self.json(["--stop", *self.choices]), self.json(["--dry-run", *self.choices])
-        if stopped["features"] != until_failure(whole["features"], dry["features"]):
-            yield f"--stop gives {stopped['features']}, and not {until_failure(whole['features'], dry['features'])}"
+        wanted = until_failure(whole["features"], dry["features"])
+        if stopped["features"] != wanted:
+            yield f"--stop gives {stopped['features']}, and not {wanted}"
         if stopped["run"] != whole["run"]:
             yield "--stop changes the run's own hooks"
 
 
+def without(row, *keys):
+    """An object of a JSON report without some of its keys."""
+    return {key: value for key, value in row.items() if key not in keys}
+
+
 def by_name(feature):
     """The scenarios of a feature by their names, without lines."""
-    def bare(row):
-        return {key: [bare(it) for it in value] if key == "steps" else value for key, value in row.items() if key != "line"}
-    return {it["name"]: bare(it) for it in feature["scenarios"]}
+    rows = {it["name"]: without(it, "line") for it in feature["scenarios"]}
+    return {name: {**row, "steps": [without(it, "line") for it in row["steps"]]}
+            for name, row in rows.items()}
 
 
 def agree(scenario, status, dry_scenario, dry_status):
@@ -270,69 +338,101 @@ def agree(scenario, status, dry_scenario, dry_status):
 
 
 def without_skipped(features):
-    return [{**it, "scenarios": [own for own in it["scenarios"] if own["status"] != "skipped"]} for it in features if it["status"] != "skipped"]
+    """The features and scenarios that aren't skipped."""
+    return [{**it, "scenarios": [own for own in it["scenarios"] if own["status"] != "skipped"]}
+            for it in features if it["status"] != "skipped"]
+
+
+def on_one_line(text):
+    """A text as plain and progress reports print it."""
+    return text.replace("\n", "\\n")
+
+
+def converted_scenario(row):
+    """A scenario of a JSON report, as the other reports have it."""
+    steps = []
+    for step in row["steps"]:
+        reason = f": {step['reason']}" if "reason" in step else ""
+        head = f"{step['keyword']} {on_one_line(step['text'])}"
+        steps.append((head, step["status"] + reason))
+    head = f"{row['keyword']}: {on_one_line(row['name'])}"
+    return Scenario(head, row["status"], steps, row["around"])
 
 
 def converted(document, style):
     """A JSON report in another format."""
-    def shown(text):
-        return text.replace("\n", "\\n")
     features = []
     for row in document["features"]:
-        scenarios = [Scenario(f"{it['keyword']}: {shown(it['name'])}", it["status"], [
-            (f"{step['keyword']} {shown(step['text'])}", step["status"] + (f": {step['reason']}" if "reason" in step else ""))
-            for step in it["steps"]], it["around"]) for it in row["scenarios"]]
-        head = f"Feature: {shown(row['name'])}" if style == "plain" else shown(row["source"])
+        plain = f"Feature: {on_one_line(row['name'])}"
+        head = plain if style == "plain" else on_one_line(row["source"])
+        scenarios = [converted_scenario(it) for it in row["scenarios"]]
         features.append(Feature(head, row["status"], scenarios, row["around"]))
     counts = {noun[:-1]: numbers for noun, numbers in document["summary"].items()}
     return Report(Style(style, False), features, document["run"], counts).text()
 
 
 def unreached(scenario):
-    return {**scenario, "status": "untested", "around": "passed", "steps": [
-        {**{key: value for key, value in step.items() if key != "reason"}, "status": "untested"} for step in scenario["steps"]]}
+    """The same scenario, not reached."""
+    steps = [{**without(it, "reason"), "status": "untested"} for it in scenario["steps"]]
+    return {**scenario, "status": "untested", "around": "passed", "steps": steps}
 
 
 def until_failure(features, dry):
-    """What a run that stops gives, by the whole run and by a dry run, in which what isn't chosen is skipped."""
+    """What a run that stops gives, by the whole run.
+
+    In the dry run of the same files what isn't chosen is skipped."""
     given, is_over = [], False
     for feature, looked_up in zip(features, dry, strict=True):
-        was_over, scenarios = is_over, []
+        around, scenarios = "passed" if is_over else feature["around"], []
         for scenario, own in zip(feature["scenarios"], looked_up["scenarios"], strict=True):
-            scenarios.append(unreached(scenario) if is_over and own["status"] != "skipped" else scenario)
+            is_cut = is_over and own["status"] != "skipped"
+            scenarios.append(unreached(scenario) if is_cut else scenario)
             is_over = is_over or scenarios[-1]["status"] == "failed"
-        around = "passed" if was_over else feature["around"]
         statuses = [it["status"] for it in scenarios]
-        given.append({**feature, "around": around, "scenarios": scenarios, "status": verdict([around, *statuses], statuses)})
-        is_over = is_over or given[-1]["status"] == "failed"
+        status = verdict([around, *statuses], statuses)
+        given.append({**feature, "around": around, "scenarios": scenarios, "status": status})
+        is_over = is_over or status == "failed"
     return given
 
 
-def main():
-    program, room, kept, seed, number = sys.argv[1], sys.argv[2], sys.argv[3], int(sys.argv[4]), int(sys.argv[5])
+class Comparison:
+    """Compares the runs of suites, and keeps the files of those that differ."""
 
-    def compared(own):
-        """The number of runs of a suite, and what differs. Its files are kept where something does."""
-        suite = Suite(program, room, own)
+    def __init__(self, program, room, kept):
+        self.program, self.room, self.kept = program, room, kept
+
+    def place(self, seed):
+        """The folder where the files of a suite are kept."""
+        return os.path.join(self.kept, str(seed))
+
+    def keep(self, suite, found):
+        """Keeps the files of a suite, its arguments and what differs."""
+        shutil.rmtree(self.place(suite.seed), ignore_errors=True)
+        shutil.copytree(suite.folder, self.place(suite.seed))
+        arguments = " ".join([*suite.options, *suite.choices, *suite.features])
+        driver.write(self.place(suite.seed), {"differences": "\n".join([arguments, *found, ""])})
+
+    def compared(self, seed):
+        """The number of runs of a suite, and its trouble, or nothing."""
+        suite = Suite(self.program, self.room, seed)
         found = list(suite.differences())
         if found:
-            folder = os.path.join(kept, str(own))
-            shutil.rmtree(folder, ignore_errors=True)
-            shutil.copytree(suite.folder, folder)
-            with open(os.path.join(folder, "differences"), "w", encoding="utf-8") as file:
-                file.write(" ".join([*suite.options, *suite.choices, *suite.features]) + "\n" + "\n".join(found) + "\n")
+            self.keep(suite, found)
         shutil.rmtree(suite.folder)
-        return own, suite.runs, found
+        name = f"suite {seed}, kept in {self.place(seed)}"
+        return suite.runs, f"{name}: {found[0][:400]}" if found else ""
 
-    passed = failed = runs = 0
-    for own, count, found in several.on_all_processors(compared, range(seed, seed + number)):
+
+def main():
+    program, room, kept = sys.argv[1:4]
+    seed, number = int(sys.argv[4]), int(sys.argv[5])
+    comparison = Comparison(program, room, kept)
+    tests, runs = driver.Tests(), 0
+    for count, trouble in driver.on_all_processors(comparison.compared, range(seed, seed + number)):
         runs += count
-        passed, failed = (passed, failed + 1) if found else (passed + 1, failed)
-        if found:
-            print(f"suite {own}, kept in {os.path.join(kept, str(own))}: {found[0][:400]}")
+        tests.add(trouble)
     print(f"{runs} runs of {number} suites")
-    print(f"{passed} passed, {failed} failed")
-    return 1 if failed else 0
+    return tests.close()
 
 
 if __name__ == "__main__":

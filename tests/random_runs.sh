@@ -1,8 +1,8 @@
 #!/bin/sh
-# Makes random suites and compares runs of them with each other: tests/random_runs.sh [PROGRAM [SEED [COUNT]]]
+# Makes random suites and compares their runs: tests/random_runs.sh [PROGRAM [SEED [COUNT]]]
 #
-# A suite has some feature files, with tags, backgrounds, rules and outlines, and maybe hooks, a library, a
-# variable and a choice by tags. Nothing but the program says what has to come out:
+# A suite has some feature files, with tags, backgrounds, rules and outlines, and maybe hooks, a
+# library, a variable and a choice by tags. Nothing but the program says what has to come out:
 #
 # - a scenario has the same rows alone, chosen by its line, as in the suite;
 # - the scenarios of a file in another order have the same rows;
@@ -11,10 +11,12 @@
 # - a run that stops has the rows of the whole run up to the first failure, and after it none;
 # - the three formats say the same, with --no-skipped and without, and each counts its own rows.
 #
-# Where something differs, the suite's files and what differs are kept in out/random_runs/SEED. PROGRAM is the
-# built program; without it, or where it is empty, the one that ./run builds. Closes with one line 'N passed,
-# M failed'; a suite is one test, of some 25 runs. `./test` makes 1,200 suites, in about a minute.
+# Where something differs, the suite's files and what differs are kept in out/random_runs/SEED.
+# PROGRAM is the built program; without it, or where it is empty, the one that ./run runs. Closes
+# with one line 'N passed, M failed'; a suite is one test, of some 25 runs. `./test` makes 1,200
+# suites, in about a minute.
 set -eu
 
 . "$(dirname -- "$(readlink -f -- "$0")")/setup.sh"
-python3 "$home/tests/random_runs.py" "$program" "$room" "$home/out/random_runs" "${2:-1}" "${3:-120}"
+python3 "$home/tests/random_runs.py" "$program" "$room" "$home/out/random_runs" \
+    "${2:-1}" "${3:-120}"

@@ -1,45 +1,104 @@
 #!/usr/bin/env python3
-"""Refuses each growth of memory in turn: refused_memory.py PROGRAM ROOM. Called by tests/refused_memory.sh."""
+"""Refuses each growth of memory in turn: refused_memory.py PROGRAM ROOM.
+
+Called by tests/refused_memory.sh, which says how a run may end.
+"""
 
 import os
 import sys
 
-import several
+import driver
 from reports import Ample, Report, Style, style_of
 
 # One feature, twice.
 ONE = "Feature: one\n  Scenario: first\n    Given it passes\n"
 TWO_FILES = {"a.feature": ONE, "b.feature": ONE}
+THREE = ["a.feature", "b.feature", "c.feature"]
 # Scenarios and a feature that aren't chosen.
-CHOSEN_FILES = ["--tags", "@a", "a.feature", "b.feature", "c.feature"]
+CHOSEN_RUN = ["--tags", "@a", *THREE]
 THREE_FILES = {
-    "a.feature": 'Feature: a\nScenario: left out\nGiven it fails\n@a\nScenario: chosen\nGiven a file named "f" containing "x"\nAnd it fails\n',
+    "a.feature": """Feature: a
+Scenario: left out
+Given it fails
+@a
+Scenario: chosen
+Given a file named "f" containing "x"
+And it fails
+""",
     "b.feature": "Feature: b\nScenario: left out, too\nGiven it fails\n",
-    "c.feature": '@a\nFeature: c "in\\out" \u00e9\nScenario: first\nGiven the number "n" is set to 1\nScenario: second\nGiven nothing knows this\n',
+    "c.feature": """@a
+Feature: c "in\\out" \u00e9
+Scenario: first
+Given the number "n" is set to 1
+Scenario: second
+Given nothing knows this
+""",
 }
 # A file whose scenarios and whose hooks fail.
 FAILING_HOOKS = {
     "h.hooks": "before_tag @broken:\nGiven it fails\nafter_all:\nGiven at cleanup it fails\n",
     "a.feature": "@broken\nFeature: a\nScenario: s\nGiven it passes\n",
-    "b.feature": "Feature: b\n@broken\nScenario: s\nGiven it passes\nAnd nobody knows\nScenario: t\nGiven at cleanup it fails\n",
+    "b.feature": """Feature: b
+@broken
+Scenario: s
+Given it passes
+And nobody knows
+Scenario: t
+Given at cleanup it fails
+""",
 }
+FAILING_RUN = ["--hooks", "h.hooks", "a.feature", "b.feature"]
 # A run that may end early, with hooks after its sections.
 STOPPING = {
-    "h.hooks": 'before_feature:\nGiven a file named "f" containing "x"\nafter_feature:\nThen the file "f" should be "x"\n'
-               'after_all:\nThen the file "f" should not exist\n',
-    "a.feature": 'Feature: a\nScenario: s\nGiven the value "v" is set to "1"\nScenario: t\nGiven it passes\nAnd it passes\n',
-    "b.feature": 'Feature: b\nScenario: s\nGiven the file "f" is extended with "y"\nScenario: t\nGiven it fails\nScenario: u\nGiven it passes\n',
+    "h.hooks": """before_feature:
+Given a file named "f" containing "x"
+after_feature:
+Then the file "f" should be "x"
+after_all:
+Then the file "f" should not exist
+""",
+    "a.feature": """Feature: a
+Scenario: s
+Given the value "v" is set to "1"
+Scenario: t
+Given it passes
+And it passes
+""",
+    "b.feature": """Feature: b
+Scenario: s
+Given the file "f" is extended with "y"
+Scenario: t
+Given it fails
+Scenario: u
+Given it passes
+""",
     "c.feature": "Feature: c\nScenario: s\nGiven it passes\n",
 }
+STOPPING_RUN = ["--hooks", "h.hooks", *THREE]
 
-# Runs beside the examples, so that each kind of input and of step meets refusals: arguments, and files.
+# Runs beside the examples, so that each kind of input and of step meets refusals: arguments, and
+# files.
 RUNS = {
     "two files and all options": (
-        ["--tags", "@a,~@b", "--line", "3", "--line", "7", "--env", "V=x", "--library", "l.steps", "a.feature", "b.feature"],
+        ["--tags", "@a,~@b", "--line", "3", "--line", "7", "--env", "V=x",
+         "--library", "l.steps", "a.feature", "b.feature"],
         {
-            "l.steps": "given {name} is {text} => set_env\nwhen {n:d} {name} => set_number\nthen {name} holds {text} => env_is\n",
-            "a.feature": "@a\nFeature: a\nScenario: s\nGiven V is y\nThen V holds y\n\nScenario: t\nGiven V is z\nThen V holds x\n"
-                         "And nobody knows\nAnd V is z\n",
+            "l.steps": """given {name} is {text} => set_env
+when {n:d} {name} => set_number
+then {name} holds {text} => env_is
+""",
+            "a.feature": """@a
+Feature: a
+Scenario: s
+Given V is y
+Then V holds y
+
+Scenario: t
+Given V is z
+Then V holds x
+And nobody knows
+And V is z
+""",
             "b.feature": "Feature: b\n\nScenario: s\nWhen 5 n\nWhen 7 n\n",
         },
     ),
@@ -123,7 +182,10 @@ And nothing knows this
     "files of a feature that a scenario takes away": (
         ["--hooks", "h.hooks", "a.feature"],
         {
-            "h.hooks": 'before_feature:\nGiven a file named "a" containing "1"\nAnd a file named "b" containing "2"\n',
+            "h.hooks": """before_feature:
+Given a file named "a" containing "1"
+And a file named "b" containing "2"
+""",
             "a.feature": """Feature: f
 Scenario: A
 When the file "a" is removed
@@ -181,7 +243,8 @@ And at cleanup a file named "log" containing "r"
     ),
     "a scenario that skips itself": (
         ["a.feature"],
-        {"a.feature": "Feature: f\nScenario: s\nGiven it passes\nAnd the scenario is skipped\nAnd nothing knows this\n"},
+        {"a.feature": driver.feature(
+            "Given it passes", "And the scenario is skipped", "And nothing knows this")},
     ),
     "hooks of tags": (
         ["--hooks", "h.hooks", "a.feature"],
@@ -210,32 +273,48 @@ Then the file "log" should be "abs"
     "hooks that fail": (
         ["--hooks", "h.hooks", "a.feature"],
         {
-            "h.hooks": "before_feature:\nGiven the value \"v\" is set to \"1\"\nAnd it fails\nafter_feature:\nThen the value \"v\" should be \"1\"\n",
-            "a.feature": "Feature: f\nScenario: s\nGiven it passes\n",
+            "h.hooks": """before_feature:
+Given the value "v" is set to "1"
+And it fails
+after_feature:
+Then the value "v" should be "1"
+""",
+            "a.feature": driver.feature("Given it passes"),
         },
     ),
     "a run that doesn't begin": (
         ["--hooks", "h.hooks", "a.feature"],
-        {"h.hooks": "before_all:\nGiven nothing knows this\n", "a.feature": "Feature: f\nScenario: s\nGiven it passes\n"},
+        {
+            "h.hooks": "before_all:\nGiven nothing knows this\n",
+            "a.feature": driver.feature("Given it passes"),
+        },
     ),
     "two files, as progress": (["--format", "progress", "a.feature", "b.feature"], TWO_FILES),
     "two files, as JSON": (["--format", "json", "a.feature", "b.feature"], TWO_FILES),
     "two files": (["a.feature", "b.feature"], TWO_FILES),
     "nothing, as JSON": (["--format", "json", "a.feature"], {"a.feature": "# nothing\n"}),
-    "three files without what is skipped": (["--no-skipped", *CHOSEN_FILES], THREE_FILES),
-    "three files without what is skipped, as progress": (["--no-skipped", "--format", "progress", *CHOSEN_FILES], THREE_FILES),
-    "three files without what is skipped, as JSON": (["--no-skipped", "--format", "json", *CHOSEN_FILES], THREE_FILES),
-    "hooks that fail, as JSON": (["--format", "json", "--hooks", "h.hooks", "a.feature", "b.feature"], FAILING_HOOKS),
-    "hooks that fail, as progress": (["--format", "progress", "--hooks", "h.hooks", "a.feature", "b.feature"], FAILING_HOOKS),
-    "a run that stops": (["--stop", "--hooks", "h.hooks", "a.feature", "b.feature", "c.feature"], STOPPING),
-    "a run that stops, as JSON": (["--stop", "--format", "json", "--hooks", "h.hooks", "a.feature", "b.feature", "c.feature"], STOPPING),
-    "a dry run": (["--dry-run", "--stop", "--hooks", "h.hooks", "a.feature", "b.feature", "c.feature"], STOPPING),
-    "a dry run, as progress": (["--dry-run", "--format", "progress", "a.feature", "b.feature", "c.feature"], STOPPING),
-    "a dry run, as JSON, without what is skipped": (["--dry-run", "--no-skipped", "--format", "json", *CHOSEN_FILES], THREE_FILES),
-    "a faulty hooks file": (["--hooks", "h.hooks", "a.feature"], {"h.hooks": "before_tag @:\n", "a.feature": ""}),
-    "faults": (["--library", "l.steps", "a.feature"], {"l.steps": "step a {x} => pass\nstep a b => fail\n", "a.feature": "stray\n"}),
+    "three files without what is skipped": (["--no-skipped", *CHOSEN_RUN], THREE_FILES),
+    "three files without what is skipped, as progress": (
+        ["--no-skipped", "--format", "progress", *CHOSEN_RUN], THREE_FILES),
+    "three files without what is skipped, as JSON": (
+        ["--no-skipped", "--format", "json", *CHOSEN_RUN], THREE_FILES),
+    "hooks that fail, as JSON": (["--format", "json", *FAILING_RUN], FAILING_HOOKS),
+    "hooks that fail, as progress": (["--format", "progress", *FAILING_RUN], FAILING_HOOKS),
+    "a run that stops": (["--stop", *STOPPING_RUN], STOPPING),
+    "a run that stops, as JSON": (["--stop", "--format", "json", *STOPPING_RUN], STOPPING),
+    "a dry run": (["--dry-run", "--stop", *STOPPING_RUN], STOPPING),
+    "a dry run, as progress": (["--dry-run", "--format", "progress", *THREE], STOPPING),
+    "a dry run, as JSON, without what is skipped": (
+        ["--dry-run", "--no-skipped", "--format", "json", *CHOSEN_RUN], THREE_FILES),
+    "a faulty hooks file": (
+        ["--hooks", "h.hooks", "a.feature"], {"h.hooks": "before_tag @:\n", "a.feature": ""}),
+    "faults": (
+        ["--library", "l.steps", "a.feature"],
+        {"l.steps": "step a {x} => pass\nstep a b => fail\n", "a.feature": "stray\n"},
+    ),
     "bad tags": (["--tags", "@a,,", "a.feature"], {"a.feature": ""}),
-    "a faulty file": (["a.feature"], {"a.feature": "@a\nFeature: f\nScenario: s\nGiven x\n| a | b |\n| c |\n"}),
+    "a faulty file": (
+        ["a.feature"], {"a.feature": "@a\n" + driver.feature("Given x", "| a | b |", "| c |")}),
 }
 
 
@@ -245,26 +324,26 @@ class Refusals:
     def __init__(self, program, room, name, arguments, folder):
         self.program, self.room, self.name = program, room, name
         self.arguments, self.folder = arguments, folder
-        self.ample = Ample(arguments, several.start(program, arguments, folder), self.whole())
+        self.ample = Ample(arguments, driver.start(program, arguments, folder), self.whole())
 
     def whole(self):
         """The report of the same run that leaves nothing out."""
         if "--no-skipped" not in self.arguments:
             return None
         arguments = [it for it in self.arguments if it != "--no-skipped"]
-        _, printed, _ = several.start(self.program, arguments, self.folder)
+        _, printed, _ = driver.start(self.program, arguments, self.folder)
         return Report.of(printed, Style(style_of(arguments).format, False))
 
     def ending(self, number):
-        """How the run ends whose growth of a number is refused, one of ENDINGS, and what was written. An ending
-        that isn't allowed is said in words."""
+        """How the run ends whose growth of a number is refused, and what was written.
+
+        The first is one of ENDINGS. An ending that isn't allowed is said in words."""
         log = os.path.join(self.room, f"met.{number % 64}.{os.getpid()}")
         if os.path.exists(log):
             os.remove(log)
-        ended = several.start(self.program, self.arguments, self.folder,
-                              {**os.environ, "REFUSE": str(number), "REFUSE_LOG": log,
-                               "LD_PRELOAD": os.path.join(self.room, "refuse.so")})
-        met = several.read(log).strip() if os.path.exists(log) else b"ended by a signal"
+        environment = driver.limited(self.room, REFUSE=number, REFUSE_LOG=log)
+        ended = driver.start(self.program, self.arguments, self.folder, environment)
+        met = driver.read(log).strip() if os.path.exists(log) else b"ended by a signal"
         ending = self.ample.ending(ended)
         if met == b"unmet" and ending == "unharmed":
             return "unmet", ended[1]
@@ -277,7 +356,7 @@ class Refusals:
         number = 1
         while True:
             numbers = range(number, number + 64)
-            for ending in several.on_all_processors(self.ending, numbers):
+            for ending in driver.on_all_processors(self.ending, numbers):
                 yield ending
                 if ending[0] == "unmet":
                     return
@@ -288,66 +367,63 @@ ENDINGS = ("stopped", "marked", "unharmed", "unmet")
 
 
 class Counts:
-    """How many runs ended how, and how many of them badly."""
+    """How many runs ended how, and how many tests passed and failed."""
 
     def __init__(self):
-        self.passed = self.failed = self.pieces = 0
+        self.tests = driver.Tests()
+        self.pieces = 0
         self.endings = dict.fromkeys(ENDINGS, 0)
-
-    def check(self, is_well, name):
-        if is_well:
-            self.passed += 1
-        else:
-            self.failed += 1
-            print(name)
 
     def add(self, case):
         """Makes all runs of a case."""
         if not case.ample.is_read_well():
-            self.check(False, f"{case.name}: the counts and statuses of its report aren't those of its rows")
+            self.tests.add(f"{case.name}: its rows give other counts or statuses")
             return
         written = set()
         for ending, printed in case.endings():
-            self.check(ending in ENDINGS, ending)
+            self.tests.add("" if ending in ENDINGS else ending)
             if ending in ENDINGS:
                 self.endings[ending] += 1
             if ending == "stopped":
                 written.add(printed)
                 self.pieces += printed != b""
         if case.ample.report is not None:
-            self.check_pieces(case, written)
+            self.add_pieces(case, written)
 
-    def check_pieces(self, case, written):
-        """Each piece is made when those before it are written, so for each of them a run ends there."""
+    def add_pieces(self, case, written):
+        """Each piece is made when those before it are written, so some run ends at each of them."""
         for before, piece in zip(case.ample.beginnings, case.ample.report.pieces()):
             if piece:
-                self.check(before in written, f"{case.name}: no run stopped after {len(before)} bytes, where a piece is made")
+                found = f"no run stopped after {len(before)} bytes, where a piece is made"
+                self.tests.add("" if before in written else f"{case.name}: {found}")
+
+    def close(self):
+        """Says how the runs ended, and answers the status that the driver ends with."""
+        ended = self.endings
+        print(f"where a growth was refused: {ended['stopped']} runs stopped, {self.pieces} of them "
+              f"after whole pieces of the report, {ended['marked']} ended with one mark of memory, "
+              f"{ended['unharmed']} as with ample memory")
+        # Growths were really refused, outside of what is marked and in it.
+        is_each = ended["stopped"] and ended["marked"] and self.pieces
+        self.tests.add("" if is_each else "no run ended in one of these ways")
+        return self.tests.close()
 
 
 def cases(program, room):
-    for arguments in several.examples():
-        yield Refusals(program, room, arguments[-1], arguments, several.HOME)
+    """The runs of the examples, and those of RUNS."""
+    for arguments in driver.examples():
+        yield Refusals(program, room, arguments[-1], arguments, driver.HOME)
     for name, (arguments, files) in RUNS.items():
         folder = os.path.join(room, name.replace(" ", "_"))
-        os.makedirs(folder)
-        for file, text in files.items():
-            with open(os.path.join(folder, file), "w", encoding="utf-8") as out:
-                out.write(text)
+        driver.write(folder, files)
         yield Refusals(program, room, name, arguments, folder)
 
 
 def main():
-    program, room = sys.argv[1], sys.argv[2]
     counts = Counts()
-    for case in cases(program, room):
+    for case in cases(sys.argv[1], sys.argv[2]):
         counts.add(case)
-    ended = counts.endings
-    print(f"where a growth was refused: {ended['stopped']} runs stopped, {counts.pieces} of them after whole pieces of the report, "
-          f"{ended['marked']} ended with one mark of memory, {ended['unharmed']} as with ample memory")
-    # Growths were really refused, outside of what is marked and in it.
-    counts.check(ended["stopped"] and ended["marked"] and counts.pieces, "no run ended in one of these ways")
-    print(f"{counts.passed} passed, {counts.failed} failed")
-    return 1 if counts.failed else 0
+    return counts.close()
 
 
 if __name__ == "__main__":

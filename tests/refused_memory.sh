@@ -4,18 +4,18 @@
 # Each example, and each of the runs of tests/refused_memory.py, is run with its growth 1, 2, 3, ..
 # refused, until a run meets no refusal. Each run has to end by itself, in one of three ways:
 #
-# - with status 4, 'gherkin_run: out of memory' on standard error, and on standard output the beginning of
-#   the report with ample memory, up to the end of a feature's part;
-# - with status 4, nothing on standard error, and the report with ample memory but for one mark: a step, or
-#   the hooks and cleanups of a scenario, a feature or the run, are memory; what wasn't reached then is
-#   untested, and the verdicts and counts follow;
-# - as with ample memory, to the last byte. The standard library asks for room for a whole list at once
-#   where it can guess its length; where that is refused it asks for less, and the run goes on.
+# - with status 4, 'gherkin_run: out of memory' on standard error, and on standard output the
+#   beginning of the report with ample memory, up to the end of a feature's part;
+# - with status 4, nothing on standard error, and the report with ample memory but for one mark: a
+#   step, or the hooks and cleanups of a scenario, a feature or the run, are memory; what wasn't
+#   reached then is untested, and the verdicts and counts follow;
+# - as with ample memory, to the last byte. The standard library asks for room for a whole list at
+#   once where it can guess its length; where that is refused it asks for less, and the run goes on.
 #
-# In each case some run has to stop as each piece of the report is made, when those before it are written.
-# A run that meets no refusal has to do as with ample memory. PROGRAM is the built program; without it,
-# the one that ./run builds. A C compiler, cc, is needed. Closes with one line 'N passed, M failed'; a
-# run is one test.
+# In each case some run has to stop as each piece of the report is made, when those before it are
+# written. A run that meets no refusal has to do as with ample memory. PROGRAM is the built program;
+# without it, the one that ./run runs. A C compiler, cc, is needed. Closes with one line 'N
+# passed, M failed'; a run is one test.
 set -eu
 
 . "$(dirname -- "$(readlink -f -- "$0")")/setup.sh"

@@ -1,10 +1,10 @@
 """The program's report in each format, read back: what the drivers of tests/ ask of it.
 
-`Report.of(text, style)` reads a report, plain, as progress or as JSON, into the same features and scenarios.
-A progress report has no steps, so those of its scenarios are None, and a feature's own hooks aren't seen.
-JSON is read by Python's own reader. What was read is written again in the same format: a report is read
-well only where this gives its very bytes. For JSON that is the compact text of one document with its keys
-sorted, and a line feed.
+`Report.of(text, style)` reads a report, plain, as progress or as JSON, into the same features and
+scenarios. A progress report has no steps, so those of its scenarios are None, and a feature's own
+hooks aren't seen. JSON is read by Python's own reader. What was read is written again in the same
+format: a report is read well only where this gives its very bytes. For JSON that is the compact
+text of one document with its keys sorted, and a line feed.
 """
 
 import collections
@@ -36,7 +36,7 @@ def style_of(arguments):
 
 
 class Scenario:
-    """What a report calls a scenario, its status, those of its steps, and that of its hooks and cleanups."""
+    """What a report calls a scenario, its status, those of its steps, and that of its hooks."""
 
     def __init__(self, head, status, steps=None, around="passed"):
         self.head, self.status, self.steps, self.around = head, status, steps, around
@@ -54,7 +54,7 @@ class Scenario:
         return [status.split(":")[0] for _, status in self.steps or []]
 
     def is_unchosen(self):
-        """Whether all of it is skipped. Of a progress report nobody can say why a scenario is skipped."""
+        """Whether all of it is skipped. A progress report doesn't say why a scenario is skipped."""
         return self.status == "skipped" and all(it == "skipped" for it in self.statuses())
 
     def is_judged_well(self):
@@ -70,12 +70,14 @@ class Scenario:
             return self.status == "failed" and "untested" not in statuses
         if self.status == "passed":
             return set(statuses) <= {"passed"}
-        return self.status == "skipped" and set(statuses) <= {"passed", "skipped"} and statuses[-1:] != ["passed"]
+        is_left = set(statuses) <= {"passed", "skipped"} and statuses[-1:] != ["passed"]
+        return self.status == "skipped" and is_left
 
 
 class Feature:
-    """What a report calls a feature, its status, its scenarios, and the status of its own hooks and cleanups,
-    which is None where the report doesn't say."""
+    """What a report calls a feature, its status, its scenarios, and the status of its own hooks.
+
+    That of its hooks, and cleanups, is None where the report doesn't say."""
 
     def __init__(self, head, status, scenarios, around="passed"):
         self.head, self.status, self.scenarios, self.around = head, status, scenarios, around
@@ -87,9 +89,18 @@ class Feature:
         """Whether a scenario of it was chosen."""
         return not all(it.is_unchosen() for it in self.scenarios)
 
+    def place_of_mark(self):
+        """The place of the first scenario that is memory; that after all where the hooks are."""
+        if self.around == "memory":
+            return len(self.scenarios)
+        return [it.status for it in self.scenarios].index("memory")
+
     def cut_after(self, place):
-        """The same feature, where no scenario after a place is reached; before place 0 it isn't begun."""
-        scenarios = [it if at <= place or it.is_unchosen() else it.unreached() for at, it in enumerate(self.scenarios)]
+        """The same feature, where no scenario after a place is reached.
+
+        Before place 0 it isn't begun."""
+        scenarios = [it if at <= place or it.is_unchosen() else it.unreached()
+                     for at, it in enumerate(self.scenarios)]
         around = self.around if place >= 0 or self.around is None else "passed"
         statuses = [it.status for it in scenarios]
         return Feature(self.head, verdict([around, *statuses], statuses), scenarios, around)
@@ -103,7 +114,7 @@ class Feature:
 
 
 def verdict(statuses, scenarios):
-    """A feature's status, by those of its own hooks and its scenarios, and by those of its scenarios alone."""
+    """A feature's status, by those of its hooks and scenarios, and by those of its scenarios."""
     for status in ("memory", "failed", "untested"):
         if status in statuses:
             return status
@@ -148,9 +159,12 @@ class Report:
 
     def status(self):
         """The status of the run, by the counts."""
-        def counted(status):
-            return self.around == status or any(self.counts[noun][status] for noun in ("feature", "scenario"))
-        return 4 if counted("memory") else 1 if counted("failed") or self.counts["step"]["undefined"] else 0
+        def is_there(status):
+            return self.around == status or any(
+                self.counts[noun][status] for noun in ("feature", "scenario"))
+        if is_there("memory"):
+            return 4
+        return 1 if is_there("failed") or self.counts["step"]["undefined"] else 0
 
     def counted(self):
         """The counts, by what is printed. Steps that aren't printed aren't counted."""
@@ -161,62 +175,73 @@ class Report:
                 "step": count(steps, STEP_STATUSES)}
 
     def is_read_well(self):
-        """Whether its counts are those of its rows, and each status follows from those of its parts. What is
-        left out as skipped is counted: features and scenarios that are skipped, and their steps."""
+        """Whether its counts are those of its rows, and each status follows from its parts.
+
+        What is left out as skipped is counted: features and scenarios that are skipped, and their
+        steps."""
         return self.has_counts() and all(it.is_judged_well() for it in self.features)
 
+    def may_be_more(self, noun, status):
+        """Whether some of what is counted may be left out of the rows."""
+        is_left_out = status == "skipped" or (noun, status) == ("step", "passed")
+        return self.style.no_skipped and is_left_out
+
     def has_counts(self):
+        """Whether the counts are those of the rows."""
         printed = self.counted()
         for noun, statuses in COUNTED.items():
+            if noun == "step" and self.style.format == "progress":
+                continue
             for status in statuses:
-                may_be_more = self.style.no_skipped and (status == "skipped" or (noun, status) == ("step", "passed"))
-                if noun == "step" and self.style.format == "progress":
-                    continue
                 number, shown = self.counts[noun][status], printed[noun][status]
-                if number < shown or (number > shown and not may_be_more):
+                if number < shown or (number > shown and not self.may_be_more(noun, status)):
                     return False
         return not self.style.no_skipped or all(it.status != "skipped" for it in self.all_rows())
 
     def all_rows(self):
+        """The features and their scenarios."""
         for feature in self.features:
             yield feature
             yield from feature.scenarios
 
     def completed(self, whole):
-        """The report with what is left out as skipped, as it stands in the whole report of a run that may have
-        a mark of memory less."""
+        """The report with what is left out as skipped, as it stands in the whole report.
+
+        That is of a run that may have a mark of memory less."""
         if not self.style.no_skipped:
             return self
         features = []
         for feature, found in aligned(self.features, whole.features):
             if found is not None and found is not feature:
-                scenarios = [own or other for other, own in aligned(found.scenarios, feature.scenarios)]
+                pairs = aligned(found.scenarios, feature.scenarios)
+                scenarios = [own or other for other, own in pairs]
                 found = Feature(found.head, found.status, scenarios, found.around)
             features.append(found or feature)
         return Report(Style(self.style.format, False), features, self.around, self.counts)
 
     def stopped_by(self, other):
-        """The report of a run that ends where the other report has its first mark of memory: what comes after
-        the scenario or the feature with that mark isn't reached."""
+        """The report of a run that ends where the other report has its first mark of memory.
+
+        What comes after the scenario or the feature with that mark isn't reached."""
         features, is_over = [], False
         for own, marked in zip(self.features, other.features):
             features.append(own.cut_after(-1) if is_over else own)
             if marked.status == "memory" and not is_over:
-                at = [it.status for it in marked.scenarios].index("memory") if marked.around != "memory" else len(own.scenarios)
-                features[-1], is_over = own.cut_after(at), True
+                features[-1], is_over = own.cut_after(marked.place_of_mark()), True
         return Report(self.style, features, self.around)
 
     def is_marked(self, ample):
-        """Whether it is the report with ample memory but for one mark of memory, and what wasn't reached then:
-        in a scenario, in a feature's own hooks and cleanups, or in the run's."""
+        """Whether it is the report with ample memory but for one mark and what wasn't reached.
+
+        The mark is in a scenario, in a feature's own hooks and cleanups, or in the run's."""
         if [it.head for it in self.features] != [it.head for it in ample.features]:
             return False
         if sum(self.counts["step"].values()) != sum(ample.counts["step"].values()):
             return False
+        pairs = list(zip(self.features, ample.features))
         if self.around == "memory":
-            whole = all(same(a, b) for a, b in zip(self.features, ample.features))
-            return whole or all(is_unreached(a, b) for a, b in zip(self.features, ample.features))
-        others = [(a, b) for a, b in zip(self.features, ample.features) if not same(a, b)]
+            return all(same(*it) for it in pairs) or all(is_unreached(*it) for it in pairs)
+        others = [it for it in pairs if not same(*it)]
         return self.around == ample.around and len(others) == 1 and is_marked_feature(*others[0])
 
 
@@ -224,8 +249,9 @@ MEMORY = b"gherkin_run: out of memory\n"
 
 
 class Ample:
-    """A run with ample memory and what it printed: the measure of the same run with one growth refused. Where
-    what is skipped is left out, `whole` is the report of the same run that prints it."""
+    """A run with ample memory and what it printed: the measure of the run with one growth refused.
+
+    Where what is skipped is left out, `whole` is the report of the same run that prints it."""
 
     def __init__(self, arguments, ended, whole=None):
         self.style, self.stops = style_of(arguments), "--stop" in arguments
@@ -235,11 +261,16 @@ class Ample:
         self.beginnings = self.report.beginnings() if self.report else [b""]
 
     def is_read_well(self):
-        return self.report is None or (self.report.is_read_well() and self.report.status() == self.ended[0])
+        """Whether its report, if there is one, is read well and has the status of the run."""
+        if self.report is None:
+            return True
+        return self.report.is_read_well() and self.report.status() == self.ended[0]
 
     def ending(self, ended):
-        """How a run with one growth refused has ended: `unharmed`, as with ample memory; `stopped`, with the
-        fault, after some whole pieces of this report; `marked`, with one mark of memory in it. Else None."""
+        """How a run with one growth refused has ended.
+
+        `unharmed`, as with ample memory; `stopped`, with the fault, after some whole pieces of this
+        report; `marked`, with one mark of memory in it. Else None."""
         status, printed, err = ended
         if ended == self.ended:
             return "unharmed"
@@ -248,7 +279,7 @@ class Ample:
         return "marked" if (status, err) == (4, b"") and self.is_marked(printed) else None
 
     def is_marked(self, printed):
-        """Whether what was printed is a report of its own that differs from this one by one mark of memory."""
+        """Whether what was printed is a report that differs from this one by one mark of memory."""
         if self.report is None:
             return False
         try:
@@ -257,45 +288,56 @@ class Ample:
         except ValueError:
             return False
         ample = self.whole.stopped_by(completed) if self.stops else self.whole
-        return report.is_read_well() and completed.is_read_well() and report.status() == 4 and completed.is_marked(ample)
+        are_read_well = report.is_read_well() and completed.is_read_well()
+        return are_read_well and report.status() == 4 and completed.is_marked(ample)
 
 
 def aligned(rows, whole):
-    """Each row of the whole list, with the row of the other that stands for it, or None where it is left out.
-    Which it is follows from what the report calls it; where it has no name for it, from whether it is skipped."""
+    """Each row of the whole list, with the row of the other that stands for it.
+
+    That is None where it is left out. Which it is follows from what the report calls it; where it
+    has no name for it, from whether it is skipped."""
     rest = list(rows)
     for row in whole:
-        is_there = bool(rest) and (rest[0].head == row.head if row.head is not None else row.status != "skipped")
+        is_named = row.head is not None
+        is_there = rest and (rest[0].head == row.head if is_named else row.status != "skipped")
         yield row, rest.pop(0) if is_there else None
     if rest:
         raise ValueError("a row that the whole report lacks")
 
 
 def count(statuses, names):
+    """How many of the statuses have each of the names."""
     return {it: statuses.count(it) for it in names}
 
 
 def same(one, other):
-    """Two features, or two scenarios, have the same rows."""
+    """Whether two features, or two scenarios, have the same rows."""
     return one.row() == other.row()
 
 
 def is_unreached(feature, ample):
-    """A feature of a run that began none: its chosen scenarios are untested."""
+    """Whether it is a feature of a run that began none: its chosen scenarios are untested."""
     if not ample.is_begun() and same(feature, ample):
         return True
     return feature.around in (None, "passed") and are_unreached(feature.scenarios, ample.scenarios)
 
 
 def are_unreached(scenarios, ample):
-    """Scenarios as with ample memory where these weren't chosen, and else untested with all their steps."""
+    """Whether scenarios are as with ample memory where these weren't chosen, and else untested."""
     return len(scenarios) == len(ample) and all(
-        (b.is_unchosen() and same(a, b)) or ((b.steps is None or not b.is_unchosen()) and same(a, b.unreached()))
-        for a, b in zip(scenarios, ample))
+        is_unreached_scenario(*it) for it in zip(scenarios, ample))
+
+
+def is_unreached_scenario(scenario, ample):
+    """Whether it is as with ample memory where that wasn't chosen, else untested."""
+    may_be_chosen = ample.steps is None or not ample.is_unchosen()
+    is_as_before = ample.is_unchosen() and same(scenario, ample)
+    return is_as_before or (may_be_chosen and same(scenario, ample.unreached()))
 
 
 def is_marked_feature(feature, ample):
-    """A feature in which memory was refused once: in its hooks or cleanups, or in one of its scenarios."""
+    """Whether memory was refused once in a feature: in its hooks or cleanups, or in a scenario."""
     if feature.status != "memory" or len(feature.scenarios) != len(ample.scenarios):
         return False
     others = [(a, b) for a, b in zip(feature.scenarios, ample.scenarios) if not same(a, b)]
@@ -309,8 +351,10 @@ def is_marked_feature(feature, ample):
 
 
 def is_marked_scenario(scenario, ample):
-    """A scenario in which memory was refused once: in a before hook, where its steps are untested; in a step,
-    with those before it as they were and those after it untested; or in an after hook or a cleanup."""
+    """Whether memory was refused once in a scenario.
+
+    In a before hook, where its steps are untested; in a step, with those before it as they were and
+    those after it untested; or in an after hook or a cleanup."""
     if scenario.head != ample.head or scenario.status != "memory":
         return False
     if scenario.steps is None or ample.steps is None:
@@ -338,6 +382,7 @@ def split(line):
 
 
 def read_plain(text, style):
+    """What a plain report says."""
     lines, counts = without_counts(text)
     features, around = [], "passed"
     for line in lines:
@@ -361,6 +406,7 @@ def read_plain(text, style):
 
 
 def plain_part(feature, _):
+    """The lines of a feature in a plain report."""
     lines = [f"{feature.head} ... {feature.status}"]
     for scenario in feature.scenarios:
         lines.append(f"  {scenario.head} ... {scenario.status}")
@@ -375,6 +421,7 @@ def plain_part(feature, _):
 # ---- progress
 
 def read_progress(text, style):
+    """What a progress report says."""
     lines, counts = without_counts(text)
     features, around = [], "passed"
     statuses = {character: status for status, character in CHARACTERS.items()}
@@ -383,12 +430,15 @@ def read_progress(text, style):
             around = split(line)[1]
             continue
         source, characters, status = re.fullmatch(r"(.*)  ([.FSUM]*)  ([a-z]+)", line).groups()
-        features.append(Feature(source, status, [Scenario(None, statuses[it]) for it in characters], None))
+        scenarios = [Scenario(None, statuses[it]) for it in characters]
+        features.append(Feature(source, status, scenarios, None))
     return Report(style, features, around, counts)
 
 
 def progress_part(feature, _):
-    return f"{feature.head}  {''.join(CHARACTERS[it.status] for it in feature.scenarios)}  {feature.status}\n"
+    """The line of a feature in a progress report."""
+    characters = "".join(CHARACTERS[it.status] for it in feature.scenarios)
+    return f"{feature.head}  {characters}  {feature.status}\n"
 
 
 # ---- the end of both
@@ -398,10 +448,12 @@ def without_counts(text):
     lines = text.split("\n")
     if lines.pop() != "":
         raise ValueError("no line feed at the end")
-    return lines[:-3], {noun: read_counts(noun, line) for noun, line in zip(COUNTED, lines[-3:], strict=True)}
+    last = zip(COUNTED, lines[-3:], strict=True)
+    return lines[:-3], {noun: read_counts(noun, line) for noun, line in last}
 
 
 def read_counts(noun, line):
+    """The counts that a line has, by the statuses."""
     numbers = dict.fromkeys(COUNTED[noun], 0)
     for part in line.split(", "):
         number, status = re.fullmatch(rf"(\d+) (?:{noun}s? )?([a-z]+)", part).groups()
@@ -413,13 +465,16 @@ def read_counts(noun, line):
 
 def closing(noun, numbers):
     """A line of counts."""
-    always = [it for it in COUNTED[noun] if it not in ("passed", "untested", "memory")]
+    rare = ("untested", "memory")
+    shown = [it for it in COUNTED[noun] if it != "passed" and it not in rare]
+    shown += [it for it in rare if numbers[it]]
     plural = "" if numbers["passed"] == 1 else "s"
-    parts = [f"{numbers['passed']} {noun}{plural} passed", *(f"{numbers[it]} {it}" for it in always)]
-    return ", ".join(parts + [f"{numbers[it]} {it}" for it in ("untested", "memory") if numbers[it]])
+    first = f"{numbers['passed']} {noun}{plural} passed"
+    return ", ".join([first, *(f"{numbers[it]} {it}" for it in shown)])
 
 
 def plain_tail(report):
+    """The end of a plain or a progress report."""
     around = [f"{AROUND} ... {report.around}"] if report.around != "passed" else []
     return "\n".join([*around, *(closing(noun, report.counts[noun]) for noun in COUNTED), ""])
 
@@ -427,11 +482,15 @@ def plain_tail(report):
 # ---- JSON
 
 def read_json(text, style):
+    """What a JSON report says."""
     document = json.loads(text)
-    if set(document) != DOCUMENT or set(document["summary"]) != {noun + "s" for noun in COUNTED}:
+    summary = document["summary"]
+    if set(document) != DOCUMENT or set(summary) != {noun + "s" for noun in COUNTED}:
         raise ValueError("other keys")
-    counts = {noun: {it: document["summary"][noun + "s"][it] for it in names} for noun, names in COUNTED.items()}
-    report = Report(style, [read_json_feature(it) for it in document["features"]], document["run"], counts)
+    counts = {noun: {it: summary[noun + "s"][it] for it in names}
+              for noun, names in COUNTED.items()}
+    features = [read_json_feature(it) for it in document["features"]]
+    report = Report(style, features, document["run"], counts)
     if report.status() != document["status"]:
         raise ValueError("another status")
     return report
@@ -441,7 +500,8 @@ def read_json_feature(row):
     if set(row) != FEATURE:
         raise ValueError("other keys")
     head = (row["source"], row["name"], row["line"])
-    return Feature(head, row["status"], [read_json_scenario(it) for it in row["scenarios"]], row["around"])
+    scenarios = [read_json_scenario(it) for it in row["scenarios"]]
+    return Feature(head, row["status"], scenarios, row["around"])
 
 
 def read_json_scenario(row):
@@ -458,30 +518,37 @@ def read_json_status(step):
 
 
 def compact(value):
+    """The compact text of a value in JSON, with its keys sorted."""
     return json.dumps(value, ensure_ascii=False, separators=(",", ":"), sort_keys=True)
 
 
 def json_part(feature, is_first):
+    """The text of a feature in a JSON report."""
     source, name, line = feature.head
-    return ("" if is_first else ",") + compact({"around": feature.around, "line": line, "name": name, "source": source,
-                    "status": feature.status, "scenarios": [json_scenario(it) for it in feature.scenarios]})
+    scenarios = [json_scenario(it) for it in feature.scenarios]
+    return ("" if is_first else ",") + compact({
+        "around": feature.around, "line": line, "name": name, "source": source,
+        "status": feature.status, "scenarios": scenarios})
 
 
 def json_scenario(scenario):
     keyword, name, line = scenario.head
-    return {"around": scenario.around, "keyword": keyword, "line": line, "name": name, "status": scenario.status,
-            "steps": [json_step(*it) for it in scenario.steps]}
+    return {"around": scenario.around, "keyword": keyword, "line": line, "name": name,
+            "status": scenario.status, "steps": [json_step(*it) for it in scenario.steps]}
 
 
 def json_step(head, status):
     keyword, text, line = head
     status, _, reason = status.partition(": ")
-    return {"keyword": keyword, "line": line, "status": status, "text": text, **({"reason": reason} if reason else {})}
+    row = {"keyword": keyword, "line": line, "status": status, "text": text}
+    return {**row, "reason": reason} if reason else row
 
 
 def json_tail(report):
+    """The end of a JSON report."""
     summary = {noun + "s": numbers for noun, numbers in report.counts.items()}
-    return f'],"run":{compact(report.around)},"status":{report.status()},"summary":{compact(summary)}}}\n'
+    return (f'],"run":{compact(report.around)},"status":{report.status()},'
+            f'"summary":{compact(summary)}}}\n')
 
 
 READERS = {"plain": read_plain, "progress": read_progress, "json": read_json}

@@ -1,9 +1,9 @@
 #!/bin/sh
 # Runs the stored runs of tests/runs and the large runs, and compares: tests/runs.sh [PROGRAM]
 #
-# tests/runs/README.md says what each file of a stored run means; tests/large_runs.py makes the input of
-# each large run, which isn't stored. PROGRAM is the built program; without it, the one that ./run
-# builds. Closes with one line 'N passed, M failed'; a run is one test.
+# tests/runs/README.md says what each file of a stored run means; tests/large_runs.py makes the
+# input of each large run, which isn't stored. PROGRAM is the built program; without it, the one
+# that ./run builds. Closes with one line 'N passed, M failed'; a run is one test.
 set -eu
 
 . "$(dirname -- "$(readlink -f -- "$0")")/setup.sh"

@@ -1,11 +1,10 @@
-# Read by the scripts of this folder with `.`, not run. Sets `home`, the repository's folder, `program`,
-# the built program (the script's first argument, or the one that ./run builds), `room`, a folder that is
-# removed at the end, and the counts `passed` and `failed`.
+# Read by the scripts of this folder with `.`, not run. Sets `home`, the repository's folder,
+# `program`, the built program (the script's first argument, or the one that ./run runs), `room`,
+# a folder that is removed at the end, and the counts `passed` and `failed`.
 home=$(dirname -- "$(dirname -- "$(readlink -f -- "$0")")")
 program=${1:-}
 if [ -z "$program" ]; then
-    "$home/run" --help > /dev/null
-    program=$home/crates/gherkin_run/out/gherkin_run
+    program=$("$home/run" --which)
 fi
 case $program in
 /*) ;;
@@ -14,7 +13,7 @@ esac
 room=$(mktemp -d)
 trap 'rm -rf "$room"' EXIT
 trap 'exit 1' HUP INT TERM
-# No run takes that long, and none may leave a file of its memory behind.
+# No run takes that long, and none may leave a core dump.
 ulimit -t 300
 ulimit -c 0
 passed=0
@@ -23,8 +22,8 @@ failed=0
 PYTHONDONTWRITEBYTECODE=1
 export PYTHONDONTWRITEBYTECODE
 
-# Runs the program on an example, with the arguments of its own that it may have, one a line of the file
-# NAME.arguments beside it.
+# Runs the program on an example, with the arguments of its own that it may have, one a line of the
+# file NAME.arguments beside it.
 run_example() (
     arguments=${1%.feature}.arguments
     feature=$1

@@ -16,7 +16,7 @@ use Rattle.gk_world.specs.declared.world_fault.WorldFault.TheVariants as world
 use Rattle.gk_select.specs.declared.select_fault.SelectFault.TheVariants as select
 use Rattle.gk_cli.specs.Arguments.{PairValue, pair_value}
 use Rattle.gk_cli.specs.Counted.{one_more}
-use Rattle.gk_cli.specs.Inputs.{Request, request_of}
+use Rattle.gk_cli.specs.Inputs.{Request}
 use Rattle.gk_cli.specs.Source.{SourceValue, source_value}
 use Rattle.gk_cli.specs.declared.source.Source.{Source}
 use Rattle.gk_cli.specs.Suite.{Device, IsUntouched, SaysFault}
@@ -24,8 +24,9 @@ use Rattle.gk_cli.specs.declared.arguments.Options.{Options}
 use Rattle.gk_cli.specs.declared.arguments.Words.{Words}
 use Rattle.gk_cli.specs.declared.run_fault.RunFault.{RunFault}
 use Rattle.gk_cli.specs.declared.run_fault.RunFault.TheVariants as run
-use Rattle.gherkin_run.specs.Files.{IsFaultOfFiles, IsFileFault, name_of}
-use Rattle.gherkin_run.specs.Program.{AreGiven, AreTaken, IsFaultOfGiven, IsFaultOfRun, IsFaultOfVariable, IsFlushedRun, IsGiven, IsNamed, IsRefused, IsRun, IsWithin, SaysCallsOfRun, SaysProgram, SaysSuite, SaysVariables, contents_given, bytes_given, request_given, variables_given, with_variables}
+use Rattle.gherkin_run.specs.Files.{FilesValue, IsFaultOfFiles, IsFileFault, files_value, name_of}
+use Rattle.gherkin_run.specs.Program.{AreGiven, AreTaken, IsFaultOfGiven, IsFaultOfRun, IsFaultOfVariable, IsFlushedRun, IsGiven, IsNamed, IsRefused, IsRun, IsWithin, SaysCallsOfRun, SaysProgram, SaysSuite, SaysVariables, contents_given, bytes_given, request_of_files, variables_given, with_variables}
+use Rattle.gherkin_run.specs.declared.files.RunFiles.{RunFiles}
 use Rattle.gherkin_run.specs.declared.fault.Fault.{Fault}
 use Rattle.gherkin_run.specs.declared.fault.Fault.TheVariants.{NotUtf8, Usage, Env, CannotRead, TooLong, Library, Hooks, Read, TooMany, BadTags, Write, Memory}
 
@@ -50,40 +51,40 @@ some_file : (file : Option SourceValue) (bytes : List ℕ) → bytes_given file 
 some_file None bytes e = absurd cc
 some_file (Some s) bytes e = refl
 
-pub within : (options : Options) (library hooks : Option SourceValue) (sources : List SourceValue) (c : Contents) (old new : Device) (by : RunFault)
-    → SaysFault (request_of options (bytes_given library) (bytes_given hooks) sources) c old new by → IsWithin library hooks sources by
-within options library hooks sources c old new (run.Read input fault) says = slice_get_within sources input says.0.0.first.source says.0.0.first.place
-within options library hooks sources c old new (run.Library fault) says = some_file library says.0.bytes says.0.given
-within options library hooks sources c old new (run.Hooks fault) says = some_file hooks says.0.bytes says.0.given
-within options library hooks sources c old new (run.Select None select.BadTagText) says = tt
-within options library hooks sources c old new (run.Select None select.TooMany) says = absurd says.0
-within options library hooks sources c old new (run.Select None select.Memory) says = absurd says.0
-within options library hooks sources c old new (run.Select (Some input) select.TooMany) says = slice_get_within sources input says.0.first.source says.0.first.place
-within options library hooks sources c old new (run.Select (Some input) select.BadTagText) says = absurd says.0
-within options library hooks sources c old new (run.Select (Some input) select.Memory) says = absurd says.0
-within options library hooks sources c old new run.Write says = tt
-within options library hooks sources c old new run.Memory says = tt
+pub within : (options : Options) (files : FilesValue) (c : Contents) (old new : Device) (by : RunFault)
+    → SaysFault (request_of_files options files) c old new by → IsWithin files by
+within options files c old new (run.Read input fault) says = slice_get_within files.sources input says.0.0.first.source says.0.0.first.place
+within options files c old new (run.Library fault) says = some_file files.library says.0.bytes says.0.given
+within options files c old new (run.Hooks fault) says = some_file files.hooks says.0.bytes says.0.given
+within options files c old new (run.Select None select.BadTagText) says = tt
+within options files c old new (run.Select None select.TooMany) says = absurd says.0
+within options files c old new (run.Select None select.Memory) says = absurd says.0
+within options files c old new (run.Select (Some input) select.TooMany) says = slice_get_within files.sources input says.0.first.source says.0.first.place
+within options files c old new (run.Select (Some input) select.BadTagText) says = absurd says.0
+within options files c old new (run.Select (Some input) select.Memory) says = absurd says.0
+within options files c old new run.Write says = tt
+within options files c old new run.Memory says = tt
 
 pub fewer : (a b : ℕ) → a < 2 ^ 64 - 1 → b ≡ one_more a → a < b
 fewer a b room e = omega (arith, e)
 
-pub calls_of_run : (r : Request) (c : Contents) (old new : Device) (library hooks : Option SourceValue) (sources : List SourceValue) (by : RunFault) (fault : Fault)
-    → old.failures < 2 ^ 64 - 1 → IsFaultOfRun library hooks sources by fault → SaysFault r c old new by → SaysCallsOfRun old new fault
-calls_of_run r c old new library hooks sources run.Write Write room is says = fewer old.failures new.failures room says.1
-calls_of_run r c old new library hooks sources run.Write _ room is says = absurd is
-calls_of_run r c old new library hooks sources run.Memory Memory room is (inl nothing) = inl nothing
-calls_of_run r c old new library hooks sources run.Memory Memory room is (inr cut) = inr (r, c, cut.0, cut.1)
-calls_of_run r c old new library hooks sources run.Memory _ room is says = absurd is
-calls_of_run r c old new library hooks sources (run.Read input f) (Read name g) room is says = says.1
-calls_of_run r c old new library hooks sources (run.Read input f) _ room is says = absurd is
-calls_of_run r c old new library hooks sources (run.Library f) (Library name g) room is says = says.1
-calls_of_run r c old new library hooks sources (run.Library f) _ room is says = absurd is
-calls_of_run r c old new library hooks sources (run.Hooks f) (Hooks name g) room is says = says.1
-calls_of_run r c old new library hooks sources (run.Hooks f) _ room is says = absurd is
-calls_of_run r c old new library hooks sources (run.Select (Some input) f) (TooMany name) room is says = says.1
-calls_of_run r c old new library hooks sources (run.Select (Some input) f) _ room is says = absurd is
-calls_of_run r c old new library hooks sources (run.Select None f) BadTags room is says = says.1
-calls_of_run r c old new library hooks sources (run.Select None f) _ room is says = absurd is
+pub calls_of_run : (r : Request) (c : Contents) (old new : Device) (files : FilesValue) (by : RunFault) (fault : Fault)
+    → old.failures < 2 ^ 64 - 1 → IsFaultOfRun files by fault → SaysFault r c old new by → SaysCallsOfRun old new fault
+calls_of_run r c old new files run.Write Write room is says = fewer old.failures new.failures room says.1
+calls_of_run r c old new files run.Write _ room is says = absurd is
+calls_of_run r c old new files run.Memory Memory room is (inl nothing) = inl nothing
+calls_of_run r c old new files run.Memory Memory room is (inr cut) = inr (r, c, cut.0, cut.1)
+calls_of_run r c old new files run.Memory _ room is says = absurd is
+calls_of_run r c old new files (run.Read input f) (Read name g) room is says = says.1
+calls_of_run r c old new files (run.Read input f) _ room is says = absurd is
+calls_of_run r c old new files (run.Library f) (Library name g) room is says = says.1
+calls_of_run r c old new files (run.Library f) _ room is says = absurd is
+calls_of_run r c old new files (run.Hooks f) (Hooks name g) room is says = says.1
+calls_of_run r c old new files (run.Hooks f) _ room is says = absurd is
+calls_of_run r c old new files (run.Select (Some input) f) (TooMany name) room is says = says.1
+calls_of_run r c old new files (run.Select (Some input) f) _ room is says = absurd is
+calls_of_run r c old new files (run.Select None f) BadTags room is says = says.1
+calls_of_run r c old new files (run.Select None f) _ room is says = absurd is
 
 -- ---- variables
 
@@ -174,25 +175,25 @@ IsSuiteFault (CannotRead name) = ⊥
 IsSuiteFault (TooLong name) = ⊥
 IsSuiteFault _ = Unit {0}
 
-suite_fault : (library hooks : Option SourceValue) (sources : List SourceValue) (by : RunFault) (fault : Fault) → IsFaultOfRun library hooks sources by fault → IsSuiteFault fault
-suite_fault library hooks sources run.Write Write is = tt
-suite_fault library hooks sources run.Write _ is = absurd is
-suite_fault library hooks sources run.Memory Memory is = tt
-suite_fault library hooks sources run.Memory _ is = absurd is
-suite_fault library hooks sources (run.Read input f) (Read name g) is = tt
-suite_fault library hooks sources (run.Read input f) _ is = absurd is
-suite_fault library hooks sources (run.Library f) (Library name g) is = tt
-suite_fault library hooks sources (run.Library f) _ is = absurd is
-suite_fault library hooks sources (run.Hooks f) (Hooks name g) is = tt
-suite_fault library hooks sources (run.Hooks f) _ is = absurd is
-suite_fault library hooks sources (run.Select (Some input) f) (TooMany name) is = tt
-suite_fault library hooks sources (run.Select (Some input) f) _ is = absurd is
-suite_fault library hooks sources (run.Select None f) BadTags is = tt
-suite_fault library hooks sources (run.Select None f) _ is = absurd is
+suite_fault : (files : FilesValue) (by : RunFault) (fault : Fault) → IsFaultOfRun files by fault → IsSuiteFault fault
+suite_fault files run.Write Write is = tt
+suite_fault files run.Write _ is = absurd is
+suite_fault files run.Memory Memory is = tt
+suite_fault files run.Memory _ is = absurd is
+suite_fault files (run.Read input f) (Read name g) is = tt
+suite_fault files (run.Read input f) _ is = absurd is
+suite_fault files (run.Library f) (Library name g) is = tt
+suite_fault files (run.Library f) _ is = absurd is
+suite_fault files (run.Hooks f) (Hooks name g) is = tt
+suite_fault files (run.Hooks f) _ is = absurd is
+suite_fault files (run.Select (Some input) f) (TooMany name) is = tt
+suite_fault files (run.Select (Some input) f) _ is = absurd is
+suite_fault files (run.Select None f) BadTags is = tt
+suite_fault files (run.Select None f) _ is = absurd is
 
-suite_named : (library hooks : Option SourceValue) (sources : List SourceValue) (r : Request) (c : Contents) (old new : Device) (fault : Fault) → SaysSuite library hooks sources r c old new fault → IsSuiteFault fault
-suite_named library hooks sources r c old new fault (inl says) = suite_fault library hooks sources says.0 fault says.1
-suite_named library hooks sources r c old new fault (inr unflushed) = subst IsSuiteFault (sym unflushed.named) tt
+suite_named : (files : FilesValue) (r : Request) (c : Contents) (old new : Device) (fault : Fault) → SaysSuite files r c old new fault → IsSuiteFault fault
+suite_named files r c old new fault (inl says) = suite_fault files says.0 fault says.1
+suite_named files r c old new fault (inr unflushed) = subst IsSuiteFault (sym unflushed.named) tt
 
 of_given : (w : Words) (old new : Device) (fault : Fault) → IsSuiteFault fault → IsFaultOfGiven w old new fault → SaysProgram w old new fault
 of_given w old new (Library name f) is h = h
@@ -204,10 +205,10 @@ of_given w old new Write is h = h
 of_given w old new Memory is h = inr h
 of_given w old new _ is h = absurd is
 
-pub of_suite : (w : Words) (library hooks : Option SourceValue) (sources : List SourceValue) (old new : Device) (fault : Fault) → AreGiven w library hooks sources → AreTaken (variables_given w)
-    → SaysSuite library hooks sources (request_given w library hooks sources) (contents_given w) old new fault → SaysProgram w old new fault
-of_suite w library hooks sources old new fault given taken says =
-    of_given w old new fault (suite_named library hooks sources _ _ old new fault says) record { library = library; hooks = hooks; sources = sources; given = given; taken = taken; says = says }
+pub of_suite : (w : Words) (files : FilesValue) (old new : Device) (fault : Fault) → AreGiven w files → AreTaken (variables_given w)
+    → SaysSuite files (request_of_files w.options files) (contents_given w) old new fault → SaysProgram w old new fault
+of_suite w files old new fault given taken says =
+    of_given w old new fault (suite_named files _ _ old new fault says) record { files = files; given = given; taken = taken; says = says }
 
 -- ---- the run of the files
 
@@ -219,9 +220,13 @@ name_given : (file : Option Source) → option_map (λ s. s.name) (option_map so
 name_given None = refl
 name_given (Some x) = refl
 
-pub are_given : (w : Words) (library hooks : Option Source) (sources : List Source) → option_map name_of library ≡ option_map string_bytes w.library → option_map name_of hooks ≡ option_map string_bytes w.hooks
-    → map name_of sources ≡ map string_bytes w.files.items → AreGiven w (option_map source_value library) (option_map source_value hooks) (map source_value sources)
-are_given w library hooks sources l h s = record { files = names_of sources ∙ s; library_file = name_given library ∙ l; hooks_file = name_given hooks ∙ h }
+pub are_given : (w : Words) (files : RunFiles) → option_map name_of files.library ≡ option_map string_bytes w.library → option_map name_of files.hooks ≡ option_map string_bytes w.hooks
+    → map name_of files.sources.items ≡ map string_bytes w.files.items → AreGiven w (files_value files)
+are_given w files l h s = record {
+  sources = names_of files.sources.items ∙ s;
+  library = name_given files.library ∙ l;
+  hooks = name_given files.hooks ∙ h;
+}
 
 -- the variables that were put are those that were given
 pub taken_in : (w : Words) (variables : List (String Global × String Global)) → AreTaken (map pair_value variables) → variables ≡ w.env.items → AreTaken (variables_given w)
@@ -233,19 +238,17 @@ pub put_in : (w : Words) (start : SandboxValue) (c : Contents) (variables : List
 put_in w start c variables put new same =
     put ∙ ap (λ s. with_variables s.now (map pair_value variables)) new ∙ ap (λ xs. with_variables nothing_yet (map pair_value xs)) same
 
-pub runs : (w : Words) (library hooks : Option SourceValue) (sources : List SourceValue) (old new : Device) (c : Contents) (r : Result ℕ Fault) → AreGiven w library hooks sources → AreTaken (variables_given w) → c ≡ contents_given w
-    → IfOk r (IsFlushedRun (request_given w library hooks sources) c old new) → IfOk r (IsRun w old new)
-runs w library hooks sources old new c (Err e) given taken is run = tt
-runs w library hooks sources old new c (Ok status) given taken is run = record {
-  library = library;
-  hooks = hooks;
-  sources = sources;
+pub runs : (w : Words) (files : FilesValue) (old new : Device) (c : Contents) (r : Result ℕ Fault) → AreGiven w files → AreTaken (variables_given w) → c ≡ contents_given w
+    → IfOk r (IsFlushedRun (request_of_files w.options files) c old new) → IfOk r (IsRun w old new)
+runs w files old new c (Err e) given taken is run = tt
+runs w files old new c (Ok status) given taken is run = record {
+  files = files;
   given = given;
   taken = taken;
-  run = subst (λ x. IsFlushedRun (request_given w library hooks sources) x old new status) is run;
+  run = subst (λ x. IsFlushedRun (request_of_files w.options files) x old new status) is run;
 }
 
-pub fails : (w : Words) (library hooks : Option SourceValue) (sources : List SourceValue) (old new : Device) (c : Contents) (r : Result ℕ Fault) → AreGiven w library hooks sources → AreTaken (variables_given w) → c ≡ contents_given w
-    → IfErr r (SaysSuite library hooks sources (request_given w library hooks sources) c old new) → IfErr r (SaysProgram w old new)
-fails w library hooks sources old new c (Err e) given taken is says = of_suite w library hooks sources old new e given taken (subst (λ x. SaysSuite library hooks sources (request_given w library hooks sources) x old new e) is says)
-fails w library hooks sources old new c (Ok status) given taken is says = tt
+pub fails : (w : Words) (files : FilesValue) (old new : Device) (c : Contents) (r : Result ℕ Fault) → AreGiven w files → AreTaken (variables_given w) → c ≡ contents_given w
+    → IfErr r (SaysSuite files (request_of_files w.options files) c old new) → IfErr r (SaysProgram w old new)
+fails w files old new c (Err e) given taken is says = of_suite w files old new e given taken (subst (λ x. SaysSuite files (request_of_files w.options files) x old new e) is says)
+fails w files old new c (Ok status) given taken is says = tt

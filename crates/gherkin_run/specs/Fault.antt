@@ -1,5 +1,5 @@
 -- The line and the status of each fault, as one table.
-use Rattle.std.specs.Prelude.{ℕ, List, ◌++◌, Option, Some, None, codes, option_map, string_bytes}
+use Rattle.std.specs.Prelude.{ℕ, List, ◌++◌, Option, Some, None, Result, Ok, Err, codes, option_map, string_bytes}
 use Rattle.std.specs.Fmt.{decimal}
 use Rattle.gk_gherkin.specs.declared.read_fault.ReadFault.TheVariants as read
 use Rattle.gk_steps.specs.declared.library_fault.LibraryFault.TheVariants as library
@@ -81,3 +81,8 @@ line_of_row row = option_map (λ text. codes "gherkin_run: " ++ placed row.file 
 -- The line of a fault. (this project's profile)
 abbrev pub line_of : Fault → Option (List ℕ)
 line_of fault = line_of_row (row_of fault)
+
+-- The status that the program ends with: that of what was done, or that of the fault. (this project's profile)
+abbrev pub status_of : Result ℕ Fault → ℕ
+status_of (Ok status) = status
+status_of (Err fault) = (row_of fault).status

@@ -1,6 +1,6 @@
 -- What the program answers and writes.
 use Rattle.std.specs.Prelude.{◌≡◌, ◌⊎◌, ◌<◌, ℕ, List, [], ◌∷◌, length, map, Option, Some, None, Result, Ok, Err, IsSome, IsSomeAnd, option_map, slice_get, string_bytes}
-use Rattle.std.specs.Io.KnownBytes.{Keeps}
+use Rattle.std.specs.Io.KnownBytes.{Appends, Keeps}
 use Rattle.std.specs.List.{All, Any}
 use Rattle.clap.specs.Words.{IsAmong, Text, kind_of}
 use Rattle.clap.specs.declared.error.Error.{Error}
@@ -14,14 +14,14 @@ use Rattle.gk_select.specs.declared.select_fault.SelectFault.TheVariants as sele
 use Rattle.gk_cli.specs.Arguments.{PairValue, SaysArguments, faults_in, pair_value}
 use Rattle.gk_cli.specs.Counted.{one_more}
 use Rattle.gk_cli.specs.Inputs.{Request, request_of}
-use Rattle.gk_cli.specs.Source.{SourceValue, source_value}
+use Rattle.gk_cli.specs.Source.{SourceValue}
 use Rattle.gk_cli.specs.declared.arguments.Options.{Options}
-use Rattle.gk_cli.specs.declared.source.Source.{Source}
 use Rattle.gk_cli.specs.Suite.{Cut, Device, IsUntouched, JudgedReport, Plain, SaysFault}
 use Rattle.gk_cli.specs.declared.arguments.Words.{Words}
 use Rattle.gk_cli.specs.declared.arguments.WordsFault.TheVariants as words
 use Rattle.gk_cli.specs.declared.run_fault.RunFault.{RunFault}
 use Rattle.gk_cli.specs.declared.run_fault.RunFault.TheVariants as run
+use Rattle.gherkin_run.specs.Files.{FilesValue}
 use Rattle.gherkin_run.specs.declared.fault.Fault.{Fault}
 use Rattle.gherkin_run.specs.declared.fault.Fault.TheVariants.{NotUtf8, Usage, Env, CannotRead, TooLong, Library, Hooks, Read, TooMany, BadTags, Write, Memory}
 use Rattle.gherkin_run.specs.declared.program.Asked.{Asked}
@@ -67,6 +67,15 @@ abbrev pub SaysCallsOfRun : Device → Device → Fault → Type 0
 SaysCallsOfRun old new Memory = IsUntouched old new ⊎ IsCutForSome old new
 SaysCallsOfRun old new fault = SaysCalls old new fault
 
+-- A text was written once, and nothing else. (this project's profile)
+pub record IsShown (text : List ℕ) (old new : Device) (status : ℕ) : Type 0 where
+  pub written : Appends old.bytes new.bytes text
+  pub well : status ≡ 0
+
+-- A text of help was written once, and nothing else: which one is clap's. (this project's profile)
+abbrev pub IsHelp : Device → Device → ℕ → Type 0
+IsHelp old new status = (text : List ℕ) × IsShown text old new status
+
 -- Why help was not written whole. (this project's profile)
 abbrev pub IsHelpFault : Fault → Type 0
 IsHelpFault Write = Unit {0}
@@ -107,26 +116,26 @@ abbrev pub IsNamed : List SourceValue → ℕ → List ℕ → Type 0
 IsNamed sources input name = (source : SourceValue) × (slice_get sources input ≡ Some source) × (name ≡ source.name)
 
 -- What a fault of the run speaks of is there. (this project's profile)
-abbrev pub IsWithin : Option SourceValue → Option SourceValue → List SourceValue → RunFault → Type 0
-IsWithin library hooks sources (run.Read input fault) = input < length sources
-IsWithin library hooks sources (run.Library fault) = IsSome library
-IsWithin library hooks sources (run.Hooks fault) = IsSome hooks
-IsWithin library hooks sources (run.Select (Some input) select.TooMany) = input < length sources
-IsWithin library hooks sources (run.Select None select.BadTagText) = Unit {0}
-IsWithin library hooks sources (run.Select input fault) = ⊥
-IsWithin library hooks sources run.Write = Unit {0}
-IsWithin library hooks sources run.Memory = Unit {0}
+abbrev pub IsWithin : FilesValue → RunFault → Type 0
+IsWithin files (run.Read input fault) = input < length files.sources
+IsWithin files (run.Library fault) = IsSome files.library
+IsWithin files (run.Hooks fault) = IsSome files.hooks
+IsWithin files (run.Select (Some input) select.TooMany) = input < length files.sources
+IsWithin files (run.Select None select.BadTagText) = Unit {0}
+IsWithin files (run.Select input fault) = ⊥
+IsWithin files run.Write = Unit {0}
+IsWithin files run.Memory = Unit {0}
 
 -- The program's fault for a fault of the run: the same one, where a file has its name in place of its number. (this project's profile)
-abbrev pub IsFaultOfRun : Option SourceValue → Option SourceValue → List SourceValue → RunFault → Fault → Type 0
-IsFaultOfRun library hooks sources (run.Read input fault) (Read name same) = (same ≡ fault) × IsNamed sources input (string_bytes name)
-IsFaultOfRun library hooks sources (run.Library fault) (Library name same) = (same ≡ fault) × (option_map (λ s. s.name) library ≡ Some (string_bytes name))
-IsFaultOfRun library hooks sources (run.Hooks fault) (Hooks name same) = (same ≡ fault) × (option_map (λ s. s.name) hooks ≡ Some (string_bytes name))
-IsFaultOfRun library hooks sources (run.Select (Some input) fault) (TooMany name) = IsNamed sources input (string_bytes name)
-IsFaultOfRun library hooks sources (run.Select None fault) BadTags = Unit {0}
-IsFaultOfRun library hooks sources run.Write Write = Unit {0}
-IsFaultOfRun library hooks sources run.Memory Memory = Unit {0}
-IsFaultOfRun library hooks sources fault other = ⊥
+abbrev pub IsFaultOfRun : FilesValue → RunFault → Fault → Type 0
+IsFaultOfRun files (run.Read input fault) (Read name same) = (same ≡ fault) × IsNamed files.sources input (string_bytes name)
+IsFaultOfRun files (run.Library fault) (Library name same) = (same ≡ fault) × (option_map (λ s. s.name) files.library ≡ Some (string_bytes name))
+IsFaultOfRun files (run.Hooks fault) (Hooks name same) = (same ≡ fault) × (option_map (λ s. s.name) files.hooks ≡ Some (string_bytes name))
+IsFaultOfRun files (run.Select (Some input) fault) (TooMany name) = IsNamed files.sources input (string_bytes name)
+IsFaultOfRun files (run.Select None fault) BadTags = Unit {0}
+IsFaultOfRun files run.Write Write = Unit {0}
+IsFaultOfRun files run.Memory Memory = Unit {0}
+IsFaultOfRun files fault other = ⊥
 
 -- Standard output was flushed once, and took nothing more. (this project's profile)
 pub record IsFlushed (old new : Device) : Type 0 where
@@ -151,16 +160,16 @@ pub record IsUnflushed (request : Request) (contents : Contents) (old new : Devi
   pub failed : new.failures ≡ one_more old.failures
 
 -- A fault after the files are read: that of the run, or of the flush. (this project's profile)
-abbrev pub SaysSuite : Option SourceValue → Option SourceValue → List SourceValue → Request → Contents → Device → Device → Fault → Type 0
-SaysSuite library hooks sources request contents old new fault =
-    ((by : RunFault) × IsFaultOfRun library hooks sources by fault × SaysFault request contents old new by)
+abbrev pub SaysSuite : FilesValue → Request → Contents → Device → Device → Fault → Type 0
+SaysSuite files request contents old new fault =
+    ((by : RunFault) × IsFaultOfRun files by fault × SaysFault request contents old new by)
     ⊎ IsUnflushed request contents old new fault
 
 -- The sources are those of the files that were given, in order, and of the library file and the hooks file. (this project's profile)
-pub record AreGiven (w : Words) (library hooks : Option SourceValue) (sources : List SourceValue) : Type 0 where
-  pub files : map (λ s. s.name) sources ≡ map string_bytes w.files.items
-  pub library_file : option_map (λ s. s.name) library ≡ option_map string_bytes w.library
-  pub hooks_file : option_map (λ s. s.name) hooks ≡ option_map string_bytes w.hooks
+pub record AreGiven (w : Words) (files : FilesValue) : Type 0 where
+  pub sources : map (λ s. s.name) files.sources ≡ map string_bytes w.files.items
+  pub library : option_map (λ s. s.name) files.library ≡ option_map string_bytes w.library
+  pub hooks : option_map (λ s. s.name) files.hooks ≡ option_map string_bytes w.hooks
 
 -- The variables that were given. (this project's profile)
 abbrev pub variables_given : Words → List PairValue
@@ -171,26 +180,20 @@ abbrev pub contents_given : Words → Contents
 contents_given w = with_variables nothing_yet (variables_given w)
 
 -- What a run of these files is asked for. (this project's profile)
-abbrev pub request : Options → Option Source → Option Source → List Source → Request
-request options library hooks sources = request_of options (bytes_given (option_map source_value library)) (bytes_given (option_map source_value hooks)) (map source_value sources)
+abbrev pub request_of_files : Options → FilesValue → Request
+request_of_files options files = request_of options (bytes_given files.library) (bytes_given files.hooks) files.sources
 
 -- A fault of the run of these files, or of the flush. (this project's profile)
-abbrev pub SaysRun : Options → Option Source → Option Source → List Source → Contents → Device → Device → Fault → Type 0
-SaysRun options library hooks sources contents old new fault =
-    SaysSuite (option_map source_value library) (option_map source_value hooks) (map source_value sources) (request options library hooks sources) contents old new fault
-
--- What the run is asked for. (this project's profile)
-abbrev pub request_given : Words → Option SourceValue → Option SourceValue → List SourceValue → Request
-request_given w library hooks sources = request_of w.options (bytes_given library) (bytes_given hooks) sources
+abbrev pub SaysRun : Options → FilesValue → Contents → Device → Device → Fault → Type 0
+SaysRun options files contents old new fault =
+    SaysSuite files (request_of_files options files) contents old new fault
 
 -- The variables are taken, and what was written and the status are those of one run of the files that were given, with their bytes as they were read. (this project's profile)
 pub record IsRun (w : Words) (old new : Device) (status : ℕ) : Type 0 where
-  pub library : Option SourceValue
-  pub hooks : Option SourceValue
-  pub sources : List SourceValue
-  pub given : AreGiven w library hooks sources
+  pub files : FilesValue
+  pub given : AreGiven w files
   pub taken : AreTaken (variables_given w)
-  pub run : IsFlushedRun (request_given w library hooks sources) (contents_given w) old new status
+  pub run : IsFlushedRun (request_of_files w.options files) (contents_given w) old new status
 
 -- A file of this name was given. (this project's profile)
 abbrev pub IsGiven : Words → List ℕ → Type 0
@@ -198,12 +201,10 @@ IsGiven w name = IsSomeAnd w.library (λ file. name ≡ string_bytes file) ⊎ (
 
 -- A fault of the run of the files that were given; the variables are taken. (this project's profile)
 pub record IsFaultOfGiven (w : Words) (old new : Device) (fault : Fault) : Type 0 where
-  pub library : Option SourceValue
-  pub hooks : Option SourceValue
-  pub sources : List SourceValue
-  pub given : AreGiven w library hooks sources
+  pub files : FilesValue
+  pub given : AreGiven w files
   pub taken : AreTaken (variables_given w)
-  pub says : SaysSuite library hooks sources (request_given w library hooks sources) (contents_given w) old new fault
+  pub says : SaysSuite files (request_of_files w.options files) (contents_given w) old new fault
 
 -- What each fault says of what was asked for: a bad variable comes before every fault of a file; where memory was refused, nothing was written, or a prefix of the report was. (this project's profile)
 abbrev pub SaysProgram : Words → Device → Device → Fault → Type 0
@@ -215,11 +216,32 @@ SaysProgram w old new (TooLong name) = IsGiven w (string_bytes name) × AreTaken
 SaysProgram w old new Memory = IsUntouched old new ⊎ IsFaultOfGiven w old new Memory
 SaysProgram w old new fault = IsFaultOfGiven w old new fault
 
--- What was asked for was done: help was shown with status 0, or there was a run. (this project's profile)
+-- What was asked for was done: a text of help was written once, with status 0, or there was a run. (this project's profile)
 abbrev pub IsDone : Asked → Device → Device → ℕ → Type 0
-IsDone (Help e) old new status = status ≡ 0
+IsDone (Help e) old new status = IsHelp old new status
 IsDone (Run w) old new status = IsRun w old new status
+
+-- Why what was asked for was not done. (this project's profile)
+abbrev pub SaysUndone : Asked → Device → Device → Fault → Type 0
+SaysUndone (Help e) old new fault = IsHelpFault fault × SaysCalls old new fault
+SaysUndone (Run w) old new fault = SaysProgram w old new fault
+
+-- What these arguments ask for was done. (this project's profile)
+abbrev pub IsDoneFor : List Text → Device → Device → ℕ → Type 0
+IsDoneFor arguments old new status = (asked : Asked) × SaysAsked arguments (Ok asked) × IsDone asked old new status
+
+-- These arguments are at fault, and standard output was not called; or what they ask for was not done. (this project's profile)
+abbrev pub IsFaultFor : List Text → Device → Device → Fault → Type 0
+IsFaultFor arguments old new fault =
+    (SaysAsked arguments (Err fault) × IsUntouched old new)
+    ⊎ ((asked : Asked) × SaysAsked arguments (Ok asked) × SaysUndone asked old new fault)
 
 -- What some arguments ask for was done. (this project's profile)
 abbrev pub IsDoneForSome : Device → Device → ℕ → Type 0
-IsDoneForSome old new status = (arguments : List Text) × (asked : Asked) × SaysAsked arguments (Ok asked) × IsDone asked old new status
+IsDoneForSome old new status = (arguments : List Text) × IsDoneFor arguments old new status
+
+-- The arguments could not be had, and standard output was not called; or this is the fault for some arguments. (this project's profile)
+abbrev pub IsFaultForSome : Device → Device → Fault → Type 0
+IsFaultForSome old new fault =
+    (IsArgumentsFault fault × IsUntouched old new)
+    ⊎ ((arguments : List Text) × IsFaultFor arguments old new fault)

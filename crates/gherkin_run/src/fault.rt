@@ -81,7 +81,9 @@ fn write_placed<W: fmt::Write, T: fmt::Display>(
     line: Option<u32>,
     text: &T,
 ) -> fmt::Result
-    ensures { DisplaysOnOk W.write_str_gives f.old result (option_map (λ text. codes "gherkin_run: " ++ placed (Some name.now) line text) (T.output text.now)) f.new }
+    ensures { DisplaysOnOk W.write_str_gives f.old result
+        (option_map (λ text. codes "gherkin_run: " ++ placed (Some name.now) line text)
+        (T.output text.now)) f.new }
 {
     match line {
         Some(line) => write!(f, "gherkin_run: {name}:{line}: {text}"),

@@ -16,10 +16,12 @@ use std::{fs, io};
 /// bytes than `gk_gherkin::LIMIT` is `TooLong`. (this project's profile)
 fn source_of<R: Read>(alloc: Global, name: String, reader: &mut Counted<R>) -> Result<Source, Fault>
     ensures named { IfOk result (λ source. name_of source ≡ string_bytes name) }
-    ensures whole { IfOk result (λ source. IfSome (R.remaining (inner_of reader.old)) (λ bytes. source.bytes.items ≡ bytes)) }
+    ensures whole { IfOk result (λ source.
+        IfSome (R.remaining (inner_of reader.old)) (λ bytes. source.bytes.items ≡ bytes)) }
     ensures within { IfOk result (λ source. vec_len source.bytes ≤ LIMIT) }
     ensures quiet { IfOk result (λ source. failures_of reader.new ≡ failures_of reader.old) }
-    ensures fault { IfErr result (SaysSourceFault (string_bytes name) (R.remaining (inner_of reader.old)) (failures_of reader.old) (failures_of reader.new)) }
+    ensures fault { IfErr result (SaysSourceFault (string_bytes name)
+        (R.remaining (inner_of reader.old)) (failures_of reader.old) (failures_of reader.new)) }
 {
     match read_source(alloc, reader) {
         Ok(bytes) => Ok(Source { name, bytes }),
@@ -45,8 +47,10 @@ fn read_file<R: Files + AllocGlobal>(rt: &R, name: String) -> Result<Source, Fau
 
 /// Reads each file whole, in order. The first that can't be read is the fault.
 fn read_files<R: Files + AllocGlobal>(rt: &R, names: Vec<String>) -> Result<Vec<Source>, Fault>
-    ensures named { IfOk result (λ sources. map name_of sources.items ≡ map string_bytes names.items) }
-    ensures fault { IfErr result (λ fault. Any (λ name. IsFileFault (string_bytes name) fault) names.items) }
+    ensures named { IfOk result
+        (λ sources. map name_of sources.items ≡ map string_bytes names.items) }
+    ensures fault { IfErr result
+        (λ fault. Any (λ name. IsFileFault (string_bytes name) fault) names.items) }
 {
     let mut sources = Vec::new(rt.alloc());
     for name in names {
@@ -61,8 +65,10 @@ fn read_named_file<R: Files + AllocGlobal>(
     rt: &R,
     name: Option<String>,
 ) -> Result<Option<Source>, Fault>
-    ensures named { IfOk result (λ source. option_map name_of source ≡ option_map string_bytes name) }
-    ensures fault { IfErr result (λ fault. IfSome name (λ name. IsFileFault (string_bytes name) fault)) }
+    ensures named { IfOk result
+        (λ source. option_map name_of source ≡ option_map string_bytes name) }
+    ensures fault { IfErr result
+        (λ fault. IfSome name (λ name. IsFileFault (string_bytes name) fault)) }
     ensures unnamed { name ≡ None → result ≡ Ok None }
 {
     match name {
@@ -90,9 +96,12 @@ pub fn read_run_files<R: Files + AllocGlobal>(
     hooks: Option<String>,
     names: Vec<String>,
 ) -> Result<RunFiles, Fault>
-    ensures library { IfOk result (λ files. option_map name_of files.library ≡ option_map string_bytes library) }
-    ensures hooks { IfOk result (λ files. option_map name_of files.hooks ≡ option_map string_bytes hooks) }
-    ensures named { IfOk result (λ files. map name_of files.sources.items ≡ map string_bytes names.items) }
+    ensures library { IfOk result
+        (λ files. option_map name_of files.library ≡ option_map string_bytes library) }
+    ensures hooks { IfOk result
+        (λ files. option_map name_of files.hooks ≡ option_map string_bytes hooks) }
+    ensures named { IfOk result
+        (λ files. map name_of files.sources.items ≡ map string_bytes names.items) }
     ensures fault { IfErr result (IsFaultOfFiles library hooks names.items) }
 {
     let library = read_named_file(rt, library)?;

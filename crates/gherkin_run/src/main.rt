@@ -1,6 +1,10 @@
 //! The program: reads the arguments and the files, runs the scenarios, and writes the report.
 #![tactic(auto)]
 
+ghost use Rattle.std.specs.Prelude.{◌≡◌};
+ghost use Rattle.std.specs.Process.{exit_status};
+ghost use Rattle.gherkin_run.specs.Fault.{status_of};
+
 mod fault;
 mod files;
 mod program;
@@ -18,12 +22,20 @@ fn report<R: Eprint>(rt: &R, fault: &Fault) {
     };
 }
 
-fn main(rt: HostRuntime) -> ExitCode {
-    match run(&rt, &mut Counted::new(rt.stdout())) {
-        Ok(status) => ExitCode::from(status),
-        Err(fault) => {
-            report(&rt, &fault);
-            ExitCode::from(fault.status())
-        }
+// What the program ends with: the status of what was done, or that of the fault.
+fn exit_code(done: &Result<u8, Fault>) -> ExitCode
+    ensures { exit_status result ≡ status_of done.now }
+{
+    match done {
+        Ok(status) => ExitCode::from(*status),
+        Err(fault) => ExitCode::from(fault.status()),
     }
+}
+
+fn main(rt: HostRuntime) -> ExitCode {
+    let done = run(&rt, &mut Counted::new(rt.stdout()));
+    if let Err(fault) = &done {
+        report(&rt, fault);
+    }
+    exit_code(&done)
 }

@@ -5,14 +5,14 @@ ghost use Rattle.gk_cli.specs.Arguments.{pair_value};
 ghost use Rattle.gk_cli.specs.Counted.{flushes_of, failures_of, one_more};
 ghost use Rattle.gk_cli.specs.Suite.{device_of};
 ghost use Rattle.gk_cli.specs.Source.{source_value};
-ghost use Rattle.gherkin_run.specs.Program.{SaysAsked, SaysError, IsHelpFault, IsArgumentsFault, IsFaultOfVariable, SaysVariables, IsWithin, IsNamed, IsFaultOfRun, bytes_given, request, IsFlushedRun, SaysRun, SaysCalls, SaysCallsOfRun, SaysProgram, IsRun, IsDoneForSome};
+ghost use Rattle.gherkin_run.specs.Files.{files_value};
+ghost use Rattle.gherkin_run.specs.Program.{SaysAsked, SaysError, IsHelpFault, IsArgumentsFault, IsFaultOfVariable, SaysVariables, IsWithin, IsNamed, IsFaultOfRun, bytes_given, request_of_files, IsFlushedRun, SaysRun, SaysCalls, SaysCallsOfRun, SaysProgram, IsRun, IsShown, IsHelp, IsDoneFor, IsFaultFor, IsDoneForSome, IsFaultForSome};
 
 use crate::fault::Fault;
 use crate::files::{RunFiles, read_run_files};
 use gk_cli::{
     Counted, Options, RunFault, Source, Words, WordsFault, read_words, run_suite, write_whole,
 };
-use gk_select::SelectFault;
 use gk_world::{Sandbox, WorldFault};
 use std::alloc::Global;
 use std::io::Write;
@@ -50,6 +50,7 @@ fn asked_by(alloc: Global, arguments: &[String]) -> Result<Asked, Fault>
     }
 }
 
+// The arguments of the program. One that isn't UTF-8 is `NotUtf8`.
 fn arguments_of<R: Env + AllocGlobal>(rt: &R) -> Result<Vec<String>, Fault>
     ensures { IfErr result IsArgumentsFault }
 {
@@ -62,16 +63,17 @@ fn arguments_of<R: Env + AllocGlobal>(rt: &R) -> Result<Vec<String>, Fault>
     }
 }
 
-/// Writes clap's text for help, and flushes.
-fn show_help<W: Write>(alloc: Global, text: &clap::Error, out: &mut Counted<W>) -> Result<u8, Fault>
+/// Writes a text, and flushes.
+fn show_text<W: Write>(text: &str, out: &mut Counted<W>) -> Result<u8, Fault>
     requires room { failures_of out.old < 2 ^ 64 - 1 }
-    ensures well { IfOk result (λ status. status ≡ 0) }
+    ensures shown { IfOk result
+        (IsShown text.now (device_of W.contents out.old) (device_of W.contents out.new)) }
     ensures quiet { OnOk result (failures_of out.new ≡ failures_of out.old) }
     ensures flushed { OnOk result (flushes_of out.new ≡ one_more (flushes_of out.old)) }
     ensures fault { IfErr result IsHelpFault }
-    ensures calls { IfErr result (SaysCalls (device_of W.contents out.old) (device_of W.contents out.new)) }
+    ensures calls { IfErr result
+        (SaysCalls (device_of W.contents out.old) (device_of W.contents out.new)) }
 {
-    let text = format!(in alloc; "{text}")?;
     match write_whole(out, text.as_bytes()) {
         Ok(()) => match out.flush() {
             Ok(()) => Ok(0),
@@ -79,6 +81,21 @@ fn show_help<W: Write>(alloc: Global, text: &clap::Error, out: &mut Counted<W>) 
         },
         Err(_) => Err(Fault::Write),
     }
+}
+
+/// Writes clap's text for help, and flushes.
+fn show_help<W: Write>(alloc: Global, text: &clap::Error, out: &mut Counted<W>) -> Result<u8, Fault>
+    requires room { failures_of out.old < 2 ^ 64 - 1 }
+    ensures well { IfOk result
+        (IsHelp (device_of W.contents out.old) (device_of W.contents out.new)) }
+    ensures quiet { OnOk result (failures_of out.new ≡ failures_of out.old) }
+    ensures flushed { OnOk result (flushes_of out.new ≡ one_more (flushes_of out.old)) }
+    ensures fault { IfErr result IsHelpFault }
+    ensures calls { IfErr result
+        (SaysCalls (device_of W.contents out.old) (device_of W.contents out.new)) }
+{
+    let text = format!(in alloc; "{text}")?;
+    show_text(text.as_str(), out)
 }
 
 fn fault_of_variable(fault: WorldFault) -> Fault
@@ -104,14 +121,15 @@ fn put_variables(sandbox: &mut Sandbox, variables: &[(String, String)]) -> Resul
     Ok(())
 }
 
-// The name of a file that is there.
-fn name_given(file: Option<Source>) -> String
+// The name of a file that is there; empty where there is none.
+fn name_given(alloc: Global, file: Option<Source>) -> String
     requires { IsSome file }
-    ensures { option_map (λ source. source.name) (option_map source_value file) ≡ Some (string_bytes result) }
+    ensures { option_map (λ source. source.name) (option_map source_value file)
+        ≡ Some (string_bytes result) }
 {
     match file {
         Some(source) => source.name,
-        None => unreachable!(),
+        None => String::new(alloc),
     }
 }
 
@@ -125,34 +143,29 @@ fn name_at(sources: Vec<Source>, input: usize) -> String
 }
 
 // The program's fault for one of the run: files have their names in place of numbers.
-fn fault_of_run(
-    fault: RunFault,
-    library: Option<Source>,
-    hooks: Option<Source>,
-    sources: Vec<Source>,
-) -> Fault
-    requires { IsWithin (option_map source_value library) (option_map source_value hooks) (map source_value sources.items) fault }
-    ensures { IsFaultOfRun (option_map source_value library) (option_map source_value hooks) (map source_value sources.items) fault result }
+fn fault_of_run(alloc: Global, fault: RunFault, files: RunFiles) -> Fault
+    requires { IsWithin (files_value files) fault }
+    ensures { IsFaultOfRun (files_value files) fault result }
 {
     match fault {
         RunFault::Read { input, fault } => Fault::Read {
-            name: name_at(sources, input),
+            name: name_at(files.sources, input),
             fault,
         },
         RunFault::Library(fault) => Fault::Library {
-            name: name_given(library),
+            name: name_given(alloc, files.library),
             fault,
         },
         RunFault::Hooks(fault) => Fault::Hooks {
-            name: name_given(hooks),
+            name: name_given(alloc, files.hooks),
             fault,
         },
-        RunFault::Select { input, fault } => match (input, fault) {
-            (Some(input), SelectFault::TooMany) => Fault::TooMany {
-                name: name_at(sources, input),
+        // A feature has too many steps; of the texts of `--tags` one is bad.
+        RunFault::Select { input, fault: _ } => match input {
+            Some(input) => Fault::TooMany {
+                name: name_at(files.sources, input),
             },
-            (None, SelectFault::BadTagText) => Fault::BadTags,
-            _ => unreachable!(),
+            None => Fault::BadTags,
         },
         RunFault::Write => Fault::Write,
         RunFault::Memory => Fault::Memory,
@@ -160,7 +173,8 @@ fn fault_of_run(
 }
 
 fn bytes_of(file: &Option<Source>) -> Option<&[u8]>
-    ensures { option_map (λ bytes. bytes.now) result ≡ bytes_given (option_map source_value file.now) }
+    ensures { option_map (λ bytes. bytes.now) result
+        ≡ bytes_given (option_map source_value file.now) }
 {
     match file {
         Some(source) => Some(source.bytes.as_slice()),
@@ -181,40 +195,35 @@ fn run_sources<W: Write>(
     requires room { failures_of out.old < 2 ^ 64 - 1 }
     requires outside { depth sandbox.old ≡ 0 }
     // What was written and the status are those of one run of these inputs.
-    ensures run { IfOk result (IsFlushedRun
-        (request options.now files.library files.hooks files.sources.items) sandbox.old.now
-        (device_of W.contents out.old) (device_of W.contents out.new)) }
+    ensures run { IfOk result (IsFlushedRun (request_of_files options.now (files_value files))
+        sandbox.old.now (device_of W.contents out.old) (device_of W.contents out.new)) }
     // A status comes only where the writer did not fail, and was flushed once.
     ensures quiet { OnOk result (failures_of out.new ≡ failures_of out.old) }
     ensures flushed { OnOk result (flushes_of out.new ≡ one_more (flushes_of out.old)) }
     // A fault is that of the run, or the flush failed.
-    ensures fault { IfErr result (SaysRun
-        options.now files.library files.hooks files.sources.items sandbox.old.now
-        (device_of W.contents out.old) (device_of W.contents out.new)) }
-    // Where standard output isn't at fault, it was not called, or memory was refused after a prefix of the report.
-    ensures calls { IfErr result (SaysCallsOfRun (device_of W.contents out.old) (device_of W.contents out.new)) }
+    ensures fault { IfErr result (SaysRun options.now (files_value files)
+        sandbox.old.now (device_of W.contents out.old) (device_of W.contents out.new)) }
+    // Where standard output isn't at fault, it was not called, or memory was refused after a
+    // prefix of the report.
+    ensures calls { IfErr result
+        (SaysCallsOfRun (device_of W.contents out.old) (device_of W.contents out.new)) }
 {
-    let RunFiles {
-        library,
-        hooks,
-        sources,
-    } = files;
-    let steps = bytes_of(&library);
-    let around = bytes_of(&hooks);
+    let steps = bytes_of(&files.library);
+    let around = bytes_of(&files.hooks);
     match run_suite(
         alloc,
         sandbox,
         options,
         steps,
         around,
-        sources.as_slice(),
+        files.sources.as_slice(),
         out,
     ) {
         Ok(status) => match out.flush() {
             Ok(()) => Ok(status),
             Err(_) => Err(Fault::Write),
         },
-        Err(fault) => Err(fault_of_run(fault, library, hooks, sources)),
+        Err(fault) => Err(fault_of_run(alloc, fault, files)),
     }
 }
 
@@ -227,11 +236,14 @@ fn run_in<R: Files + AllocGlobal, W: Write>(
 ) -> Result<u8, Fault>
     requires room { failures_of out.old < 2 ^ 64 - 1 }
     requires empty { sandbox.old ≡ new_sandbox }
-    ensures run { IfOk result (IsRun words (device_of W.contents out.old) (device_of W.contents out.new)) }
+    ensures run { IfOk result
+        (IsRun words (device_of W.contents out.old) (device_of W.contents out.new)) }
     ensures quiet { OnOk result (failures_of out.new ≡ failures_of out.old) }
     ensures flushed { OnOk result (flushes_of out.new ≡ one_more (flushes_of out.old)) }
-    ensures fault { IfErr result (SaysProgram words (device_of W.contents out.old) (device_of W.contents out.new)) }
-    ensures calls { IfErr result (SaysCallsOfRun (device_of W.contents out.old) (device_of W.contents out.new)) }
+    ensures fault { IfErr result
+        (SaysProgram words (device_of W.contents out.old) (device_of W.contents out.new)) }
+    ensures calls { IfErr result
+        (SaysCallsOfRun (device_of W.contents out.old) (device_of W.contents out.new)) }
 {
     put_variables(sandbox, words.env.as_slice())?;
     let files = read_run_files(rt, words.library, words.hooks, words.files)?;
@@ -246,32 +258,64 @@ fn run_words<R: Files + AllocGlobal, W: Write>(
     out: &mut Counted<W>,
 ) -> Result<u8, Fault>
     requires room { failures_of out.old < 2 ^ 64 - 1 }
-    // The files were read under their names, in order, and what was written and the status are those of one run of them.
-    ensures run { IfOk result (IsRun words (device_of W.contents out.old) (device_of W.contents out.new)) }
+    // The files were read under their names, in order, and what was written and the status are
+    // those of one run of them.
+    ensures run { IfOk result
+        (IsRun words (device_of W.contents out.old) (device_of W.contents out.new)) }
     ensures quiet { OnOk result (failures_of out.new ≡ failures_of out.old) }
     ensures flushed { OnOk result (flushes_of out.new ≡ one_more (flushes_of out.old)) }
-    ensures fault { IfErr result (SaysProgram words (device_of W.contents out.old) (device_of W.contents out.new)) }
-    ensures calls { IfErr result (SaysCallsOfRun (device_of W.contents out.old) (device_of W.contents out.new)) }
+    ensures fault { IfErr result
+        (SaysProgram words (device_of W.contents out.old) (device_of W.contents out.new)) }
+    ensures calls { IfErr result
+        (SaysCallsOfRun (device_of W.contents out.old) (device_of W.contents out.new)) }
 {
     let mut sandbox = Sandbox::new(rt.alloc());
     run_in(rt, &mut sandbox, words, out)
 }
 
-/// Runs the program on its arguments. The answer is the status to end with.
+// Does what these arguments ask for.
+fn run_asked<R: Files + AllocGlobal, W: Write>(
+    rt: &R,
+    arguments: &[String],
+    out: &mut Counted<W>,
+) -> Result<u8, Fault>
+    requires room { failures_of out.old < 2 ^ 64 - 1 }
+    ensures done { IfOk result (IsDoneFor (map string_bytes arguments.now)
+        (device_of W.contents out.old) (device_of W.contents out.new)) }
+    ensures quiet { OnOk result (failures_of out.new ≡ failures_of out.old) }
+    ensures flushed { OnOk result (flushes_of out.new ≡ one_more (flushes_of out.old)) }
+    ensures fault { IfErr result (IsFaultFor (map string_bytes arguments.now)
+        (device_of W.contents out.old) (device_of W.contents out.new)) }
+    ensures calls { IfErr result
+        (SaysCallsOfRun (device_of W.contents out.old) (device_of W.contents out.new)) }
+{
+    match asked_by(rt.alloc(), arguments) {
+        Ok(Asked::Help(text)) => show_help(rt.alloc(), &text, out),
+        Ok(Asked::Run(words)) => run_words(rt, words, out),
+        Err(fault) => Err(fault),
+    }
+}
+
+/// Runs the program on its arguments. The answer is the status to end with. A fault is that of the
+/// arguments, or says why what they ask for was not done.
 pub fn run<R: Env + Files + AllocGlobal, W: Write>(
     rt: &R,
     out: &mut Counted<W>,
 ) -> Result<u8, Fault>
     requires room { failures_of out.old < 2 ^ 64 - 1 }
-    ensures done { IfOk result (IsDoneForSome (device_of W.contents out.old) (device_of W.contents out.new)) }
+    ensures done { IfOk result
+        (IsDoneForSome (device_of W.contents out.old) (device_of W.contents out.new)) }
     ensures quiet { OnOk result (failures_of out.new ≡ failures_of out.old) }
     ensures flushed { OnOk result (flushes_of out.new ≡ one_more (flushes_of out.old)) }
-    // Where standard output isn't at fault, it was not called, or memory was refused after a prefix of the report.
-    ensures calls { IfErr result (SaysCallsOfRun (device_of W.contents out.old) (device_of W.contents out.new)) }
+    ensures fault { IfErr result
+        (IsFaultForSome (device_of W.contents out.old) (device_of W.contents out.new)) }
+    // Where standard output isn't at fault, it was not called, or memory was refused after a
+    // prefix of the report.
+    ensures calls { IfErr result
+        (SaysCallsOfRun (device_of W.contents out.old) (device_of W.contents out.new)) }
 {
-    let arguments = arguments_of(rt)?;
-    match asked_by(rt.alloc(), arguments.as_slice())? {
-        Asked::Help(text) => show_help(rt.alloc(), &text, out),
-        Asked::Run(words) => run_words(rt, words, out),
+    match arguments_of(rt) {
+        Ok(arguments) => run_asked(rt, arguments.as_slice(), out),
+        Err(fault) => Err(fault),
     }
 }

@@ -3,9 +3,10 @@ use Rattle.std.proofs.Common.{◌≡◌, ◌≤◌, ◌<◌, ◌∷◌, false, g
 use Rattle.std.proofs.lemmas.List.{take_all, drop_all}
 use Rattle.std.proofs.lemmas.Str.Pattern.{IsSplitOnceResult, split_once_first}
 use Rattle.std.specs.List.{position_or_len, before_first, after_first}
-use Rattle.gk_gherkin.specs.Lines.{is_blank, trim}
+use Rattle.gk_gherkin.specs.Text.{is_blank, trim}
 use Rattle.std.proofs.lemmas.Bool.Decides.{nat_tests}
-use Rattle.gk_gherkin.specs.Class.{is_colon, begins}
+use Rattle.gk_gherkin.specs.Class.{is_colon}
+use Rattle.gk_gherkin.specs.Text.{begins}
 
 module _ (text : List ℕ) (r : Option (Bor (List ℕ) × Bor (List ℕ))) (split : IsSplitOnceResult 58 text r) where
   pub at_colon : (x : Bor (List ℕ) × Bor (List ℕ)) → r ≡ Some x → (x.0.now ≡ before_first is_colon text) × (x.1.now ≡ after_first is_colon text)
@@ -16,8 +17,8 @@ module _ (text : List ℕ) (r : Option (Bor (List ℕ) × Bor (List ℕ))) (spli
       let none = rw is at (split_once_first 58 text r split (omega arith)) in
       (sym (take_all (position_or_len is_colon text) text (omega arith)), ap trim (drop_all (position_or_len is_colon text + 1) text (omega arith)))
 
-pub no_blank : (text : List ℕ) (n : ℕ) → n ≡ position_or_len is_blank text → length text ≤ n → trim (after_first is_blank text) ≡ []
-no_blank text n e h = ap trim (drop_all (position_or_len is_blank text + 1) text (omega arith))
+pub no_blank : (text : List ℕ) (n : ℕ) → n ≡ position_or_len is_blank text → length text ≤ n → after_first is_blank text ≡ []
+no_blank text n e h = drop_all (position_or_len is_blank text + 1) text (omega arith)
 
 pub one_word : (text : List ℕ) (n : ℕ) → n ≡ position_or_len is_blank text → length text ≤ n → text ≡ before_first is_blank text
 one_word text n e h = sym (take_all (position_or_len is_blank text) text (omega arith))

@@ -6,7 +6,8 @@ use Rattle.std.proofs.lemmas.Str.Pattern.{starts_text, split_text_parts}
 use Rattle.std.specs.Str.Pattern.{FindsText}
 use Rattle.gk_gherkin.specs.declared.class.Fence.{Fence}
 use Rattle.gk_gherkin.specs.declared.class.Fence.TheVariants.{Quotes, Backticks}
-use Rattle.gk_gherkin.specs.Class.{fence_text, begins}
+use Rattle.gk_gherkin.specs.Class.{fence_text}
+use Rattle.gk_gherkin.specs.Text.{begins}
 use Rattle.gk_gherkin.specs.DocStrings.{escaped_fence, fences_read}
 
 escaped_here : (fence : Fence) (after : List ℕ) → fences_read fence 0 (escaped_fence fence ++ after) ≡ fence_text fence ++ fences_read fence 0 after

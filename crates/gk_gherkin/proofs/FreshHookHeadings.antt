@@ -9,8 +9,10 @@ use Rattle.std.specs.Cmp.Lexicographic.{pointwise}
 use Rattle.gk_gherkin.specs.declared.hooks.HookKind.TheVariants.{BeforeTag, AfterTag}
 use Rattle.gk_gherkin.specs.declared.hook_headings.HooksClass.{HooksClass}
 use Rattle.gk_gherkin.specs.declared.hook_headings.HooksClass.TheVariants.{HookLine, Plain}
-use Rattle.gk_gherkin.specs.Lines.{LineValue, is_blank, trim, trim_front, trim_back}
-use Rattle.gk_gherkin.specs.Class.{begins, class, is_colon}
+use Rattle.gk_gherkin.specs.Lines.{LineValue}
+use Rattle.gk_gherkin.specs.Text.{is_blank, trim, trim_front, trim_back}
+use Rattle.gk_gherkin.specs.Class.{class, is_colon}
+use Rattle.gk_gherkin.specs.Text.{begins}
 use Rattle.gk_gherkin.specs.Tags.{is_tag}
 use Rattle.gk_gherkin.specs.Hooks.{HookValue}
 use Rattle.gk_gherkin.specs.HookHeadings.{hooks_class, HookHeading, hook_heading, plain_heading, tag_alone, tag_between, tag_heading, or_else}

@@ -6,8 +6,10 @@ use Rattle.gk_gherkin.specs.declared.class.Class.{Class}
 use Rattle.gk_gherkin.specs.declared.class.Class.TheVariants.{Blank, Other}
 use Rattle.gk_gherkin.specs.declared.hook_headings.HooksClass.{HooksClass}
 use Rattle.gk_gherkin.specs.declared.hook_headings.HooksClass.TheVariants.{HookLine, Plain}
-use Rattle.gk_gherkin.specs.Lines.{LineValue, trim}
-use Rattle.gk_gherkin.specs.Class.{begins, class, class_of, class_of_words}
+use Rattle.gk_gherkin.specs.Lines.{LineValue}
+use Rattle.gk_gherkin.specs.Text.{trim}
+use Rattle.gk_gherkin.specs.Class.{class, class_of, class_of_words}
+use Rattle.gk_gherkin.specs.Text.{begins}
 use Rattle.gk_gherkin.specs.HookHeadings.{hooks_class}
 
 -- whether a text begins as a hook line does

@@ -7,8 +7,9 @@ use Rattle.std.proofs.lemmas.List.Sums.{suffix_len-take_no}
 use Rattle.std.proofs.lemmas.Bool.Decides.{nat_tests}
 use Rattle.std.specs.List.{ends_with, before_last, suffix_len, list_any}
 use Rattle.std.specs.Cmp.Lexicographic.{pointwise}
-use Rattle.gk_gherkin.specs.Lines.{is_blank, trim_front}
-use Rattle.gk_gherkin.specs.Class.{begins, is_colon}
+use Rattle.gk_gherkin.specs.Text.{is_blank, trim_front}
+use Rattle.gk_gherkin.specs.Class.{is_colon}
+use Rattle.gk_gherkin.specs.Text.{begins}
 use Rattle.gk_gherkin.specs.HookHeadings.{tag_alone, tag_between}
 
 colon_last : (rest : List ℕ) (b : ℕ) → pointwise nat_eq (58 ∷ []) (b ∷ rest) ≡ true → b ≡ 58

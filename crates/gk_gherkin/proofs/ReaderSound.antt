@@ -17,8 +17,9 @@ use Rattle.gk_gherkin.specs.Tags.{tags_of}
 use Rattle.std.specs.Prelude.{codes, option_and_then, drop}
 use Rattle.std.specs.Str.{bytes_eq}
 use Rattle.std.proofs.lemmas.Slice.Eq.{bytes_eq-Decides}
-use Rattle.gk_gherkin.specs.Class.{begins, class_of, class_of_words}
-use Rattle.gk_gherkin.specs.Lines.{trim, trim_front}
+use Rattle.gk_gherkin.specs.Class.{class_of, class_of_words}
+use Rattle.gk_gherkin.specs.Text.{begins}
+use Rattle.gk_gherkin.specs.Text.{trim, trim_front}
 use Rattle.gk_gherkin.specs.Language.{language_of, language_word, rest_after, IsEnglishOrNone}
 use Rattle.gk_gherkin.specs.Rows.{cells_of}
 use Rattle.gk_gherkin.specs.StepTypes.{type_after, AreTypedAfter, AreTyped}

@@ -4,8 +4,9 @@ use Rattle.std.specs.Prelude.{option_map, codes}
 use Rattle.std.proofs.lemmas.Str.Pattern.{IsSplitOnceResult, split_parts}
 use Rattle.std.proofs.lemmas.Bool.Decides.{nat_tests}
 use Rattle.std.proofs.lemmas.List.{append-nil, drop_more, take_more, drop_all, take_all}
-use Rattle.gk_gherkin.specs.Lines.{LineValue, trim}
-use Rattle.gk_gherkin.specs.Class.{begins}
+use Rattle.gk_gherkin.specs.Lines.{LineValue}
+use Rattle.gk_gherkin.specs.Text.{trim}
+use Rattle.gk_gherkin.specs.Text.{begins}
 use Rattle.gk_gherkin.specs.Rows.{cells_of, part_before, into_first, parts_of, parts_after, no_bar, unescaped, cell_of, cells_of_parts}
 
 -- The parts of the rest of a text, after a backslash or not.

@@ -1,20 +1,17 @@
 -- The class of a line.
-use Rattle.std.specs.Prelude.{codes, ℕ, Bool, ◌==◌, ◌&&◌, nat_eq, List, [], ◌∷◌, length, slice_index, if◌then◌else◌}
-use Rattle.std.specs.List.{starts_with, list_any, before_first, after_first}
+use Rattle.std.specs.Prelude.{codes, ℕ, Bool, ◌==◌, ◌&&◌, List, [], ◌∷◌, length, slice_index, if◌then◌else◌}
+use Rattle.std.specs.List.{list_any, before_first, after_first}
 use Rattle.gk_gherkin.specs.declared.class.Class.{Class}
 use Rattle.gk_gherkin.specs.declared.class.Class.TheVariants.{Blank, Comment, TagLine, FeatureHeading, RuleHeading, BackgroundHeading, ScenarioHeading, ExamplesHeading, StepLine, RowLine, FenceLine, Other}
 use Rattle.gk_gherkin.specs.declared.class.Fence.{Fence}
 use Rattle.gk_gherkin.specs.declared.class.Fence.TheVariants.{Quotes, Backticks}
-use Rattle.gk_gherkin.specs.Lines.{LineValue, is_blank, trim}
+use Rattle.gk_gherkin.specs.Lines.{LineValue}
+use Rattle.gk_gherkin.specs.Text.{begins, is_blank, trim}
 
 -- The three characters of a fence. (this project's profile)
 abbrev pub fence_text : Fence → List ℕ
 fence_text Quotes = codes "\"\"\""
 fence_text Backticks = codes "```"
-
--- Whether a text begins with a word. (this project's profile)
-abbrev pub begins : List ℕ → List ℕ → Bool
-begins text word = starts_with nat_eq text word
 
 -- Whether a text begins with one of some words. (this project's profile)
 abbrev pub begins_with_one : List ℕ → List (List ℕ) → Bool

@@ -1,10 +1,12 @@
 -- The text of a doc string.
 use Rattle.std.specs.Prelude.{codes, ℕ, zero, suc, ◌-◌, Bool, ◌==◌, ◌&&◌, List, [], ◌∷◌, ◌++◌, length, map, drop, min, if◌then◌else◌}
 use Rattle.std.specs.List.{prefix_len, join_with_byte}
-use Rattle.gk_gherkin.specs.Lines.{LineValue, Lines, is_blank, trim}
+use Rattle.gk_gherkin.specs.Lines.{LineValue, Lines}
+use Rattle.gk_gherkin.specs.Text.{is_blank, trim}
 use Rattle.gk_gherkin.specs.declared.class.Fence.{Fence}
 use Rattle.gk_gherkin.specs.declared.class.Fence.TheVariants.{Quotes, Backticks}
-use Rattle.gk_gherkin.specs.Class.{fence_text, begins}
+use Rattle.gk_gherkin.specs.Class.{fence_text}
+use Rattle.gk_gherkin.specs.Text.{begins}
 
 -- Whether a line closes the doc string that a fence opened: its trimmed text is that fence alone. (Cucumber's Gherkin reference: doc strings)
 unfoldable pub closes : Fence → LineValue → Bool

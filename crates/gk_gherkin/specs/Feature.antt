@@ -1,5 +1,5 @@
 -- What a feature file says, without where it lies in memory. Texts are lists of bytes, tags stand with their `@`, keywords without their colon.
-use Rattle.std.specs.Prelude.{ℕ, List, map, Option, option_map, String}
+use Rattle.std.specs.Prelude.{ℕ, List, map, Option, option_map, String, Vec}
 use Rattle.std.specs.String.{string_bytes}
 use Rattle.gk_gherkin.specs.declared.feature.StepType.{StepType}
 use Rattle.gk_gherkin.specs.declared.feature.Block.{Block}
@@ -73,6 +73,10 @@ pub record FeatureValue : Type 0 where
 -- The texts of a list of strings. (this project's profile)
 abbrev pub texts : {Z : Type 0} → List (String Z) → List (List ℕ)
 texts strings = map string_bytes strings
+
+-- The texts that were found, where any were looked for with success. (this project's profile)
+abbrev pub found_texts : {Y Z : Type 0} → Option (Vec (String Z) Y) → Option (List (List ℕ))
+found_texts found = option_map (λ v. texts v.items) found
 
 -- What a `Block` says. (this project's profile)
 abbrev pub block_value : Block → BlockValue

@@ -7,8 +7,10 @@ use Rattle.gk_gherkin.specs.declared.hooks.HookKind.TheVariants.{BeforeAll, Afte
 use Rattle.gk_gherkin.specs.declared.hook_headings.Heading.{Heading}
 use Rattle.gk_gherkin.specs.declared.hook_headings.HooksClass.{HooksClass}
 use Rattle.gk_gherkin.specs.declared.hook_headings.HooksClass.TheVariants.{HookLine, Plain}
-use Rattle.gk_gherkin.specs.Lines.{LineValue, is_blank, trim, trim_front}
-use Rattle.gk_gherkin.specs.Class.{class, begins, is_colon}
+use Rattle.gk_gherkin.specs.Lines.{LineValue}
+use Rattle.gk_gherkin.specs.Text.{is_blank, trim, trim_front}
+use Rattle.gk_gherkin.specs.Class.{class, is_colon}
+use Rattle.gk_gherkin.specs.Text.{begins}
 use Rattle.gk_gherkin.specs.Tags.{is_tag}
 
 -- The class of a line in a hooks file: a hook line, which begins with `before_` or `after_`, or that of any other line. (this project's profile)

@@ -1,8 +1,9 @@
 -- Comments that name a language.
 use Rattle.std.specs.Prelude.{codes, not, ◌≡◌, ◌≢◌, ℕ, Bool, ◌==◌, ◌||◌, ◌&&◌, nat_le, List, length, drop, Option, Some, None, option_and_then, if◌then◌else◌}
 use Rattle.std.specs.List.{list_all}
-use Rattle.gk_gherkin.specs.Lines.{LineValue, trim, trim_front}
-use Rattle.gk_gherkin.specs.Class.{begins}
+use Rattle.gk_gherkin.specs.Lines.{LineValue}
+use Rattle.gk_gherkin.specs.Text.{trim, trim_front}
+use Rattle.gk_gherkin.specs.Text.{begins}
 
 -- The rest of a text after a word that it begins with, without its leading blanks; none where it begins with no such word. (this project's profile)
 abbrev pub rest_after : List ℕ → List ℕ → Option (List ℕ)

@@ -1,4 +1,5 @@
 -- What feature files are, in reading order. Each names its source.
+pub mod Text
 pub mod Lines
 pub mod Class
 pub mod Tags

@@ -1,7 +1,8 @@
 -- The cells of a row.
 use Rattle.std.specs.Prelude.{codes, ℕ, ◌==◌, ◌||◌, List, [], ◌∷◌, drop, map, Option, Some, None, option_map, if◌then◌else◌}
-use Rattle.gk_gherkin.specs.Lines.{LineValue, trim}
-use Rattle.gk_gherkin.specs.Class.{begins}
+use Rattle.gk_gherkin.specs.Lines.{LineValue}
+use Rattle.gk_gherkin.specs.Text.{trim}
+use Rattle.gk_gherkin.specs.Text.{begins}
 
 -- An empty part before the parts that there are. (this project's profile)
 abbrev pub part_before : Option (List (List ℕ)) → Option (List (List ℕ))

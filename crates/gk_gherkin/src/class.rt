@@ -1,11 +1,10 @@
 //! The classes of lines.
-ghost use Rattle.std.specs.Prelude.{◌≡◌, ◌≤◌, ◌&&◌, length, slice_index};
-ghost use Rattle.std.specs.List.{position_or_len};
-ghost use Rattle.std.specs.Str.{bytes_eq};
-ghost use Rattle.gk_gherkin.specs.Lines.{is_blank, piece_value};
+ghost use Rattle.std.specs.Prelude.{◌≡◌};
+ghost use Rattle.gk_gherkin.specs.Lines.{borrowed_value};
 ghost use Rattle.gk_gherkin.specs.Class as spec;
 
-use crate::lines::{Piece, is_blank, trim};
+use crate::lines::BorrowedLine;
+use crate::text::{begins, begins_word, split_word, trim};
 
 /// The two fences of doc strings. (Cucumber's Gherkin reference: doc strings)
 #[derive(Clone, Copy)]
@@ -42,33 +41,6 @@ pub enum Class {
     FenceLine(Fence),
     /// Anything else.
     Other,
-}
-
-#[tactic(auto, using(crate::proofs::ClassWords::first_differs))]
-pub fn begins(text: &str, word: &str) -> bool
-    ensures { result ≡ spec.begins text.now word.now }
-{
-    let text = text.as_bytes();
-    let word = word.as_bytes();
-    if !text.is_empty() && !word.is_empty() && text[0] != word[0] {
-        false
-    } else {
-        text.starts_with(word)
-    }
-}
-
-pub fn is_word(text: &str, word: &str) -> bool
-    ensures { result ≡ bytes_eq text.now word.now }
-{
-    text == word
-}
-
-pub fn begins_word(text: &str, word: &str) -> bool
-    ensures { result ≡ (spec.begins text.now word.now && is_blank (slice_index text.now (length word.now))) }
-{
-    let bytes = text.as_bytes();
-    let word = word.as_bytes();
-    bytes.starts_with(word) && word.len() < bytes.len() && is_blank(bytes[word.len()])
 }
 
 fn begins_as_step(text: &str) -> bool
@@ -141,15 +113,15 @@ fn class_of(text: &str) -> Class
 
 /// The class of a line.
 #[tactic(auto, unfolding(crate::specs::Class::class))]
-pub fn class_of_line(line: &Piece<'_>) -> Class
-    ensures { result ≡ spec.class (piece_value line.now) }
+pub fn class_of_line(line: &BorrowedLine<'_>) -> Class
+    ensures { result ≡ spec.class (borrowed_value line.now) }
 {
     class_of(trim(line.text))
 }
 
 /// The keyword of a heading, without its colon.
-pub fn heading_keyword<'a>(line: &Piece<'a>) -> &'a str
-    ensures { result.now ≡ spec.heading_keyword (piece_value line.now) }
+pub fn heading_keyword<'a>(line: &BorrowedLine<'a>) -> &'a str
+    ensures { result.now ≡ spec.heading_keyword (borrowed_value line.now) }
 {
     let text = trim(line.text);
     match text.split_once(':') {
@@ -159,8 +131,8 @@ pub fn heading_keyword<'a>(line: &Piece<'a>) -> &'a str
 }
 
 /// The name of a heading: what stands after its first colon, trimmed.
-pub fn heading_name<'a>(line: &Piece<'a>) -> &'a str
-    ensures { result.now ≡ spec.heading_name (piece_value line.now) }
+pub fn heading_name<'a>(line: &BorrowedLine<'a>) -> &'a str
+    ensures { result.now ≡ spec.heading_name (borrowed_value line.now) }
 {
     let text = trim(line.text);
     match text.split_once(':') {
@@ -169,28 +141,12 @@ pub fn heading_name<'a>(line: &Piece<'a>) -> &'a str
     }
 }
 
-pub fn first_blank(text: &[u8]) -> usize
-    ensures value { result ≡ position_or_len is_blank text.now }
-    ensures within { result ≤ length text.now }
-{
-    for (i, byte) in text.iter().enumerate() {
-        if is_blank(*byte) {
-            return i;
-        }
-    }
-    text.len()
-}
-
 /// The keyword of a step, and its text: what stands after the keyword, trimmed.
-pub fn step_parts<'a>(line: &Piece<'a>) -> (&'a str, &'a str)
-    ensures keyword { result.0.now ≡ spec.step_keyword (piece_value line.now) }
-    ensures text { result.1.now ≡ spec.step_text (piece_value line.now) }
+#[tactic(auto, unfolding(crate::specs::Class::step_keyword, crate::specs::Class::step_text))]
+pub fn step_parts<'a>(line: &BorrowedLine<'a>) -> (&'a str, &'a str)
+    ensures keyword { result.0.now ≡ spec.step_keyword (borrowed_value line.now) }
+    ensures text { result.1.now ≡ spec.step_text (borrowed_value line.now) }
 {
-    let text = trim(line.text);
-    let end = first_blank(text.as_bytes());
-    if end < text.len() {
-        (&text[..end], trim(&text[end + 1..]))
-    } else {
-        (text, "")
-    }
+    let (keyword, rest) = split_word(trim(line.text));
+    (keyword, trim(rest))
 }

@@ -2,21 +2,23 @@
 ghost use Rattle.std.specs.Prelude.{option_map, Ok, ◌≡◌, ◌-◌, ◌++◌, ◌&&◌, drop, min};
 ghost use Rattle.std.specs.List.{prefix_len};
 ghost use Rattle.std.specs.String.{string_bytes};
-ghost use Rattle.gk_gherkin.specs.Lines.{is_blank, piece_value};
+ghost use Rattle.gk_gherkin.specs.Lines.{borrowed_value};
+ghost use Rattle.gk_gherkin.specs.Text.{is_blank};
 ghost use Rattle.gk_gherkin.specs.Class as class;
 ghost use Rattle.gk_gherkin.specs.Machine.{Gives};
 ghost use Rattle.gk_gherkin.specs.Machine as machine;
 ghost use Rattle.gk_gherkin.specs.DocStrings as spec;
 
-use crate::class::{Fence, begins};
-use crate::lines::{Piece, leading_blanks, trim};
+use crate::class::Fence;
+use crate::lines::BorrowedLine;
 use crate::read_fault::ReadFault;
+use crate::text::{begins, leading_blanks, trim};
 use std::alloc::Global;
 
 /// Whether a line closes the doc string that a fence opened.
 #[tactic(auto, unfolding(crate::specs::DocStrings::closes))]
-pub fn closes(fence: Fence, line: &Piece<'_>) -> bool
-    ensures { result ≡ spec.closes fence (piece_value line.now) }
+pub fn closes(fence: Fence, line: &BorrowedLine<'_>) -> bool
+    ensures { result ≡ spec.closes fence (borrowed_value line.now) }
 {
     let text = trim(line.text);
     begins(text, fence_text(fence)) && text.len() == 3
@@ -53,9 +55,10 @@ fn with_content(
     text: String,
     fence: Fence,
     column: u32,
-    line: &Piece<'_>,
+    line: &BorrowedLine<'_>,
 ) -> Result<String, ReadFault>
-    ensures { Gives string_bytes result (Ok (string_bytes text ++ spec.content_of fence (column - 1) (piece_value line.now))) }
+    ensures { Gives string_bytes result
+        (Ok (string_bytes text ++ spec.content_of fence (column - 1) (borrowed_value line.now))) }
 {
     let mut text = text;
     let mut rest = without_margin(column.saturating_sub(1) as usize, line.text);
@@ -80,9 +83,11 @@ pub fn with_line(
     content: Option<String>,
     fence: Fence,
     column: u32,
-    line: &Piece<'_>,
+    line: &BorrowedLine<'_>,
 ) -> Result<String, ReadFault>
-    ensures { Gives string_bytes result (Ok (machine.with_line (option_map string_bytes content) (spec.content_of fence (column - 1) (piece_value line.now)))) }
+    ensures { let next = spec.content_of fence (column - 1) (borrowed_value line.now) in
+        Gives string_bytes result
+        (Ok (machine.with_line (option_map string_bytes content) next)) }
 {
     match content {
         Some(text) => {

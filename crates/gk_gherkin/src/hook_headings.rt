@@ -1,13 +1,15 @@
 //! The headings of a hooks file.
 ghost use Rattle.std.specs.Prelude.{codes, nat_eq, option_map, not, ◌≡◌};
 ghost use Rattle.std.specs.List.{list_all, ends_with};
-ghost use Rattle.gk_gherkin.specs.Lines.{is_blank, piece_value};
+ghost use Rattle.gk_gherkin.specs.Lines.{borrowed_value};
+ghost use Rattle.gk_gherkin.specs.Text.{is_blank};
 ghost use Rattle.gk_gherkin.specs.HookHeadings as spec;
 
-use crate::class::{Class, begins, begins_word, class_of_line, is_word};
+use crate::class::{Class, class_of_line};
 use crate::hooks::HookKind;
-use crate::lines::{Piece, is_blank, trim, trim_front};
+use crate::lines::BorrowedLine;
 use crate::tags::is_tag;
+use crate::text::{begins, begins_word, is_blank, is_word, trim, trim_front};
 
 /// The class of a line in a hooks file: a hook line, whose text begins with `before_` or `after_`,
 /// without the blanks at the text's ends, or that of any other line. (this project's profile)
@@ -27,8 +29,8 @@ pub struct Heading<'a> {
 
 /// The class of a line in a hooks file.
 #[tactic(auto, unfolding(crate::specs::HookHeadings::hooks_class))]
-pub fn hooks_class(line: &Piece<'_>) -> HooksClass
-    ensures { result ≡ spec.hooks_class (piece_value line.now) }
+pub fn hooks_class(line: &BorrowedLine<'_>) -> HooksClass
+    ensures { result ≡ spec.hooks_class (borrowed_value line.now) }
 {
     let text = trim(line.text);
     if begins(text, "before_") || begins(text, "after_") {
@@ -94,8 +96,8 @@ fn tag_between<'a>(word: &str, text: &'a str) -> Option<&'a str>
 
 /// The heading that a line is, or none where it is any other text.
 #[tactic(auto, unfolding(crate::specs::HookHeadings::hook_heading))]
-pub fn hook_heading<'a>(line: &Piece<'a>) -> Option<Heading<'a>>
-    ensures { option_map spec.heading_value result ≡ spec.hook_heading (piece_value line.now) }
+pub fn hook_heading<'a>(line: &BorrowedLine<'a>) -> Option<Heading<'a>>
+    ensures { option_map spec.heading_value result ≡ spec.hook_heading (borrowed_value line.now) }
 {
     let text = trim(line.text);
     if let Some(kind) = plain_kind(text) {

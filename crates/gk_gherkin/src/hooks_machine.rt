@@ -2,7 +2,7 @@
 ghost use Rattle.std.specs.Prelude.{Option, option_map, map, Ok, ◌≡◌, ℕ, List};
 ghost use Rattle.std.specs.List.{list_any};
 ghost use Rattle.std.specs.String.{string_bytes};
-ghost use Rattle.gk_gherkin.specs.Lines.{piece_value};
+ghost use Rattle.gk_gherkin.specs.Lines.{borrowed_value};
 ghost use Rattle.gk_gherkin.specs.Feature.{step_value};
 ghost use Rattle.gk_gherkin.specs.Hooks.{hook_value};
 ghost use Rattle.gk_gherkin.specs.HookHeadings.{heading_value};
@@ -10,7 +10,9 @@ ghost use Rattle.gk_gherkin.specs.HooksGrammar.{heading_of};
 ghost use Rattle.gk_gherkin.specs.Machine.{Gives};
 ghost use Rattle.gk_gherkin.specs.Machine.Views.{body_value};
 ghost use Rattle.gk_gherkin.specs.HooksMachine as spec;
-ghost use Rattle.gk_gherkin.specs.HooksMachine.Views.{opened_value, place_value, quote_value, state_value, IsQuote};
+ghost use Rattle.gk_gherkin.specs.HooksMachine.Views.{place_value, quote_value, state_value};
+ghost use Rattle.gk_gherkin.specs.HooksMachine.Views.{IsQuote, EndsDocString};
+ghost use Rattle.gk_gherkin.specs.HooksMachine.Views as views;
 ghost use Rattle.gk_gherkin.specs.declared.class.Fence as classes;
 ghost use Rattle.gk_gherkin.specs.declared.read_fault.ReadFault.TheVariants.{BadHook};
 
@@ -19,7 +21,7 @@ use crate::doc_strings::{closes, whole_text};
 use crate::feature::{Block, Step};
 use crate::hook_headings::{Heading, HooksClass, hook_heading, hooks_class};
 use crate::hooks::{Hook, HookKind};
-use crate::lines::Piece;
+use crate::lines::BorrowedLine;
 use crate::machine::{Body, on_body, put, steps_of, unexpected};
 use crate::read_fault::ReadFault;
 use crate::states::add_line;
@@ -93,7 +95,8 @@ fn is_same_kind(a: HookKind, b: HookKind) -> bool
 }
 
 fn is_same_tag(a: &Option<String>, b: &Option<&str>) -> bool
-    ensures { result ≡ spec.is_same_tag (option_map string_bytes a.now) (option_map (λ t. t.now) b.now) }
+    ensures { result
+        ≡ spec.is_same_tag (option_map string_bytes a.now) (option_map (λ t. t.now) b.now) }
 {
     match a {
         None => b.is_none(),
@@ -105,13 +108,13 @@ fn is_same_tag(a: &Option<String>, b: &Option<&str>) -> bool
 }
 
 fn is_same_heading(hook: &Hook, heading: &Heading<'_>) -> bool
-    ensures { result ≡ spec.is_same_heading (heading_of (hook_value hook.now)) (heading_value heading.now) }
+    ensures { result ≡ views.has_heading hook.now heading.now }
 {
     is_same_kind(hook.kind, heading.kind) && is_same_tag(&hook.tag, &heading.tag)
 }
 
 fn has_heading(hooks: &[Hook], heading: &Heading<'_>) -> bool
-    ensures { result ≡ list_any (λ hook. spec.is_same_heading (heading_of (hook_value hook)) (heading_value heading.now)) hooks.now }
+    ensures { result ≡ list_any (λ hook. views.has_heading hook heading.now) hooks.now }
 {
     hooks.iter().any(|hook| is_same_heading(hook, heading))
 }
@@ -132,7 +135,7 @@ fn tag_of(alloc: Global, heading: &Heading<'_>) -> Result<Option<String>, ReadFa
     }
 }
 
-fn bad_hook(line: &Piece<'_>) -> ReadFault
+fn bad_hook(line: &BorrowedLine<'_>) -> ReadFault
     ensures { result ≡ BadHook line.now.place.line }
 {
     ReadFault::BadHook {
@@ -142,8 +145,9 @@ fn bad_hook(line: &Piece<'_>) -> ReadFault
 
 #[inline(never)]
 #[tactic(auto, unfolding(crate::specs::HooksMachine::on_hook))]
-fn on_hook(alloc: Global, place: &mut HooksPlace, line: &Piece<'_>) -> Result<(), ReadFault>
-    ensures { Gives (λ _. place_value place.new) result (spec.on_hook (place_value place.old) (piece_value line.now)) }
+fn on_hook(alloc: Global, place: &mut HooksPlace, line: &BorrowedLine<'_>) -> Result<(), ReadFault>
+    ensures { Gives (λ _. place_value place.new) result
+        (spec.on_hook (place_value place.old) (borrowed_value line.now)) }
 {
     match hook_heading(line) {
         None => Err(bad_hook(line)),
@@ -174,10 +178,11 @@ fn on_hook(alloc: Global, place: &mut HooksPlace, line: &Piece<'_>) -> Result<()
 fn on_hook_body(
     alloc: Global,
     body: &mut Body,
-    line: &Piece<'_>,
+    line: &BorrowedLine<'_>,
     class: Class,
 ) -> Result<(), ReadFault>
-    ensures { Gives (λ _. body_value body.new) result (spec.on_hook_body (body_value body.old) (piece_value line.now) class) }
+    ensures { Gives (λ _. body_value body.new) result
+        (spec.on_hook_body (body_value body.old) (borrowed_value line.now) class) }
 {
     match body {
         Body::Describing => match class {
@@ -192,10 +197,11 @@ fn on_hook_body(
 fn on_hooks_place(
     alloc: Global,
     place: &mut HooksPlace,
-    line: &Piece<'_>,
+    line: &BorrowedLine<'_>,
     class: Class,
 ) -> Result<(), ReadFault>
-    ensures { Gives (λ _. place_value place.new) result (spec.on_hooks_place (place_value place.old) (piece_value line.now) class) }
+    ensures { Gives (λ _. place_value place.new) result
+        (spec.on_hooks_place (place_value place.old) (borrowed_value line.now) class) }
 {
     match place {
         HooksPlace::NoHook => Err(unexpected(line)),
@@ -230,10 +236,12 @@ fn quote_of(place: HooksPlace) -> Result<HookQuote, HooksPlace>
 fn on_fence(
     alloc: Global,
     place: &mut HooksPlace,
-    line: &Piece<'_>,
+    line: &BorrowedLine<'_>,
     fence: Fence,
 ) -> Result<HooksState, ReadFault>
-    ensures { Gives state_value result (spec.on_fence (spec.quote_of (place_value place.old)) (place_value place.old) (piece_value line.now) fence) }
+    ensures { let old = place_value place.old in
+        Gives state_value result
+        (spec.on_fence (spec.quote_of old) old (borrowed_value line.now) fence) }
 {
     match quote_of(mem::replace(place, HooksPlace::NoHook)) {
         Ok(quote) => Ok(HooksState::Quoted {
@@ -254,7 +262,8 @@ fn on_fence(
 }
 
 fn after_quote(alloc: Global, quote: HookQuote, content: Option<String>) -> HooksPlace
-    ensures { place_value result ≡ spec.after_quote (quote_value quote) (option_map string_bytes content) }
+    ensures { place_value result
+        ≡ spec.after_quote (quote_value quote) (option_map string_bytes content) }
 {
     let text = whole_text(alloc, content);
     let step = quote.step;
@@ -275,7 +284,7 @@ fn after_quote(alloc: Global, quote: HookQuote, content: Option<String>) -> Hook
 
 // The end of a doc string: the state is at the place after it.
 fn end_quote(alloc: Global, state: &mut HooksState)
-    ensures { (quote : spec.HookQuoteValue) (fence : classes.Fence) (column n : ℕ) (content : Option (List ℕ)) → state_value state.old ≡ spec.Quoted quote fence column n content → state_value state.new ≡ spec.At (spec.after_quote quote content) }
+    ensures { EndsDocString state.old state.new }
 {
     let place = HooksPlace::NoHook;
     match mem::replace(state, HooksState::At { place }) {
@@ -293,11 +302,12 @@ fn end_quote(alloc: Global, state: &mut HooksState)
 fn change(
     alloc: Global,
     state: &mut HooksState,
-    line: &Piece<'_>,
+    line: &BorrowedLine<'_>,
     class: HooksClass,
 ) -> Result<(), ReadFault>
-    requires { spec.Changes (state_value state.old) (piece_value line.now) class }
-    ensures { Gives (λ _. state_value state.new) result (spec.on (state_value state.old) (piece_value line.now) class) }
+    requires { spec.Changes (state_value state.old) (borrowed_value line.now) class }
+    ensures { Gives (λ _. state_value state.new) result
+        (spec.on (state_value state.old) (borrowed_value line.now) class) }
 {
     match state {
         HooksState::At { place } => {
@@ -316,9 +326,10 @@ fn change(
 pub fn next_hooks_state(
     alloc: Global,
     state: &mut HooksState,
-    line: &Piece<'_>,
+    line: &BorrowedLine<'_>,
 ) -> Result<(), ReadFault>
-    ensures { Gives (λ _. state_value state.new) result (spec.step (state_value state.old) (piece_value line.now)) }
+    ensures { Gives (λ _. state_value state.new) result
+        (spec.step (state_value state.old) (borrowed_value line.now)) }
 {
     let class = hooks_class(line);
     match state {

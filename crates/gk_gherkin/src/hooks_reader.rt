@@ -11,7 +11,7 @@ ghost use Rattle.gk_gherkin.specs.HooksMachine.Views.{state_value};
 
 use crate::hooks::HookFile;
 use crate::hooks_machine::{HooksPlace, HooksState, hooks_of, next_hooks_state};
-use crate::lines::{LIMIT, piece_from, text_of};
+use crate::lines::{LIMIT, borrowed_line, text_of};
 use crate::read_fault::ReadFault;
 use std::alloc::Global;
 use std::mem;
@@ -19,11 +19,12 @@ use std::mem;
 // The state after the lines of a text, in place of the state before them.
 fn run(alloc: Global, state: &mut HooksState, text: &str) -> Result<(), ReadFault>
     requires { length text.now ≤ LIMIT }
-    ensures { Gives (λ _. state_value state.new) result (spec.run (state_value state.old) (numbered_from 1 (lines text.now))) }
+    ensures { Gives (λ _. state_value state.new) result
+        (spec.run (state_value state.old) (numbered_from 1 (lines text.now))) }
 {
     let mut number: u32 = 1;
     for part in text.lines() {
-        next_hooks_state(alloc, state, &piece_from(number, part))?;
+        next_hooks_state(alloc, state, &borrowed_line(number, part))?;
         number += 1;
     }
     Ok(())
@@ -85,9 +86,11 @@ fn read(alloc: Global, text: &str) -> Result<HookFile, ReadFault>
 /// it.
 pub fn read_hooks(alloc: Global, bytes: &[u8]) -> Result<HookFile, ReadFault>
     // What is answered is what the lines say.
-    ensures found { IfOk result (λ file. IsText bytes.now × ReadsHooks (lines_of bytes.now) (hooks_value file)) }
+    ensures found { IfOk result (λ file.
+        IsText bytes.now × ReadsHooks (lines_of bytes.now) (hooks_value file)) }
     // What the lines say is answered, unless memory runs out.
-    ensures only { (hooks : List HookValue) → IsText bytes.now → ReadsHooks (lines_of bytes.now) hooks → AnswersHooksOrLacksMemory result hooks }
+    ensures only { (hooks : List HookValue) → IsText bytes.now
+        → ReadsHooks (lines_of bytes.now) hooks → AnswersHooksOrLacksMemory result hooks }
     // Which fault it is.
     ensures fault { IfErr result (λ e. FaultSays HooksFault e bytes.now) }
 {

@@ -1,10 +1,11 @@
 //! Comments that name a language.
 ghost use Rattle.std.specs.Prelude.{option_map, ◌≡◌};
 ghost use Rattle.std.specs.List.{list_all};
-ghost use Rattle.gk_gherkin.specs.Lines.{piece_value};
+ghost use Rattle.gk_gherkin.specs.Lines.{borrowed_value};
 ghost use Rattle.gk_gherkin.specs.Language as spec;
 
-use crate::lines::{Piece, trim, trim_front};
+use crate::lines::BorrowedLine;
+use crate::text::{trim, trim_front};
 
 #[tactic(auto, using(std::proofs::lemmas::Str::Pattern::starts_text))]
 fn rest_after<'a>(word: &str, text: &'a str) -> Option<&'a str>
@@ -41,8 +42,8 @@ fn language_word(text: &str) -> Option<&str>
 
 /// The language that a comment names, or none where it is any other comment.
 #[tactic(auto, unfolding(crate::specs::Language::language_of))]
-pub fn language_of<'a>(line: &Piece<'a>) -> Option<&'a str>
-    ensures { option_map (λ t. t.now) result ≡ spec.language_of (piece_value line.now) }
+pub fn language_of<'a>(line: &BorrowedLine<'a>) -> Option<&'a str>
+    ensures { option_map (λ t. t.now) result ≡ spec.language_of (borrowed_value line.now) }
 {
     let text = rest_after("#", trim(line.text))?;
     let text = rest_after("language", text)?;

@@ -20,11 +20,13 @@ mod rows;
 mod states;
 mod step_types;
 mod tags;
+pub mod text;
 
 pub use feature::{Background, Block, Examples, Feature, Row, Rule, Scenario, Step, StepType};
 pub use grammar::{hooks_reading_is_unique, parts_are_concatenations, reading_is_unique};
 pub use hooks::{Hook, HookFile, HookKind};
 pub use hooks_reader::read_hooks;
-pub use lines::{Document, LIMIT, Line, Place, read_lines, trim_back};
+pub use lines::{BorrowedLine, Document, LIMIT, Line, Place, borrowed_line, read_lines, text_of};
 pub use read_fault::ReadFault;
 pub use reader::read_feature;
+pub use text::trim_back;

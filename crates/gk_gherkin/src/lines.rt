@@ -3,11 +3,14 @@ ghost use Rattle.std.specs.Prelude.{◌≡◌, ◌≤◌, ◌==◌, map, length,
 ghost use Rattle.std.specs.List.{prefix_len};
 ghost use Rattle.std.specs.Str.Lines.{lines};
 ghost use Rattle.gk_gherkin.specs.Lines as spec;
-ghost use Rattle.gk_gherkin.specs.Lines.{is_blank, line_value, piece_value, line_at, numbered_from, lines_of, IsText};
+ghost use Rattle.gk_gherkin.specs.Lines.{line_value, borrowed_value, line_at};
+ghost use Rattle.gk_gherkin.specs.Text.{is_blank};
+ghost use Rattle.gk_gherkin.specs.Lines.{numbered_from, lines_of, IsText};
 ghost use Rattle.gk_gherkin.specs.ReadFault.{LinesFaultSays};
 ghost use Rattle.gk_gherkin.specs.declared.read_fault.ReadFault.TheVariants.{Memory};
 
 use crate::read_fault::ReadFault;
+use crate::text::leading_blanks;
 use std::alloc::Global;
 use std::str;
 
@@ -33,7 +36,7 @@ pub struct Line {
 
 /// A line whose text is borrowed.
 #[derive(Clone, Copy)]
-pub struct Piece<'a> {
+pub struct BorrowedLine<'a> {
     pub place: Place,
     pub text: &'a str,
 }
@@ -42,53 +45,6 @@ pub struct Piece<'a> {
 #[derive(Debug, Drop)]
 pub struct Document {
     pub lines: Vec<Line>,
-}
-
-/// Whether a byte is a space or a tab.
-pub fn is_blank(byte: u8) -> bool
-    ensures { result ≡ spec.is_blank byte }
-{
-    byte == b' ' || byte == b'\t'
-}
-
-/// How many blanks a text begins with.
-pub fn leading_blanks(text: &[u8]) -> usize
-    ensures value { result ≡ prefix_len is_blank text.now }
-    ensures within { result ≤ length text.now }
-{
-    for (i, byte) in text.iter().enumerate() {
-        if !is_blank(*byte) {
-            return i;
-        }
-    }
-    text.len()
-}
-
-/// A text without its leading blanks.
-pub fn trim_front(text: &str) -> &str
-    ensures { result.now ≡ spec.trim_front text.now }
-{
-    let blanks = leading_blanks(text.as_bytes());
-    &text[blanks..]
-}
-
-/// A text without its trailing blanks, which are spaces and tabs alone. (this project's profile)
-pub fn trim_back(text: &str) -> &str
-    ensures { result.now ≡ spec.trim_back text.now }
-{
-    let bytes = text.as_bytes();
-    let mut end = bytes.len();
-    while end > 0 && is_blank(bytes[end - 1]) {
-        end -= 1;
-    }
-    &text[..end]
-}
-
-/// A text without its leading and trailing blanks.
-pub fn trim(text: &str) -> &str
-    ensures { result.now ≡ spec.trim text.now }
-{
-    trim_back(trim_front(text))
 }
 
 fn count_ends(bytes: &[u8]) -> usize
@@ -122,12 +78,12 @@ fn line_from(alloc: Global, line: u32, text: &str) -> Result<Line, ReadFault>
 }
 
 /// The line of this number and text.
-pub fn piece_from<'a>(line: u32, text: &'a str) -> Piece<'a>
+pub fn borrowed_line<'a>(line: u32, text: &'a str) -> BorrowedLine<'a>
     requires { length text.now ≤ LIMIT }
-    ensures { piece_value result ≡ line_at line text.now }
+    ensures { borrowed_value result ≡ line_at line text.now }
 {
     let column = 1 + leading_blanks(text.as_bytes()) as u32;
-    Piece {
+    BorrowedLine {
         place: Place { line, column },
         text,
     }
@@ -135,7 +91,8 @@ pub fn piece_from<'a>(line: u32, text: &'a str) -> Piece<'a>
 
 fn lines_from(alloc: Global, text: &str) -> Result<Document, ReadFault>
     requires { length text.now ≤ LIMIT }
-    ensures ok { IfOk result (λ d. map line_value d.lines.items ≡ numbered_from 1 (lines text.now)) }
+    ensures ok { IfOk result (λ d.
+        map line_value d.lines.items ≡ numbered_from 1 (lines text.now)) }
     ensures fault { IfErr result (λ e. e ≡ Memory) }
 {
     let mut lines = Vec::new(alloc);
@@ -173,7 +130,8 @@ pub fn text_of(bytes: &[u8]) -> Result<&str, ReadFault>
 /// where a growth was refused. A refusal answers no line. (this project's profile)
 pub fn read_lines(alloc: Global, bytes: &[u8]) -> Result<Document, ReadFault>
     // What is answered is the text's lines.
-    ensures ok { IfOk result (λ d. IsText bytes.now × (map line_value d.lines.items ≡ lines_of bytes.now)) }
+    ensures ok { IfOk result (λ d.
+        IsText bytes.now × (map line_value d.lines.items ≡ lines_of bytes.now)) }
     // Which fault it is.
     ensures fault { IfErr result (λ e. LinesFaultSays e bytes.now) }
 {

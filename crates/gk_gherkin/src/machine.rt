@@ -1,14 +1,18 @@
 //! What was read so far, the finished parts and the open part of each depth, and how a line goes on
 //! at a place.
 ghost use Rattle.std.specs.Prelude.{Option, option_map, map, Ok, IfOk, IfErr, ◌≡◌};
-ghost use Rattle.gk_gherkin.specs.Lines.{numbered_from, piece_value, lines_of, IsText};
-ghost use Rattle.gk_gherkin.specs.Feature.{FeatureValue, texts, block_value, step_value, row_value, examples_value, scenario_value, feature_value, rule_value};
+ghost use Rattle.gk_gherkin.specs.Lines.{numbered_from, borrowed_value, lines_of, IsText};
+ghost use Rattle.gk_gherkin.specs.Feature.{texts, block_value, step_value, examples_value};
+ghost use Rattle.gk_gherkin.specs.Feature.{scenario_value, feature_value, rule_value};
 ghost use Rattle.std.specs.String.{string_bytes};
 ghost use Rattle.gk_gherkin.specs.Grammar.{Reads};
 ghost use Rattle.gk_gherkin.specs.ReadFault.{FaultSays, FeatureFault, AnswersOrLacksMemory};
 ghost use Rattle.gk_gherkin.specs.Machine as spec;
 ghost use Rattle.gk_gherkin.specs.Machine.{Gives};
-ghost use Rattle.gk_gherkin.specs.Machine.Views.{head_value, section_value, grid_value, outline_value, top_value, body_value, owner_value, bodied_value, begun_after, open_value, place_value, quote_value, state_value, AddsExamples};
+ghost use Rattle.gk_gherkin.specs.Machine.Views.{answer_value, begun_after, bodied_value};
+ghost use Rattle.gk_gherkin.specs.Machine.Views.{body_value, grid_value, head_value, open_value};
+ghost use Rattle.gk_gherkin.specs.Machine.Views.{outline_value, owner_value, place_value, section_value};
+ghost use Rattle.gk_gherkin.specs.Machine.Views.{top_value, AddsExamples, TakesHeading};
 ghost use Rattle.gk_gherkin.specs.StepTypes as types;
 ghost use Rattle.gk_gherkin.specs.Tags as tagging;
 ghost use Rattle.gk_gherkin.specs.Rows as cutting;
@@ -23,7 +27,7 @@ ghost use Rattle.gk_gherkin.specs.declared.class.Class.TheVariants.{RuleHeading}
 
 use crate::class::{Class, Fence, heading_keyword, heading_name, step_parts};
 use crate::feature::{Background, Block, Examples, Feature, Row, Rule, Scenario, Step, StepType};
-use crate::lines::Piece;
+use crate::lines::BorrowedLine;
 use crate::read_fault::ReadFault;
 use crate::rows::cells_of;
 use crate::step_types::type_after;
@@ -147,7 +151,7 @@ pub fn put<T: Drop>(slot: &mut T, next: T)
     *slot = next;
 }
 
-pub fn unexpected(line: &Piece<'_>) -> ReadFault
+pub fn unexpected(line: &BorrowedLine<'_>) -> ReadFault
     ensures { result ≡ Unexpected line.now.place.line }
 {
     ReadFault::Unexpected {
@@ -155,8 +159,9 @@ pub fn unexpected(line: &Piece<'_>) -> ReadFault
     }
 }
 
-fn head_from(alloc: Global, tags: Vec<String>, line: &Piece<'_>) -> Result<Head, ReadFault>
-    ensures { Gives head_value result (Ok (spec.head_from (texts tags.items) (piece_value line.now))) }
+fn head_from(alloc: Global, tags: Vec<String>, line: &BorrowedLine<'_>) -> Result<Head, ReadFault>
+    ensures { Gives head_value result
+        (Ok (spec.head_from (texts tags.items) (borrowed_value line.now))) }
 {
     let name = String::from_str(alloc, heading_name(line))?;
     Ok(Head {
@@ -166,8 +171,8 @@ fn head_from(alloc: Global, tags: Vec<String>, line: &Piece<'_>) -> Result<Head,
     })
 }
 
-fn step_from(alloc: Global, before: StepType, line: &Piece<'_>) -> Result<Step, ReadFault>
-    ensures { Gives step_value result (Ok (spec.step_from before (piece_value line.now))) }
+fn step_from(alloc: Global, before: StepType, line: &BorrowedLine<'_>) -> Result<Step, ReadFault>
+    ensures { Gives step_value result (Ok (spec.step_from before (borrowed_value line.now))) }
 {
     let (keyword, text) = step_parts(line);
     let step_type = type_after(before, keyword);
@@ -196,7 +201,8 @@ pub fn steps_of(alloc: Global, body: Body) -> Result<Vec<Step>, ReadFault>
 }
 
 fn with_scenario(section: Section, scenario: Scenario) -> Result<Section, ReadFault>
-    ensures { Gives section_value result (Ok (spec.with_scenario (section_value section) (scenario_value scenario))) }
+    ensures { Gives section_value result
+        (Ok (spec.with_scenario (section_value section) (scenario_value scenario))) }
 {
     let mut section = section;
     section.scenarios.push(scenario)?;
@@ -204,7 +210,8 @@ fn with_scenario(section: Section, scenario: Scenario) -> Result<Section, ReadFa
 }
 
 fn scenario_of(alloc: Global, keyword: String, head: Head, steps: Vec<Step>) -> Scenario
-    ensures { scenario_value result ≡ spec.scenario_of (string_bytes keyword) (head_value head) (map step_value steps.items) }
+    ensures { scenario_value result
+        ≡ spec.scenario_of (string_bytes keyword) (head_value head) (map step_value steps.items) }
 {
     Scenario {
         keyword,
@@ -217,7 +224,8 @@ fn scenario_of(alloc: Global, keyword: String, head: Head, steps: Vec<Step>) -> 
 }
 
 fn owner_section(alloc: Global, owner: Owner, steps: Vec<Step>) -> Result<Section, ReadFault>
-    ensures { Gives section_value result (Ok (spec.owner_section (owner_value owner) (map step_value steps.items))) }
+    ensures { Gives section_value result
+        (Ok (spec.owner_section (owner_value owner) (map step_value steps.items))) }
 {
     match owner {
         Owner::OfBackground { line } => Ok(Section {
@@ -254,7 +262,8 @@ fn examples_of(alloc: Global, head: Head, grid: Grid) -> Examples
 }
 
 fn with_examples(scenario: Scenario, examples: Examples) -> Result<Scenario, ReadFault>
-    ensures { Gives scenario_value result (Ok (spec.with_examples (scenario_value scenario) (examples_value examples))) }
+    ensures { Gives scenario_value result
+        (Ok (spec.with_examples (scenario_value scenario) (examples_value examples))) }
 {
     let mut scenario = scenario;
     scenario.examples.push(examples)?;
@@ -262,7 +271,8 @@ fn with_examples(scenario: Scenario, examples: Examples) -> Result<Scenario, Rea
 }
 
 fn outline_of(alloc: Global, part: Open) -> Result<Option<Outline>, ReadFault>
-    ensures { Gives (λ o. option_map outline_value o) result (Ok (spec.outline_of (open_value part))) }
+    ensures { Gives (λ o. option_map outline_value o) result
+        (Ok (spec.outline_of (open_value part))) }
 {
     match part {
         Open::Headed => Ok(None),
@@ -324,7 +334,8 @@ fn rule_of(head: Head, section: Section) -> Rule
 }
 
 fn with_rule(feature: Feature, rule: Rule) -> Result<Feature, ReadFault>
-    ensures { Gives feature_value result (Ok (spec.with_rule (feature_value feature) (rule_value rule))) }
+    ensures { Gives feature_value result
+        (Ok (spec.with_rule (feature_value feature) (rule_value rule))) }
 {
     let mut feature = feature;
     feature.rules.push(rule)?;
@@ -332,7 +343,8 @@ fn with_rule(feature: Feature, rule: Rule) -> Result<Feature, ReadFault>
 }
 
 fn feature_of(alloc: Global, top: Top, section: Section) -> Result<Feature, ReadFault>
-    ensures { Gives feature_value result (Ok (spec.feature_of (top_value top) (section_value section))) }
+    ensures { Gives feature_value result
+        (Ok (spec.feature_of (top_value top) (section_value section))) }
 {
     match top {
         Top::OfFeature { head } => Ok(Feature {
@@ -349,7 +361,7 @@ fn feature_of(alloc: Global, top: Top, section: Section) -> Result<Feature, Read
 
 /// The feature that a place closes, or none above its heading.
 pub fn feature_at(alloc: Global, place: Place) -> Result<Option<Feature>, ReadFault>
-    ensures { Gives (λ f. option_map feature_value f) result (Ok (spec.answer (place_value place))) }
+    ensures { Gives answer_value result (Ok (spec.answer (place_value place))) }
 {
     match place {
         Place::Above => Ok(None),
@@ -364,9 +376,11 @@ fn feature_heading(
     alloc: Global,
     place: &mut Place,
     tags: Vec<String>,
-    line: &Piece<'_>,
+    line: &BorrowedLine<'_>,
 ) -> Result<(), ReadFault>
-    ensures { Gives (λ _. place_value place.new) result (Ok (spec.Inside (spec.OfFeature (spec.head_from (texts tags.items) (piece_value line.now))) spec.Headed)) }
+    ensures { let head = spec.head_from (texts tags.items) (borrowed_value line.now) in
+        Gives (λ _. place_value place.new) result
+        (Ok (spec.Inside (spec.OfFeature head) spec.Headed)) }
 {
     let head = head_from(alloc, tags, line)?;
     put(
@@ -385,9 +399,9 @@ fn rule_heading(
     alloc: Global,
     place: &mut Place,
     tags: Vec<String>,
-    line: &Piece<'_>,
+    line: &BorrowedLine<'_>,
 ) -> Result<(), ReadFault>
-    ensures { Gives (λ _. place_value place.new) result (spec.on_heading (place_value place.old) (texts tags.items) (piece_value line.now) RuleHeading) }
+    ensures { TakesHeading place.old tags.items line.now RuleHeading result place.new }
 {
     match feature_at(alloc, mem::replace(place, Place::Above))? {
         Some(feature) => {
@@ -413,7 +427,9 @@ fn first_scenario(
     keyword: String,
     head: Head,
 ) -> Result<(), ReadFault>
-    ensures { Gives (λ _. open_value part.new) result (Ok (spec.begun_scenario (spec.section_of (open_value part.old)) (string_bytes keyword) (head_value head))) }
+    ensures { let section = spec.section_of (open_value part.old) in
+        Gives (λ _. open_value part.new) result
+        (Ok (spec.begun_scenario section (string_bytes keyword) (head_value head))) }
 {
     let section = section_of(alloc, mem::replace(part, Open::Headed))?;
     put(
@@ -438,7 +454,8 @@ fn scenario_after_steps(
     keyword: String,
     head: Head,
 ) -> Result<(), ReadFault>
-    ensures { Gives (λ _. bodied_value owner.new body.new) result (begun_after owner.old body.old (string_bytes keyword) (head_value head)) }
+    ensures { Gives (λ _. bodied_value owner.new body.new) result
+        (begun_after owner.old body.old (string_bytes keyword) (head_value head)) }
 {
     let steps = steps_of(alloc, mem::replace(body, Body::Describing))?;
     match owner {
@@ -477,9 +494,11 @@ fn scenario_heading(
     alloc: Global,
     part: &mut Open,
     tags: Vec<String>,
-    line: &Piece<'_>,
+    line: &BorrowedLine<'_>,
 ) -> Result<(), ReadFault>
-    ensures { Gives (λ _. open_value part.new) result (Ok (spec.scenario_from (spec.section_of (open_value part.old)) (texts tags.items) (piece_value line.now))) }
+    ensures { let section = spec.section_of (open_value part.old) in
+        Gives (λ _. open_value part.new) result
+        (Ok (spec.scenario_from section (texts tags.items) (borrowed_value line.now))) }
 {
     let keyword = String::from_str(alloc, heading_keyword(line))?;
     let head = head_from(alloc, tags, line)?;
@@ -494,9 +513,9 @@ fn examples_heading(
     alloc: Global,
     part: &mut Open,
     tags: Vec<String>,
-    line: &Piece<'_>,
+    line: &BorrowedLine<'_>,
 ) -> Result<(), ReadFault>
-    ensures { AddsExamples part.old (texts tags.items) (piece_value line.now) result part.new }
+    ensures { AddsExamples part.old (texts tags.items) (borrowed_value line.now) result part.new }
 {
     match outline_of(alloc, mem::replace(part, Open::Headed))? {
         Some(outline) => {
@@ -521,10 +540,10 @@ pub fn on_heading(
     alloc: Global,
     place: &mut Place,
     tags: Vec<String>,
-    line: &Piece<'_>,
+    line: &BorrowedLine<'_>,
     class: Class,
 ) -> Result<(), ReadFault>
-    ensures { Gives (λ _. place_value place.new) result (spec.on_heading (place_value place.old) (texts tags.items) (piece_value line.now) class) }
+    ensures { TakesHeading place.old tags.items line.now class result place.new }
 {
     match place {
         Place::Above => match class {
@@ -541,8 +560,12 @@ pub fn on_heading(
 }
 
 #[tactic(auto, unfolding(crate::specs::Machine::on_row))]
-fn on_row(alloc: Global, width: Option<usize>, line: &Piece<'_>) -> Result<Vec<String>, ReadFault>
-    ensures { Gives (λ v. texts v.items) result (spec.on_row width (piece_value line.now)) }
+fn on_row(
+    alloc: Global,
+    width: Option<usize>,
+    line: &BorrowedLine<'_>,
+) -> Result<Vec<String>, ReadFault>
+    ensures { Gives (λ v. texts v.items) result (spec.on_row width (borrowed_value line.now)) }
 {
     match cells_of(alloc, line)? {
         Some(cells) => match width {
@@ -573,8 +596,9 @@ fn width_of(rows: &Vec<Vec<String>>) -> Option<usize>
 }
 
 #[tactic(auto, unfolding(crate::specs::Machine::on_block))]
-fn on_block(alloc: Global, block: &mut Block, line: &Piece<'_>) -> Result<(), ReadFault>
-    ensures { Gives (λ _. block_value block.new) result (spec.on_block (block_value block.old) (piece_value line.now)) }
+fn on_block(alloc: Global, block: &mut Block, line: &BorrowedLine<'_>) -> Result<(), ReadFault>
+    ensures { Gives (λ _. block_value block.new) result
+        (spec.on_block (block_value block.old) (borrowed_value line.now)) }
 {
     match block {
         Block::Empty => {
@@ -598,10 +622,11 @@ fn on_block(alloc: Global, block: &mut Block, line: &Piece<'_>) -> Result<(), Re
 pub fn on_grid(
     alloc: Global,
     grid: &mut Grid,
-    line: &Piece<'_>,
+    line: &BorrowedLine<'_>,
     class: Class,
 ) -> Result<(), ReadFault>
-    ensures { Gives (λ _. grid_value grid.new) result (spec.on_grid (grid_value grid.old) (piece_value line.now) class) }
+    ensures { Gives (λ _. grid_value grid.new) result
+        (spec.on_grid (grid_value grid.old) (borrowed_value line.now) class) }
 {
     match grid {
         Grid::NoRows => match class {
@@ -637,10 +662,11 @@ pub fn on_grid(
 pub fn on_body(
     alloc: Global,
     body: &mut Body,
-    line: &Piece<'_>,
+    line: &BorrowedLine<'_>,
     class: Class,
 ) -> Result<(), ReadFault>
-    ensures { Gives (λ _. body_value body.new) result (spec.on_body (body_value body.old) (piece_value line.now) class) }
+    ensures { Gives (λ _. body_value body.new) result
+        (spec.on_body (body_value body.old) (borrowed_value line.now) class) }
 {
     match body {
         Body::Describing => match class {
@@ -671,8 +697,14 @@ pub fn on_body(
 }
 
 #[tactic(auto, unfolding(crate::specs::Machine::on_open))]
-fn on_open(alloc: Global, part: &mut Open, line: &Piece<'_>, class: Class) -> Result<(), ReadFault>
-    ensures { Gives (λ _. open_value part.new) result (spec.on_open (open_value part.old) (piece_value line.now) class) }
+fn on_open(
+    alloc: Global,
+    part: &mut Open,
+    line: &BorrowedLine<'_>,
+    class: Class,
+) -> Result<(), ReadFault>
+    ensures { Gives (λ _. open_value part.new) result
+        (spec.on_open (open_value part.old) (borrowed_value line.now) class) }
 {
     match part {
         Open::Headed => match class {
@@ -700,10 +732,11 @@ fn on_open(alloc: Global, part: &mut Open, line: &Piece<'_>, class: Class) -> Re
 pub fn on_place(
     alloc: Global,
     place: &mut Place,
-    line: &Piece<'_>,
+    line: &BorrowedLine<'_>,
     class: Class,
 ) -> Result<(), ReadFault>
-    ensures { Gives (λ _. place_value place.new) result (spec.on_place (place_value place.old) (piece_value line.now) class) }
+    ensures { Gives (λ _. place_value place.new) result
+        (spec.on_place (place_value place.old) (borrowed_value line.now) class) }
 {
     match place {
         Place::Above => Err(unexpected(line)),

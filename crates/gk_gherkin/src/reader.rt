@@ -1,13 +1,13 @@
 //! Reading a feature file line by line.
 ghost use Rattle.std.specs.Prelude.{Option, option_map, map, Ok, IfOk, IfErr, ◌≡◌};
-ghost use Rattle.gk_gherkin.specs.Lines.{numbered_from, piece_value, lines_of, IsText};
-ghost use Rattle.gk_gherkin.specs.Feature.{FeatureValue, texts, block_value, step_value, row_value, examples_value, scenario_value, feature_value, rule_value};
+ghost use Rattle.gk_gherkin.specs.Lines.{numbered_from, borrowed_value, lines_of, IsText};
+ghost use Rattle.gk_gherkin.specs.Feature.{FeatureValue, feature_value};
 ghost use Rattle.std.specs.String.{string_bytes};
 ghost use Rattle.gk_gherkin.specs.Grammar.{Reads};
 ghost use Rattle.gk_gherkin.specs.ReadFault.{FaultSays, FeatureFault, AnswersOrLacksMemory};
 ghost use Rattle.gk_gherkin.specs.Machine as spec;
 ghost use Rattle.gk_gherkin.specs.Machine.{Gives};
-ghost use Rattle.gk_gherkin.specs.Machine.Views.{head_value, section_value, grid_value, outline_value, top_value, body_value, owner_value, open_value, place_value, quote_value, state_value};
+ghost use Rattle.gk_gherkin.specs.Machine.Views.{answer_value, state_value};
 ghost use Rattle.gk_gherkin.specs.StepTypes as types;
 ghost use Rattle.gk_gherkin.specs.Tags as tagging;
 ghost use Rattle.gk_gherkin.specs.Rows as cutting;
@@ -20,7 +20,7 @@ ghost use Rattle.gk_gherkin.specs.Class as words;
 ghost use Rattle.gk_gherkin.specs.declared.read_fault.ReadFault.TheVariants.{Unexpected};
 
 use crate::feature::Feature;
-use crate::lines::{LIMIT, piece_from, text_of};
+use crate::lines::{LIMIT, borrowed_line, text_of};
 use crate::machine::{Place, State, feature_at};
 use crate::read_fault::ReadFault;
 use crate::states::next_state;
@@ -30,11 +30,12 @@ use std::mem;
 // The state after the lines of a text, in place of the state before them.
 fn run(alloc: Global, state: &mut State, text: &str) -> Result<(), ReadFault>
     requires { length text.now ≤ LIMIT }
-    ensures { Gives (λ _. state_value state.new) result (spec.run (state_value state.old) (numbered_from 1 (lines text.now))) }
+    ensures { Gives (λ _. state_value state.new) result
+        (spec.run (state_value state.old) (numbered_from 1 (lines text.now))) }
 {
     let mut number: u32 = 1;
     for part in text.lines() {
-        next_state(alloc, state, &piece_from(number, part))?;
+        next_state(alloc, state, &borrowed_line(number, part))?;
         number += 1;
     }
     Ok(())
@@ -42,7 +43,7 @@ fn run(alloc: Global, state: &mut State, text: &str) -> Result<(), ReadFault>
 
 #[tactic(auto, unfolding(crate::specs::Machine::finish))]
 fn finish(alloc: Global, state: &mut State) -> Result<Option<Feature>, ReadFault>
-    ensures { Gives (λ f. option_map feature_value f) result (spec.finish (state_value state.old)) }
+    ensures { Gives answer_value result (spec.finish (state_value state.old)) }
 {
     match state {
         State::At { place } => feature_at(alloc, mem::replace(place, Place::Above)),
@@ -55,7 +56,7 @@ fn finish(alloc: Global, state: &mut State) -> Result<Option<Feature>, ReadFault
 fn read_from(alloc: Global, state: &mut State, text: &str) -> Result<Option<Feature>, ReadFault>
     requires first { state_value state.old ≡ spec.At spec.Above }
     requires within { length text.now ≤ LIMIT }
-    ensures { Gives (λ f. option_map feature_value f) result (spec.reading (numbered_from 1 (lines text.now))) }
+    ensures { Gives answer_value result (spec.reading (numbered_from 1 (lines text.now))) }
 {
     run(alloc, state, text)?;
     finish(alloc, state)
@@ -63,7 +64,7 @@ fn read_from(alloc: Global, state: &mut State, text: &str) -> Result<Option<Feat
 
 fn read(alloc: Global, text: &str) -> Result<Option<Feature>, ReadFault>
     requires { length text.now ≤ LIMIT }
-    ensures { Gives (λ f. option_map feature_value f) result (spec.reading (numbered_from 1 (lines text.now))) }
+    ensures { Gives answer_value result (spec.reading (numbered_from 1 (lines text.now))) }
 {
     let mut state = State::At {
         place: Place::Above,
@@ -96,9 +97,11 @@ fn read(alloc: Global, text: &str) -> Result<Option<Feature>, ReadFault>
 /// it.
 pub fn read_feature(alloc: Global, bytes: &[u8]) -> Result<Option<Feature>, ReadFault>
     // What is answered is what the lines say.
-    ensures found { IfOk result (λ f. IsText bytes.now × Reads (lines_of bytes.now) (option_map feature_value f)) }
+    ensures found { IfOk result (λ f.
+        IsText bytes.now × Reads (lines_of bytes.now) (option_map feature_value f)) }
     // What the lines say is answered, unless memory runs out.
-    ensures only { (f : Option FeatureValue) → IsText bytes.now → Reads (lines_of bytes.now) f → AnswersOrLacksMemory result f }
+    ensures only { (f : Option FeatureValue) → IsText bytes.now → Reads (lines_of bytes.now) f
+        → AnswersOrLacksMemory result f }
     // Which fault it is.
     ensures fault { IfErr result (λ e. FaultSays FeatureFault e bytes.now) }
 {

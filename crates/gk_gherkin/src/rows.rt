@@ -1,18 +1,20 @@
 //! The cells of a row.
-ghost use Rattle.std.specs.Prelude.{option_map, Ok, ◌≡◌, ◌≤◌, ◌<◌, ◌++◌, ◌∷◌, length, take, drop, slice_index};
+ghost use Rattle.std.specs.Prelude.{Ok, ◌≡◌, ◌≤◌, ◌<◌, ◌++◌, ◌∷◌, length, take, drop, slice_index};
 ghost use Rattle.std.specs.String.{string_bytes};
-ghost use Rattle.gk_gherkin.specs.Lines.{piece_value};
-ghost use Rattle.gk_gherkin.specs.Feature.{texts};
+ghost use Rattle.gk_gherkin.specs.Lines.{borrowed_value};
+ghost use Rattle.gk_gherkin.specs.Feature.{found_texts};
 ghost use Rattle.gk_gherkin.specs.Machine.{Gives};
 ghost use Rattle.gk_gherkin.specs.Rows as spec;
 
-use crate::lines::{Piece, trim};
+use crate::lines::BorrowedLine;
 use crate::read_fault::ReadFault;
+use crate::text::trim;
 use std::alloc::Global;
 
 // How far it is to the first bar that no backslash escapes, or to the end.
 fn part_len(text: &[u8]) -> usize
-    ensures parts { spec.parts_of text.now ≡ spec.parts_after (take result text.now) (drop result text.now) }
+    ensures parts { spec.parts_of text.now
+        ≡ spec.parts_after (take result text.now) (drop result text.now) }
     ensures within { result ≤ length text.now }
     ensures bar { result < length text.now → slice_index text.now result ≡ 124 }
 {
@@ -67,7 +69,7 @@ fn unescaped(alloc: Global, part: &str) -> Result<String, ReadFault>
 }
 
 fn cells_in(alloc: Global, text: &str) -> Result<Option<Vec<String>>, ReadFault>
-    ensures { Gives (λ o. option_map (λ v. texts v.items) o) result (Ok (spec.cells_of_parts (spec.parts_of text.now))) }
+    ensures { Gives found_texts result (Ok (spec.cells_of_parts (spec.parts_of text.now))) }
 {
     let mut cells = Vec::new(alloc);
     let mut rest = text;
@@ -87,8 +89,8 @@ fn cells_in(alloc: Global, text: &str) -> Result<Option<Vec<String>>, ReadFault>
 }
 
 /// The cells of a row; none where the row isn't between two bars.
-pub fn cells_of(alloc: Global, line: &Piece<'_>) -> Result<Option<Vec<String>>, ReadFault>
-    ensures { Gives (λ o. option_map (λ v. texts v.items) o) result (Ok (spec.cells_of (piece_value line.now))) }
+pub fn cells_of(alloc: Global, line: &BorrowedLine<'_>) -> Result<Option<Vec<String>>, ReadFault>
+    ensures { Gives found_texts result (Ok (spec.cells_of (borrowed_value line.now))) }
 {
     match trim(line.text).strip_prefix('|') {
         Some(text) => cells_in(alloc, text),

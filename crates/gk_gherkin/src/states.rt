@@ -1,30 +1,34 @@
 //! How a line goes on from a state: in place, but for first tags, fences and headings after tags.
 ghost use Rattle.std.specs.Prelude.{Option, option_map, Ok, ◌≡◌, ℕ, List, []};
-ghost use Rattle.gk_gherkin.specs.Lines.{piece_value};
+ghost use Rattle.gk_gherkin.specs.Lines.{borrowed_value};
 ghost use Rattle.gk_gherkin.specs.Feature.{texts};
 ghost use Rattle.std.specs.String.{string_bytes};
 ghost use Rattle.gk_gherkin.specs.Machine as spec;
 ghost use Rattle.gk_gherkin.specs.Machine.{Gives};
-ghost use Rattle.gk_gherkin.specs.Machine.Views.{top_value, body_value, owner_value, place_value, quote_value, state_value, content_value, IsQuote};
+ghost use Rattle.gk_gherkin.specs.Machine.Views.{top_value, bodied_value, place_value, quote_value};
+ghost use Rattle.gk_gherkin.specs.Machine.Views.{state_value, content_value, IsQuote};
+ghost use Rattle.gk_gherkin.specs.Machine.Views.{AddsTags, EndsDocString};
 ghost use Rattle.gk_gherkin.specs.Tags as tagging;
 ghost use Rattle.gk_gherkin.specs.DocStrings as quoting;
 ghost use Rattle.std.specs.Str.Lines.{lines};
 ghost use Rattle.gk_gherkin.specs.declared.class.Class.TheVariants.{RuleHeading};
 ghost use Rattle.gk_gherkin.specs.declared.class.Fence as classes;
 
-use crate::class::{Class, Fence, class_of_line, is_word};
+use crate::class::{Class, Fence, class_of_line};
 use crate::doc_strings::{closes, whole_text, with_line};
 use crate::feature::{Block, Step};
 use crate::language::language_of;
-use crate::lines::Piece;
+use crate::lines::BorrowedLine;
 use crate::machine::{Body, Open, Owner, Place, Quote, State, Top, on_heading, on_place, put};
 use crate::read_fault::ReadFault;
 use crate::tags::tags_of;
+use crate::text::is_word;
 use std::alloc::Global;
 use std::mem;
 
-fn check_comment(place: &Place, line: &Piece<'_>) -> Result<(), ReadFault>
-    ensures { (state : spec.State) → Gives (λ _. state) result (spec.on_comment (place_value place.now) state (piece_value line.now)) }
+fn check_comment(place: &Place, line: &BorrowedLine<'_>) -> Result<(), ReadFault>
+    ensures { (state : spec.State) → Gives (λ _. state) result
+        (spec.on_comment (place_value place.now) state (borrowed_value line.now)) }
 {
     match place {
         Place::Above => match language_of(line) {
@@ -44,8 +48,8 @@ fn check_comment(place: &Place, line: &Piece<'_>) -> Result<(), ReadFault>
 }
 
 // The tags of a line after those before it.
-fn tag_line(alloc: Global, tags: &mut Vec<String>, line: &Piece<'_>) -> Result<(), ReadFault>
-    ensures { (place : spec.Place) → Gives (λ _. spec.Tagged place (texts tags.new.items) (piece_value line.now).line) result (spec.tag_line (tagging.tags_of (piece_value line.now)) place (texts tags.old.items) (piece_value line.now)) }
+fn tag_line(alloc: Global, tags: &mut Vec<String>, line: &BorrowedLine<'_>) -> Result<(), ReadFault>
+    ensures { AddsTags tags.old.items line.now result tags.new.items line.now.place.line }
 {
     match tags_of(alloc, line)? {
         Some(more) => {
@@ -61,7 +65,7 @@ fn tag_line(alloc: Global, tags: &mut Vec<String>, line: &Piece<'_>) -> Result<(
 
 // The step of a body that a doc string may stand under, with what is before it; or the place as it is.
 fn quote_in(top: Top, owner: Owner, body: Body) -> Result<Quote, Place>
-    ensures { IsQuote (spec.Inside (top_value top) (spec.Bodied (owner_value owner) (body_value body))) result }
+    ensures { IsQuote (spec.Inside (top_value top) (bodied_value owner body)) result }
 {
     match body {
         Body::Describing => Err(Place::Inside {
@@ -104,10 +108,12 @@ fn quote_of(place: Place) -> Result<Quote, Place>
 fn on_fence(
     alloc: Global,
     place: &mut Place,
-    line: &Piece<'_>,
+    line: &BorrowedLine<'_>,
     fence: Fence,
 ) -> Result<State, ReadFault>
-    ensures { Gives state_value result (spec.on_fence (spec.quote_of (place_value place.old)) (place_value place.old) (piece_value line.now) fence) }
+    ensures { let old = place_value place.old in
+        Gives state_value result
+        (spec.on_fence (spec.quote_of old) old (borrowed_value line.now) fence) }
 {
     match quote_of(mem::replace(place, Place::Above)) {
         Ok(quote) => Ok(State::Quoted {
@@ -128,7 +134,8 @@ fn on_fence(
 }
 
 fn after_quote(alloc: Global, quote: Quote, content: Option<String>) -> Place
-    ensures { place_value result ≡ spec.after_quote (quote_value quote) (option_map string_bytes content) }
+    ensures { place_value result
+        ≡ spec.after_quote (quote_value quote) (option_map string_bytes content) }
 {
     let text = whole_text(alloc, content);
     let step = quote.step;
@@ -155,9 +162,10 @@ pub fn add_line(
     content: &mut Option<String>,
     fence: Fence,
     column: u32,
-    line: &Piece<'_>,
+    line: &BorrowedLine<'_>,
 ) -> Result<(), ReadFault>
-    ensures { Gives (λ _. content_value content.new) result (Ok (spec.text_after (content_value content.old) fence column (piece_value line.now))) }
+    ensures { Gives (λ _. content_value content.new) result
+        (Ok (spec.text_after (content_value content.old) fence column (borrowed_value line.now))) }
 {
     let before = mem::replace(content, None);
     *content = Some(with_line(alloc, before, fence, column, line)?);
@@ -165,8 +173,9 @@ pub fn add_line(
 }
 
 // The first tags at a place.
-fn first_tags(alloc: Global, place: &mut Place, line: &Piece<'_>) -> Result<State, ReadFault>
-    ensures { Gives state_value result (spec.tag_line (tagging.tags_of (piece_value line.now)) (place_value place.old) [] (piece_value line.now)) }
+fn first_tags(alloc: Global, place: &mut Place, line: &BorrowedLine<'_>) -> Result<State, ReadFault>
+    ensures { Gives state_value result
+        (spec.on_tags (place_value place.old) [] (borrowed_value line.now)) }
 {
     let mut tags = Vec::new(alloc);
     tag_line(alloc, &mut tags, line)?;
@@ -182,11 +191,12 @@ fn first_tags(alloc: Global, place: &mut Place, line: &Piece<'_>) -> Result<Stat
 fn tags_or_fence(
     alloc: Global,
     place: &mut Place,
-    line: &Piece<'_>,
+    line: &BorrowedLine<'_>,
     class: Class,
 ) -> Result<State, ReadFault>
-    requires { spec.Changes (spec.At (place_value place.old)) (piece_value line.now) class }
-    ensures { Gives state_value result (spec.on (spec.At (place_value place.old)) (piece_value line.now) class) }
+    requires { spec.Changes (spec.At (place_value place.old)) (borrowed_value line.now) class }
+    ensures { Gives state_value result
+        (spec.on (spec.At (place_value place.old)) (borrowed_value line.now) class) }
 {
     match class {
         Class::TagLine => first_tags(alloc, place, line),
@@ -202,9 +212,9 @@ fn more_tags(
     alloc: Global,
     tags: &mut Vec<String>,
     last: &mut u32,
-    line: &Piece<'_>,
+    line: &BorrowedLine<'_>,
 ) -> Result<(), ReadFault>
-    ensures { (place : spec.Place) → Gives (λ _. spec.Tagged place (texts tags.new.items) last.new) result (spec.tag_line (tagging.tags_of (piece_value line.now)) place (texts tags.old.items) (piece_value line.now)) }
+    ensures { AddsTags tags.old.items line.now result tags.new.items last.new }
 {
     tag_line(alloc, tags, line)?;
     *last = line.place.line;
@@ -216,10 +226,12 @@ fn heading_after_tags(
     alloc: Global,
     place: &mut Place,
     tags: &mut Vec<String>,
-    line: &Piece<'_>,
+    line: &BorrowedLine<'_>,
     class: Class,
 ) -> Result<State, ReadFault>
-    ensures { Gives state_value result (spec.placed (spec.on_heading (place_value place.old) (texts tags.old.items) (piece_value line.now) class)) }
+    ensures { let old = place_value place.old in
+        Gives state_value result
+        (spec.placed (spec.on_heading old (texts tags.old.items) (borrowed_value line.now) class)) }
 {
     let tags = mem::replace(tags, Vec::new(alloc));
     on_heading(alloc, place, tags, line, class)?;
@@ -230,7 +242,7 @@ fn heading_after_tags(
 
 // The end of a doc string: the state is at the place after it.
 fn end_quote(alloc: Global, state: &mut State)
-    ensures { (quote : spec.QuoteValue) (fence : classes.Fence) (column n : ℕ) (content : Option (List ℕ)) → state_value state.old ≡ spec.Quoted quote fence column n content → state_value state.new ≡ spec.At (spec.after_quote quote content) }
+    ensures { EndsDocString state.old state.new }
 {
     let place = Place::Above;
     match mem::replace(state, State::At { place }) {
@@ -245,9 +257,15 @@ fn end_quote(alloc: Global, state: &mut State)
 // A line after which it is another of the three states, or after tags.
 #[inline(never)]
 #[tactic(auto, unfolding(crate::specs::Machine::on))]
-fn change(alloc: Global, state: &mut State, line: &Piece<'_>, class: Class) -> Result<(), ReadFault>
-    requires { spec.Changes (state_value state.old) (piece_value line.now) class }
-    ensures { Gives (λ _. state_value state.new) result (spec.on (state_value state.old) (piece_value line.now) class) }
+fn change(
+    alloc: Global,
+    state: &mut State,
+    line: &BorrowedLine<'_>,
+    class: Class,
+) -> Result<(), ReadFault>
+    requires { spec.Changes (state_value state.old) (borrowed_value line.now) class }
+    ensures { Gives (λ _. state_value state.new) result
+        (spec.on (state_value state.old) (borrowed_value line.now) class) }
 {
     match state {
         State::At { place } => {
@@ -273,8 +291,13 @@ fn change(alloc: Global, state: &mut State, line: &Piece<'_>, class: Class) -> R
 }
 
 #[tactic(auto, unfolding(crate::specs::Machine::step, crate::specs::Machine::on))]
-pub fn next_state(alloc: Global, state: &mut State, line: &Piece<'_>) -> Result<(), ReadFault>
-    ensures { Gives (λ _. state_value state.new) result (spec.step (state_value state.old) (piece_value line.now)) }
+pub fn next_state(
+    alloc: Global,
+    state: &mut State,
+    line: &BorrowedLine<'_>,
+) -> Result<(), ReadFault>
+    ensures { Gives (λ _. state_value state.new) result
+        (spec.step (state_value state.old) (borrowed_value line.now)) }
 {
     let class = class_of_line(line);
     match state {

@@ -2,8 +2,8 @@
 ghost use Rattle.std.specs.Prelude.{◌≡◌};
 ghost use Rattle.gk_gherkin.specs.StepTypes as spec;
 
-use crate::class::is_word;
 use crate::feature::StepType;
+use crate::text::is_word;
 
 /// The type that a keyword gives after a step of another type.
 #[tactic(auto, unfolding(crate::specs::StepTypes::type_after))]

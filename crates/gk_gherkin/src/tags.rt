@@ -1,14 +1,14 @@
 //! The tags of a line.
-ghost use Rattle.std.specs.Prelude.{option_map, Ok, IfOk, IfErr, ◌≡◌, ◌++◌, ◌∷◌, []};
-ghost use Rattle.gk_gherkin.specs.Lines.{piece_value};
-ghost use Rattle.gk_gherkin.specs.Feature.{texts};
+ghost use Rattle.std.specs.Prelude.{Ok, IfOk, IfErr, ◌≡◌, ◌++◌, ◌∷◌, []};
+ghost use Rattle.gk_gherkin.specs.Lines.{borrowed_value};
+ghost use Rattle.gk_gherkin.specs.Feature.{found_texts, texts};
 ghost use Rattle.gk_gherkin.specs.Machine.{Gives};
 ghost use Rattle.gk_gherkin.specs.Tags as spec;
 ghost use Rattle.gk_gherkin.specs.declared.read_fault.ReadFault.TheVariants.{Memory};
 
-use crate::class::{begins, first_blank};
-use crate::lines::{Piece, trim_front};
+use crate::lines::BorrowedLine;
 use crate::read_fault::ReadFault;
+use crate::text::{begins, first_blank, trim_front};
 use std::alloc::Global;
 
 pub fn is_tag(word: &str) -> bool
@@ -20,7 +20,8 @@ pub fn is_tag(word: &str) -> bool
 // A word after the tags before it.
 #[tactic(auto, using(crate::proofs::TagWords::text_more))]
 fn push_tag(alloc: Global, tags: &mut Vec<String>, word: &str) -> Result<(), ReadFault>
-    ensures pushed { IfOk result (λ _. texts tags.new.items ≡ texts tags.old.items ++ word.now ∷ []) }
+    ensures pushed { IfOk result (λ _.
+        texts tags.new.items ≡ texts tags.old.items ++ word.now ∷ []) }
     ensures fault { IfErr result (λ e. e ≡ Memory) }
 {
     tags.push(String::from_str(alloc, word)?)?;
@@ -28,8 +29,8 @@ fn push_tag(alloc: Global, tags: &mut Vec<String>, word: &str) -> Result<(), Rea
 }
 
 /// The tags of a tag line, each with its `@`; none where a word before any comment is no tag.
-pub fn tags_of(alloc: Global, line: &Piece<'_>) -> Result<Option<Vec<String>>, ReadFault>
-    ensures { Gives (λ o. option_map (λ v. texts v.items) o) result (Ok (spec.tags_of (piece_value line.now))) }
+pub fn tags_of(alloc: Global, line: &BorrowedLine<'_>) -> Result<Option<Vec<String>>, ReadFault>
+    ensures { Gives found_texts result (Ok (spec.tags_of (borrowed_value line.now))) }
 {
     let mut tags = Vec::new(alloc);
     let mut rest = trim_front(line.text);

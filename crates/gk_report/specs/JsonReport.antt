@@ -1,9 +1,9 @@
 -- The JSON format: compact text, with the keys of each object in byte order.
-use Rattle.std.specs.Prelude.{ℕ, Bool, cond, not, List, [], ◌++◌, map, filter, Option, Some, None, codes}
+use Rattle.std.specs.Prelude.{ℕ, Bool, cond, not, List, [], ◌++◌, map, filter, Option, Some, None, Result, OnOk, codes}
 use Rattle.std.specs.Fmt.{decimal}
 use Rattle.serde.specs.Event.{Log}
 use Rattle.serde_json.specs.Data.{Data, number, unsigned, string, array, object, Items, item, Members, no_members, member}
-use Rattle.serde_json.specs.Events.{SendsItems, SendsMembers}
+use Rattle.serde_json.specs.Events.{SendsItems, SendsMembers, SendsValue}
 use Rattle.serde_json.specs.View.{items_of}
 use Rattle.serde_json.specs.Written.{compact_text}
 use Rattle.gk_run.specs.declared.results.Status.{Status}
@@ -101,10 +101,13 @@ document no_skipped rows around status summary = object (
 unfoldable pub json_head : List ℕ
 json_head = codes "{\"features\":["
 
--- The part of a feature: its object, after a comma where it isn't the first that is printed; nothing where it is hidden. (this project's profile)
+-- The object of a feature, after a comma where it isn't the first that is printed. (this project's profile)
+abbrev pub feature_object : Bool → Bool → FeatureRow → List ℕ
+feature_object no_skipped first f = cond first [] (codes ",") ++ compact_text (feature_data no_skipped f)
+
+-- The part of a feature: its object, nothing where it is hidden. (this project's profile)
 unfoldable pub json_part : Bool → Bool → FeatureRow → List ℕ
-json_part no_skipped first f = cond (is_hidden no_skipped f.status) [] (
-    cond first [] (codes ",") ++ compact_text (feature_data no_skipped f))
+json_part no_skipped first f = cond (is_hidden no_skipped f.status) [] (feature_object no_skipped first f)
 
 -- What stands after the features. (this project's profile)
 unfoldable pub json_tail : Status → ℕ → Summary → List ℕ
@@ -119,6 +122,18 @@ AddsMembers add old new = (rest : Members) (end : Log) → SendsMembers rest new
 -- The same of the values of an array.
 abbrev pub AddsItems : (Items → Items) → Log → Log → Type 0
 AddsItems add old new = (rest : Items) (end : Log) → SendsItems rest new end → SendsItems (add rest) old end
+
+-- Where a call succeeds, it writes these members.
+abbrev pub WritesMembers : {W T E : Type 0} → (W → Log) → W → (Members → Members) → Result T E → W → Type 0
+WritesMembers written old add result new = OnOk result (AddsMembers add (written old) (written new))
+
+-- Where a call succeeds, it writes these items.
+abbrev pub WritesItems : {W T E : Type 0} → (W → Log) → W → (Items → Items) → Result T E → W → Type 0
+WritesItems written old add result new = OnOk result (AddsItems add (written old) (written new))
+
+-- Where a call succeeds, it writes this value.
+abbrev pub WritesValue : {W T E : Type 0} → (W → Log) → W → Data → Result T E → W → Type 0
+WritesValue written old value result new = OnOk result (SendsValue value (written old) (written new))
 
 -- How many members a step's object has.
 abbrev pub step_members : Option Reason → ℕ

@@ -61,6 +61,10 @@ tail style rows around = tail_in style.format (summary_of rows) around (status_o
 abbrev pub tail_by : Style → Summary → Status → List ℕ
 tail_by style summary around = tail_in style.format summary around (status_by summary around)
 
+-- Of whatever results this is the summary, the text is their tail.
+abbrev pub IsTailOf : Style → Summary → Status → List ℕ → Type 0
+IsTailOf style summary around text = (rows : List FeatureRow) → summary ≡ summary_of rows → text ≡ tail style rows around
+
 -- The report of a run's results. (this project's profile)
 abbrev pub report : Style → Results → List ℕ
 report style results = head style ++ (parts style results.features ++ tail style results.features results.around)

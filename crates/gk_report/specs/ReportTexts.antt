@@ -1,5 +1,5 @@
 -- The texts that the formats share, and what each of them leaves out.
-use Rattle.std.specs.Prelude.{ℕ, Bool, cond, not, ◌&&◌, ◌==◌, List, [], ◌∷◌, codes, filter, flat_map}
+use Rattle.std.specs.Prelude.{◌≡◌, ℕ, Bool, cond, not, ◌&&◌, ◌==◌, List, [], ◌∷◌, ◌++◌, codes, filter, flat_map, String, string_bytes, Result, OnOk, IfOk}
 use Rattle.gk_run.specs.declared.results.Status.{Status}
 use Rattle.gk_run.specs.declared.results.Status.TheVariants as statuses
 use Rattle.gk_run.specs.declared.results.Reason.{Reason}
@@ -51,3 +51,11 @@ is_hidden no_skipped status = no_skipped && is_skipped status
 -- The scenarios of a feature that are printed. (behave's documentation: `--no-skipped`)
 abbrev pub printed_cases : Bool → List CaseRow → List CaseRow
 printed_cases no_skipped cases = filter (λ c. not (is_hidden no_skipped c.status)) cases
+
+-- Where a call succeeds, this text stands at the end of what was there. (this project's profile)
+abbrev pub Pushes : {T E Y Z : Type 0} → String Y → List ℕ → Result T E → String Z → Type 0
+Pushes old part result new = OnOk result (string_bytes new ≡ string_bytes old ++ part)
+
+-- Where a call succeeds, this is the text that it answers. (this project's profile)
+abbrev pub AnswersText : {E Y : Type 0} → Result (String Y) E → List ℕ → Type 0
+AnswersText result expected = IfOk result (λ text. string_bytes text ≡ expected)

@@ -1,5 +1,5 @@
 -- What a report counts, and the status that a run ends with.
-use Rattle.std.specs.Prelude.{◌≡◌, ℕ, ◌+◌, ◌-◌, ◌^◌, ◌||◌, min, cond, nat_lt, Bool, List, ◌∷◌, ◌++◌, map, flat_map, fold, count_by}
+use Rattle.std.specs.Prelude.{◌≡◌, ℕ, ◌+◌, ◌-◌, ◌^◌, ◌||◌, min, cond, nat_lt, Bool, List, [], ◌∷◌, ◌++◌, map, flat_map, fold, count_by}
 use Rattle.std.specs.List.{list_any}
 use Rattle.gk_run.specs.declared.results.Status.{Status}
 use Rattle.gk_run.specs.declared.results.Status.TheVariants as statuses
@@ -71,6 +71,10 @@ status results = status_of results.features results.around
 -- Of whatever results this is the summary, the number is their status, where the run's own hooks and cleanups ended so.
 abbrev pub IsStatusOf : Summary → Status → ℕ → Type 0
 IsStatusOf summary around number = (rows : List FeatureRow) → summary ≡ summary_of rows → number ≡ status_of rows around
+
+-- Of whatever results the old summary was, the new one is that of these and one more. (this project's profile)
+abbrev pub CountsOneMore : Summary → FeatureRow → Summary → Type 0
+CountsOneMore old row new = (rows : List FeatureRow) → old ≡ summary_of rows → new ≡ summary_of (rows ++ row ∷ [])
 
 -- Proof machinery from here on: counting one status after the other. One more, up to the greatest number.
 abbrev pub raised : ℕ → ℕ

@@ -1,5 +1,5 @@
 //! The JSON report: one document, whose objects `serde_json` writes from the results where they lie.
-ghost use Rattle.std.specs.Prelude.{◌≡◌, [], ◌++◌, codes, map, length, Some, IfOk, OnOk, string_bytes};
+ghost use Rattle.std.specs.Prelude.{◌≡◌, [], codes, map, length, Some, IfOk, string_bytes};
 ghost use Rattle.serde.specs.Event.{Log};
 ghost use Rattle.serde_json.specs.Data.{string, member};
 ghost use Rattle.serde_json.specs.Events.{SendsValue};
@@ -7,9 +7,9 @@ ghost use Rattle.serde_json.specs.Sent.{IsTextOf};
 ghost use Rattle.serde_json.specs.Written.{compact_text};
 ghost use Rattle.gk_run.specs.Results.{step_row, case_row, feature_row};
 ghost use Rattle.gk_report.specs.Summary.{status_by};
-ghost use Rattle.gk_report.specs.ReportTexts.{printed_cases};
+ghost use Rattle.gk_report.specs.ReportTexts.{printed_cases, AnswersText};
 ghost use Rattle.gk_report.specs.JsonReport as spec;
-ghost use Rattle.gk_report.specs.JsonReport.{number_data, status_data, array_data, reason_and, step_data, case_data, feature_data, summary_data, AddsMembers, AddsItems, case_and, undefined_and, counts_data_of, tail_of};
+ghost use Rattle.gk_report.specs.JsonReport.{number_data, status_data, array_data, reason_and, step_data, case_data, feature_data, summary_data, WritesMembers, WritesItems, WritesValue, case_and, undefined_and, counts_data_of, tail_of};
 
 use crate::report_texts::{hides, reason_text, status_text};
 use crate::summary::{Counts, Summary};
@@ -51,28 +51,28 @@ impl Serialize for SummaryObject {
 }
 
 fn write_text<S: Serializer>(out: &mut S, key: &str, text: &str) -> Result<(), S::Error>
-    ensures { OnOk result (AddsMembers (member key.now (string text.now)) (S.written out.old) (S.written out.new)) }
+    ensures { WritesMembers S.written out.old (member key.now (string text.now)) result out.new }
 {
     out.key(key)?;
     out.str(text)
 }
 
 fn write_number<S: Serializer>(out: &mut S, key: &str, number: u64) -> Result<(), S::Error>
-    ensures { OnOk result (AddsMembers (member key.now (number_data number)) (S.written out.old) (S.written out.new)) }
+    ensures { WritesMembers S.written out.old (member key.now (number_data number)) result out.new }
 {
     out.key(key)?;
     out.u64(number)
 }
 
 fn write_status<S: Serializer>(out: &mut S, key: &str, status: Status) -> Result<(), S::Error>
-    ensures { OnOk result (AddsMembers (member key.now (status_data status)) (S.written out.old) (S.written out.new)) }
+    ensures { WritesMembers S.written out.old (member key.now (status_data status)) result out.new }
 {
     write_text(out, key, status_text(status))
 }
 
 // The reason of a step that failed.
 fn write_reason<S: Serializer>(out: &mut S, reason: Option<Reason>) -> Result<(), S::Error>
-    ensures { OnOk result (AddsMembers (reason_and reason) (S.written out.old) (S.written out.new)) }
+    ensures { WritesMembers S.written out.old (reason_and reason) result out.new }
 {
     match reason {
         Some(reason) => write_text(out, "reason", reason_text(reason)),
@@ -91,7 +91,7 @@ fn step_members(reason: Option<Reason>) -> usize
 }
 
 fn write_step<S: Serializer>(out: &mut S, step: &StepResult) -> Result<(), S::Error>
-    ensures { OnOk result (SendsValue (step_data (step_row step.now)) (S.written out.old) (S.written out.new)) }
+    ensures { WritesValue S.written out.old (step_data (step_row step.now)) result out.new }
 {
     out.begin_map(Some(step_members(step.reason)))?;
     write_text(out, "keyword", step.keyword.as_str())?;
@@ -103,7 +103,9 @@ fn write_step<S: Serializer>(out: &mut S, step: &StepResult) -> Result<(), S::Er
 }
 
 fn write_steps<S: Serializer>(out: &mut S, steps: &[StepResult]) -> Result<(), S::Error>
-    ensures { OnOk result (AddsMembers (member (codes "steps") (array_data (map step_data (map step_row steps.now)))) (S.written out.old) (S.written out.new)) }
+    ensures { WritesMembers S.written out.old
+        (member (codes "steps") (array_data (map step_data (map step_row steps.now))))
+        result out.new }
 {
     out.key("steps")?;
     out.begin_seq(Some(steps.len()))?;
@@ -114,7 +116,7 @@ fn write_steps<S: Serializer>(out: &mut S, steps: &[StepResult]) -> Result<(), S
 }
 
 fn write_case<S: Serializer>(out: &mut S, case: &CaseResult) -> Result<(), S::Error>
-    ensures { OnOk result (SendsValue (case_data (case_row case.now)) (S.written out.old) (S.written out.new)) }
+    ensures { WritesValue S.written out.old (case_data (case_row case.now)) result out.new }
 {
     out.begin_map(Some(6))?;
     write_status(out, "around", case.around)?;
@@ -132,7 +134,8 @@ fn write_printed<S: Serializer>(
     no_skipped: bool,
     case: &CaseResult,
 ) -> Result<(), S::Error>
-    ensures { OnOk result (AddsItems (case_and no_skipped (case_row case.now)) (S.written out.old) (S.written out.new)) }
+    ensures { WritesItems S.written out.old
+        (case_and no_skipped (case_row case.now)) result out.new }
 {
     if hides(no_skipped, case.status) {
         return Ok(());
@@ -158,7 +161,10 @@ fn write_cases<S: Serializer>(
     no_skipped: bool,
     cases: &[CaseResult],
 ) -> Result<(), S::Error>
-    ensures { OnOk result (AddsMembers (member (codes "scenarios") (array_data (map case_data (printed_cases no_skipped (map case_row cases.now))))) (S.written out.old) (S.written out.new)) }
+    ensures { WritesMembers S.written out.old
+        (member (codes "scenarios")
+        (array_data (map case_data (printed_cases no_skipped (map case_row cases.now)))))
+        result out.new }
 {
     out.key("scenarios")?;
     out.begin_seq(Some(printed_count(no_skipped, cases)))?;
@@ -173,7 +179,8 @@ fn write_feature<S: Serializer>(
     no_skipped: bool,
     feature: &FeatureResult,
 ) -> Result<(), S::Error>
-    ensures { OnOk result (SendsValue (feature_data no_skipped (feature_row feature.now)) (S.written out.old) (S.written out.new)) }
+    ensures { WritesValue S.written out.old
+        (feature_data no_skipped (feature_row feature.now)) result out.new }
 {
     out.begin_map(Some(6))?;
     write_status(out, "around", feature.around)?;
@@ -187,7 +194,7 @@ fn write_feature<S: Serializer>(
 
 // The undefined ones, of steps alone.
 fn write_undefined<S: Serializer>(out: &mut S, count: u64, of_steps: bool) -> Result<(), S::Error>
-    ensures { OnOk result (AddsMembers (undefined_and of_steps count) (S.written out.old) (S.written out.new)) }
+    ensures { WritesMembers S.written out.old (undefined_and of_steps count) result out.new }
 {
     if !of_steps {
         return Ok(());
@@ -208,7 +215,8 @@ fn write_counts<S: Serializer>(
     counts: &Counts,
     of_steps: bool,
 ) -> Result<(), S::Error>
-    ensures { OnOk result (AddsMembers (member key.now (counts_data_of of_steps counts.now)) (S.written out.old) (S.written out.new)) }
+    ensures { WritesMembers S.written out.old
+        (member key.now (counts_data_of of_steps counts.now)) result out.new }
 {
     out.key(key)?;
     out.begin_map(Some(count_members(of_steps)))?;
@@ -222,7 +230,7 @@ fn write_counts<S: Serializer>(
 }
 
 fn write_summary<S: Serializer>(out: &mut S, summary: &Summary) -> Result<(), S::Error>
-    ensures { OnOk result (SendsValue (summary_data summary.now) (S.written out.old) (S.written out.new)) }
+    ensures { WritesValue S.written out.old (summary_data summary.now) result out.new }
 {
     out.begin_map(Some(3))?;
     write_counts(out, "features", &summary.features, false)?;
@@ -233,7 +241,8 @@ fn write_summary<S: Serializer>(out: &mut S, summary: &Summary) -> Result<(), S:
 
 // The text of a value. Writing one of those here fails only where a growth is refused.
 fn json_text<T: Serialize>(alloc: Global, value: &T) -> Result<String, AllocError>
-    ensures { IfOk result (λ text. (log : Log) × T.writes value.now (Some []) log × IsTextOf log (string_bytes text)) }
+    ensures { IfOk result (λ text.
+        (log : Log) × T.writes value.now (Some []) log × IsTextOf log (string_bytes text)) }
 {
     match serde_json::to_string(alloc, value) {
         Ok(text) => Ok(text),
@@ -246,7 +255,8 @@ fn feature_text(
     no_skipped: bool,
     feature: &FeatureResult,
 ) -> Result<String, AllocError>
-    ensures { IfOk result (λ text. string_bytes text ≡ compact_text (feature_data no_skipped (feature_row feature.now))) }
+    ensures { AnswersText result
+        (compact_text (feature_data no_skipped (feature_row feature.now))) }
 {
     let object = FeatureObject {
         no_skipped,
@@ -256,13 +266,13 @@ fn feature_text(
 }
 
 fn summary_text(alloc: Global, summary: &Summary) -> Result<String, AllocError>
-    ensures { IfOk result (λ text. string_bytes text ≡ compact_text (summary_data summary.now)) }
+    ensures { AnswersText result (compact_text (summary_data summary.now)) }
 {
     json_text(alloc, &SummaryObject { summary: *summary })
 }
 
 fn status_string(alloc: Global, status: Status) -> Result<String, AllocError>
-    ensures { IfOk result (λ text. string_bytes text ≡ compact_text (status_data status)) }
+    ensures { AnswersText result (compact_text (status_data status)) }
 {
     json_text(alloc, &status_text(status))
 }
@@ -270,25 +280,21 @@ fn status_string(alloc: Global, status: Status) -> Result<String, AllocError>
 /// What stands before the features. An error comes only where a growth was refused.
 #[tactic(auto, unfolding(crate::specs::JsonReport::json_head))]
 pub fn json_head(alloc: Global) -> Result<String, AllocError>
-    ensures { IfOk result (λ text. string_bytes text ≡ spec.json_head) }
+    ensures { AnswersText result spec.json_head }
 {
     Ok(String::from_str(alloc, "{\"features\":[")?)
 }
 
-/// The part of a feature: its object, after a comma where it isn't the first that is printed, or nothing
-/// where it is hidden. An error comes only where a growth was refused.
-#[tactic(auto, unfolding(crate::specs::JsonReport::json_part))]
-pub fn json_part(
+/// The object of a feature, after a comma where it isn't the first that is printed. An error comes only
+/// where a growth was refused.
+pub fn feature_object(
     alloc: Global,
     no_skipped: bool,
     first: bool,
     feature: &FeatureResult,
 ) -> Result<String, AllocError>
-    ensures { IfOk result (λ text. string_bytes text ≡ spec.json_part no_skipped first (feature_row feature.now)) }
+    ensures { AnswersText result (spec.feature_object no_skipped first (feature_row feature.now)) }
 {
-    if hides(no_skipped, feature.status) {
-        return Ok(String::new(alloc));
-    }
     let mut object = feature_text(alloc, no_skipped, feature)?;
     if !first {
         object.insert_str(0, ",")?;
@@ -298,7 +304,7 @@ pub fn json_part(
 
 #[tactic(auto, unfolding(crate::specs::JsonReport::tail_of))]
 fn tail_text(alloc: Global, run: &str, status: u8, counts: &str) -> Result<String, AllocError>
-    ensures { IfOk result (λ text. string_bytes text ≡ tail_of run.now status counts.now) }
+    ensures { AnswersText result (tail_of run.now status counts.now) }
 {
     let mut out = String::new(alloc);
     out.push_str("],\"run\":")?;
@@ -312,7 +318,8 @@ fn tail_text(alloc: Global, run: &str, status: u8, counts: &str) -> Result<Strin
 /// What stands after the features: the counts of a summary, `around` being how the run's own hooks and
 /// cleanups ended, and the status that the run ends with. An error comes only where a growth was refused.
 pub fn json_tail(alloc: Global, summary: &Summary, around: Status) -> Result<String, AllocError>
-    ensures { IfOk result (λ text. string_bytes text ≡ spec.json_tail around (status_by summary.now around) summary.now) }
+    ensures { AnswersText result
+        (spec.json_tail around (status_by summary.now around) summary.now) }
 {
     let run = status_string(alloc, around)?;
     let counts = summary_text(alloc, summary)?;

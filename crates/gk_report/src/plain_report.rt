@@ -1,9 +1,9 @@
-//! The plain report: a part for each feature, and the closing lines, which it shares with progress.
-ghost use Rattle.std.specs.Prelude.{◌≡◌, [], ◌++◌, map, flat_map, codes, cond, IfOk, OnOk, string_bytes};
+//! The plain report: the lines of a feature, and the closing lines, which it shares with progress.
+ghost use Rattle.std.specs.Prelude.{[], map, flat_map, codes, cond};
 ghost use Rattle.gk_run.specs.Results.{step_row, case_row, feature_row};
-ghost use Rattle.gk_report.specs.ReportTexts.{is_hidden, printed_cases};
+ghost use Rattle.gk_report.specs.ReportTexts.{is_hidden, printed_cases, Pushes, AnswersText};
 ghost use Rattle.gk_report.specs.PlainReport as spec;
-ghost use Rattle.gk_report.specs.PlainReport.{step_verdict, step_line, status_line, case_line, around_line, case_lines, feature_line, feature_lines, counted, counted_if_any, passed_part, undefined_part, count_line, closing_lines};
+ghost use Rattle.gk_report.specs.PlainReport.{step_verdict, step_line, status_line, case_line, around_line, case_lines, feature_line, counted, counted_if_any, passed_part, undefined_part, count_line, closing_lines};
 
 use crate::report_texts::{hides, push_one_line, reason_text, status_text};
 use crate::summary::{Counts, Summary};
@@ -11,7 +11,7 @@ use gk_run::{CaseResult, FeatureResult, Reason, Status, StepResult};
 use std::alloc::{AllocError, Global};
 
 fn push_verdict(out: &mut String, status: Status, reason: Option<Reason>) -> Result<(), AllocError>
-    ensures { OnOk result (string_bytes out.new ≡ string_bytes out.old ++ step_verdict status reason) }
+    ensures { Pushes out.old (step_verdict status reason) result out.new }
 {
     out.push_str(status_text(status))?;
     if let Some(reason) = reason {
@@ -23,7 +23,7 @@ fn push_verdict(out: &mut String, status: Status, reason: Option<Reason>) -> Res
 
 #[tactic(auto, unfolding(crate::specs::PlainReport::status_line, crate::specs::PlainReport::step_line))]
 fn push_step(out: &mut String, step: &StepResult) -> Result<(), AllocError>
-    ensures { OnOk result (string_bytes out.new ≡ string_bytes out.old ++ step_line (step_row step.now)) }
+    ensures { Pushes out.old (step_line (step_row step.now)) result out.new }
 {
     write!(out, "    {} ", step.keyword)?;
     push_one_line(out, step.text.as_str())?;
@@ -35,7 +35,7 @@ fn push_step(out: &mut String, step: &StepResult) -> Result<(), AllocError>
 
 #[tactic(auto, unfolding(crate::specs::PlainReport::status_line, crate::specs::PlainReport::case_line))]
 fn push_case_line(out: &mut String, case: &CaseResult) -> Result<(), AllocError>
-    ensures { OnOk result (string_bytes out.new ≡ string_bytes out.old ++ case_line (case_row case.now)) }
+    ensures { Pushes out.old (case_line (case_row case.now)) result out.new }
 {
     write!(out, "  {}: ", case.keyword)?;
     push_one_line(out, case.name.as_str())?;
@@ -47,7 +47,7 @@ fn push_case_line(out: &mut String, case: &CaseResult) -> Result<(), AllocError>
 // The line of hooks and cleanups, unless they passed.
 #[tactic(auto, unfolding(crate::specs::PlainReport::status_line, crate::specs::PlainReport::around_line))]
 fn push_around(out: &mut String, indent: &str, around: Status) -> Result<(), AllocError>
-    ensures { OnOk result (string_bytes out.new ≡ string_bytes out.old ++ around_line indent.now around) }
+    ensures { Pushes out.old (around_line indent.now around) result out.new }
 {
     if around != Status::Passed {
         out.push_str(indent)?;
@@ -59,7 +59,7 @@ fn push_around(out: &mut String, indent: &str, around: Status) -> Result<(), All
 }
 
 fn push_case(out: &mut String, case: &CaseResult) -> Result<(), AllocError>
-    ensures { OnOk result (string_bytes out.new ≡ string_bytes out.old ++ case_lines (case_row case.now)) }
+    ensures { Pushes out.old (case_lines (case_row case.now)) result out.new }
 {
     push_case_line(out, case)?;
     for step in &case.steps {
@@ -71,7 +71,7 @@ fn push_case(out: &mut String, case: &CaseResult) -> Result<(), AllocError>
 
 #[tactic(auto, unfolding(crate::specs::PlainReport::status_line, crate::specs::PlainReport::feature_line))]
 fn push_feature_line(out: &mut String, feature: &FeatureResult) -> Result<(), AllocError>
-    ensures { OnOk result (string_bytes out.new ≡ string_bytes out.old ++ feature_line (feature_row feature.now)) }
+    ensures { Pushes out.old (feature_line (feature_row feature.now)) result out.new }
 {
     out.push_str("Feature: ")?;
     push_one_line(out, feature.name.as_str())?;
@@ -82,7 +82,9 @@ fn push_feature_line(out: &mut String, feature: &FeatureResult) -> Result<(), Al
 
 // The lines of a scenario, unless it is hidden.
 fn push_printed(out: &mut String, no_skipped: bool, case: &CaseResult) -> Result<(), AllocError>
-    ensures { OnOk result (string_bytes out.new ≡ string_bytes out.old ++ cond (is_hidden no_skipped case.now.status) [] (case_lines (case_row case.now))) }
+    ensures { Pushes out.old
+        (cond (is_hidden no_skipped case.now.status) [] (case_lines (case_row case.now)))
+        result out.new }
 {
     if !hides(no_skipped, case.status) {
         push_case(out, case)?;
@@ -91,7 +93,9 @@ fn push_printed(out: &mut String, no_skipped: bool, case: &CaseResult) -> Result
 }
 
 fn push_cases(out: &mut String, no_skipped: bool, cases: &[CaseResult]) -> Result<(), AllocError>
-    ensures { OnOk result (string_bytes out.new ≡ string_bytes out.old ++ flat_map case_lines (printed_cases no_skipped (map case_row cases.now))) }
+    ensures { Pushes out.old
+        (flat_map case_lines (printed_cases no_skipped (map case_row cases.now)))
+        result out.new }
 {
     for case in cases {
         push_printed(out, no_skipped, case)?;
@@ -99,47 +103,32 @@ fn push_cases(out: &mut String, no_skipped: bool, cases: &[CaseResult]) -> Resul
     Ok(())
 }
 
-fn push_feature(
-    out: &mut String,
-    no_skipped: bool,
-    feature: &FeatureResult,
-) -> Result<(), AllocError>
-    ensures { OnOk result (string_bytes out.new ≡ string_bytes out.old ++ feature_lines no_skipped (feature_row feature.now)) }
-{
-    push_feature_line(out, feature)?;
-    push_cases(out, no_skipped, feature.cases.as_slice())?;
-    push_around(out, "  ", feature.around)?;
-    out.push_str("\n")?;
-    Ok(())
-}
-
-/// The part of a feature: its lines, or nothing where it is hidden. An error comes only where a growth was
-/// refused.
-#[tactic(auto, unfolding(crate::specs::PlainReport::plain_part))]
-pub fn plain_part(
+/// The lines of a feature. An error comes only where a growth was refused.
+pub fn feature_lines(
     alloc: Global,
     no_skipped: bool,
     feature: &FeatureResult,
 ) -> Result<String, AllocError>
-    ensures { IfOk result (λ text. string_bytes text ≡ spec.plain_part no_skipped (feature_row feature.now)) }
+    ensures { AnswersText result (spec.feature_lines no_skipped (feature_row feature.now)) }
 {
     let mut out = String::new(alloc);
-    if !hides(no_skipped, feature.status) {
-        push_feature(&mut out, no_skipped, feature)?;
-    }
+    push_feature_line(&mut out, feature)?;
+    push_cases(&mut out, no_skipped, feature.cases.as_slice())?;
+    push_around(&mut out, "  ", feature.around)?;
+    out.push_str("\n")?;
     Ok(out)
 }
 
 #[tactic(auto, unfolding(crate::specs::PlainReport::counted))]
 fn push_counted(out: &mut String, count: u64, word: &str) -> Result<(), AllocError>
-    ensures { OnOk result (string_bytes out.new ≡ string_bytes out.old ++ counted count word.now) }
+    ensures { Pushes out.old (counted count word.now) result out.new }
 {
     write!(out, ", {count} {word}")?;
     Ok(())
 }
 
 fn push_counted_if_any(out: &mut String, count: u64, word: &str) -> Result<(), AllocError>
-    ensures { OnOk result (string_bytes out.new ≡ string_bytes out.old ++ counted_if_any count word.now) }
+    ensures { Pushes out.old (counted_if_any count word.now) result out.new }
 {
     if count != 0 {
         push_counted(out, count, word)?;
@@ -148,7 +137,7 @@ fn push_counted_if_any(out: &mut String, count: u64, word: &str) -> Result<(), A
 }
 
 fn push_passed(out: &mut String, noun: &str, passed: u64) -> Result<(), AllocError>
-    ensures { OnOk result (string_bytes out.new ≡ string_bytes out.old ++ passed_part noun.now passed) }
+    ensures { Pushes out.old (passed_part noun.now passed) result out.new }
 {
     let plural = if passed == 1 { "" } else { "s" };
     write!(out, "{passed} {noun}{plural} passed")?;
@@ -156,7 +145,8 @@ fn push_passed(out: &mut String, noun: &str, passed: u64) -> Result<(), AllocErr
 }
 
 fn push_undefined(out: &mut String, count: u64, of_steps: bool) -> Result<(), AllocError>
-    ensures { OnOk result (string_bytes out.new ≡ string_bytes out.old ++ cond of_steps (counted count (codes "undefined")) []) }
+    ensures { Pushes out.old
+        (cond of_steps (counted count (codes "undefined")) []) result out.new }
 {
     if of_steps {
         push_counted(out, count, "undefined")?;
@@ -172,7 +162,8 @@ fn push_count_line(
     counts: &Counts,
     of_steps: bool,
 ) -> Result<(), AllocError>
-    ensures { OnOk result (string_bytes out.new ≡ string_bytes out.old ++ count_line noun.now counts.now (undefined_part of_steps counts.now)) }
+    ensures { Pushes out.old
+        (count_line noun.now counts.now (undefined_part of_steps counts.now)) result out.new }
 {
     push_passed(out, noun, counts.passed)?;
     push_counted(out, counts.failed, "failed")?;
@@ -188,7 +179,7 @@ fn push_count_line(
 /// error comes only where a growth was refused.
 #[tactic(auto, unfolding(crate::specs::PlainReport::closing_lines))]
 pub fn closing_text(alloc: Global, summary: &Summary, around: Status) -> Result<String, AllocError>
-    ensures { IfOk result (λ text. string_bytes text ≡ closing_lines summary.now around) }
+    ensures { AnswersText result (closing_lines summary.now around) }
 {
     let mut out = String::new(alloc);
     push_around(&mut out, "", around)?;

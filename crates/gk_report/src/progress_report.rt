@@ -1,9 +1,9 @@
 //! The progress report: a line for each feature.
-ghost use Rattle.std.specs.Prelude.{◌≡◌, [], ◌∷◌, ◌++◌, map, cond, IfOk, OnOk, string_bytes};
+ghost use Rattle.std.specs.Prelude.{◌≡◌, [], ◌∷◌, map, cond};
 ghost use Rattle.gk_run.specs.Results.{case_row, feature_row};
-ghost use Rattle.gk_report.specs.ReportTexts.{is_hidden};
+ghost use Rattle.gk_report.specs.ReportTexts.{is_hidden, Pushes, AnswersText};
 ghost use Rattle.gk_report.specs.ProgressReport as spec;
-ghost use Rattle.gk_report.specs.ProgressReport.{status_mark, case_marks, progress_line};
+ghost use Rattle.gk_report.specs.ProgressReport.{status_mark, case_marks};
 
 use crate::report_texts::{hides, push_one_line, status_text};
 use gk_run::{CaseResult, FeatureResult, Status};
@@ -23,7 +23,8 @@ fn mark_text(status: Status) -> &'static str
 
 // The character of a scenario, unless it is hidden.
 fn push_mark(out: &mut String, no_skipped: bool, status: Status) -> Result<(), AllocError>
-    ensures { OnOk result (string_bytes out.new ≡ string_bytes out.old ++ cond (is_hidden no_skipped status) [] (status_mark status ∷ [])) }
+    ensures { Pushes out.old
+        (cond (is_hidden no_skipped status) [] (status_mark status ∷ [])) result out.new }
 {
     if !hides(no_skipped, status) {
         out.push_str(mark_text(status))?;
@@ -32,7 +33,7 @@ fn push_mark(out: &mut String, no_skipped: bool, status: Status) -> Result<(), A
 }
 
 fn push_marks(out: &mut String, no_skipped: bool, cases: &[CaseResult]) -> Result<(), AllocError>
-    ensures { OnOk result (string_bytes out.new ≡ string_bytes out.old ++ case_marks no_skipped (map case_row cases.now)) }
+    ensures { Pushes out.old (case_marks no_skipped (map case_row cases.now)) result out.new }
 {
     for case in cases {
         push_mark(out, no_skipped, case.status)?;
@@ -40,31 +41,20 @@ fn push_marks(out: &mut String, no_skipped: bool, cases: &[CaseResult]) -> Resul
     Ok(())
 }
 
-fn push_line(out: &mut String, no_skipped: bool, feature: &FeatureResult) -> Result<(), AllocError>
-    ensures { OnOk result (string_bytes out.new ≡ string_bytes out.old ++ progress_line no_skipped (feature_row feature.now)) }
-{
-    push_one_line(out, feature.source.as_str())?;
-    out.push_str("  ")?;
-    push_marks(out, no_skipped, feature.cases.as_slice())?;
-    out.push_str("  ")?;
-    out.push_str(status_text(feature.status))?;
-    out.push_str("\n")?;
-    Ok(())
-}
-
-/// The part of a feature: its line, or nothing where it is hidden. An error comes only where a growth was
-/// refused.
-#[tactic(auto, unfolding(crate::specs::ProgressReport::progress_part))]
-pub fn progress_part(
+/// The line of a feature. An error comes only where a growth was refused.
+pub fn progress_line(
     alloc: Global,
     no_skipped: bool,
     feature: &FeatureResult,
 ) -> Result<String, AllocError>
-    ensures { IfOk result (λ text. string_bytes text ≡ spec.progress_part no_skipped (feature_row feature.now)) }
+    ensures { AnswersText result (spec.progress_line no_skipped (feature_row feature.now)) }
 {
     let mut out = String::new(alloc);
-    if !hides(no_skipped, feature.status) {
-        push_line(&mut out, no_skipped, feature)?;
-    }
+    push_one_line(&mut out, feature.source.as_str())?;
+    out.push_str("  ")?;
+    push_marks(&mut out, no_skipped, feature.cases.as_slice())?;
+    out.push_str("  ")?;
+    out.push_str(status_text(feature.status))?;
+    out.push_str("\n")?;
     Ok(out)
 }

@@ -1,13 +1,14 @@
 //! The report of a run in a style: its head, the part of each feature, its tail.
-ghost use Rattle.std.specs.Prelude.{◌≡◌, List, IfOk, string_bytes};
-ghost use Rattle.gk_run.specs.Results.{FeatureRow, feature_row};
-ghost use Rattle.gk_report.specs.Summary.{summary_of};
+ghost use Rattle.std.specs.Prelude.{IfOk, string_bytes};
+ghost use Rattle.gk_run.specs.Results.{feature_row};
 ghost use Rattle.gk_report.specs.Report as spec;
-ghost use Rattle.gk_report.specs.Report.{IsOneDocument, ReportsGrowByParts};
+ghost use Rattle.gk_report.specs.ReportTexts.{AnswersText};
+ghost use Rattle.gk_report.specs.Report.{IsTailOf, IsOneDocument, ReportsGrowByParts};
 
-use crate::json_report::{json_head, json_part, json_tail};
-use crate::plain_report::{closing_text, plain_part};
-use crate::progress_report::progress_part;
+use crate::json_report::{feature_object, json_head, json_tail};
+use crate::plain_report::{closing_text, feature_lines};
+use crate::progress_report::progress_line;
+use crate::report_texts::hides;
 use crate::summary::Summary;
 use gk_run::{FeatureResult, Status};
 use std::alloc::{AllocError, Global};
@@ -37,7 +38,7 @@ pub struct Style {
 /// What a report begins with: nothing in plain and progress. An error comes only where a growth was refused.
 /// (this project's profile)
 pub fn head(alloc: Global, style: Style) -> Result<String, AllocError>
-    ensures { IfOk result (λ text. string_bytes text ≡ spec.head style) }
+    ensures { AnswersText result (spec.head style) }
 {
     match style.format {
         Format::Plain | Format::Progress => Ok(String::new(alloc)),
@@ -48,18 +49,22 @@ pub fn head(alloc: Global, style: Style) -> Result<String, AllocError>
 /// The part of a feature, `first` being true as long as each earlier part of the report was empty. The text
 /// is empty where the style hides the feature. An error comes only where a growth was refused. (behave's
 /// documentation: `--no-skipped`; this project's profile)
+#[tactic(auto, unfolding(crate::specs::PlainReport::plain_part, crate::specs::ProgressReport::progress_part, crate::specs::JsonReport::json_part))]
 pub fn part(
     alloc: Global,
     style: Style,
     first: bool,
     feature: &FeatureResult,
 ) -> Result<String, AllocError>
-    ensures { IfOk result (λ text. string_bytes text ≡ spec.part style first (feature_row feature.now)) }
+    ensures { AnswersText result (spec.part style first (feature_row feature.now)) }
 {
+    if hides(style.no_skipped, feature.status) {
+        return Ok(String::new(alloc));
+    }
     match style.format {
-        Format::Plain => plain_part(alloc, style.no_skipped, feature),
-        Format::Progress => progress_part(alloc, style.no_skipped, feature),
-        Format::Json => json_part(alloc, style.no_skipped, first, feature),
+        Format::Plain => feature_lines(alloc, style.no_skipped, feature),
+        Format::Progress => progress_line(alloc, style.no_skipped, feature),
+        Format::Json => feature_object(alloc, style.no_skipped, first, feature),
     }
 }
 
@@ -72,8 +77,8 @@ pub fn tail(
     summary: &Summary,
     around: Status,
 ) -> Result<String, AllocError>
-    ensures counts { IfOk result (λ text. string_bytes text ≡ spec.tail_by style summary.now around) }
-    ensures tail { IfOk result (λ text. (rows : List FeatureRow) → summary.now ≡ summary_of rows → string_bytes text ≡ spec.tail style rows around) }
+    ensures counts { AnswersText result (spec.tail_by style summary.now around) }
+    ensures tail { IfOk result (λ text. IsTailOf style summary.now around (string_bytes text)) }
 {
     match style.format {
         Format::Plain | Format::Progress => closing_text(alloc, summary, around),

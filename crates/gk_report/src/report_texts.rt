@@ -1,7 +1,7 @@
 //! The texts that the formats share, and what each of them leaves out.
-ghost use Rattle.std.specs.Prelude.{◌≡◌, ◌++◌, OnOk, string_bytes};
+ghost use Rattle.std.specs.Prelude.{◌≡◌};
 ghost use Rattle.gk_report.specs.ReportTexts as spec;
-ghost use Rattle.gk_report.specs.ReportTexts.{is_hidden, one_line};
+ghost use Rattle.gk_report.specs.ReportTexts.{is_hidden, one_line, Pushes};
 
 use gk_run::{Reason, Status};
 use std::alloc::AllocError;
@@ -53,7 +53,7 @@ pub fn reason_text(reason: Reason) -> &'static str
 
 /// Pushes a name or a text, with a backslash and `n` in place of each line feed.
 pub fn push_one_line(out: &mut String, text: &str) -> Result<(), AllocError>
-    ensures { OnOk result (string_bytes out.new ≡ string_bytes out.old ++ one_line text.now) }
+    ensures { Pushes out.old (one_line text.now) result out.new }
 {
     let mut rest = text;
     while let Some((line, after)) = rest.split_once('\n') {

@@ -1,6 +1,6 @@
 //! What the report counts, and the status that a run ends with.
-ghost use Rattle.std.specs.Prelude.{◌≡◌, List, [], ◌∷◌, ◌++◌, map, fold};
-ghost use Rattle.gk_run.specs.Results.{FeatureRow, step_row, case_row, feature_row};
+ghost use Rattle.std.specs.Prelude.{◌≡◌, [], map, fold};
+ghost use Rattle.gk_run.specs.Results.{step_row, case_row, feature_row};
 ghost use Rattle.gk_report.specs.Summary.{summary_of, one_status_more, one_case_more};
 
 use gk_run::{CaseResult, FeatureResult, Status, StepResult};
@@ -57,7 +57,7 @@ pub struct Summary {
 }
 
 impl Summary {
-    ghost use Rattle.gk_report.specs.Summary.{summary_of, one_feature_more, status_by, IsStatusOf};
+    ghost use Rattle.gk_report.specs.Summary.{summary_of, CountsOneMore, one_feature_more, status_by, IsStatusOf};
 
     /// The counts over no feature. Takes no memory.
     pub fn new() -> Summary
@@ -74,7 +74,7 @@ impl Summary {
     /// documentation: summary)
     pub fn add(&mut self, feature: &FeatureResult)
         ensures counts { self.new ≡ one_feature_more self.old (feature_row feature.now) }
-        ensures added { (rows : List FeatureRow) → self.old ≡ summary_of rows → self.new ≡ summary_of (rows ++ feature_row feature.now ∷ []) }
+        ensures added { CountsOneMore self.old (feature_row feature.now) self.new }
     {
         self.features.add(feature.status);
         add_cases(self, feature.cases.as_slice());
@@ -102,7 +102,8 @@ impl Summary {
 }
 
 fn add_steps(counts: &mut Counts, steps: &[StepResult])
-    ensures { counts.new ≡ fold one_status_more counts.old (map (λ s. s.status) (map step_row steps.now)) }
+    ensures { counts.new ≡
+        fold one_status_more counts.old (map (λ s. s.status) (map step_row steps.now)) }
 {
     for step in steps {
         counts.add(step.status);

@@ -5,9 +5,17 @@ use Rattle.gk_select.specs.declared.choice.Choice.{Choice}
 use Rattle.gk_select.specs.Case.{CaseValue}
 use Rattle.gk_select.specs.TagRules.{AlternativeValue, tag_rule_value, holds}
 
+-- Whether every rule holds of these tags. (behave's documentation: tag expressions)
+abbrev pub all_hold : List (List AlternativeValue) → List (List ℕ) → Bool
+all_hold rules tags = list_all (λ rule. holds rule tags) rules
+
+-- Whether a line is among the lines, or there are none. (this project's profile)
+abbrev pub is_at_lines : List ℕ → ℕ → Bool
+is_at_lines lines line = (length lines == 0) || list_any (λ other. other == line) lines
+
 -- A case is chosen where every rule holds of its tags, and its line is among the lines or there are none. (behave's documentation: tag expressions; this project's profile)
 unfoldable pub is_chosen : List (List AlternativeValue) → List ℕ → CaseValue → Bool
-is_chosen rules lines case = list_all (λ rule. holds rule case.tags) rules && ((length lines == 0) || list_any (λ line. line == case.line) lines)
+is_chosen rules lines case = all_hold rules case.tags && is_at_lines lines case.line
 
 -- Whether a `Choice` chooses a case. (this project's profile)
 abbrev pub chosen_by : Choice → CaseValue → Bool

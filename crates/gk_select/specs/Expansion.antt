@@ -7,11 +7,13 @@ use Rattle.gk_gherkin.specs.declared.feature.Scenario.{Scenario}
 use Rattle.gk_gherkin.specs.declared.feature.Rule.{Rule}
 use Rattle.gk_gherkin.specs.declared.feature.Feature.{Feature}
 use Rattle.gk_gherkin.specs.Feature.{RowValue, ExamplesValue, ScenarioValue, RuleValue, FeatureValue, row_value, examples_value, scenario_value, rule_value, feature_value}
+use Rattle.gk_select.specs.declared.expansion.OutlinePart.{OutlinePart}
 use Rattle.gk_select.specs.declared.inherited.Inherited.{Inherited}
 use Rattle.gk_select.specs.Case.{CaseValue}
+use Rattle.gk_select.specs.Copies.{filled_by}
 use Rattle.gk_select.specs.Filling.{filled, filled_step}
 use Rattle.gk_select.specs.Inherited.{InheritedValue, inherited_value, inherited_in_feature, inherited_in_rule}
-use Rattle.gk_select.specs.Outline.{is_outline, outline_name, AllFit}
+use Rattle.gk_select.specs.Outline.{is_outline, outline_name, FitsHeader, AllFit}
 
 -- The case of a row; its line is the row's. (Cucumber's Gherkin reference: examples)
 abbrev pub row_case : InheritedValue → ScenarioValue → ℕ → ExamplesValue → ℕ → RowValue → CaseValue
@@ -95,13 +97,21 @@ case_count_of s = if is_outline s then sum_by (λ (e : ExamplesValue). length e.
 abbrev pub case_count : FeatureValue → ℕ
 case_count f = sum_by case_count_of f.scenarios + sum_by (λ (r : RuleValue). sum_by case_count_of r.scenarios) f.rules
 
--- What the code says of its own values: the case of a row, the cases of rows, and those of Examples. (this project's profile)
-abbrev pub case_of_row : Inherited → Scenario → ℕ → Examples → ℕ → Row → CaseValue
-case_of_row i s n e m row = row_case (inherited_value i) (scenario_value s) n (examples_value e) m (row_value row)
+-- What the code says of its own values, from here on: the name of a row's case. (this project's profile)
+abbrev pub name_of_row : OutlinePart → ℕ → Row → List ℕ
+name_of_row part n row = outline_name (filled_by part.examples.now.header.items row.cells.items (scenario_value part.scenario.now).name) part.number n (examples_value part.examples.now).name
 
--- The cases of rows, counted from 1. (this project's profile)
-abbrev pub cases_of_rows : Inherited → Scenario → ℕ → Examples → List Row → List CaseValue
-cases_of_rows i s n e rows = rows_cases (inherited_value i) (scenario_value s) n (examples_value e) 1 (map row_value rows)
+-- The case of a row. (this project's profile)
+abbrev pub case_of_row : Inherited → OutlinePart → ℕ → Row → CaseValue
+case_of_row i part n row = row_case (inherited_value i) (scenario_value part.scenario.now) part.number (examples_value part.examples.now) n (row_value row)
+
+-- The cases of rows, counted from n. (this project's profile)
+abbrev pub cases_of_rows : Inherited → OutlinePart → ℕ → List Row → List CaseValue
+cases_of_rows i part n rows = rows_cases (inherited_value i) (scenario_value part.scenario.now) part.number (examples_value part.examples.now) n (map row_value rows)
+
+-- The rows of a part have as many cells as its header. (this project's profile)
+abbrev pub FitPart : OutlinePart → List Row → Type 0
+FitPart part rows = AllByRecursion (FitsHeader (examples_value part.examples.now)) (map row_value rows)
 
 -- The cases of parts of Examples, counted from 1. (this project's profile)
 abbrev pub cases_of_parts : Inherited → Scenario → List Examples → List CaseValue

@@ -2,7 +2,7 @@
 use Rattle.std.specs.Prelude.{codes, ◌≡◌, ℕ, Bool, true, false, ◌||◌, List, [], ◌∷◌, ◌++◌, length, decimal}
 use Rattle.std.specs.List.{AllByRecursion}
 use Rattle.std.specs.Str.{bytes_eq}
-use Rattle.gk_gherkin.specs.Lines.{trim_back}
+use Rattle.gk_gherkin.specs.Text.{trim_back}
 use Rattle.gk_gherkin.specs.Feature.{RowValue, ExamplesValue, ScenarioValue}
 
 -- Whether there are Examples. (Cucumber's Gherkin reference: examples)

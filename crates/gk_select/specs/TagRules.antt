@@ -3,8 +3,8 @@ use Rattle.std.specs.Prelude.{codes, not, ◌≡◌, ℕ, Bool, true, false, ◌
 use Rattle.std.specs.List.{list_any, slice_split}
 use Rattle.std.specs.String.{string_bytes}
 use Rattle.std.specs.Str.{bytes_eq}
-use Rattle.gk_gherkin.specs.Lines.{is_blank}
-use Rattle.gk_gherkin.specs.Class.{begins}
+use Rattle.gk_gherkin.specs.Text.{is_blank}
+use Rattle.gk_gherkin.specs.Text.{begins}
 use Rattle.gk_gherkin.specs.Tags.{is_tag}
 use Rattle.gk_select.specs.declared.tag_rules.Alternative.{Alternative}
 use Rattle.gk_select.specs.declared.tag_rules.TagRule.{TagRule}
@@ -54,6 +54,10 @@ pieces text = slice_split (λ b. b == 44) text
 pub record ReadsTags (text : List ℕ) (rule : List AlternativeValue) : Type 0 where
   pub old_form : list_any is_of_new_form text ≡ false
   pub says : map alternative (pieces text) ≡ map Some rule
+
+-- A text that spells no rule. (behave's documentation: tag expressions)
+abbrev pub SpellsNone : List ℕ → Type 0
+SpellsNone text = (rule : List AlternativeValue) → ReadsTags text rule → ⊥
 
 -- A text over which memory can run out: it has no blank and no parenthesis, and its first alternative says something. (this project's profile)
 abbrev pub NeedsMemory : List ℕ → Type 0

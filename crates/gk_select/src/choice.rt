@@ -1,10 +1,9 @@
 //! The choice of cases by tags and lines.
-ghost use Rattle.std.specs.Prelude.{◌≡◌, ◌==◌, ◌||◌, length, map};
-ghost use Rattle.std.specs.List.{list_all, list_any};
+ghost use Rattle.std.specs.Prelude.{◌≡◌, map};
 ghost use Rattle.std.specs.List.Sorted.{IsNonDecreasing};
 ghost use Rattle.gk_gherkin.specs.Feature.{texts};
 ghost use Rattle.gk_select.specs.Case.{case_value};
-ghost use Rattle.gk_select.specs.TagRules.{holds, tag_rule_value};
+ghost use Rattle.gk_select.specs.TagRules.{tag_rule_value};
 
 use crate::case::Case;
 use crate::tag_rules::TagRule;
@@ -19,7 +18,7 @@ pub struct Choice {
 }
 
 impl Choice {
-    ghost use Rattle.gk_select.specs.Choice.{chosen_by, is_chosen};
+    ghost use Rattle.gk_select.specs.Choice.{all_hold, chosen_by, is_at_lines, is_chosen};
 
     /// The choice by these rules and lines, in any order. Takes no memory.
     pub fn new(rules: Vec<TagRule>, lines: Vec<u32>) -> Choice
@@ -38,13 +37,13 @@ impl Choice {
     }
 
     fn rules_hold(&self, tags: &[String]) -> bool
-        ensures { result ≡ list_all (λ rule. holds rule (texts tags.now)) (map tag_rule_value self.now.rules.items) }
+        ensures { result ≡ all_hold (map tag_rule_value self.now.rules.items) (texts tags.now) }
     {
         self.rules.iter().all(|rule| rule.selects(tags))
     }
 
     fn has_line(&self, line: u32) -> bool
-        ensures { result ≡ ((length self.now.lines.items == 0) || list_any (λ other. other == line) self.now.lines.items) }
+        ensures { result ≡ is_at_lines self.now.lines.items line }
     {
         let lines = self.lines.as_slice();
         lines.is_empty() || lines.binary_search(&line).is_ok()

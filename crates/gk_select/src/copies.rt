@@ -26,7 +26,8 @@ fn fill_texts(
     row: &[String],
 ) -> Result<Vec<String>, AllocError>
     requires { length row.now ≡ length header.now }
-    ensures { IfOk result (λ v. texts v.items ≡ map (filled_by header.now row.now) (texts from.now)) }
+    ensures { IfOk result (λ v.
+        texts v.items ≡ map (filled_by header.now row.now) (texts from.now)) }
 {
     let mut filled = Vec::new(alloc);
     for text in from {
@@ -42,7 +43,8 @@ fn fill_table(
     row: &[String],
 ) -> Result<Vec<Vec<String>>, AllocError>
     requires { length row.now ≡ length header.now }
-    ensures { let cells = map (λ row. texts row.items) in IfOk result (λ v. cells v.items ≡ map (map (filled_by header.now row.now)) (cells from.now)) }
+    ensures { let cells = map (λ row. texts row.items) in IfOk result (λ v.
+        cells v.items ≡ map (map (filled_by header.now row.now)) (cells from.now)) }
 {
     let mut filled = Vec::new(alloc);
     for cells in from {
@@ -58,7 +60,8 @@ fn fill_block(
     row: &[String],
 ) -> Result<Block, AllocError>
     requires { length row.now ≡ length header.now }
-    ensures { IfOk result (λ b. block_value b ≡ filled_block (filled_by header.now row.now) (block_value block.now)) }
+    ensures { IfOk result (λ b.
+        block_value b ≡ filled_block (filled_by header.now row.now) (block_value block.now)) }
 {
     match block {
         Block::Empty => Ok(Block::Empty),
@@ -74,7 +77,8 @@ fn fill_step(
     row: &[String],
 ) -> Result<Step, AllocError>
     requires { length row.now ≡ length header.now }
-    ensures { IfOk result (λ s. step_value s ≡ filled_step (filled_by header.now row.now) (step_value step.now)) }
+    ensures { IfOk result (λ s.
+        step_value s ≡ filled_step (filled_by header.now row.now) (step_value step.now)) }
 {
     let keyword = String::from_str(alloc, step.keyword.as_str())?;
     let text = fill(alloc, step.text.as_str(), header, row)?;
@@ -97,7 +101,8 @@ pub fn push_filled_steps(
     row: &[String],
 ) -> Result<(), AllocError>
     requires { length row.now ≡ length header.now }
-    ensures { Appends step_value result into.old.items into.new.items (map (filled_step (filled_by header.now row.now)) (map step_value from.now)) }
+    ensures { Appends step_value result into.old.items into.new.items
+        (map (filled_step (filled_by header.now row.now)) (map step_value from.now)) }
 {
     for step in from {
         into.push(fill_step(alloc, step, header, row)?)?;

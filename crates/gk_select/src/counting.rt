@@ -31,7 +31,8 @@ fn room_after_examples(
     own: usize,
     parts: &[Examples],
 ) -> Option<usize>
-    ensures { result ≡ left room (sum_by (examples_steps (inherited + own)) (map examples_value parts.now)) }
+    ensures { result ≡ left room
+        (sum_by (examples_steps (inherited + own)) (map examples_value parts.now)) }
 {
     let mut room = room;
     for examples in parts {
@@ -52,7 +53,8 @@ fn room_after_scenario(room: usize, inherited: usize, scenario: &Scenario) -> Op
 }
 
 fn room_after_scenarios(room: usize, inherited: usize, scenarios: &[Scenario]) -> Option<usize>
-    ensures { result ≡ left room (sum_by (scenario_steps inherited) (map scenario_value scenarios.now)) }
+    ensures { result ≡ left room
+        (sum_by (scenario_steps inherited) (map scenario_value scenarios.now)) }
 {
     let mut room = room;
     for scenario in scenarios {
@@ -62,7 +64,8 @@ fn room_after_scenarios(room: usize, inherited: usize, scenarios: &[Scenario]) -
 }
 
 fn background_len(background: &Option<Background>) -> usize
-    ensures value { result ≡ length (background_steps (option_map background_value background.now)) }
+    ensures value { result ≡
+        length (background_steps (option_map background_value background.now)) }
     ensures small { result < 2 ^ 63 }
 {
     match background {

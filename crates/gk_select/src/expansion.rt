@@ -11,9 +11,10 @@ ghost use Rattle.gk_select.specs.Filling.{filled_step};
 ghost use Rattle.gk_select.specs.Expansion as spec;
 ghost use Rattle.gk_select.specs.Expansion.{cases, step_count, step_limit, HasTooManySteps, IsExpandable, RowsFit};
 ghost use Rattle.gk_select.specs.Expansion.{HasNoOutline, plain_cases, case_count};
-ghost use Rattle.gk_select.specs.Expansion.{case_of_row, cases_of_rows, cases_of_parts, cases_of_scenarios, cases_of_rules};
+ghost use Rattle.gk_select.specs.Expansion.{name_of_row, case_of_row, cases_of_rows, FitPart};
+ghost use Rattle.gk_select.specs.Expansion.{cases_of_parts, cases_of_scenarios, cases_of_rules};
 ghost use Rattle.gk_select.specs.Inherited.{inherited_value};
-ghost use Rattle.gk_select.specs.Outline.{FitsHeader, AllFit, outline_name};
+ghost use Rattle.gk_select.specs.Outline.{FitsHeader, AllFit};
 ghost use Rattle.gk_select.specs.declared.select_fault.SelectFault.TheVariants.{TooMany, Memory};
 
 use crate::case::Case;
@@ -30,12 +31,21 @@ use gk_gherkin::{Examples, Feature, Row, Rule, Scenario, Step};
 use std::alloc::{AllocError, Global};
 use std::mem::replace;
 
+// The Examples of an outline, with their number, counted from 1.
+#[derive(Clone, Copy)]
+struct OutlinePart<'a> {
+    scenario: &'a Scenario,
+    number: usize,
+    examples: &'a Examples,
+}
+
 fn plain_case(
     alloc: Global,
     inherited: &Inherited<'_>,
     scenario: Scenario,
 ) -> Result<Case, AllocError>
-    ensures { IfOk result (λ c. case_value c ≡ spec.plain_case (inherited_value inherited.now) (scenario_value scenario)) }
+    ensures { IfOk result (λ c. case_value c ≡
+        spec.plain_case (inherited_value inherited.now) (scenario_value scenario)) }
 {
     let Scenario {
         keyword,
@@ -61,20 +71,24 @@ fn plain_case(
 // The name of a row's case: the scenario's, filled in, with the numbers of the examples and the row.
 fn row_name(
     alloc: Global,
-    scenario: &Scenario,
-    examples_number: usize,
-    examples: &Examples,
+    part: &OutlinePart<'_>,
     row_number: usize,
     row: &Row,
 ) -> Result<String, AllocError>
-    requires { FitsHeader (examples_value examples.now) (row_value row.now) }
-    ensures { IfOk result (λ name. string_bytes name ≡ outline_name (filled_by examples.now.header.items row.now.cells.items (scenario_value scenario.now).name) examples_number row_number (examples_value examples.now).name) }
+    requires { FitsHeader (examples_value part.now.examples.now) (row_value row.now) }
+    ensures { IfOk result (λ name. string_bytes name ≡ name_of_row part.now row_number row.now) }
 {
-    let name = fill(alloc, scenario.name.as_str(), &examples.header, &row.cells)?;
+    let examples = part.examples;
+    let name = fill(
+        alloc,
+        part.scenario.name.as_str(),
+        &examples.header,
+        &row.cells,
+    )?;
     case_name(
         alloc,
         name.as_str(),
-        examples_number,
+        part.number,
         row_number,
         examples.name.as_str(),
     )
@@ -87,7 +101,8 @@ fn push_row_tags(
     scenario: &Scenario,
     examples: &Examples,
 ) -> Result<(), AllocError>
-    ensures { Appends string_bytes result tags.old.items tags.new.items ((scenario_value scenario.now).tags ++ (examples_value examples.now).tags) }
+    ensures { Appends string_bytes result tags.old.items tags.new.items
+        ((scenario_value scenario.now).tags ++ (examples_value examples.now).tags) }
 {
     push_texts(alloc, tags, &scenario.tags)?;
     push_texts(alloc, tags, &examples.tags)
@@ -99,7 +114,8 @@ fn own_row_tags(
     scenario: &Scenario,
     examples: &Examples,
 ) -> Result<Vec<String>, AllocError>
-    ensures { IfOk result (λ tags. texts tags.items ≡ (scenario_value scenario.now).tags ++ (examples_value examples.now).tags) }
+    ensures { IfOk result (λ tags. texts tags.items ≡
+        (scenario_value scenario.now).tags ++ (examples_value examples.now).tags) }
 {
     let mut tags = Vec::new(alloc);
     push_row_tags(alloc, &mut tags, scenario, examples)?;
@@ -113,7 +129,8 @@ fn row_tags(
     scenario: &Scenario,
     examples: &Examples,
 ) -> Result<Vec<String>, AllocError>
-    ensures { IfOk result (λ tags. texts tags.items ≡ (inherited_value inherited.now).tags ++ (scenario_value scenario.now).tags ++ (examples_value examples.now).tags) }
+    ensures { IfOk result (λ tags. texts tags.items ≡ (inherited_value inherited.now).tags
+        ++ (scenario_value scenario.now).tags ++ (examples_value examples.now).tags) }
 {
     let mut tags = Vec::new(alloc);
     push_inherited_tags(alloc, &mut tags, inherited)?;
@@ -130,7 +147,9 @@ fn row_steps(
     cells: &[String],
 ) -> Result<Vec<Step>, AllocError>
     requires { length cells.now ≡ length header.now }
-    ensures { IfOk result (λ steps. map step_value steps.items ≡ (inherited_value inherited.now).steps ++ map (filled_step (filled_by header.now cells.now)) (scenario_value scenario.now).steps) }
+    ensures { IfOk result (λ steps. map step_value steps.items ≡
+        (inherited_value inherited.now).steps
+        ++ map (filled_step (filled_by header.now cells.now)) (scenario_value scenario.now).steps) }
 {
     let mut steps = Vec::new(alloc);
     push_inherited_steps(alloc, &mut steps, inherited)?;
@@ -141,17 +160,18 @@ fn row_steps(
 fn row_case(
     alloc: Global,
     inherited: &Inherited<'_>,
-    scenario: &Scenario,
-    examples_number: usize,
-    examples: &Examples,
+    part: &OutlinePart<'_>,
     row_number: usize,
     row: &Row,
 ) -> Result<Case, AllocError>
-    requires { FitsHeader (examples_value examples.now) (row_value row.now) }
-    ensures { IfOk result (λ c. case_value c ≡ case_of_row inherited.now scenario.now examples_number examples.now row_number row.now) }
+    requires { FitsHeader (examples_value part.now.examples.now) (row_value row.now) }
+    ensures { IfOk result (λ c.
+        case_value c ≡ case_of_row inherited.now part.now row_number row.now) }
 {
+    let scenario = part.scenario;
+    let examples = part.examples;
     Ok(Case {
-        name: row_name(alloc, scenario, examples_number, examples, row_number, row)?,
+        name: row_name(alloc, part, row_number, row)?,
         keyword: String::from_str(alloc, scenario.keyword.as_str())?,
         line: row.line,
         tags: row_tags(alloc, inherited, scenario, examples)?,
@@ -164,16 +184,15 @@ fn push_row_cases(
     alloc: Global,
     cases: &mut Vec<Case>,
     inherited: &Inherited<'_>,
-    scenario: &Scenario,
-    number: usize,
-    examples: &Examples,
+    part: &OutlinePart<'_>,
     rows: &[Row],
 ) -> Result<(), AllocError>
-    requires { AllByRecursion (FitsHeader (examples_value examples.now)) (map row_value rows.now) }
-    ensures { Appends case_value result cases.old.items cases.new.items (cases_of_rows inherited.now scenario.now number examples.now rows.now) }
+    requires { FitPart part.now rows.now }
+    ensures { Appends case_value result cases.old.items cases.new.items
+        (cases_of_rows inherited.now part.now 1 rows.now) }
 {
     for (i, row) in rows.iter().enumerate() {
-        cases.push(row_case(alloc, inherited, scenario, number, examples, i + 1, row)?)?;
+        cases.push(row_case(alloc, inherited, part, i + 1, row)?)?;
     }
     Ok(())
 }
@@ -186,18 +205,16 @@ fn push_outline_cases(
     parts: &[Examples],
 ) -> Result<(), AllocError>
     requires { AllByRecursion AllFit (map examples_value parts.now) }
-    ensures { Appends case_value result cases.old.items cases.new.items (cases_of_parts inherited.now scenario.now parts.now) }
+    ensures { Appends case_value result cases.old.items cases.new.items
+        (cases_of_parts inherited.now scenario.now parts.now) }
 {
     for (i, examples) in parts.iter().enumerate() {
-        push_row_cases(
-            alloc,
-            cases,
-            inherited,
+        let part = OutlinePart {
             scenario,
-            i + 1,
+            number: i + 1,
             examples,
-            &examples.rows,
-        )?;
+        };
+        push_row_cases(alloc, cases, inherited, &part, &examples.rows)?;
     }
     Ok(())
 }
@@ -209,7 +226,8 @@ fn push_scenario_cases(
     scenario: Scenario,
 ) -> Result<(), AllocError>
     requires { AllByRecursion AllFit (map examples_value scenario.examples.items) }
-    ensures { Appends case_value result cases.old.items cases.new.items (spec.scenario_cases (inherited_value inherited.now) (scenario_value scenario)) }
+    ensures { Appends case_value result cases.old.items cases.new.items
+        (spec.scenario_cases (inherited_value inherited.now) (scenario_value scenario)) }
 {
     if is_outline(&scenario) {
         push_outline_cases(alloc, cases, inherited, &scenario, &scenario.examples)
@@ -226,7 +244,8 @@ fn push_scenarios_cases(
     scenarios: Vec<Scenario>,
 ) -> Result<(), AllocError>
     requires { RowsFit (map scenario_value scenarios.items) }
-    ensures { Appends case_value result cases.old.items cases.new.items (cases_of_scenarios inherited.now scenarios.items) }
+    ensures { Appends case_value result cases.old.items cases.new.items
+        (cases_of_scenarios inherited.now scenarios.items) }
 {
     for scenario in scenarios {
         push_scenario_cases(alloc, cases, inherited, scenario)?;
@@ -241,7 +260,8 @@ fn push_rule_cases(
     rule: Rule,
 ) -> Result<(), AllocError>
     requires { RowsFit (map scenario_value rule.scenarios.items) }
-    ensures { Appends case_value result cases.old.items cases.new.items (spec.rule_cases (feature_value feature.now) (rule_value rule)) }
+    ensures { Appends case_value result cases.old.items cases.new.items
+        (spec.rule_cases (feature_value feature.now) (rule_value rule)) }
 {
     let mut rule = rule;
     let scenarios = replace(&mut rule.scenarios, Vec::new(alloc));
@@ -256,7 +276,8 @@ fn push_rules_cases(
     rules: Vec<Rule>,
 ) -> Result<(), AllocError>
     requires { AllByRecursion (λ r. RowsFit r.scenarios) (map rule_value rules.items) }
-    ensures { Appends case_value result cases.old.items cases.new.items (cases_of_rules feature.now rules.items) }
+    ensures { Appends case_value result cases.old.items cases.new.items
+        (cases_of_rules feature.now rules.items) }
 {
     for rule in rules {
         push_rule_cases(alloc, cases, feature, rule)?;
@@ -296,7 +317,8 @@ pub fn expand(alloc: Global, feature: Feature) -> Result<Vec<Case>, SelectFault>
     // More steps than the limit are refused.
     ensures too_many { HasTooManySteps (feature_value feature) → result ≡ Err TooMany }
     // Which fault it is.
-    ensures fault { IfErr result (λ e. MatchBool (nat_lt step_limit (step_count (feature_value feature))) (e ≡ TooMany) (e ≡ Memory)) }
+    ensures fault { IfErr result (λ e. MatchBool
+        (nat_lt step_limit (step_count (feature_value feature))) (e ≡ TooMany) (e ≡ Memory)) }
 {
     if !has_room(&feature) {
         return Err(SelectFault::TooMany);

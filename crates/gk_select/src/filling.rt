@@ -10,7 +10,8 @@ use std::alloc::{AllocError, Global};
 /// The cell under the first header that is `name`.
 fn cell_under<'a>(header: &[String], row: &'a [String], name: &str) -> Option<&'a str>
     requires { length row.now ≡ length header.now }
-    ensures { option_map (λ cell. cell.now) result ≡ spec.cell_of (texts header.now) (texts row.now) name.now }
+    ensures { option_map (λ cell. cell.now) result ≡
+        spec.cell_of (texts header.now) (texts row.now) name.now }
 {
     for (i, column) in header.iter().enumerate() {
         if column.as_str() == name {
@@ -28,7 +29,8 @@ fn push_piece(
     row: &[String],
 ) -> Result<(), AllocError>
     requires { length row.now ≡ length header.now }
-    ensures { IfOk result (λ _. string_bytes filled.new ≡ string_bytes filled.old ++ spec.filled_piece (texts header.now) (texts row.now) piece.now) }
+    ensures { IfOk result (λ _. string_bytes filled.new ≡ string_bytes filled.old
+        ++ spec.filled_piece (texts header.now) (texts row.now) piece.now) }
 {
     let mut rest = piece;
     while let Some((before, name)) = rest.split_once('<') {
@@ -55,7 +57,8 @@ pub fn fill(
     row: &[String],
 ) -> Result<String, AllocError>
     requires { length row.now ≡ length header.now }
-    ensures { IfOk result (λ s. string_bytes s ≡ filled (texts header.now) (texts row.now) text.now) }
+    ensures { IfOk result (λ s.
+        string_bytes s ≡ filled (texts header.now) (texts row.now) text.now) }
 {
     // A placeholder ends at the first `>` after its `<`, so only what stands before a `>` is looked up.
     let mut filled = String::new(alloc);

@@ -20,7 +20,8 @@ pub struct Inherited<'a> {
 }
 
 fn steps_of<'a>(background: &'a Option<Background>) -> &'a [Step]
-    ensures { map step_value result.now ≡ background_steps (option_map background_value background.now) }
+    ensures { map step_value result.now ≡
+        background_steps (option_map background_value background.now) }
 {
     match background {
         Some(background) => &background.steps,
@@ -42,7 +43,8 @@ pub fn inherited_in_feature<'a>(feature: &'a Feature) -> Inherited<'a>
 
 /// What a rule's scenarios inherit.
 pub fn inherited_in_rule<'a>(feature: &'a Feature, rule: &'a Rule) -> Inherited<'a>
-    ensures { inherited_value result ≡ spec.inherited_in_rule (feature_value feature.now) (rule_value rule.now) }
+    ensures { inherited_value result ≡
+        spec.inherited_in_rule (feature_value feature.now) (rule_value rule.now) }
 {
     Inherited {
         feature_tags: &feature.tags,
@@ -58,7 +60,8 @@ pub fn push_inherited_tags(
     tags: &mut Vec<String>,
     inherited: &Inherited<'_>,
 ) -> Result<(), AllocError>
-    ensures { Appends string_bytes result tags.old.items tags.new.items (inherited_value inherited.now).tags }
+    ensures { Appends string_bytes result tags.old.items tags.new.items
+        (inherited_value inherited.now).tags }
 {
     push_texts(alloc, tags, inherited.feature_tags)?;
     push_texts(alloc, tags, inherited.rule_tags)
@@ -70,7 +73,8 @@ pub fn push_inherited_steps(
     steps: &mut Vec<Step>,
     inherited: &Inherited<'_>,
 ) -> Result<(), AllocError>
-    ensures { Appends step_value result steps.old.items steps.new.items (inherited_value inherited.now).steps }
+    ensures { Appends step_value result steps.old.items steps.new.items
+        (inherited_value inherited.now).steps }
 {
     push_steps(alloc, steps, inherited.feature_steps)?;
     push_steps(alloc, steps, inherited.rule_steps)
@@ -82,7 +86,8 @@ pub fn after_inherited_steps(
     inherited: &Inherited<'_>,
     own: Vec<Step>,
 ) -> Result<Vec<Step>, AllocError>
-    ensures { IfOk result (λ steps. map step_value steps.items ≡ (inherited_value inherited.now).steps ++ map step_value own.items) }
+    ensures { IfOk result (λ steps. map step_value steps.items ≡
+        (inherited_value inherited.now).steps ++ map step_value own.items) }
 {
     if inherited.feature_steps.is_empty() && inherited.rule_steps.is_empty() {
         return Ok(own);

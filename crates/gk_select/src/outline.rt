@@ -25,7 +25,8 @@ pub fn case_name(
     row_number: usize,
     examples_name: &str,
 ) -> Result<String, AllocError>
-    ensures { IfOk result (λ s. string_bytes s ≡ outline_name name.now examples_number row_number examples_name.now) }
+    ensures { IfOk result (λ s.
+        string_bytes s ≡ outline_name name.now examples_number row_number examples_name.now) }
 {
     let whole = format!(in alloc; "{name} -- @{examples_number}.{row_number} {examples_name}")?;
     String::from_str(alloc, trim_back(whole.as_str()))

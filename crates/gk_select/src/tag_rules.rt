@@ -2,14 +2,14 @@
 ghost use Rattle.std.specs.Prelude.{◌≡◌, ◌⊎◌, ℕ, List, Some, Err, IfOk, IfErr};
 ghost use Rattle.std.specs.List.{list_any};
 ghost use Rattle.std.specs.String.{string_bytes};
-ghost use Rattle.gk_gherkin.specs.Class as class;
 ghost use Rattle.gk_gherkin.specs.Feature.{texts};
 ghost use Rattle.gk_select.specs.declared.select_fault.SelectFault.TheVariants.{BadTagText, Memory};
 ghost use Rattle.gk_select.specs.SelectFault.{Gives};
 ghost use Rattle.gk_select.specs.TagRules as spec;
-ghost use Rattle.gk_select.specs.TagRules.{AlternativeValue, ReadsTags, NeedsMemory, alternative_value, tag_rule_value};
+ghost use Rattle.gk_select.specs.TagRules.{AlternativeValue, ReadsTags, SpellsNone, NeedsMemory, alternative_value, tag_rule_value};
 
 use crate::select_fault::SelectFault;
+use gk_gherkin::text::{begins, is_blank};
 use std::alloc::Global;
 
 /// A tag, with its `@`, that has to be there, or to be absent.
@@ -48,16 +48,9 @@ impl TagRule {
 fn is_of_new_form(text: &str) -> bool
     ensures { result ≡ list_any spec.is_of_new_form text.now }
 {
-    text.as_bytes().iter().any(|byte| *byte == b' '
-        || *byte == b'\t'
-        || *byte == b'('
-        || *byte == b')')
-}
-
-fn begins(text: &str, start: &str) -> bool
-    ensures { result ≡ class.begins text.now start.now }
-{
-    text.as_bytes().starts_with(start.as_bytes())
+    text.as_bytes()
+        .iter()
+        .any(|byte| is_blank(*byte) || *byte == b'(' || *byte == b')')
 }
 
 fn tag_named(alloc: Global, text: &str) -> Result<String, SelectFault>
@@ -105,11 +98,12 @@ pub fn read_tags(alloc: Global, text: &str) -> Result<TagRule, SelectFault>
     // What is answered is what the text spells.
     ensures found { IfOk result (λ r. ReadsTags text.now (tag_rule_value r)) }
     // What the text spells is answered, unless memory runs out.
-    ensures only { (rule : List AlternativeValue) → ReadsTags text.now rule → Gives tag_rule_value result (Some rule) }
+    ensures only { (rule : List AlternativeValue) → ReadsTags text.now rule →
+        Gives tag_rule_value result (Some rule) }
     // Memory runs out only after the first alternative was read.
     ensures memory { result ≡ Err Memory → NeedsMemory text.now }
     // Which fault it is: a bad text spells nothing.
-    ensures fault { IfErr result (λ e. (e ≡ Memory) ⊎ ((e ≡ BadTagText) × ((rule : List AlternativeValue) → ReadsTags text.now rule → ⊥))) }
+    ensures fault { IfErr result (λ e. (e ≡ Memory) ⊎ ((e ≡ BadTagText) × SpellsNone text.now)) }
 {
     if is_of_new_form(text) {
         return Err(SelectFault::BadTagText);
@@ -123,5 +117,6 @@ pub fn read_tags(alloc: Global, text: &str) -> Result<TagRule, SelectFault>
 
 /// No text spells two different rules. (behave's documentation: tag expressions; this project's profile)
 pub fn texts_have_one_rule()
-    ensures { (text : List ℕ) (a b : List AlternativeValue) → ReadsTags text a → ReadsTags text b → a ≡ b }
+    ensures { (text : List ℕ) (a b : List AlternativeValue) →
+        ReadsTags text a → ReadsTags text b → a ≡ b }
 {}

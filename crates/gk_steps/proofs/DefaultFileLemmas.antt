@@ -12,7 +12,7 @@ use Rattle.gk_steps.specs.declared.action.Action.TheVariants as actions
 use Rattle.gk_steps.specs.declared.pattern.FieldKind.TheVariants.{Plain, Decimal}
 use Rattle.gk_steps.specs.Pattern.{PieceValue, Literal, FieldPiece, spelled_piece, is_field_name, field_names, field_kind, AreLongestRuns, SpellsPattern}
 use Rattle.gk_steps.specs.Matching.{MatchesNot, best_match}
-use Rattle.gk_steps.specs.Action.{ActionRow, action_row, text_row, plain_row, name_word, to_word, number_word, step_word, kind_of_field}
+use Rattle.gk_steps.specs.Action.{ActionRowValue, action_row, text_row, plain_row, name_word, to_word, number_word, step_word, kind_of_field}
 use Rattle.gk_steps.specs.Finding.{EntryValue, LibraryValue, is_of_type}
 use Rattle.gk_steps.specs.LibraryFile.{Sides, is_ignored, type_of, sides_of, last_arrow, NoneMatches, SpellsEntry, SpellEntries, ReadsLibrary}
 use Rattle.gk_steps.specs.LibraryLine.{is_none_or_kind}
@@ -79,7 +79,7 @@ none_so [] step_type text e = tt
 none_so (x ∷ xs) step_type text e = let parts = and_so (passes step_type text x) (list_all (passes step_type text) xs) e in (passes_so step_type text x parts.0, none_so xs step_type text parts.1)
 
 -- a line that is good
-good : (earlier : LibraryValue) (line : LineValue) (e : EntryValue) (sides : Sides) (row : ActionRow) → type_of line ≡ Some e.step_type → sides_of line ≡ Some sides → action_row sides.action ≡ Some row → e.action ≡ row.action
+good : (earlier : LibraryValue) (line : LineValue) (e : EntryValue) (sides : Sides) (row : ActionRowValue) → type_of line ≡ Some e.step_type → sides_of line ≡ Some sides → action_row sides.action ≡ Some row → e.action ≡ row.action
     → spells_ok sides.pattern e.pattern ≡ true → list_all (λ name. is_some (field_kind e.pattern name)) row.needs ≡ true → list_all (λ name. is_none_or_kind (field_kind e.pattern name) (kind_of_field name)) row.uses ≡ true
     → list_all (passes e.step_type sides.pattern) earlier ≡ true → SpellsEntry earlier line e
 good earlier line e sides row is_type is_cut is_action action spelled needs kinds none = record {

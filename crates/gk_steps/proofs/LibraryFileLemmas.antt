@@ -1,17 +1,15 @@
 -- The lines of a step library.
-use Rattle.std.proofs.Common.{◌≡◌, ℕ, zero, suc, ◌+◌, ◌<◌, Bool, true, false, cond, not, List, [], ◌∷◌, ◌++◌, length, take, drop, get_or, map, Option, Some, None, refl, ap, sym, subst, ◌∙◌, arith, append_assoc}
+use Rattle.std.proofs.Common.{◌≡◌, ℕ, zero, suc, ◌+◌, ◌<◌, Bool, true, false, cond, not, List, [], ◌∷◌, ◌++◌, length, take, drop, get_or, Option, Some, None, refl, ap, sym, subst, ◌∙◌, arith, append_assoc}
 use Rattle.std.specs.Prelude.{filter}
-use Rattle.std.proofs.lemmas.List.{map-append}
 use Rattle.std.proofs.lemmas.List.Elements.{filter-append}
 use Rattle.gk_gherkin.specs.declared.feature.StepType.{StepType}
-use Rattle.gk_gherkin.specs.declared.lines.Line.{Line}
-use Rattle.gk_gherkin.specs.Lines.{LineValue, Lines, line_value, lines_of, IsText}
+use Rattle.gk_gherkin.specs.Lines.{LineValue, Lines, lines_of, IsText}
 use Rattle.gk_steps.specs.declared.action.Action.{Action}
 use Rattle.gk_steps.specs.declared.library_fault.LibraryFault.{LibraryFault}
 use Rattle.gk_steps.specs.declared.library_fault.LibraryFault.TheVariants as faults
 use Rattle.gk_steps.specs.Pattern.{PieceValue, SpellsPattern}
 use Rattle.gk_steps.specs.Matching.{Matches, MatchesNot}
-use Rattle.gk_steps.specs.Action.{ActionRow, action_row}
+use Rattle.gk_steps.specs.Action.{ActionRowValue, action_row}
 use Rattle.gk_steps.specs.Finding.{EntryValue, LibraryValue}
 use Rattle.gk_steps.specs.LibraryFile.{Sides, is_ignored, sides_of, HasNeededFields, HasRightKinds, NoneMatches, SpellsEntry, SpellEntries, ReadsLibrary, IsReadableLibrary, HasPattern, IsBadType, IsBadPattern, IsUnknownAction, IsMissingField, IsOtherKind, IsAmbiguous, StopsLibraryAt, LibraryReadingIsUnique}
 use Rattle.gk_steps.specs.LibraryFault.{LibraryFaultSays}
@@ -28,7 +26,7 @@ some_not x e = let bad : ⊥ = cc in bad
 abbrev entry_from : Option StepType → List PieceValue → Action → EntryValue
 entry_from step_type ps action = record { step_type = step_type; pattern = ps; action = action }
 
-same_row : (a b : Sides) (r s : ActionRow) → a ≡ b → action_row a.action ≡ Some r → action_row b.action ≡ Some s → r ≡ s
+same_row : (a b : Sides) (r s : ActionRowValue) → a ≡ b → action_row a.action ≡ Some r → action_row b.action ≡ Some s → r ≡ s
 same_row a b r s e h k = some_same r s (sym h ∙ ap (λ (x : Sides). action_row x.action) e ∙ k)
 
 one_entry : (earlier : LibraryValue) (line : LineValue) (a b : EntryValue) → SpellsEntry earlier line a → SpellsEntry earlier line b → a ≡ b
@@ -37,7 +35,7 @@ one_entry earlier line a b h k =
     let sides : h.sides ≡ k.sides = some_same h.sides k.sides (sym h.is_cut ∙ k.is_cut) in
     let patterns : a.pattern ≡ b.pattern = spelling k.sides.pattern a.pattern b.pattern (subst (λ (s : Sides). SpellsPattern s.pattern a.pattern) sides h.is_pattern) k.is_pattern in
     let rows : h.row ≡ k.row = same_row h.sides k.sides h.row k.row sides h.is_action k.is_action in
-    let actions : a.action ≡ b.action = h.action ∙ ap (λ (r : ActionRow). r.action) rows ∙ sym k.action in
+    let actions : a.action ≡ b.action = h.action ∙ ap (λ (r : ActionRowValue). r.action) rows ∙ sym k.action in
     ap (λ t. entry_from t a.pattern a.action) types ∙ ap (λ ps. entry_from b.step_type ps a.action) patterns ∙ ap (λ x. entry_from b.step_type b.pattern x) actions
 
 one_by_one : (earlier : LibraryValue) (ls : Lines) (a b : LibraryValue) → SpellEntries earlier ls a → SpellEntries earlier ls b → a ≡ b
@@ -102,25 +100,25 @@ ignored_more xs l es e h = subst (λ (q : Lines). SpellEntries [] q es) (sym (ke
 entry_more : (xs : Lines) (l : LineValue) (es : LibraryValue) (x : EntryValue) → is_ignored l ≡ false → ReadsLibrary xs es → SpellsEntry es l x → ReadsLibrary (xs ++ l ∷ []) (es ++ x ∷ [])
 entry_more xs l es x e h s = subst (λ (q : Lines). SpellEntries [] q (es ++ x ∷ [])) (sym (kept xs l false e)) (one_more [] (filter (λ line. not (is_ignored line)) xs) es l x h s)
 
-pub record IsCutAt (ls : List Line) (i : ℕ) (x : Line) : Type 0 where
+pub record IsCutAt (ls : Lines) (i : ℕ) (x : LineValue) : Type 0 where
   pub whole : ls ≡ take i ls ++ x ∷ drop (suc i) ls
   pub more : take (suc i) ls ≡ take i ls ++ x ∷ []
 
-cut_at : (ls : List Line) (i : ℕ) (x : Line) → i < length ls → x ≡ get_or ls i x → IsCutAt ls i x
+cut_at : (ls : Lines) (i : ℕ) (x : LineValue) → i < length ls → x ≡ get_or ls i x → IsCutAt ls i x
 cut_at [] i x l e = absurd (omega arith)
-cut_at (y ∷ ys) zero x l e = record { whole = ap (λ (z : Line). z ∷ ys) (sym e); more = ap (λ (z : Line). z ∷ []) (sym e) }
-cut_at (y ∷ ys) (suc i) x l e = let c = cut_at ys i x (omega arith) e in record { whole = ap (λ (zs : List Line). y ∷ zs) c.whole; more = ap (λ (zs : List Line). y ∷ zs) c.more }
+cut_at (y ∷ ys) zero x l e = record { whole = ap (λ (z : LineValue). z ∷ ys) (sym e); more = ap (λ (z : LineValue). z ∷ []) (sym e) }
+cut_at (y ∷ ys) (suc i) x l e = let c = cut_at ys i x (omega arith) e in record { whole = ap (λ (zs : Lines). y ∷ zs) c.whole; more = ap (λ (zs : Lines). y ∷ zs) c.more }
 
-values_more : (ls : List Line) (i : ℕ) (x : Line) → i < length ls → x ≡ get_or ls i x → map line_value (take (i + 1) ls) ≡ map line_value (take i ls) ++ line_value x ∷ []
+values_more : (ls : Lines) (i : ℕ) (x : LineValue) → i < length ls → x ≡ get_or ls i x → take (i + 1) ls ≡ take i ls ++ x ∷ []
 values_more ls i x l e =
     let next : i + 1 ≡ suc i = omega arith in
-    ap (λ (k : ℕ). map line_value (take k ls)) next ∙ ap (map line_value) (cut_at ls i x l e).more ∙ map-append line_value (take i ls) (x ∷ [])
+    ap (λ (k : ℕ). take k ls) next ∙ (cut_at ls i x l e).more
 
-pub ignored_at : (ls : List Line) (i : ℕ) (x : Line) (es : LibraryValue) → i < length ls → x ≡ get_or ls i x → is_ignored (line_value x) ≡ true → ReadsLibrary (map line_value (take i ls)) es → ReadsLibrary (map line_value (take (i + 1) ls)) es
-ignored_at ls i x es l e ignored h = subst (λ (q : Lines). ReadsLibrary q es) (sym (values_more ls i x l e)) (ignored_more (map line_value (take i ls)) (line_value x) es ignored h)
+pub ignored_at : (ls : Lines) (i : ℕ) (x : LineValue) (es : LibraryValue) → i < length ls → x ≡ get_or ls i x → is_ignored x ≡ true → ReadsLibrary (take i ls) es → ReadsLibrary (take (i + 1) ls) es
+ignored_at ls i x es l e ignored h = subst (λ (q : Lines). ReadsLibrary q es) (sym (values_more ls i x l e)) (ignored_more (take i ls) x es ignored h)
 
-pub entry_at : (ls : List Line) (i : ℕ) (x : Line) (es : LibraryValue) (entry : EntryValue) → i < length ls → x ≡ get_or ls i x → is_ignored (line_value x) ≡ false → ReadsLibrary (map line_value (take i ls)) es → SpellsEntry es (line_value x) entry → ReadsLibrary (map line_value (take (i + 1) ls)) (es ++ entry ∷ [])
-entry_at ls i x es entry l e counts h s = subst (λ (q : Lines). ReadsLibrary q (es ++ entry ∷ [])) (sym (values_more ls i x l e)) (entry_more (map line_value (take i ls)) (line_value x) es entry counts h s)
+pub entry_at : (ls : Lines) (i : ℕ) (x : LineValue) (es : LibraryValue) (entry : EntryValue) → i < length ls → x ≡ get_or ls i x → is_ignored x ≡ false → ReadsLibrary (take i ls) es → SpellsEntry es x entry → ReadsLibrary (take (i + 1) ls) (es ++ entry ∷ [])
+entry_at ls i x es entry l e counts h s = subst (λ (q : Lines). ReadsLibrary q (es ++ entry ∷ [])) (sym (values_more ls i x l e)) (entry_more (take i ls) x es entry counts h s)
 
 -- a faulty line ends every reading
 kept_rest : (xs : Lines) (l : LineValue) (more : Lines) → is_ignored l ≡ false → filter (λ line. not (is_ignored line)) (xs ++ l ∷ more) ≡ filter (λ line. not (is_ignored line)) xs ++ l ∷ filter (λ line. not (is_ignored line)) more
@@ -139,18 +137,18 @@ stopped before line entries fits counts never more r =
     let first = first_spelled cut.first line (filter (λ l. not (is_ignored l)) more) cut.second cut.after in
     never first.0 (subst (λ (q : LibraryValue). SpellsEntry q line first.0) same first.1)
 
-stop_at : (Fault : LibraryValue → LineValue → Type 0) (n : ℕ) (ls : List Line) (i : ℕ) (x : Line) (es : LibraryValue) → i < length ls → x ≡ get_or ls i x → is_ignored (line_value x) ≡ false → ReadsLibrary (map line_value (take i ls)) es
-    → n ≡ (line_value x).line → Fault es (line_value x) → ((e : EntryValue) → SpellsEntry es (line_value x) e → ⊥) → StopsLibraryAt (map line_value ls) n Fault
+stop_at : (Fault : LibraryValue → LineValue → Type 0) (n : ℕ) (ls : Lines) (i : ℕ) (x : LineValue) (es : LibraryValue) → i < length ls → x ≡ get_or ls i x → is_ignored x ≡ false → ReadsLibrary (take i ls) es
+    → n ≡ x.line → Fault es x → ((e : EntryValue) → SpellsEntry es x e → ⊥) → StopsLibraryAt (ls) n Fault
 stop_at Fault n ls i x es l e counts h number fault never = record {
-  before = map line_value (take i ls);
-  line = line_value x;
-  after = map line_value (drop (suc i) ls);
-  whole = ap (map line_value) (cut_at ls i x l e).whole ∙ map-append line_value (take i ls) (x ∷ drop (suc i) ls);
+  before = take i ls;
+  line = x;
+  after = drop (suc i) ls;
+  whole = (cut_at ls i x l e).whole;
   number = sym number;
   entries = es;
   fits = h;
   counts = counts;
-  stops = stopped (map line_value (take i ls)) (line_value x) es h counts never;
+  stops = stopped (take i ls) x es h counts never;
   fault = fault;
 }
 
@@ -170,20 +168,20 @@ never_action es l f e s = some_not s.row (sym s.is_action ∙ ap (λ (x : Sides)
 pattern_same : (l : LineValue) (step_type : Option StepType) (a b : Sides) (ps qs : List PieceValue) → HasPattern l step_type a ps → sides_of l ≡ Some b → SpellsPattern b.pattern qs → qs ≡ ps
 pattern_same l step_type a b ps qs g cut s = spelling a.pattern qs ps (subst (λ (x : Sides). SpellsPattern x.pattern qs) (sym (sides_same l step_type a b ps g cut)) s) g.is_pattern
 
-row_same : (l : LineValue) (step_type : Option StepType) (a b : Sides) (ps : List PieceValue) (r q : ActionRow) → HasPattern l step_type a ps → sides_of l ≡ Some b → action_row a.action ≡ Some r → action_row b.action ≡ Some q → q ≡ r
+row_same : (l : LineValue) (step_type : Option StepType) (a b : Sides) (ps : List PieceValue) (r q : ActionRowValue) → HasPattern l step_type a ps → sides_of l ≡ Some b → action_row a.action ≡ Some r → action_row b.action ≡ Some q → q ≡ r
 row_same l step_type a b ps r q g cut h k = sym (same_row a b r q (sides_same l step_type a b ps g cut) h k)
 
 never_needs : (es : LibraryValue) (l : LineValue) → IsMissingField es l → (e : EntryValue) → SpellsEntry es l e → ⊥
 never_needs es l f e s =
     let ps = pattern_same l f.step_type f.sides s.sides f.ps e.pattern f.good s.is_cut s.is_pattern in
     let row = row_same l f.step_type f.sides s.sides f.ps f.row s.row f.good s.is_cut f.is_action s.is_action in
-    f.bad (subst (λ (q : List PieceValue). HasNeededFields f.row q) ps (subst (λ (r : ActionRow). HasNeededFields r e.pattern) row s.needs))
+    f.bad (subst (λ (q : List PieceValue). HasNeededFields f.row q) ps (subst (λ (r : ActionRowValue). HasNeededFields r e.pattern) row s.needs))
 
 never_kinds : (es : LibraryValue) (l : LineValue) → IsOtherKind es l → (e : EntryValue) → SpellsEntry es l e → ⊥
 never_kinds es l f e s =
     let ps = pattern_same l f.step_type f.sides s.sides f.ps e.pattern f.good s.is_cut s.is_pattern in
     let row = row_same l f.step_type f.sides s.sides f.ps f.row s.row f.good s.is_cut f.is_action s.is_action in
-    f.bad (subst (λ (q : List PieceValue). HasRightKinds f.row q) ps (subst (λ (r : ActionRow). HasRightKinds r e.pattern) row s.kinds))
+    f.bad (subst (λ (q : List PieceValue). HasRightKinds f.row q) ps (subst (λ (r : ActionRowValue). HasRightKinds r e.pattern) row s.kinds))
 
 none_there : (before : LibraryValue) (x : EntryValue) (after : LibraryValue) (step_type : Option StepType) (text : List ℕ) → NoneMatches (before ++ x ∷ after) step_type text → x.step_type ≡ step_type → MatchesNot x.pattern text
 none_there [] x after step_type text h = h.0
@@ -196,14 +194,14 @@ never_ambiguous es l f e s =
     let none : NoneMatches (f.before ++ f.entry ∷ f.after) e.step_type s.sides.pattern = subst (λ (q : LibraryValue). NoneMatches q e.step_type s.sides.pattern) f.whole s.unambiguous in
     none_there f.before f.entry f.after e.step_type s.sides.pattern none (f.same ∙ sym types) f.spans (subst (λ (x : Sides). Matches f.entry.pattern x.pattern f.spans) sides f.matches)
 
-pub fault_at : (f : LibraryFault) (ls : List Line) (i : ℕ) (x : Line) (es : LibraryValue) → i < length ls → x ≡ get_or ls i x → is_ignored (line_value x) ≡ false → ReadsLibrary (map line_value (take i ls)) es → EntryFaultSays f es (line_value x) → LibraryLinesFaultSays f (map line_value ls)
+pub fault_at : (f : LibraryFault) (ls : Lines) (i : ℕ) (x : LineValue) (es : LibraryValue) → i < length ls → x ≡ get_or ls i x → is_ignored x ≡ false → ReadsLibrary (take i ls) es → EntryFaultSays f es x → LibraryLinesFaultSays f (ls)
 fault_at faults.Memory ls i x es l e counts h f = tt
-fault_at (faults.BadType n) ls i x es l e counts h f = stop_at IsBadType n ls i x es l e counts h f.0 f.1 (never_type es (line_value x) f.1)
-fault_at (faults.BadPattern n) ls i x es l e counts h f = stop_at IsBadPattern n ls i x es l e counts h f.0 f.1 (never_pattern es (line_value x) f.1)
-fault_at (faults.UnknownAction n) ls i x es l e counts h f = stop_at IsUnknownAction n ls i x es l e counts h f.0 f.1 (never_action es (line_value x) f.1)
-fault_at (faults.MissingField n) ls i x es l e counts h f = stop_at IsMissingField n ls i x es l e counts h f.0 f.1 (never_needs es (line_value x) f.1)
-fault_at (faults.FieldKind n) ls i x es l e counts h f = stop_at IsOtherKind n ls i x es l e counts h f.0 f.1 (never_kinds es (line_value x) f.1)
-fault_at (faults.Ambiguous n) ls i x es l e counts h f = stop_at IsAmbiguous n ls i x es l e counts h f.0 f.1 (never_ambiguous es (line_value x) f.1)
+fault_at (faults.BadType n) ls i x es l e counts h f = stop_at IsBadType n ls i x es l e counts h f.0 f.1 (never_type es x f.1)
+fault_at (faults.BadPattern n) ls i x es l e counts h f = stop_at IsBadPattern n ls i x es l e counts h f.0 f.1 (never_pattern es x f.1)
+fault_at (faults.UnknownAction n) ls i x es l e counts h f = stop_at IsUnknownAction n ls i x es l e counts h f.0 f.1 (never_action es x f.1)
+fault_at (faults.MissingField n) ls i x es l e counts h f = stop_at IsMissingField n ls i x es l e counts h f.0 f.1 (never_needs es x f.1)
+fault_at (faults.FieldKind n) ls i x es l e counts h f = stop_at IsOtherKind n ls i x es l e counts h f.0 f.1 (never_kinds es x f.1)
+fault_at (faults.Ambiguous n) ls i x es l e counts h f = stop_at IsAmbiguous n ls i x es l e counts h f.0 f.1 (never_ambiguous es x f.1)
 fault_at (faults.NotUtf8 n) ls i x es l e counts h f = absurd f
 fault_at faults.TooLong ls i x es l e counts h f = absurd f
 
@@ -234,11 +232,11 @@ says_so (faults.NotUtf8 n) bytes is f = absurd f
 says_so faults.TooLong bytes is f = absurd f
 
 -- a line more
-pub added_at : (ls : List Line) (i : ℕ) (x : Line) (es after : LibraryValue) → i < length ls → x ≡ get_or ls i x → ReadsLibrary (map line_value (take i ls)) es → AddsLine es (line_value x) after → ReadsLibrary (map line_value (take (i + 1) ls)) after
-added_at ls i x es after l e h (Ignored ignored same) = subst (λ (q : LibraryValue). ReadsLibrary (map line_value (take (i + 1) ls)) q) (sym same) (ignored_at ls i x es l e ignored h)
-added_at ls i x es after l e h (Spelled counts a) = subst (λ (q : LibraryValue). ReadsLibrary (map line_value (take (i + 1) ls)) q) (sym a.added) (entry_at ls i x es a.entry l e counts h a.spells)
+pub added_at : (ls : Lines) (i : ℕ) (x : LineValue) (es after : LibraryValue) → i < length ls → x ≡ get_or ls i x → ReadsLibrary (take i ls) es → AddsLine es x after → ReadsLibrary (take (i + 1) ls) after
+added_at ls i x es after l e h (Ignored ignored same) = subst (λ (q : LibraryValue). ReadsLibrary (take (i + 1) ls) q) (sym same) (ignored_at ls i x es l e ignored h)
+added_at ls i x es after l e h (Spelled counts a) = subst (λ (q : LibraryValue). ReadsLibrary (take (i + 1) ls) q) (sym a.added) (entry_at ls i x es a.entry l e counts h a.spells)
 
-pub stopped_at : (f : LibraryFault) (ls : List Line) (i : ℕ) (x : Line) (es : LibraryValue) → i < length ls → x ≡ get_or ls i x → ReadsLibrary (map line_value (take i ls)) es → LineFaultSays f es (line_value x) → LibraryLinesFaultSays f (map line_value ls)
+pub stopped_at : (f : LibraryFault) (ls : Lines) (i : ℕ) (x : LineValue) (es : LibraryValue) → i < length ls → x ≡ get_or ls i x → ReadsLibrary (take i ls) es → LineFaultSays f es x → LibraryLinesFaultSays f (ls)
 stopped_at f ls i x es l e h s = fault_at f ls i x es l e s.counts h s.fault_is
 
 -- the whole file

@@ -1,59 +1,26 @@
 -- One line of a step library.
-use Rattle.std.proofs.Common.{◌≡◌, ℕ, zero, suc, ◌+◌, ◌-◌, ◌<◌, ◌≤◌, Bool, true, false, cond, ◌&&◌, nat_eq, List, [], ◌∷◌, ◌++◌, length, take, drop, get_or, codes, find, Option, Some, None, option_map, refl, ap, sym, subst, ◌∙◌, arith}
+use Rattle.std.proofs.Common.{◌≡◌, ℕ, zero, suc, ◌+◌, ◌-◌, ◌<◌, ◌≤◌, Bool, true, false, cond, ◌&&◌, nat_eq, List, [], ◌∷◌, ◌++◌, length, take, drop, get_or, codes, Option, Some, None, refl, ap, sym, subst, ◌∙◌, arith}
+use Rattle.std.proofs.Common.{Bor}
 use Rattle.std.specs.Prelude.{is_some, IsSome, slice_get}
-use Rattle.std.specs.List.{AllByRecursion, list_all, prefix_len, position_or_len, before_first, after_first}
-use Rattle.std.specs.Str.{IsUtf8, IsCharBoundary, bytes_eq}
+use Rattle.std.specs.List.{AllByRecursion, list_all}
+use Rattle.std.specs.Str.{IsUtf8, IsCharBoundary}
 use Rattle.std.proofs.lemmas.Bool.Decides.{nat_tests}
 use Rattle.std.proofs.lemmas.List.{take_all, drop_all}
 use Rattle.std.proofs.Common.{length-drop}
-use Rattle.std.proofs.lemmas.List.Sums.{prefix_len_passes, prefix_len-le-length, passes_at_first}
-use Rattle.std.proofs.lemmas.Str.{IsCharBoundary-start, IsCharBoundary-after_ascii, IsCharBoundary-before_ascii}
+use Rattle.std.proofs.lemmas.Str.{IsCharBoundary-after_ascii, IsCharBoundary-before_ascii}
 use Rattle.gk_gherkin.specs.declared.feature.StepType.{StepType}
-use Rattle.gk_gherkin.specs.Lines.{LineValue, is_blank}
-use Rattle.gk_gherkin.specs.Class.{begins}
+use Rattle.gk_gherkin.specs.Lines.{LineValue}
+use Rattle.gk_gherkin.specs.Text.{begins}
 use Rattle.gk_steps.specs.declared.action.Action.{Action}
 use Rattle.gk_steps.specs.declared.pattern.FieldKind.{FieldKind}
 use Rattle.gk_steps.specs.declared.pattern.FieldKind.TheVariants.{Plain, Decimal}
 use Rattle.gk_steps.specs.declared.library_fault.LibraryFault.{LibraryFault}
 use Rattle.gk_steps.specs.declared.library_fault.LibraryFault.TheVariants as faults
 use Rattle.gk_steps.specs.Pattern.{PieceValue, SpellsPattern, field_kind}
-use Rattle.gk_steps.specs.Action.{ActionRow, action_row, action_table, kind_of_field}
+use Rattle.gk_steps.specs.Action.{ActionRowValue, action_row, kind_of_field, words_said}
 use Rattle.gk_steps.specs.Finding.{EntryValue, LibraryValue, FoundValue, NoneFound, IsFirstFound, IsFoundOf}
 use Rattle.gk_steps.specs.LibraryFile.{Sides, into_sides, last_arrow, NoneMatches, SpellsEntry, HasPattern, IsAmbiguous}
-use Rattle.gk_steps.specs.LibraryLine.{uses_of, needed_names, used_names, is_same_kind, is_none_or_kind, has_needed, has_right_kinds, FitsAction, LacksField, HasOtherKind, ActionFaultSays, PatternFaultSays, IsCut, CutFaultSays, EntryFaultSays}
-
--- where blanks end, a text may be cut
-blank_ascii : (b : ℕ) → is_blank b ≡ true → b < 128
-blank_ascii b h = grind (arith, nat_tests)
-
-pub boundary_at : (bs : List ℕ) (n : ℕ) → IsUtf8 bs → n ≤ prefix_len is_blank bs → IsCharBoundary bs n
-boundary_at bs zero u le = IsCharBoundary-start bs u
-boundary_at bs (suc k) u le =
-    let within : k < length bs = omega (arith, prefix_len-le-length is_blank bs) in
-    let at : get_or bs k 0 < 128 = blank_ascii (get_or bs k 0) (prefix_len_passes is_blank bs k 0 (omega arith)) in
-    let e : k + 1 ≡ suc k = omega arith in
-    subst (IsCharBoundary bs) e (IsCharBoundary-after_ascii bs k u within at)
-
-pub before_first_blank : (bs : List ℕ) (n : ℕ) → n ≡ position_or_len is_blank bs → n < length bs → IsCharBoundary bs n
-before_first_blank bs n e h =
-    let at : get_or bs n 0 < 128 = subst (λ n. get_or bs n 0 < 128) (sym e) (blank_ascii (get_or bs (position_or_len is_blank bs) 0) (passes_at_first is_blank bs 0 (omega arith))) in
-    IsCharBoundary-before_ascii bs n h at
-
-pub after_first_blank : (bs : List ℕ) (n : ℕ) → IsUtf8 bs → n ≡ position_or_len is_blank bs → n < length bs → IsCharBoundary bs (n + 1)
-after_first_blank bs n u e h =
-    let at : get_or bs n 0 < 128 = subst (λ n. get_or bs n 0 < 128) (sym e) (blank_ascii (get_or bs (position_or_len is_blank bs) 0) (passes_at_first is_blank bs 0 (omega arith))) in
-    IsCharBoundary-after_ascii bs n u h at
-
-pub no_blank : (text : List ℕ) (n : ℕ) → n ≡ position_or_len is_blank text → length text ≤ n → after_first is_blank text ≡ []
-no_blank text n e h = drop_all (position_or_len is_blank text + 1) text (omega arith)
-
-pub to_blank : (text part : List ℕ) (n : ℕ) → n ≡ position_or_len is_blank text → part ≡ take (n - 0) text → part ≡ before_first is_blank text
-to_blank text part n e cut =
-    let whole : n - 0 ≡ position_or_len is_blank text = omega arith in
-    cut ∙ ap (λ (m : ℕ). take m text) whole
-
-pub past_blank : (text part : List ℕ) (n : ℕ) → n ≡ position_or_len is_blank text → part ≡ drop (n + 1) text → part ≡ after_first is_blank text
-past_blank text part n e cut = cut ∙ ap (λ (m : ℕ). drop (m + 1) text) e
+use Rattle.gk_steps.specs.LibraryLine.{is_same_kind, is_none_or_kind, has_needed, has_right_kinds, FitsAction, LacksField, HasOtherKind, ActionFaultSays, PatternFaultSays, IsCut, CutFaultSays, EntryFaultSays}
 
 -- the last arrow
 arrow_not_here : (b : ℕ) (bs : List ℕ) (o : Option Sides) → o ≡ None → begins (b ∷ bs) (codes "=>") ≡ false → into_sides (b ∷ bs) o ≡ None
@@ -131,67 +98,24 @@ kinds_test ps [] h = refl
 kinds_test ps (name ∷ names) h =
     and_both (is_none_or_kind (field_kind ps name) (kind_of_field name)) (list_all (λ n. is_none_or_kind (field_kind ps n) (kind_of_field n)) names) (kind_test (field_kind ps name) (kind_of_field name) h.0) (kinds_test ps names h.1)
 
--- the table of actions
-pub record FitsRow (row : ActionRow) : Type 0 where
-  pub needs : row.needs ≡ needed_names (uses_of row.action)
-  pub uses : row.uses ≡ used_names (uses_of row.action)
+-- a test of borrowed words
+pub words_pass : (p : List ℕ → Bool) (words : List (Bor (List ℕ))) → list_all (λ word. p word.now) words ≡ list_all p (words_said words)
+words_pass p [] = refl
+words_pass p (word ∷ words) = ap (λ v. p word.now && v) (words_pass p words)
 
-find_here : (v : Bool) (P : ActionRow → Type 0) (p : ActionRow → Bool) (ys : List ActionRow) (x y : ActionRow) → cond v (Some y) (find p ys) ≡ Some x → P y → (find p ys ≡ Some x → P x) → P x
-find_here true P p ys x y e h more = let same : y ≡ x = cc in subst P same h
-find_here false P p ys x y e h more = more e
-
-find_all : (P : ActionRow → Type 0) (p : ActionRow → Bool) (xs : List ActionRow) (x : ActionRow) → find p xs ≡ Some x → AllByRecursion P xs → P x
-find_all P p [] x e h = let bad : ⊥ = cc in absurd bad
-find_all P p (y ∷ ys) x e h = find_here (p y) P p ys x y e h.0 (λ f. find_all P p ys x f h.1)
-
-rows_fit : AllByRecursion FitsRow action_table
-rows_fit = (record { needs = refl; uses = refl }, (record { needs = refl; uses = refl }, (record { needs = refl; uses = refl }, (record { needs = refl; uses = refl }, (record { needs = refl; uses = refl }, (record { needs = refl; uses = refl }, (record { needs = refl; uses = refl }, (record { needs = refl; uses = refl }, (record { needs = refl; uses = refl }, (record { needs = refl; uses = refl }, (record { needs = refl; uses = refl }, (record { needs = refl; uses = refl }, (record { needs = refl; uses = refl }, (record { needs = refl; uses = refl }, (record { needs = refl; uses = refl }, (record { needs = refl; uses = refl }, (record { needs = refl; uses = refl }, (record { needs = refl; uses = refl }, (record { needs = refl; uses = refl }, (record { needs = refl; uses = refl }, (record { needs = refl; uses = refl }, (record { needs = refl; uses = refl }, (record { needs = refl; uses = refl }, (record { needs = refl; uses = refl }, tt))))))))))))))))))))))))
-
-row_fits : (name : List ℕ) (row : ActionRow) → action_row name ≡ Some row → FitsRow row
-unfolding action_row
-row_fits name row e = find_all FitsRow (λ (r : ActionRow). bytes_eq r.name name) action_table row e rows_fit
-
--- the row of a found action
-pub record IsRowOf (o : Option ActionRow) (action : Action) : Type 0 where
-  pub row : ActionRow
-  pub is : o ≡ Some row
-  pub action_is : action ≡ row.action
-
-row_of : (o : Option ActionRow) (action : Action) → ◌≡◌ {A = Option Action} (Some action) (option_map (λ (row : ActionRow). row.action) o) → IsRowOf o action
-row_of None action e = let bad : ⊥ = cc in absurd bad
-row_of (Some row) action e = record { row = row; is = refl; action_is = cc }
-
-pub no_row : (o : Option ActionRow) → ◌≡◌ {A = Option Action} None (option_map (λ (row : ActionRow). row.action) o) → o ≡ None
-no_row None e = refl
-no_row (Some row) e = let bad : ⊥ = cc in absurd bad
-
-needs_fit : (row : ActionRow) (action : Action) (ps : List PieceValue) → FitsRow row → action ≡ row.action → has_needed (uses_of action) ps ≡ list_all (λ name. is_some (field_kind ps name)) row.needs
-needs_fit row action ps f e = ap (λ a. has_needed (uses_of a) ps) e ∙ ap (λ (names : List (List ℕ)). list_all (λ name. is_some (field_kind ps name)) names) (sym f.needs)
-
-kinds_fit : (row : ActionRow) (action : Action) (ps : List PieceValue) → FitsRow row → action ≡ row.action → has_right_kinds (uses_of action) ps ≡ list_all (λ name. is_none_or_kind (field_kind ps name) (kind_of_field name)) row.uses
-kinds_fit row action ps f e = ap (λ a. has_right_kinds (uses_of a) ps) e ∙ ap (λ (names : List (List ℕ)). list_all (λ name. is_none_or_kind (field_kind ps name) (kind_of_field name)) names) (sym f.uses)
-
-pub action_fits : (name : List ℕ) (ps : List PieceValue) (action : Action) → ◌≡◌ {A = Option Action} (Some action) (option_map (λ (row : ActionRow). row.action) (action_row name)) → has_needed (uses_of action) ps ≡ true → has_right_kinds (uses_of action) ps ≡ true → FitsAction name ps action
-action_fits name ps action e needs kinds =
-    let r = row_of (action_row name) action e in
-    let f = row_fits name r.row r.is in
-    record { row = r.row; is_action = r.is; action_is = r.action_is; needs = needed_so ps r.row.needs (sym (needs_fit r.row action ps f r.action_is) ∙ needs); kinds = kinds_so ps r.row.uses (sym (kinds_fit r.row action ps f r.action_is) ∙ kinds) }
-
+-- the action of a row
 true_not_false : (b : Bool) → b ≡ true → b ≡ false → ⊥
 true_not_false true e f = let bad : ⊥ = cc in bad
 true_not_false false e f = let bad : ⊥ = cc in bad
 
-pub lacks_field : (name : List ℕ) (ps : List PieceValue) (action : Action) → ◌≡◌ {A = Option Action} (Some action) (option_map (λ (row : ActionRow). row.action) (action_row name)) → has_needed (uses_of action) ps ≡ false → LacksField name ps
-lacks_field name ps action e needs =
-    let r = row_of (action_row name) action e in
-    let f = row_fits name r.row r.is in
-    record { row = r.row; is_action = r.is; bad = λ h. true_not_false (has_needed (uses_of action) ps) (needs_fit r.row action ps f r.action_is ∙ needed_test ps r.row.needs h) needs }
+pub action_fits : (name : List ℕ) (ps : List PieceValue) (row : ActionRowValue) → action_row name ≡ Some row → has_needed row.needs ps ≡ true → has_right_kinds row.uses ps ≡ true → FitsAction name ps row.action
+action_fits name ps row e needs kinds = record { row = row; is_action = e; action_is = refl; needs = needed_so ps row.needs needs; kinds = kinds_so ps row.uses kinds }
 
-pub other_kind : (name : List ℕ) (ps : List PieceValue) (action : Action) → ◌≡◌ {A = Option Action} (Some action) (option_map (λ (row : ActionRow). row.action) (action_row name)) → has_needed (uses_of action) ps ≡ true → has_right_kinds (uses_of action) ps ≡ false → HasOtherKind name ps
-other_kind name ps action e needs kinds =
-    let r = row_of (action_row name) action e in
-    let f = row_fits name r.row r.is in
-    record { row = r.row; is_action = r.is; needs = needed_so ps r.row.needs (sym (needs_fit r.row action ps f r.action_is) ∙ needs); bad = λ h. true_not_false (has_right_kinds (uses_of action) ps) (kinds_fit r.row action ps f r.action_is ∙ kinds_test ps r.row.uses h) kinds }
+pub lacks_field : (name : List ℕ) (ps : List PieceValue) (row : ActionRowValue) → action_row name ≡ Some row → has_needed row.needs ps ≡ false → LacksField name ps
+lacks_field name ps row e needs = record { row = row; is_action = e; bad = λ h. true_not_false (has_needed row.needs ps) (needed_test ps row.needs h) needs }
+
+pub other_kind : (name : List ℕ) (ps : List PieceValue) (row : ActionRowValue) → action_row name ≡ Some row → has_needed row.needs ps ≡ true → has_right_kinds row.uses ps ≡ false → HasOtherKind name ps
+other_kind name ps row e needs kinds = record { row = row; is_action = e; needs = needed_so ps row.needs needs; bad = λ h. true_not_false (has_right_kinds row.uses ps) (kinds_test ps row.uses h) kinds }
 
 -- faults of a line
 same_sides : (a b : Sides) → ◌≡◌ {A = Option Sides} (Some a) (Some b) → a ≡ b

@@ -10,7 +10,7 @@ use Rattle.gk_steps.specs.declared.pattern.FieldKind.{FieldKind}
 use Rattle.gk_steps.specs.declared.pattern.FieldKind.TheVariants.{Plain, Decimal}
 use Rattle.gk_steps.specs.Pattern.{PieceValue, Literal, FieldPiece, spelled_piece, is_field_name, SpellsPattern}
 use Rattle.gk_steps.specs.Matching.{IsPreferred, TextField, NumberField, match_of}
-use Rattle.gk_steps.specs.Action.{ActionRow, action_row, plain_row, step_word}
+use Rattle.gk_steps.specs.Action.{ActionRowValue, action_row, plain_row, step_word}
 use Rattle.gk_steps.specs.Finding.{LibraryValue, found, found_at, action_of, text_field, number_field}
 use Rattle.gk_steps.specs.LibraryFile.{type_of, sides_of, last_arrow, HasNeededFields, HasRightKinds}
 use Rattle.gk_steps.specs.DefaultFile.{any_entry, default_text}
@@ -123,7 +123,7 @@ unfolding action_row
 unknown = (refl, refl)
 
 -- Rows of the table of actions.
-abbrev cleanup_row : ActionRow
+abbrev cleanup_row : ActionRowValue
 cleanup_row = plain_row (codes "at_cleanup") actions.AtCleanup (step_word ∷ [])
 
 cleanup_named : action_row (codes "at_cleanup") ≡ Some cleanup_row

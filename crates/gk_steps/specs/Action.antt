@@ -1,17 +1,27 @@
 -- The built-in actions by name, and the fields that each needs and uses.
-use Rattle.std.specs.Prelude.{codes, ℕ, List, [], ◌∷◌, ◌++◌, Option, find, if◌then◌else◌}
+use Rattle.std.specs.Prelude.{codes, ℕ, List, [], ◌∷◌, map, Option, find, if◌then◌else◌}
+use Rattle.std.proofs.Common.{Bor}
 use Rattle.std.specs.Str.{bytes_eq}
 use Rattle.gk_steps.specs.declared.pattern.FieldKind.{FieldKind}
 use Rattle.gk_steps.specs.declared.pattern.FieldKind.TheVariants.{Plain, Decimal}
 use Rattle.gk_steps.specs.declared.action.Action.{Action}
+use Rattle.gk_steps.specs.declared.action.ActionRow.{ActionRow}
 use Rattle.gk_steps.specs.declared.action.Action.TheVariants as actions
 
+-- What borrowed words say.
+abbrev pub words_said : List (Bor (List ℕ)) → List (List ℕ)
+words_said words = map (λ word. word.now) words
+
 -- A row of the table of actions: a name, its action, the fields that it needs, and all that it uses. (this project's profile)
-pub record ActionRow : Type 0 where
+pub record ActionRowValue : Type 0 where
   pub name : List ℕ
   pub action : Action
   pub needs : List (List ℕ)
   pub uses : List (List ℕ)
+
+-- What an `ActionRow` says.
+abbrev pub action_row_value : ActionRow → ActionRowValue
+action_row_value row = record { name = row.name.now; action = row.action; needs = words_said row.needs.now; uses = words_said row.uses.now }
 
 -- The field for a name. (this project's profile)
 abbrev pub name_word : List ℕ
@@ -38,16 +48,16 @@ abbrev pub kind_of_field : List ℕ → FieldKind
 kind_of_field name = if bytes_eq name number_word then Decimal else Plain
 
 -- The row of an action that uses the fields that it needs, and no other. (this project's profile)
-abbrev pub plain_row : List ℕ → Action → List (List ℕ) → ActionRow
+abbrev pub plain_row : List ℕ → Action → List (List ℕ) → ActionRowValue
 plain_row name action needs = record { name = name; action = action; needs = needs; uses = needs }
 
 -- The row of an action that needs `name`, and uses `text` where the pattern has it. (this project's profile)
-abbrev pub text_row : List ℕ → Action → ActionRow
+abbrev pub text_row : List ℕ → Action → ActionRowValue
 text_row name action = record { name = name; action = action; needs = name_word ∷ []; uses = name_word ∷ text_word ∷ [] }
 
--- The actions on files. (this project's profile)
-abbrev pub file_rows : List ActionRow
-file_rows =
+-- The table of actions: a name, its action, the fields that it needs, and those that it uses. (this project's profile)
+abbrev pub action_table : List ActionRowValue
+action_table =
     text_row (codes "write_file") actions.WriteFile
     ∷ text_row (codes "append_file") actions.AppendFile
     ∷ plain_row (codes "remove_file") actions.RemoveFile (name_word ∷ [])
@@ -57,12 +67,7 @@ file_rows =
     ∷ plain_row (codes "file_absent") actions.FileAbsent (name_word ∷ [])
     ∷ text_row (codes "file_is") actions.FileIs
     ∷ text_row (codes "file_contains") actions.FileContains
-    ∷ []
-
--- The other actions. (this project's profile)
-abbrev pub other_rows : List ActionRow
-other_rows =
-    text_row (codes "set_env") actions.SetEnv
+    ∷ text_row (codes "set_env") actions.SetEnv
     ∷ plain_row (codes "remove_env") actions.RemoveEnv (name_word ∷ [])
     ∷ text_row (codes "env_is") actions.EnvIs
     ∷ plain_row (codes "env_absent") actions.EnvAbsent (name_word ∷ [])
@@ -79,10 +84,10 @@ other_rows =
     ∷ plain_row (codes "fail") actions.Fail []
     ∷ []
 
--- The table of actions. (this project's profile)
-abbrev pub action_table : List ActionRow
-action_table = file_rows ++ other_rows
+-- The first row of a name among some rows; none where no row has that name.
+abbrev pub row_among : List ActionRowValue → List ℕ → Option ActionRowValue
+row_among rows name = find (λ (row : ActionRowValue). bytes_eq row.name name) rows
 
 -- The row of a name; none where no action has that name.
-unfoldable pub action_row : List ℕ → Option ActionRow
-action_row name = find (λ (row : ActionRow). bytes_eq row.name name) action_table
+unfoldable pub action_row : List ℕ → Option ActionRowValue
+action_row name = row_among action_table name

@@ -1,10 +1,11 @@
 -- Proof machinery: the table of a match. A column is a number of characters, those that stand after a place;
 -- a row is a number of pieces, the last ones of the pattern.
-use Rattle.std.specs.Prelude.{◌≡◌, ◌<◌, ◌≤◌, ◌-◌, ℕ, Bool, true, false, List, [], ◌∷◌, ◌++◌, length, take, drop, slice_index, Vec, slice_index_or, Option, Some, None}
+use Rattle.std.specs.Prelude.{◌≡◌, ◌<◌, ◌≤◌, ◌+◌, ◌-◌, ℕ, Bool, true, false, List, [], ◌∷◌, ◌++◌, length, take, drop, slice_index, Vec, slice_index_or, Option, Some, None}
 use Rattle.std.specs.Str.{chars, IsCharBoundary}
 use Rattle.std.specs.Str.Parse.{IsNumeral, AllDigits, digits_value}
 use Rattle.gk_steps.specs.declared.pattern.FieldKind.TheVariants.{Plain, Decimal}
-use Rattle.gk_steps.specs.Pattern.{PieceValue, Literal, FieldPiece}
+use Rattle.gk_steps.specs.Pattern.{PieceValue, Literal, FieldPiece, pieces_said}
+use Rattle.gk_steps.specs.declared.pattern.Piece.{Piece}
 use Rattle.std.specs.declared.alloc.Global.{Global}
 use Rattle.gk_steps.specs.Matching.{IsSpan, Matches, MatchesNot, IsBestMatch, FieldValue, span_value, span_values}
 
@@ -84,6 +85,10 @@ IsRowOver piece text places below row = (ps : List PieceValue) → IsRow ps text
 pub record IsTable (size : ℕ) (ps : List PieceValue) (text : List ℕ) (places : List ℕ) (rows : List (Vec Bool Global)) : Type 0 where
   pub size_is : length rows ≡ size
   pub each : (r : ℕ) (d : Vec Bool Global) → r < size → IsRow (drop (length ps - r) ps) text places (slice_index_or rows r d).items
+
+-- The rows for all pieces of a pattern, from the last ones on.
+abbrev pub IsWholeTable : List Piece → List ℕ → List ℕ → List (Vec Bool Global) → Type 0
+IsWholeTable pieces text places rows = IsTable (length pieces + 1) (pieces_said pieces) text places rows
 
 -- What a field says that took a span.
 abbrev pub values_of : PieceValue → List ℕ → List FieldValue

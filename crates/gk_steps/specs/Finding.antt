@@ -24,6 +24,10 @@ pub record EntryValue : Type 0 where
 abbrev pub entry_value : Entry → EntryValue
 entry_value e = record { step_type = e.step_type; pattern = pattern_value e.pattern; action = e.action }
 
+-- What entries say, one by one.
+abbrev pub entries_said : List Entry → List EntryValue
+entries_said entries = map entry_value entries
+
 -- The entries of a library, in their order. (behave's documentation: step implementations)
 abbrev pub LibraryValue : Type 0
 LibraryValue = List EntryValue

@@ -4,8 +4,9 @@ use Rattle.std.specs.List.{AllByRecursion, before_first, after_first}
 use Rattle.std.specs.Str.{bytes_eq}
 use Rattle.gk_gherkin.specs.declared.feature.StepType.{StepType}
 use Rattle.gk_gherkin.specs.declared.feature.StepType.TheVariants.{Given, When, Then}
-use Rattle.gk_gherkin.specs.Lines.{LineValue, Lines, is_blank, trim}
-use Rattle.gk_gherkin.specs.Class.{begins}
+use Rattle.gk_gherkin.specs.Lines.{LineValue, Lines}
+use Rattle.gk_gherkin.specs.Text.{is_blank, trim}
+use Rattle.gk_gherkin.specs.Text.{begins}
 use Rattle.gk_steps.specs.declared.pattern.FieldKind.{FieldKind}
 use Rattle.gk_steps.specs.declared.library.Library.{Library}
 use Rattle.gk_steps.specs.declared.library_fault.LibraryFault.{LibraryFault}
@@ -13,7 +14,7 @@ use Rattle.gk_steps.specs.declared.library_fault.LibraryFault.TheVariants.{Memor
 use Rattle.gk_steps.specs.Pattern.{PieceValue, SpellsPattern, field_kind}
 use Rattle.gk_steps.specs.Matching.{Matches, MatchesNot}
 use Rattle.gk_steps.specs.Finding.{EntryValue, LibraryValue, library_value}
-use Rattle.gk_steps.specs.Action.{ActionRow, action_row, kind_of_field}
+use Rattle.gk_steps.specs.Action.{ActionRowValue, action_row, kind_of_field}
 
 -- Lines that are ignored: blank ones, and those that begin with `#`. (this project's profile)
 abbrev pub is_ignored : LineValue → Bool
@@ -56,11 +57,11 @@ unfoldable pub sides_of : LineValue → Option Sides
 sides_of line = option_map trimmed_sides (last_arrow (after_first is_blank (trim line.text)))
 
 -- The pattern has each field that the action needs. (this project's profile)
-abbrev pub HasNeededFields : ActionRow → List PieceValue → Type 0
+abbrev pub HasNeededFields : ActionRowValue → List PieceValue → Type 0
 HasNeededFields row ps = AllByRecursion (λ name. IsSome (field_kind ps name)) row.needs
 
 -- Each field that the action uses is of its kind. (this project's profile)
-abbrev pub HasRightKinds : ActionRow → List PieceValue → Type 0
+abbrev pub HasRightKinds : ActionRowValue → List PieceValue → Type 0
 HasRightKinds row ps = AllByRecursion (λ name. (kind : FieldKind) → field_kind ps name ≡ Some kind → kind ≡ kind_of_field name) row.uses
 
 -- No earlier entry of a type matches a text. (behave's documentation: ambiguous steps; this project's profile)
@@ -70,7 +71,7 @@ NoneMatches earlier step_type text = AllByRecursion (λ (e : EntryValue). e.step
 -- A line that spells an entry, after earlier ones: a type, a pattern, an action with the fields that it needs and of the kinds that it uses, and no earlier entry of the type that matches the pattern's text as written. (this project's profile)
 pub record SpellsEntry (earlier : List EntryValue) (line : LineValue) (entry : EntryValue) : Type 0 where
   pub sides : Sides
-  pub row : ActionRow
+  pub row : ActionRowValue
   pub is_type : type_of line ≡ Some entry.step_type
   pub is_cut : sides_of line ≡ Some sides
   pub is_pattern : SpellsPattern sides.pattern entry.pattern
@@ -123,7 +124,7 @@ pub record IsMissingField (earlier : List EntryValue) (line : LineValue) : Type 
   pub step_type : Option StepType
   pub sides : Sides
   pub ps : List PieceValue
-  pub row : ActionRow
+  pub row : ActionRowValue
   pub good : HasPattern line step_type sides ps
   pub is_action : action_row sides.action ≡ Some row
   pub bad : HasNeededFields row ps → ⊥
@@ -133,7 +134,7 @@ pub record IsOtherKind (earlier : List EntryValue) (line : LineValue) : Type 0 w
   pub step_type : Option StepType
   pub sides : Sides
   pub ps : List PieceValue
-  pub row : ActionRow
+  pub row : ActionRowValue
   pub good : HasPattern line step_type sides ps
   pub is_action : action_row sides.action ≡ Some row
   pub needs : HasNeededFields row ps
@@ -144,7 +145,7 @@ pub record IsAmbiguous (earlier : List EntryValue) (line : LineValue) : Type 0 w
   pub step_type : Option StepType
   pub sides : Sides
   pub ps : List PieceValue
-  pub row : ActionRow
+  pub row : ActionRowValue
   pub good : HasPattern line step_type sides ps
   pub is_action : action_row sides.action ≡ Some row
   pub needs : HasNeededFields row ps

@@ -4,62 +4,18 @@ use Rattle.std.specs.List.{list_all}
 use Rattle.gk_gherkin.specs.Lines.{LineValue, Lines}
 use Rattle.gk_gherkin.specs.declared.feature.StepType.{StepType}
 use Rattle.gk_steps.specs.declared.action.Action.{Action}
-use Rattle.gk_steps.specs.declared.action.Action.TheVariants as actions
-use Rattle.gk_steps.specs.declared.action.Uses.{Uses}
-use Rattle.gk_steps.specs.declared.action.Uses.TheVariants as uses
 use Rattle.gk_steps.specs.declared.pattern.FieldKind.{FieldKind}
 use Rattle.gk_steps.specs.declared.pattern.FieldKind.TheVariants.{Plain, Decimal}
 use Rattle.gk_steps.specs.declared.library_fault.LibraryFault.{LibraryFault}
 use Rattle.gk_steps.specs.declared.library_fault.LibraryFault.TheVariants as faults
 use Rattle.gk_steps.specs.Pattern.{PieceValue, SpellsPattern, field_kind}
-use Rattle.gk_steps.specs.Action.{ActionRow, action_row, kind_of_field, name_word, to_word, text_word, number_word, step_word}
+use Rattle.gk_steps.specs.Action.{ActionRowValue, action_row, kind_of_field}
 use Rattle.gk_steps.specs.Finding.{EntryValue}
-use Rattle.gk_steps.specs.LibraryFile.{SpellsEntry, is_ignored, type_of, sides_of, HasNeededFields, HasRightKinds, IsBadType, IsBadPattern, IsUnknownAction, IsMissingField, IsOtherKind, IsAmbiguous, StopsLibraryAt}
+use Rattle.gk_steps.specs.LibraryFile.{Sides, SpellsEntry, is_ignored, type_of, sides_of, HasNeededFields, HasRightKinds, IsBadType, IsBadPattern, IsUnknownAction, IsMissingField, IsOtherKind, IsAmbiguous, StopsLibraryAt}
 
--- The fields that an action uses.
-abbrev pub uses_of : Action → Uses
-uses_of actions.WriteFile = uses.NameAndText
-uses_of actions.AppendFile = uses.NameAndText
-uses_of actions.RemoveFile = uses.Name
-uses_of actions.RenameFile = uses.NameAndTo
-uses_of actions.WriteFiles = uses.Nothing
-uses_of actions.FileExists = uses.Name
-uses_of actions.FileAbsent = uses.Name
-uses_of actions.FileIs = uses.NameAndText
-uses_of actions.FileContains = uses.NameAndText
-uses_of actions.SetEnv = uses.NameAndText
-uses_of actions.RemoveEnv = uses.Name
-uses_of actions.EnvIs = uses.NameAndText
-uses_of actions.EnvAbsent = uses.Name
-uses_of actions.SetValue = uses.NameAndText
-uses_of actions.DeleteValue = uses.Name
-uses_of actions.ValueIs = uses.NameAndText
-uses_of actions.ValueAbsent = uses.Name
-uses_of actions.SetNumber = uses.NameAndNumber
-uses_of actions.AddNumber = uses.NameAndNumber
-uses_of actions.NumberIs = uses.NameAndNumber
-uses_of actions.AtCleanup = uses.Step
-uses_of actions.SkipScenario = uses.Nothing
-uses_of actions.Pass = uses.Nothing
-uses_of actions.Fail = uses.Nothing
-
--- The names that are needed.
-abbrev pub needed_names : Uses → List (List ℕ)
-needed_names uses.Nothing = []
-needed_names uses.Name = name_word ∷ []
-needed_names uses.NameAndText = name_word ∷ []
-needed_names uses.NameAndTo = name_word ∷ to_word ∷ []
-needed_names uses.NameAndNumber = name_word ∷ number_word ∷ []
-needed_names uses.Step = step_word ∷ []
-
--- The names that are used.
-abbrev pub used_names : Uses → List (List ℕ)
-used_names uses.Nothing = []
-used_names uses.Name = name_word ∷ []
-used_names uses.NameAndText = name_word ∷ text_word ∷ []
-used_names uses.NameAndTo = name_word ∷ to_word ∷ []
-used_names uses.NameAndNumber = name_word ∷ number_word ∷ []
-used_names uses.Step = step_word ∷ []
+-- The two sides of an arrow. (the texts of a pair)
+abbrev pub sides : List ℕ → List ℕ → Sides
+sides pattern action = record { pattern = pattern; action = action }
 
 -- Two kinds are the same.
 abbrev pub is_same_kind : FieldKind → FieldKind → Bool
@@ -73,16 +29,20 @@ is_none_or_kind None kind = true
 is_none_or_kind (Some other) kind = is_same_kind other kind
 
 -- The needed fields are there, as a test.
-abbrev pub has_needed : Uses → List PieceValue → Bool
-has_needed names ps = list_all (λ name. is_some (field_kind ps name)) (needed_names names)
+abbrev pub has_needed : List (List ℕ) → List PieceValue → Bool
+has_needed names ps = list_all (λ name. is_some (field_kind ps name)) names
+
+-- The field of a name is of its kind, where there is one.
+abbrev pub has_right_kind : List PieceValue → List ℕ → Bool
+has_right_kind ps name = is_none_or_kind (field_kind ps name) (kind_of_field name)
 
 -- The used fields are of their kinds, as a test.
-abbrev pub has_right_kinds : Uses → List PieceValue → Bool
-has_right_kinds names ps = list_all (λ name. is_none_or_kind (field_kind ps name) (kind_of_field name)) (used_names names)
+abbrev pub has_right_kinds : List (List ℕ) → List PieceValue → Bool
+has_right_kinds names ps = list_all (λ name. is_none_or_kind (field_kind ps name) (kind_of_field name)) names
 
 -- An action that this name has and whose fields the pattern has.
 pub record FitsAction (name : List ℕ) (ps : List PieceValue) (action : Action) : Type 0 where
-  pub row : ActionRow
+  pub row : ActionRowValue
   pub is_action : action_row name ≡ Some row
   pub action_is : action ≡ row.action
   pub needs : HasNeededFields row ps
@@ -90,13 +50,13 @@ pub record FitsAction (name : List ℕ) (ps : List PieceValue) (action : Action)
 
 -- A needed field that isn't there.
 pub record LacksField (name : List ℕ) (ps : List PieceValue) : Type 0 where
-  pub row : ActionRow
+  pub row : ActionRowValue
   pub is_action : action_row name ≡ Some row
   pub bad : HasNeededFields row ps → ⊥
 
 -- A used field of the other kind.
 pub record HasOtherKind (name : List ℕ) (ps : List PieceValue) : Type 0 where
-  pub row : ActionRow
+  pub row : ActionRowValue
   pub is_action : action_row name ≡ Some row
   pub needs : HasNeededFields row ps
   pub bad : HasRightKinds row ps → ⊥

@@ -2,14 +2,30 @@
 use Rattle.std.specs.Prelude.{◌≡◌, ℕ, List, [], ◌∷◌, ◌++◌}
 use Rattle.gk_steps.specs.Pattern.{PieceValue, Literal, FieldPiece}
 
+-- A text begins with another.
+abbrev pub BeginsWith : List ℕ → List ℕ → Type 0
+BeginsWith text front = (rest : List ℕ) × (text ≡ front ++ rest)
+
+-- It doesn't.
+abbrev pub BeginsNotWith : List ℕ → List ℕ → Type 0
+BeginsNotWith text front = (rest : List ℕ) → text ≡ front ++ rest → ⊥
+
+-- A text ends with another.
+abbrev pub EndsWith : List ℕ → List ℕ → Type 0
+EndsWith text back = (prefix : List ℕ) × (text ≡ prefix ++ back)
+
+-- It doesn't.
+abbrev pub EndsNotWith : List ℕ → List ℕ → Type 0
+EndsNotWith text back = (prefix : List ℕ) → text ≡ prefix ++ back → ⊥
+
 -- A literal that stands first in the pattern begins the text.
 abbrev pub FitsStart : List PieceValue → List ℕ → Type 0
-FitsStart (Literal literal ∷ ps) text = (rest : List ℕ) × (text ≡ literal ++ rest)
+FitsStart (Literal literal ∷ ps) text = BeginsWith text literal
 FitsStart _ text = Unit {0}
 
 -- What a text ends with whose pattern ends with this piece.
 abbrev pub EndsWithPiece : PieceValue → List ℕ → Type 0
-EndsWithPiece (Literal literal) text = (prefix : List ℕ) × (text ≡ prefix ++ literal)
+EndsWithPiece (Literal literal) text = EndsWith text literal
 EndsWithPiece (FieldPiece name kind) text = Unit {0}
 
 -- A literal that stands last in the pattern ends the text.

@@ -18,6 +18,10 @@ abbrev pub piece_value : Piece → PieceValue
 piece_value (pieces.Literal text) = Literal (string_bytes text)
 piece_value (pieces.Field name kind) = FieldPiece (string_bytes name) kind
 
+-- What pieces say, one by one.
+abbrev pub pieces_said : List Piece → List PieceValue
+pieces_said pieces = map piece_value pieces
+
 -- What a `Pattern` says.
 abbrev pub pattern_value : Pattern → List PieceValue
 pattern_value p = map piece_value p.pieces.items

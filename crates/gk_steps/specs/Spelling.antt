@@ -7,7 +7,7 @@ use Rattle.gk_steps.specs.declared.pattern.FieldKind.TheVariants.{Plain, Decimal
 use Rattle.gk_steps.specs.declared.pattern.Piece.{Piece}
 use Rattle.gk_steps.specs.declared.pattern_fault.PatternFault.{PatternFault}
 use Rattle.gk_steps.specs.declared.pattern_fault.PatternFault.TheVariants.{Memory}
-use Rattle.gk_steps.specs.Pattern.{PieceValue, Literal, FieldPiece, piece_value, spelled_literal, spelled_piece, is_name_byte, is_field_name, field_names, field_kind, AreLongestRuns}
+use Rattle.gk_steps.specs.Pattern.{PieceValue, Literal, FieldPiece, piece_value, pieces_said, spelled_literal, spelled_piece, is_name_byte, is_field_name, field_names, field_kind, AreLongestRuns}
 
 -- A brace.
 abbrev pub is_brace : ℕ → Bool
@@ -78,7 +78,11 @@ pub record AddsField (text : List ℕ) (before : List PieceValue) (after : List 
 
 -- The same of what pieces say.
 abbrev pub PushesField : List ℕ → List Piece → List Piece → List ℕ → Type 0
-PushesField text before after rest = AddsField text (map piece_value before) (map piece_value after) rest
+PushesField text before after rest = AddsField text (pieces_said before) (pieces_said after) rest
+
+-- The same of a literal.
+abbrev pub PushesLiteral : List ℕ → List Piece → List Piece → List ℕ → Type 0
+PushesLiteral text before after rest = AddsLiteral text (pieces_said before) (pieces_said after) rest
 
 -- Pieces of which the first, where there is one, is a field.
 abbrev pub BeginWithField : List PieceValue → Type 0

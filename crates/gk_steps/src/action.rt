@@ -1,11 +1,10 @@
 //! The built-in actions.
-ghost use Rattle.std.specs.Prelude.{◌≡◌, find, option_map};
-ghost use Rattle.gk_steps.specs.Action.{ActionRow, action_row, file_rows, other_rows};
+ghost use Rattle.std.specs.Prelude.{◌≡◌, find, map, option_copied, option_map};
 ghost use Rattle.std.specs.Str.{bytes_eq};
-ghost use Rattle.gk_steps.specs.LibraryLine.{uses_of};
+ghost use Rattle.gk_steps.specs.Action.{action_row, action_row_value, row_among};
 
-/// What a step does that finds an entry. What each needs of its pattern and does to the sandbox stands
-/// in the guide. (this project's profile)
+/// What a step does that finds an entry. What each does to the sandbox stands in the guide. (this
+/// project's profile)
 #[derive(Clone, Copy, Debug, PartialEq, Eq)]
 pub enum Action {
     WriteFile,
@@ -34,129 +33,187 @@ pub enum Action {
     Fail,
 }
 
-/// The fields of a pattern that an action uses. Each but a text is needed.
-#[derive(Clone, Copy, Debug, PartialEq, Eq)]
-pub(crate) enum Uses {
-    Nothing,
-    Name,
-    NameAndText,
-    NameAndTo,
-    NameAndNumber,
-    Step,
+/// A row of the table of actions: a name, its action, the fields of a pattern that it needs, and all
+/// that it uses. (this project's profile)
+#[derive(Clone, Copy, Debug)]
+pub(crate) struct ActionRow {
+    pub name: &'static str,
+    pub action: Action,
+    pub needs: &'static [&'static str],
+    pub uses: &'static [&'static str],
 }
 
-fn is_named(name: &str, other: &str) -> bool
-    ensures { result ≡ bytes_eq name.now other.now }
+/// The table of actions. (this project's profile)
+static ACTIONS: [ActionRow; 24] = [
+    ActionRow {
+        name: "write_file",
+        action: Action::WriteFile,
+        needs: &["name"],
+        uses: &["name", "text"],
+    },
+    ActionRow {
+        name: "append_file",
+        action: Action::AppendFile,
+        needs: &["name"],
+        uses: &["name", "text"],
+    },
+    ActionRow {
+        name: "remove_file",
+        action: Action::RemoveFile,
+        needs: &["name"],
+        uses: &["name"],
+    },
+    ActionRow {
+        name: "rename_file",
+        action: Action::RenameFile,
+        needs: &["name", "to"],
+        uses: &["name", "to"],
+    },
+    ActionRow {
+        name: "write_files",
+        action: Action::WriteFiles,
+        needs: &[],
+        uses: &[],
+    },
+    ActionRow {
+        name: "file_exists",
+        action: Action::FileExists,
+        needs: &["name"],
+        uses: &["name"],
+    },
+    ActionRow {
+        name: "file_absent",
+        action: Action::FileAbsent,
+        needs: &["name"],
+        uses: &["name"],
+    },
+    ActionRow {
+        name: "file_is",
+        action: Action::FileIs,
+        needs: &["name"],
+        uses: &["name", "text"],
+    },
+    ActionRow {
+        name: "file_contains",
+        action: Action::FileContains,
+        needs: &["name"],
+        uses: &["name", "text"],
+    },
+    ActionRow {
+        name: "set_env",
+        action: Action::SetEnv,
+        needs: &["name"],
+        uses: &["name", "text"],
+    },
+    ActionRow {
+        name: "remove_env",
+        action: Action::RemoveEnv,
+        needs: &["name"],
+        uses: &["name"],
+    },
+    ActionRow {
+        name: "env_is",
+        action: Action::EnvIs,
+        needs: &["name"],
+        uses: &["name", "text"],
+    },
+    ActionRow {
+        name: "env_absent",
+        action: Action::EnvAbsent,
+        needs: &["name"],
+        uses: &["name"],
+    },
+    ActionRow {
+        name: "set_value",
+        action: Action::SetValue,
+        needs: &["name"],
+        uses: &["name", "text"],
+    },
+    ActionRow {
+        name: "delete_value",
+        action: Action::DeleteValue,
+        needs: &["name"],
+        uses: &["name"],
+    },
+    ActionRow {
+        name: "value_is",
+        action: Action::ValueIs,
+        needs: &["name"],
+        uses: &["name", "text"],
+    },
+    ActionRow {
+        name: "value_absent",
+        action: Action::ValueAbsent,
+        needs: &["name"],
+        uses: &["name"],
+    },
+    ActionRow {
+        name: "set_number",
+        action: Action::SetNumber,
+        needs: &["name", "n"],
+        uses: &["name", "n"],
+    },
+    ActionRow {
+        name: "add_number",
+        action: Action::AddNumber,
+        needs: &["name", "n"],
+        uses: &["name", "n"],
+    },
+    ActionRow {
+        name: "number_is",
+        action: Action::NumberIs,
+        needs: &["name", "n"],
+        uses: &["name", "n"],
+    },
+    ActionRow {
+        name: "at_cleanup",
+        action: Action::AtCleanup,
+        needs: &["step"],
+        uses: &["step"],
+    },
+    ActionRow {
+        name: "skip_scenario",
+        action: Action::SkipScenario,
+        needs: &[],
+        uses: &[],
+    },
+    ActionRow {
+        name: "pass",
+        action: Action::Pass,
+        needs: &[],
+        uses: &[],
+    },
+    ActionRow {
+        name: "fail",
+        action: Action::Fail,
+        needs: &[],
+        uses: &[],
+    },
+];
+
+fn is_named(row: &ActionRow, name: &str) -> bool
+    ensures { result ≡ bytes_eq row.now.name.now name.now }
 {
-    name == other
+    row.name == name
 }
 
-// The action on files of a name.
-fn file_action(name: &str) -> Option<Action>
-    ensures { result ≡ option_map (λ (row : ActionRow). row.action) (find (λ (row : ActionRow). bytes_eq row.name name.now) file_rows) }
+// The first of some rows that has a name.
+fn first_named<'a>(rows: &'a [ActionRow], name: &str) -> Option<&'a ActionRow>
+    ensures { option_copied result ≡ find (λ row. bytes_eq row.name.now name.now) rows.now }
 {
-    if is_named("write_file", name) {
-        Some(Action::WriteFile)
-    } else if is_named("append_file", name) {
-        Some(Action::AppendFile)
-    } else if is_named("remove_file", name) {
-        Some(Action::RemoveFile)
-    } else if is_named("rename_file", name) {
-        Some(Action::RenameFile)
-    } else if is_named("write_files", name) {
-        Some(Action::WriteFiles)
-    } else if is_named("file_exists", name) {
-        Some(Action::FileExists)
-    } else if is_named("file_absent", name) {
-        Some(Action::FileAbsent)
-    } else if is_named("file_is", name) {
-        Some(Action::FileIs)
-    } else if is_named("file_contains", name) {
-        Some(Action::FileContains)
-    } else {
-        None
-    }
+    rows.iter().find(|row| is_named(*row, name))
 }
 
-// The other action of a name.
-fn other_action(name: &str) -> Option<Action>
-    ensures { result ≡ option_map (λ (row : ActionRow). row.action) (find (λ (row : ActionRow). bytes_eq row.name name.now) other_rows) }
+fn row_in(rows: &[ActionRow], name: &str) -> Option<ActionRow>
+    ensures { option_map action_row_value result
+        ≡ row_among (map action_row_value rows.now) name.now }
 {
-    if is_named("set_env", name) {
-        Some(Action::SetEnv)
-    } else if is_named("remove_env", name) {
-        Some(Action::RemoveEnv)
-    } else if is_named("env_is", name) {
-        Some(Action::EnvIs)
-    } else if is_named("env_absent", name) {
-        Some(Action::EnvAbsent)
-    } else if is_named("set_value", name) {
-        Some(Action::SetValue)
-    } else if is_named("delete_value", name) {
-        Some(Action::DeleteValue)
-    } else if is_named("value_is", name) {
-        Some(Action::ValueIs)
-    } else if is_named("value_absent", name) {
-        Some(Action::ValueAbsent)
-    } else if is_named("set_number", name) {
-        Some(Action::SetNumber)
-    } else if is_named("add_number", name) {
-        Some(Action::AddNumber)
-    } else if is_named("number_is", name) {
-        Some(Action::NumberIs)
-    } else if is_named("at_cleanup", name) {
-        Some(Action::AtCleanup)
-    } else if is_named("skip_scenario", name) {
-        Some(Action::SkipScenario)
-    } else if is_named("pass", name) {
-        Some(Action::Pass)
-    } else if is_named("fail", name) {
-        Some(Action::Fail)
-    } else {
-        None
-    }
+    first_named(rows, name).copied()
 }
 
-impl Action {
-    /// The action of a name.
-    pub(crate) fn named(name: &str) -> Option<Action>
-        ensures { result ≡ option_map (λ (row : ActionRow). row.action) (action_row name.now) }
-    {
-        match file_action(name) {
-            Some(action) => Some(action),
-            None => other_action(name),
-        }
-    }
-
-    /// The fields that the action uses.
-    pub(crate) fn uses(self) -> Uses
-        ensures { result ≡ uses_of self }
-    {
-        match self {
-            Action::WriteFile => Uses::NameAndText,
-            Action::AppendFile => Uses::NameAndText,
-            Action::RemoveFile => Uses::Name,
-            Action::RenameFile => Uses::NameAndTo,
-            Action::WriteFiles => Uses::Nothing,
-            Action::FileExists => Uses::Name,
-            Action::FileAbsent => Uses::Name,
-            Action::FileIs => Uses::NameAndText,
-            Action::FileContains => Uses::NameAndText,
-            Action::SetEnv => Uses::NameAndText,
-            Action::RemoveEnv => Uses::Name,
-            Action::EnvIs => Uses::NameAndText,
-            Action::EnvAbsent => Uses::Name,
-            Action::SetValue => Uses::NameAndText,
-            Action::DeleteValue => Uses::Name,
-            Action::ValueIs => Uses::NameAndText,
-            Action::ValueAbsent => Uses::Name,
-            Action::SetNumber => Uses::NameAndNumber,
-            Action::AddNumber => Uses::NameAndNumber,
-            Action::NumberIs => Uses::NameAndNumber,
-            Action::AtCleanup => Uses::Step,
-            Action::SkipScenario => Uses::Nothing,
-            Action::Pass => Uses::Nothing,
-            Action::Fail => Uses::Nothing,
-        }
-    }
+/// The row of a name; none where no action has that name.
+pub(crate) fn row_named(name: &str) -> Option<ActionRow>
+    ensures { option_map action_row_value result ≡ action_row name.now }
+{
+    row_in(&ACTIONS, name)
 }

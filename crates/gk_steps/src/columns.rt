@@ -12,7 +12,8 @@ use crate::pattern::{FieldKind, Piece};
 /// The rest after a prefix.
 pub(crate) fn rest_after<'a>(text: &'a str, prefix: &str) -> Option<&'a str>
     ensures found { IfSome result (λ rest. text.entry.now ≡ prefix.now ++ rest.now) }
-    ensures only { (rest : List ℕ) → text.entry.now ≡ prefix.now ++ rest → IsSomeAnd result (λ found. found.now ≡ rest) }
+    ensures only { (rest : List ℕ) → text.entry.now ≡ prefix.now ++ rest
+        → IsSomeAnd result (λ found. found.now ≡ rest) }
 {
     if text.starts_with(prefix) {
         Some(&text[prefix.len()..])
@@ -63,7 +64,8 @@ fn plain_step(below: &[bool], column: usize) -> Option<usize>
 
 /// The number that a span of digits spells.
 pub(crate) fn number_of(span: &str) -> Option<i64>
-    ensures { MatchOption result (IsSpan Decimal span.now → ⊥) (λ n. IsSpan Decimal span.now × (n ≡ signed_digits_value 10 span.now)) }
+    ensures { MatchOption result (IsSpan Decimal span.now → ⊥) (λ n.
+        IsSpan Decimal span.now × (n ≡ signed_digits_value 10 span.now)) }
 {
     span.parse::<i64>().ok()
 }

@@ -6,7 +6,8 @@ ghost use Rattle.gk_steps.specs.Digits.{KnowsDigits, HasNumber};
 // A value with one digit more, up to a limit.
 fn grown(value: u64, digit: u8, most: u64) -> Option<u64>
     requires { (48 ≤ digit) × (digit < 58) }
-    ensures { MatchOption result (most < value * 10 + (digit - 48)) (λ r. (r ≡ value * 10 + (digit - 48)) × (r ≤ most)) }
+    ensures { let more = value * 10 + (digit - 48) in
+        MatchOption result (most < more) (λ r. (r ≡ more) × (r ≤ most)) }
 {
     let more = value.checked_mul(10)?.checked_add(u64::from(digit - b'0'))?;
     if more <= most { Some(more) } else { None }

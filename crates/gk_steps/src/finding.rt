@@ -1,9 +1,10 @@
 //! What a step's text finds in a library.
 ghost use Rattle.std.specs.Prelude.{◌≡◌, map, IfOk, IfErr, MatchBool, MatchOption, option_map, is_some, Option, Some, None};
-ghost use Rattle.gk_steps.specs.Pattern.{piece_value};
+ghost use Rattle.gk_steps.specs.Pattern.{pieces_said};
 ghost use Rattle.gk_steps.specs.Matching.{field_value};
 ghost use Rattle.gk_steps.specs.Finding as spec;
-ghost use Rattle.gk_steps.specs.Finding.{IsFoundOf, HasCandidate, HasCandidateFor, FindsWhatIsFound, entry_value, library_value, found_value};
+ghost use Rattle.gk_steps.specs.Finding.{IsFoundOf, HasCandidate, HasCandidateFor, FindsWhatIsFound};
+ghost use Rattle.gk_steps.specs.Finding.{entries_said, library_value, found_value};
 
 use crate::action::Action;
 use crate::library::{Entry, Library};
@@ -40,8 +41,10 @@ pub(crate) fn find_of(
     step_type: Option<StepType>,
     text: &str,
 ) -> Result<Option<Found>, AllocError>
-    ensures found { IfOk result (λ found. IsFoundOf (map entry_value entries.now) step_type text.now (option_map found_value found)) }
-    ensures memory { IfErr result (λ e. HasCandidate (map entry_value entries.now) step_type text.now) }
+    ensures found { IfOk result (λ found.
+        IsFoundOf (entries_said entries.now) step_type text.now (option_map found_value found)) }
+    ensures memory { IfErr result (λ e.
+        HasCandidate (entries_said entries.now) step_type text.now) }
 {
     for place in 0..entries.len() {
         let entry = &entries[place];
@@ -60,7 +63,8 @@ pub(crate) fn find_of(
 
 // What the field of a name took.
 fn field_named<'a>(pieces: &[Piece], fields: &'a [Field], name: &str) -> Option<&'a Field>
-    ensures { option_map (λ f. field_value f.now) result ≡ spec.field_named name.now (map piece_value pieces.now) (map field_value fields.now) }
+    ensures { option_map (λ f. field_value f.now) result
+        ≡ spec.field_named name.now (pieces_said pieces.now) (map field_value fields.now) }
 {
     let mut rest = fields;
     for piece in pieces {
@@ -86,9 +90,11 @@ impl Library {
         step_type: StepType,
         text: &str,
     ) -> Result<Option<Found>, AllocError>
-        ensures found { IfOk result (λ found. option_map found_value found ≡ spec.found (library_value self.now) step_type text.now) }
+        ensures found { IfOk result (λ found.
+            option_map found_value found ≡ spec.found (library_value self.now) step_type text.now) }
         // Memory is refused only where the text has the ends of an entry.
-        ensures memory { IfErr result (λ e. HasCandidateFor (library_value self.now) step_type text.now) }
+        ensures memory { IfErr result (λ e.
+            HasCandidateFor (library_value self.now) step_type text.now) }
     {
         let typed = &self.entries[..self.typed];
         if let Some(found) = find_of(alloc, typed, Some(step_type), text)? {
@@ -99,7 +105,8 @@ impl Library {
 
     /// The same among the entries of type `step` alone. (this project's profile)
     pub fn find_any(&self, alloc: Global, text: &str) -> Result<Option<Found>, AllocError>
-        ensures found { IfOk result (λ found. option_map found_value found ≡ spec.found_any (library_value self.now) text.now) }
+        ensures found { IfOk result (λ found.
+            option_map found_value found ≡ spec.found_any (library_value self.now) text.now) }
         // The same of memory.
         ensures memory { IfErr result (λ e. HasCandidate (library_value self.now) None text.now) }
     {
@@ -108,9 +115,11 @@ impl Library {
 
     /// Whether a step finds an entry. (this project's profile)
     pub fn knows(&self, alloc: Global, step_type: StepType, text: &str) -> Result<bool, AllocError>
-        ensures known { IfOk result (λ known. known ≡ is_some (spec.found (library_value self.now) step_type text.now)) }
+        ensures known { IfOk result (λ known.
+            known ≡ is_some (spec.found (library_value self.now) step_type text.now)) }
         // The same of memory.
-        ensures memory { IfErr result (λ e. HasCandidateFor (library_value self.now) step_type text.now) }
+        ensures memory { IfErr result (λ e.
+            HasCandidateFor (library_value self.now) step_type text.now) }
     {
         Ok(self.find(alloc, step_type, text)?.is_some())
     }
@@ -127,7 +136,8 @@ impl Library {
 
     // What the field of a name took in what was found in this library.
     fn field<'a>(&self, found: &'a Found, name: &str) -> Option<&'a Field>
-        ensures { option_map (λ f. field_value f.now) result ≡ spec.field_of (library_value self.now) (found_value found.now) name.now }
+        ensures { option_map (λ f. field_value f.now) result
+            ≡ spec.field_of (library_value self.now) (found_value found.now) name.now }
     {
         let entry = self.entries.get(found.entry)?;
         field_named(&entry.pattern.pieces, &found.fields, name)
@@ -136,7 +146,8 @@ impl Library {
     /// The text that the field of a name took, or none where the pattern has no such field or it is a
     /// number. Takes no memory.
     pub fn text<'a>(&self, found: &'a Found, name: &str) -> Option<&'a str>
-        ensures { option_map (λ t. t.now) result ≡ spec.text_field (library_value self.now) (found_value found.now) name.now }
+        ensures { option_map (λ t. t.now) result
+            ≡ spec.text_field (library_value self.now) (found_value found.now) name.now }
     {
         match self.field(found, name)? {
             Field::Text(text) => Some(text),
@@ -147,7 +158,8 @@ impl Library {
     /// The number that the field of a name took, or none where the pattern has no such field or it is a
     /// text. Takes no memory.
     pub fn number(&self, found: &Found, name: &str) -> Option<i64>
-        ensures { result ≡ spec.number_field (library_value self.now) (found_value found.now) name.now }
+        ensures { result
+            ≡ spec.number_field (library_value self.now) (found_value found.now) name.now }
     {
         match self.field(found, name)? {
             Field::Text(_) => None,

@@ -1,7 +1,7 @@
 //! What the first pieces of a pattern take from the left, where the pieces after them leave no choice.
 ghost use Rattle.std.specs.Prelude.{◌≤◌, [], ◌∷◌, ℕ, List, map, length, MatchBool};
 ghost use Rattle.gk_steps.specs.declared.pattern.FieldKind.TheVariants as kinds;
-ghost use Rattle.gk_steps.specs.Pattern.{Literal, FieldPiece, piece_value};
+ghost use Rattle.gk_steps.specs.Pattern.{Literal, FieldPiece, piece_value, pieces_said};
 ghost use Rattle.gk_steps.specs.Leftmost.{CanStandAt, IsFirstPlace, IsKnown, IsKnownBefore};
 
 use crate::columns::rest_after;
@@ -22,7 +22,8 @@ pub(crate) enum Cut {
 // Whether a literal stands at a place where the text may be cut.
 fn stands_at(literal: &str, text: &str, place: usize) -> bool
     requires { place ≤ length text.now }
-    ensures { MatchBool result (CanStandAt literal.now text.now place) (CanStandAt literal.now text.now place → ⊥) }
+    ensures { MatchBool result (CanStandAt literal.now text.now place)
+        (CanStandAt literal.now text.now place → ⊥) }
 {
     begins_with_bytes(&text.as_bytes()[place..], literal.as_bytes()) && text.is_char_boundary(place)
 }
@@ -41,7 +42,7 @@ fn first_place(literal: &str, text: &str) -> Option<usize>
 
 // What a literal takes.
 fn literal_cut(literal: &str, after: &[Piece], text: &str) -> Cut
-    ensures { IsKnown (Literal literal.now) (map piece_value after.now) text.now result }
+    ensures { IsKnown (Literal literal.now) (pieces_said after.now) text.now result }
 {
     match rest_after(text, literal) {
         Some(_) => Cut::At(literal.len()),
@@ -63,7 +64,8 @@ fn cut_before_last(literal: &str, text: &str) -> Cut
 // What a plain field takes before a literal that another plain field comes after: the less the first takes,
 // the more is left for the other.
 fn cut_before_field(literal: &str, other: &str, after: &[Piece], text: &str) -> Cut
-    ensures { IsKnownBefore literal.now (FieldPiece other.now kinds.Plain ∷ map piece_value after.now) text.now result }
+    ensures { let left = FieldPiece other.now kinds.Plain ∷ pieces_said after.now in
+        IsKnownBefore literal.now left text.now result }
 {
     match first_place(literal, text) {
         Some(place) => Cut::At(place),
@@ -73,7 +75,7 @@ fn cut_before_field(literal: &str, other: &str, after: &[Piece], text: &str) -> 
 
 // What a plain field takes before a literal.
 fn cut_before(literal: &str, after: &[Piece], text: &str) -> Cut
-    ensures { IsKnownBefore literal.now (map piece_value after.now) text.now result }
+    ensures { IsKnownBefore literal.now (pieces_said after.now) text.now result }
 {
     match after.split_first() {
         None => cut_before_last(literal, text),
@@ -89,7 +91,8 @@ fn cut_before(literal: &str, after: &[Piece], text: &str) -> Cut
 
 // What a plain field takes.
 fn plain_cut(after: &[Piece], text: &str) -> Cut
-    ensures { (name : List ℕ) → IsKnown (FieldPiece name kinds.Plain) (map piece_value after.now) text.now result }
+    ensures { (name : List ℕ)
+        → IsKnown (FieldPiece name kinds.Plain) (pieces_said after.now) text.now result }
 {
     match after.split_first() {
         None => {
@@ -108,7 +111,7 @@ fn plain_cut(after: &[Piece], text: &str) -> Cut
 
 /// What the first piece of a pattern takes, where that is known without a table.
 pub(crate) fn cut_of(piece: &Piece, after: &[Piece], text: &str) -> Cut
-    ensures { IsKnown (piece_value piece.now) (map piece_value after.now) text.now result }
+    ensures { IsKnown (piece_value piece.now) (pieces_said after.now) text.now result }
 {
     match piece {
         Piece::Literal(literal) => literal_cut(literal, after, text),

@@ -1,17 +1,19 @@
 //! Reading a step library file.
-ghost use Rattle.std.specs.Prelude.{◌≡◌, ℕ, List, map, IfOk, IfErr, OnOk};
+ghost use Rattle.std.specs.Prelude.{◌≡◌, ◌≤◌, ℕ, List, length, IfOk, IfErr, OnOk};
 ghost use Rattle.gk_steps.specs.declared.library_fault.LibraryFault.TheVariants.{Memory};
 ghost use Rattle.gk_gherkin.specs.ReadFault.{LinesFaultSays};
-ghost use Rattle.gk_gherkin.specs.Lines.{line_value, lines_of, IsText};
-ghost use Rattle.gk_steps.specs.Finding.{LibraryValue, entry_value, library_value};
+ghost use Rattle.gk_gherkin.specs.Lines.{borrowed_value, numbered_from, lines_of, IsText};
+ghost use Rattle.std.specs.Str.Lines.{lines};
+ghost use Rattle.gk_steps.specs.Finding.{LibraryValue, entries_said, library_value};
 ghost use Rattle.gk_steps.specs.LibraryFile.{ReadsLibrary, AnswersLibrary, LibraryReadingIsUnique};
 ghost use Rattle.gk_steps.specs.LibraryFault.{LibraryFaultSays};
-ghost use Rattle.gk_steps.specs.LibraryLine.{EntryFaultSays, LineFaultSays, AddsEntry, AddsLine, LibraryLinesFaultSays};
+ghost use Rattle.gk_steps.specs.LibraryLine.{EntryFaultSays, LineFaultSays, LibraryLinesFaultSays};
+ghost use Rattle.gk_steps.specs.LibraryLine.{AddsEntry, AddsLine};
 
 use crate::library::{Entry, Library};
 use crate::library_fault::LibraryFault;
 use crate::library_line::{is_ignored, read_entry};
-use gk_gherkin::{Line, ReadFault, read_lines};
+use gk_gherkin::{BorrowedLine, LIMIT, ReadFault, borrowed_line, text_of};
 use std::alloc::Global;
 
 // The fault of the bytes, of those that come where lines alone are read.
@@ -27,9 +29,15 @@ fn lines_fault(fault: ReadFault) -> LibraryFault
 }
 
 // Adds the entry that a line spells.
-fn add_entry(entries: &mut Vec<Entry>, alloc: Global, line: &Line) -> Result<(), LibraryFault>
-    ensures added { OnOk result (AddsEntry (map entry_value entries.old.items) (line_value line.now) (map entry_value entries.new.items)) }
-    ensures fault { IfErr result (λ f. EntryFaultSays f (map entry_value entries.old.items) (line_value line.now)) }
+fn add_entry(
+    entries: &mut Vec<Entry>,
+    alloc: Global,
+    line: &BorrowedLine<'_>,
+) -> Result<(), LibraryFault>
+    ensures added { OnOk result (AddsEntry (entries_said entries.old.items)
+        (borrowed_value line.now) (entries_said entries.new.items)) }
+    ensures fault { IfErr result (λ f.
+        EntryFaultSays f (entries_said entries.old.items) (borrowed_value line.now)) }
 {
     match read_entry(alloc, entries, line) {
         Ok(entry) => {
@@ -41,9 +49,15 @@ fn add_entry(entries: &mut Vec<Entry>, alloc: Global, line: &Line) -> Result<(),
 }
 
 // Adds what a line says, where it isn't ignored.
-fn add_line(entries: &mut Vec<Entry>, alloc: Global, line: &Line) -> Result<(), LibraryFault>
-    ensures added { OnOk result (AddsLine (map entry_value entries.old.items) (line_value line.now) (map entry_value entries.new.items)) }
-    ensures fault { IfErr result (λ f. LineFaultSays f (map entry_value entries.old.items) (line_value line.now)) }
+fn add_line(
+    entries: &mut Vec<Entry>,
+    alloc: Global,
+    line: &BorrowedLine<'_>,
+) -> Result<(), LibraryFault>
+    ensures added { OnOk result (AddsLine (entries_said entries.old.items)
+        (borrowed_value line.now) (entries_said entries.new.items)) }
+    ensures fault { IfErr result (λ f.
+        LineFaultSays f (entries_said entries.old.items) (borrowed_value line.now)) }
 {
     if is_ignored(line) {
         return Ok(());
@@ -54,17 +68,22 @@ fn add_line(entries: &mut Vec<Entry>, alloc: Global, line: &Line) -> Result<(), 
     }
 }
 
-// The entries that the lines spell.
-fn read_entries(alloc: Global, lines: &[Line]) -> Result<Vec<Entry>, LibraryFault>
-    ensures found { IfOk result (λ es. ReadsLibrary (map line_value lines.now) (map entry_value es.items)) }
-    ensures fault { IfErr result (λ f. LibraryLinesFaultSays f (map line_value lines.now)) }
+// The entries that the lines of a text spell.
+fn read_entries(alloc: Global, text: &str) -> Result<Vec<Entry>, LibraryFault>
+    requires { length text.now ≤ LIMIT }
+    ensures found { IfOk result (λ es.
+        ReadsLibrary (numbered_from 1 (lines text.now)) (entries_said es.items)) }
+    ensures fault { IfErr result (λ f.
+        LibraryLinesFaultSays f (numbered_from 1 (lines text.now))) }
 {
     let mut entries = Vec::new(alloc);
-    for line in lines {
-        match add_line(&mut entries, alloc, line) {
+    let mut number: u32 = 1;
+    for part in text.lines() {
+        match add_line(&mut entries, alloc, &borrowed_line(number, part)) {
             Ok(()) => {}
             Err(fault) => return Err(fault),
         }
+        number += 1;
     }
     Ok(entries)
 }
@@ -78,14 +97,16 @@ fn read_entries(alloc: Global, lines: &[Line]) -> Result<Vec<Entry>, LibraryFaul
 /// implementations; this project's profile)
 pub fn read_library(alloc: Global, bytes: &[u8]) -> Result<Library, LibraryFault>
     // What is answered is what the lines say.
-    ensures found { IfOk result (λ l. IsText bytes.now × ReadsLibrary (lines_of bytes.now) (library_value l)) }
+    ensures found { IfOk result (λ l.
+        IsText bytes.now × ReadsLibrary (lines_of bytes.now) (library_value l)) }
     // What the lines say is answered, unless memory runs out.
-    ensures only { (entries : LibraryValue) → IsText bytes.now → ReadsLibrary (lines_of bytes.now) entries → AnswersLibrary result entries }
+    ensures only { (entries : LibraryValue) → IsText bytes.now
+        → ReadsLibrary (lines_of bytes.now) entries → AnswersLibrary result entries }
     // Which fault it is.
     ensures fault { IfErr result (λ e. LibraryFaultSays e bytes.now) }
 {
-    match read_lines(alloc, bytes) {
-        Ok(document) => match read_entries(alloc, &document.lines) {
+    match text_of(bytes) {
+        Ok(text) => match read_entries(alloc, text) {
             Ok(entries) => Ok(Library::new(entries)),
             Err(fault) => Err(fault),
         },

@@ -1,97 +1,35 @@
 //! Reading one line of a step library file.
-ghost use Rattle.std.specs.Prelude.{◌≡◌, ◌≤◌, codes, length, map, option_map, IfOk, IfErr};
-ghost use Rattle.gk_gherkin.specs.Class.{begins};
-ghost use Rattle.std.specs.List.{prefix_len, position_or_len, before_first, after_first};
-ghost use Rattle.gk_gherkin.specs.Lines as lines;
-ghost use Rattle.gk_gherkin.specs.Lines.{line_value};
-ghost use Rattle.gk_steps.specs.Pattern.{PieceValue, piece_value, pattern_value, SpellsPattern, field_kind as field_kind_of};
-ghost use Rattle.gk_steps.specs.Finding.{entry_value};
+ghost use Rattle.std.specs.Prelude.{◌≡◌, is_some, ◌≤◌, codes, length, map, option_map, IfOk, IfErr};
+ghost use Rattle.gk_gherkin.specs.Text as texts;
+ghost use Rattle.gk_gherkin.specs.Lines.{borrowed_value};
+ghost use Rattle.gk_steps.specs.Pattern.{pattern_value, pieces_said, SpellsPattern};
+ghost use Rattle.gk_steps.specs.Pattern.{field_kind as field_kind_of};
+ghost use Rattle.gk_steps.specs.Finding.{entries_said, entry_value};
 ghost use Rattle.gk_steps.specs.LibraryFile as spec;
 ghost use Rattle.gk_steps.specs.LibraryFile.{Sides, SpellsEntry};
+ghost use Rattle.gk_steps.specs.Action as actions;
 ghost use Rattle.gk_steps.specs.LibraryLine as machinery;
-ghost use Rattle.gk_steps.specs.LibraryLine.{FitsAction, ActionFaultSays, PatternFaultSays, IsCut, CutFaultSays, EntryFaultSays};
+ghost use Rattle.std.specs.List.{list_all};
+ghost use Rattle.gk_steps.specs.LibraryLine.{FitsAction, ActionFaultSays, PatternFaultSays};
+ghost use Rattle.gk_steps.specs.LibraryLine.{IsCut, CutFaultSays, EntryFaultSays};
 
-use crate::action::{Action, Uses};
+use crate::action::{Action, row_named};
 use crate::finding::find_of;
 use crate::library::Entry;
 use crate::library_fault::LibraryFault;
 use crate::pattern::{FieldKind, Pattern, Piece};
 use crate::pattern_fault::PatternFault;
 use crate::spelling::{field_kind, read_pattern};
-use gk_gherkin::{Line, StepType, trim_back};
+use gk_gherkin::text::{begins, split_word, trim};
+use gk_gherkin::{BorrowedLine, StepType};
 use std::alloc::Global;
 
-fn is_blank(byte: u8) -> bool
-    ensures { result ≡ lines.is_blank byte }
-{
-    byte == b' ' || byte == b'\t'
-}
-
-// How many blanks a text begins with.
-fn leading_blanks(text: &[u8]) -> usize
-    ensures value { result ≡ prefix_len lines.is_blank text.now }
-    ensures within { result ≤ length text.now }
-{
-    for (i, byte) in text.iter().enumerate() {
-        if !is_blank(*byte) {
-            return i;
-        }
-    }
-    text.len()
-}
-
-// How many bytes come before the first blank.
-fn word_len(text: &[u8]) -> usize
-    ensures value { result ≡ position_or_len lines.is_blank text.now }
-    ensures within { result ≤ length text.now }
-{
-    for (i, byte) in text.iter().enumerate() {
-        if is_blank(*byte) {
-            return i;
-        }
-    }
-    text.len()
-}
-
-fn trim_start(text: &str) -> &str
-    ensures { result.now ≡ lines.trim_front text.now }
-{
-    let blanks = leading_blanks(text.as_bytes());
-    &text[blanks..]
-}
-
-fn trim(text: &str) -> &str
-    ensures { result.now ≡ lines.trim text.now }
-{
-    trim_back(trim_start(text))
-}
-
 /// Whether a line is blank or a comment.
-pub(crate) fn is_ignored(line: &Line) -> bool
-    ensures { result ≡ spec.is_ignored (line_value line.now) }
+pub(crate) fn is_ignored(line: &BorrowedLine<'_>) -> bool
+    ensures { result ≡ spec.is_ignored (borrowed_value line.now) }
 {
-    let text = trim(&line.text).as_bytes();
-    text.len() == 0 || text.starts_with(b"#")
-}
-
-// The word before the first blank.
-fn first_word(text: &str) -> &str
-    ensures { result.now ≡ before_first lines.is_blank text.now }
-{
-    let end = word_len(text.as_bytes());
-    &text[..end]
-}
-
-// What stands after the first blank.
-fn after_word(text: &str) -> &str
-    ensures { result.now ≡ after_first lines.is_blank text.now }
-{
-    let end = word_len(text.as_bytes());
-    if end < text.len() {
-        &text[end + 1..]
-    } else {
-        ""
-    }
+    let text = trim(line.text);
+    text.is_empty() || begins(text, "#")
 }
 
 // The type that a word says.
@@ -113,14 +51,15 @@ fn entry_type(word: &str) -> Option<Option<StepType>>
 
 // Whether bytes begin with an arrow.
 fn is_arrow(bytes: &[u8]) -> bool
-    ensures { result ≡ begins bytes.now (codes "=>") }
+    ensures { result ≡ texts.begins bytes.now (codes "=>") }
 {
     bytes.starts_with(b"=>")
 }
 
 // The two sides of the last arrow.
 fn last_arrow<'a>(text: &'a str) -> Option<(&'a str, &'a str)>
-    ensures { option_map (λ p. let s : Sides = record { pattern = p.0.now; action = p.1.now } in s) result ≡ spec.last_arrow text.entry.now }
+    ensures { option_map (λ p. machinery.sides p.0.now p.1.now) result
+        ≡ spec.last_arrow text.entry.now }
 {
     let bytes = text.as_bytes();
     let mut place = bytes.len();
@@ -135,15 +74,15 @@ fn last_arrow<'a>(text: &'a str) -> Option<(&'a str, &'a str)>
 
 // A line's type, and the trimmed sides of its arrow.
 #[tactic(auto, unfolding(crate::specs::LibraryFile::type_of, crate::specs::LibraryFile::sides_of))]
-fn cut<'a>(line: &'a Line) -> Result<(Option<StepType>, &'a str, &'a str), LibraryFault>
-    ensures cut { IfOk result (λ c. IsCut (line_value line.entry.now) c.0 c.1.now c.2.now) }
-    ensures fault { IfErr result (λ f. CutFaultSays f (line_value line.entry.now)) }
+fn cut<'a>(line: &BorrowedLine<'a>) -> Result<(Option<StepType>, &'a str, &'a str), LibraryFault>
+    ensures cut { IfOk result (λ c. IsCut (borrowed_value line.now) c.0 c.1.now c.2.now) }
+    ensures fault { IfErr result (λ f. CutFaultSays f (borrowed_value line.now)) }
 {
     let number = line.place.line;
-    let text = trim(&line.text);
-    match entry_type(first_word(text)) {
+    let (word, rest) = split_word(trim(line.text));
+    match entry_type(word) {
         None => Err(LibraryFault::BadType { line: number }),
-        Some(step_type) => match last_arrow(after_word(text)) {
+        Some(step_type) => match last_arrow(rest) {
             None => Err(LibraryFault::BadPattern { line: number }),
             Some((pattern, action)) => Ok((step_type, trim(pattern), trim(action))),
         },
@@ -164,26 +103,24 @@ fn pattern_at(alloc: Global, line: u32, text: &str) -> Result<Pattern, LibraryFa
     }
 }
 
-fn has_needed(uses: Uses, pieces: &[Piece]) -> bool
-    ensures { result ≡ machinery.has_needed uses (map piece_value pieces.now) }
+// Whether pieces have the field of a name.
+fn has_field(pieces: &[Piece], name: &str) -> bool
+    ensures { result ≡ is_some (field_kind_of (pieces_said pieces.now) name.now) }
 {
-    match uses {
-        Uses::Nothing => true,
-        Uses::Name => field_kind(pieces, "name").is_some(),
-        Uses::NameAndText => field_kind(pieces, "name").is_some(),
-        Uses::NameAndTo => {
-            field_kind(pieces, "name").is_some() && field_kind(pieces, "to").is_some()
-        }
-        Uses::NameAndNumber => {
-            field_kind(pieces, "name").is_some() && field_kind(pieces, "n").is_some()
-        }
-        Uses::Step => field_kind(pieces, "step").is_some(),
-    }
+    field_kind(pieces, name).is_some()
+}
+
+fn has_needed(names: &[&str], pieces: &[Piece]) -> bool
+    ensures { result
+        ≡ list_all (λ name. is_some (field_kind_of (pieces_said pieces.now) name.now)) names.now }
+{
+    names.iter().all(|name| has_field(pieces, *name))
 }
 
 // Whether the field of a name is of a kind, where there is one.
 fn is_none_or_kind(pieces: &[Piece], name: &str, kind: FieldKind) -> bool
-    ensures { result ≡ machinery.is_none_or_kind (field_kind_of (map piece_value pieces.now) name.now) kind }
+    ensures { result
+        ≡ machinery.is_none_or_kind (field_kind_of (pieces_said pieces.now) name.now) kind }
 {
     match field_kind(pieces, name) {
         None => true,
@@ -200,43 +137,46 @@ fn is_none_or_kind(pieces: &[Piece], name: &str, kind: FieldKind) -> bool
     }
 }
 
-fn has_right_kinds(uses: Uses, pieces: &[Piece]) -> bool
-    ensures { result ≡ machinery.has_right_kinds uses (map piece_value pieces.now) }
+// The kind that a field of a name has to have.
+fn kind_of_field(name: &str) -> FieldKind
+    ensures { result ≡ actions.kind_of_field name.now }
 {
-    match uses {
-        Uses::Nothing => true,
-        Uses::Name => is_none_or_kind(pieces, "name", FieldKind::Plain),
-        Uses::NameAndText => {
-            is_none_or_kind(pieces, "name", FieldKind::Plain)
-                && is_none_or_kind(pieces, "text", FieldKind::Plain)
-        }
-        Uses::NameAndTo => {
-            is_none_or_kind(pieces, "name", FieldKind::Plain)
-                && is_none_or_kind(pieces, "to", FieldKind::Plain)
-        }
-        Uses::NameAndNumber => {
-            is_none_or_kind(pieces, "name", FieldKind::Plain)
-                && is_none_or_kind(pieces, "n", FieldKind::Decimal)
-        }
-        Uses::Step => is_none_or_kind(pieces, "step", FieldKind::Plain),
+    if name == "n" {
+        FieldKind::Decimal
+    } else {
+        FieldKind::Plain
     }
+}
+
+// Whether the field of a name is of its kind, where there is one.
+fn has_right_kind(pieces: &[Piece], name: &str) -> bool
+    ensures { result ≡ machinery.has_right_kind (pieces_said pieces.now) name.now }
+{
+    is_none_or_kind(pieces, name, kind_of_field(name))
+}
+
+fn has_right_kinds(names: &[&str], pieces: &[Piece]) -> bool
+    ensures { result
+        ≡ list_all (λ name. machinery.has_right_kind (pieces_said pieces.now) name.now) names.now }
+{
+    names.iter().all(|name| has_right_kind(pieces, *name))
 }
 
 // The action of a name, with the fields that it needs and of the kinds that it uses.
 fn action_at(line: u32, name: &str, pieces: &[Piece]) -> Result<Action, LibraryFault>
-    ensures action { IfOk result (λ a. FitsAction name.now (map piece_value pieces.now) a) }
-    ensures fault { IfErr result (λ f. ActionFaultSays f line name.now (map piece_value pieces.now)) }
+    ensures action { IfOk result (λ a. FitsAction name.now (pieces_said pieces.now) a) }
+    ensures fault { IfErr result (λ f. ActionFaultSays f line name.now (pieces_said pieces.now)) }
 {
-    match Action::named(name) {
+    match row_named(name) {
         None => Err(LibraryFault::UnknownAction { line }),
-        Some(action) => {
-            if !has_needed(action.uses(), pieces) {
+        Some(row) => {
+            if !has_needed(row.needs, pieces) {
                 return Err(LibraryFault::MissingField { line });
             }
-            if !has_right_kinds(action.uses(), pieces) {
+            if !has_right_kinds(row.uses, pieces) {
                 return Err(LibraryFault::FieldKind { line });
             }
-            Ok(action)
+            Ok(row.action)
         }
     }
 }
@@ -245,14 +185,16 @@ fn action_at(line: u32, name: &str, pieces: &[Piece]) -> Result<Action, LibraryF
 fn entry_from(
     alloc: Global,
     earlier: &[Entry],
-    line: &Line,
+    line: &BorrowedLine<'_>,
     step_type: Option<StepType>,
     text: &str,
     name: &str,
 ) -> Result<Entry, LibraryFault>
-    requires { IsCut (line_value line.now) step_type text.now name.now }
-    ensures entry { IfOk result (λ e. SpellsEntry (map entry_value earlier.now) (line_value line.now) (entry_value e)) }
-    ensures fault { IfErr result (λ f. EntryFaultSays f (map entry_value earlier.now) (line_value line.now)) }
+    requires { IsCut (borrowed_value line.now) step_type text.now name.now }
+    ensures entry { IfOk result (λ e.
+        SpellsEntry (entries_said earlier.now) (borrowed_value line.now) (entry_value e)) }
+    ensures fault { IfErr result (λ f.
+        EntryFaultSays f (entries_said earlier.now) (borrowed_value line.now)) }
 {
     let number = line.place.line;
     let pattern = match pattern_at(alloc, number, text) {
@@ -277,10 +219,12 @@ fn entry_from(
 pub(crate) fn read_entry(
     alloc: Global,
     earlier: &[Entry],
-    line: &Line,
+    line: &BorrowedLine<'_>,
 ) -> Result<Entry, LibraryFault>
-    ensures entry { IfOk result (λ e. SpellsEntry (map entry_value earlier.now) (line_value line.now) (entry_value e)) }
-    ensures fault { IfErr result (λ f. EntryFaultSays f (map entry_value earlier.now) (line_value line.now)) }
+    ensures entry { IfOk result (λ e.
+        SpellsEntry (entries_said earlier.now) (borrowed_value line.now) (entry_value e)) }
+    ensures fault { IfErr result (λ f.
+        EntryFaultSays f (entries_said earlier.now) (borrowed_value line.now)) }
 {
     match cut(line) {
         Ok((step_type, text, name)) => entry_from(alloc, earlier, line, step_type, text, name),

@@ -1,9 +1,11 @@
 //! A match by a table.
-ghost use Rattle.std.specs.Prelude.{◌≡◌, ◌<◌, ◌≤◌, ◌+◌, ◌*◌, ◌++◌, ℕ, List, length, map, string_bytes, false, IfOk, IfErr, OnOk, IsTrue, option_map, Some};
+ghost use Rattle.std.specs.Prelude.{◌≡◌, ◌<◌, ◌≤◌, ◌+◌, ◌*◌, ◌++◌, ℕ, List, length, map};
+ghost use Rattle.std.specs.Prelude.{false, IfOk, IfErr, OnOk, IsTrue, Some};
 ghost use Rattle.std.specs.Str.{chars};
-ghost use Rattle.gk_steps.specs.Pattern.{PieceValue, piece_value, pattern_value};
-ghost use Rattle.gk_steps.specs.Matching.{IsSpan, Matches, IsMatchResult, IsBestMatch, MatchesAreDetermined, field_value, fields_said, span_value, span_values};
-ghost use Rattle.gk_steps.specs.Columns.{ArePlaces, IsTable, Takes, values_of};
+ghost use Rattle.gk_steps.specs.Pattern.{piece_value, pieces_said, pattern_value};
+ghost use Rattle.gk_steps.specs.Matching.{IsSpan, Matches, IsMatchResult, MatchesAreDetermined};
+ghost use Rattle.gk_steps.specs.Matching.{field_value, fields_said, span_value};
+ghost use Rattle.gk_steps.specs.Columns.{ArePlaces, IsWholeTable, Takes, values_of};
 ghost use Rattle.gk_steps.specs.Leftmost.{FindsRest};
 ghost use Rattle.gk_steps.specs.PassingOver.{FitsStart, FitsEnd};
 
@@ -33,7 +35,8 @@ fn push_taken(
     span: &str,
 ) -> Result<(), AllocError>
     requires { Takes (piece_value piece.now) span.now }
-    ensures { OnOk result (map field_value fields.new.items ≡ map field_value fields.old.items ++ values_of (piece_value piece.now) span.now) }
+    ensures { let more = values_of (piece_value piece.now) span.now in
+        OnOk result (map field_value fields.new.items ≡ map field_value fields.old.items ++ more) }
 {
     if let Piece::Field { kind, .. } = piece {
         fields.push(field_of(alloc, *kind, span)?)?;
@@ -60,7 +63,8 @@ fn table_of(
     places: &[usize],
 ) -> Result<(Vec<Vec<bool>>, u64), AllocError>
     requires { ArePlaces text.now places.now }
-    ensures table { IfOk result (λ r. IsTable (length pieces.now + 1) (map piece_value pieces.now) text.now places.now r.0.items) }
+    ensures table { IfOk result (λ r.
+        IsWholeTable pieces.now text.now places.now r.0.items) }
     ensures count { IfOk result (λ r. r.1 ≡ (length pieces.now + 1) * length places.now) }
 {
     if !can_count(pieces.len(), places.len()) {
@@ -87,9 +91,10 @@ fn read(
     rows: &[Vec<bool>],
 ) -> Result<Vec<Field>, AllocError>
     requires places { ArePlaces text.now places.now }
-    requires table { IsTable (length pieces.now + 1) (map piece_value pieces.now) text.now places.now rows.now }
-    requires matched { (spans : List (List ℕ)) × Matches (map piece_value pieces.now) text.now spans }
-    ensures { IfOk result (λ fields. IsMatchResult (map piece_value pieces.now) text.now (Some (map field_value fields.items))) }
+    requires table { IsWholeTable pieces.now text.now places.now rows.now }
+    requires matched { (spans : List (List ℕ)) × Matches (pieces_said pieces.now) text.now spans }
+    ensures { IfOk result (λ fields.
+        IsMatchResult (pieces_said pieces.now) text.now (Some (map field_value fields.items))) }
 {
     let mut fields = Vec::new(alloc);
     let mut column = places.len() - 1;
@@ -115,7 +120,8 @@ fn match_pieces(
     places: &[usize],
 ) -> Result<(Option<Vec<Field>>, u64), AllocError>
     requires { ArePlaces text.now places.now }
-    ensures found { IfOk result (λ r. IsMatchResult (map piece_value pieces.now) text.now (option_map (λ fields. map field_value fields.items) r.0)) }
+    ensures found { IfOk result (λ r.
+        IsMatchResult (pieces_said pieces.now) text.now (fields_said r.0)) }
     ensures count { IfOk result (λ r. r.1 ≡ (length pieces.now + 1) * length places.now) }
 {
     let (rows, filled) = table_of(alloc, pieces, text, places)?;
@@ -134,8 +140,10 @@ impl Pattern {
         alloc: Global,
         text: &str,
     ) -> Result<(Option<Vec<Field>>, u64), AllocError>
-        ensures found { IfOk result (λ r. IsMatchResult (pattern_value self.now) text.now (option_map (λ fields. map field_value fields.items) r.0)) }
-        ensures count { IfOk result (λ r. r.1 ≡ (length self.now.pieces.items + 1) * (length (chars text.now) + 1)) }
+        ensures found { IfOk result (λ r.
+            IsMatchResult (pattern_value self.now) text.now (fields_said r.0)) }
+        ensures count { IfOk result (λ r.
+            r.1 ≡ (length self.now.pieces.items + 1) * (length (chars text.now) + 1)) }
     {
         let places = places_of(alloc, text)?;
         match_pieces(alloc, &self.pieces, text, &places)
@@ -149,7 +157,9 @@ fn match_rest(
     left: &[Piece],
     rest: &str,
 ) -> Result<Option<Vec<Field>>, AllocError>
-    ensures { IfOk result (λ found. FindsRest (map field_value fields.items) (map piece_value left.now) rest.now (fields_said found)) }
+    ensures { let before = map field_value fields.items in
+        IfOk result (λ found.
+        FindsRest before (pieces_said left.now) rest.now (fields_said found)) }
 {
     let places = places_of(alloc, rest)?;
     match match_pieces(alloc, left, rest, &places)? {
@@ -171,7 +181,8 @@ pub(crate) fn match_from_left(
     pieces: &[Piece],
     text: &str,
 ) -> Result<Option<Vec<Field>>, AllocError>
-    ensures { IfOk result (λ found. IsMatchResult (map piece_value pieces.now) text.now (option_map (λ fields. map field_value fields.items) found)) }
+    ensures { IfOk result (λ found.
+        IsMatchResult (pieces_said pieces.now) text.now (fields_said found)) }
 {
     let mut fields = Vec::new(alloc);
     let mut left = pieces;
@@ -199,9 +210,11 @@ impl Pattern {
     /// refuse is passed over. A table is made only from the first field on whose share depends on more than the
     /// literal and the plain field after it.
     pub fn matches(&self, alloc: Global, text: &str) -> Result<Option<Vec<Field>>, AllocError>
-        ensures found { IfOk result (λ found. IsMatchResult (pattern_value self.now) text.now (option_map (λ fields. map field_value fields.items) found)) }
+        ensures found { IfOk result (λ found.
+            IsMatchResult (pattern_value self.now) text.now (fields_said found)) }
         // Memory is refused to no text that is passed over.
-        ensures memory { IfErr result (λ e. FitsStart (pattern_value self.now) text.now × FitsEnd (pattern_value self.now) text.now) }
+        ensures memory { IfErr result (λ e. FitsStart (pattern_value self.now) text.now
+            × FitsEnd (pattern_value self.now) text.now) }
     {
         if !self.can_match(text) {
             return Ok(None);

@@ -1,8 +1,9 @@
 //! Texts that a pattern matches nowhere, by its ends and without a table.
-ghost use Rattle.std.specs.Prelude.{◌≡◌, ◌++◌, ℕ, List, map, false, true, string_bytes, IsTrue, MatchBool, nat_eq};
+ghost use Rattle.std.specs.Prelude.{◌≡◌, false, IsTrue, MatchBool, nat_eq};
 ghost use Rattle.std.specs.List.{starts_with, ends_with};
-ghost use Rattle.gk_steps.specs.Pattern.{piece_value, pattern_value};
+ghost use Rattle.gk_steps.specs.Pattern.{pieces_said, pattern_value};
 ghost use Rattle.gk_steps.specs.Matching.{MatchesNot};
+ghost use Rattle.gk_steps.specs.PassingOver.{BeginsWith, BeginsNotWith, EndsWith, EndsNotWith};
 ghost use Rattle.gk_steps.specs.PassingOver.{FitsStart, FitsEnd};
 
 use crate::pattern::{Pattern, Piece};
@@ -35,22 +36,22 @@ fn ends_with_bytes(bytes: &[u8], last: &[u8]) -> bool
 
 /// Whether a text ends with another.
 pub(crate) fn ends_with(text: &str, back: &str) -> bool
-    ensures { MatchBool result ((prefix : List ℕ) × (text.now ≡ prefix ++ back.now)) ((prefix : List ℕ) → text.now ≡ prefix ++ back.now → ⊥) }
+    ensures { MatchBool result (EndsWith text.now back.now) (EndsNotWith text.now back.now) }
 {
     ends_with_bytes(text.as_bytes(), back.as_bytes())
 }
 
 // Whether a text begins with another.
 fn begins_with(text: &str, front: &str) -> bool
-    ensures { MatchBool result ((rest : List ℕ) × (text.now ≡ front.now ++ rest)) ((rest : List ℕ) → text.now ≡ front.now ++ rest → ⊥) }
+    ensures { MatchBool result (BeginsWith text.now front.now) (BeginsNotWith text.now front.now) }
 {
     begins_with_bytes(text.as_bytes(), front.as_bytes())
 }
 
 // Whether the first literal begins the text.
 fn fits_start(pieces: &[Piece], text: &str) -> bool
-    ensures kept { IsTrue result → FitsStart (map piece_value pieces.now) text.now }
-    ensures refused { result ≡ false → MatchesNot (map piece_value pieces.now) text.now }
+    ensures kept { IsTrue result → FitsStart (pieces_said pieces.now) text.now }
+    ensures refused { result ≡ false → MatchesNot (pieces_said pieces.now) text.now }
 {
     match pieces.first() {
         Some(piece) => match piece {
@@ -63,8 +64,8 @@ fn fits_start(pieces: &[Piece], text: &str) -> bool
 
 // Whether the last literal ends the text.
 fn fits_end(pieces: &[Piece], text: &str) -> bool
-    ensures kept { IsTrue result → FitsEnd (map piece_value pieces.now) text.now }
-    ensures refused { result ≡ false → MatchesNot (map piece_value pieces.now) text.now }
+    ensures kept { IsTrue result → FitsEnd (pieces_said pieces.now) text.now }
+    ensures refused { result ≡ false → MatchesNot (pieces_said pieces.now) text.now }
 {
     match pieces.last() {
         Some(piece) => match piece {

@@ -1,12 +1,16 @@
 //! Reading a pattern from its text.
-ghost use Rattle.std.specs.Prelude.{◌≡◌, ◌≤◌, ◌<◌, ◌++◌, ℕ, List, length, map, flat_map, string_bytes, IsTrue, true, IfOk, IfSome, IsSomeAnd, MatchOption, None, Err};
+ghost use Rattle.std.specs.Prelude.{◌≡◌, ◌≤◌, ◌<◌, ◌++◌, ℕ, List, length, flat_map, string_bytes};
+ghost use Rattle.std.specs.Prelude.{IfOk, IfSome, IsSomeAnd, MatchOption, None, Err};
 ghost use Rattle.std.specs.List.{prefix_len, position_or_len, list_all};
 ghost use Rattle.gk_steps.specs.declared.pattern.FieldKind.{FieldKind as Kind};
 ghost use Rattle.gk_steps.specs.declared.pattern_fault.PatternFault.TheVariants.{BadPattern};
 ghost use Rattle.gk_steps.specs.Pattern as spec;
-ghost use Rattle.gk_steps.specs.Pattern.{PieceValue, piece_value, pattern_value, spelled_literal, is_name_letter, is_name_byte, SpellsPattern, SpellingIsUnique};
+ghost use Rattle.gk_steps.specs.Pattern.{PieceValue, pieces_said, pattern_value, spelled_literal};
+ghost use Rattle.gk_steps.specs.Pattern.{SpellsPattern, SpellingIsUnique};
 ghost use Rattle.gk_steps.specs.Spelling as machinery;
-ghost use Rattle.gk_steps.specs.Spelling.{BeginsAtBrace, EndsLiteral, IsOnlyName, HasLiteral, HasField, HasNoField, AddsLiteral, PushesField, IsSpelled, AnswersPieces, field_tail};
+ghost use Rattle.gk_steps.specs.Spelling.{BeginsAtBrace, EndsLiteral, IsOnlyName, HasLiteral};
+ghost use Rattle.gk_steps.specs.Spelling.{HasField, HasNoField, PushesLiteral, PushesField};
+ghost use Rattle.gk_steps.specs.Spelling.{IsSpelled, AnswersPieces, field_tail};
 
 use crate::columns::rest_after;
 use crate::pattern::{FieldKind, Pattern, Piece};
@@ -84,7 +88,8 @@ fn plain_run<'a>(text: &'a str) -> (&'a str, &'a str)
 
 // The brace that a text begins with twice, and the rest.
 fn doubled_brace<'a>(text: &'a str) -> Option<(&'a str, &'a str)>
-    ensures found { IfSome result (λ p. text.entry.now ≡ flat_map spelled_literal p.0.now ++ p.1.now) }
+    ensures found { IfSome result (λ p.
+        text.entry.now ≡ flat_map spelled_literal p.0.now ++ p.1.now) }
     ensures shorter { IfSome result (λ p. length p.1.now < length text.entry.now) }
     ensures none { result ≡ None → BeginsAtBrace text.entry.now → EndsLiteral text.entry.now }
 {
@@ -124,7 +129,8 @@ fn name_run<'a>(text: &'a str) -> (&'a str, &'a str)
 // The kind of a field, from what stands after its name, and the rest.
 fn field_end<'a>(text: &'a str) -> Option<(FieldKind, &'a str)>
     ensures found { IfSome result (λ p. text.entry.now ≡ field_tail p.0 ++ p.1.now) }
-    ensures only { (kind : Kind) (rest : List ℕ) → text.entry.now ≡ field_tail kind ++ rest → IsSomeAnd result (λ p. (p.0 ≡ kind) × (p.1.now ≡ rest)) }
+    ensures only { (kind : Kind) (rest : List ℕ) → text.entry.now ≡ field_tail kind ++ rest
+        → IsSomeAnd result (λ p. (p.0 ≡ kind) × (p.1.now ≡ rest)) }
 {
     if let Some(rest) = rest_after(text, "}") {
         return Some((FieldKind::Plain, rest));
@@ -135,7 +141,8 @@ fn field_end<'a>(text: &'a str) -> Option<(FieldKind, &'a str)>
 
 // The field that a text begins with: its name, its kind and the rest.
 fn field_at<'a>(text: &'a str) -> Option<(&'a str, FieldKind, &'a str)>
-    ensures { MatchOption result (HasNoField text.entry.now) (λ f. HasField text.entry.now f.0.now f.1 f.2.now) }
+    ensures { MatchOption result (HasNoField text.entry.now) (λ f.
+        HasField text.entry.now f.0.now f.1 f.2.now) }
 {
     let body = rest_after(text, "{")?;
     let (name, end) = name_run(body);
@@ -154,7 +161,8 @@ fn push_literal<'a>(
     alloc: Global,
     text: &'a str,
 ) -> Result<&'a str, AllocError>
-    ensures added { IfOk result (λ rest. AddsLiteral text.entry.now (map piece_value pieces.old.items) (map piece_value pieces.new.items) rest.now) }
+    ensures added { IfOk result (λ rest.
+        PushesLiteral text.entry.now pieces.old.items pieces.new.items rest.now) }
     ensures within { IfOk result (λ rest. length rest.now ≤ length text.entry.now) }
 {
     let (literal, rest) = literal_run(alloc, text)?;
@@ -170,8 +178,10 @@ fn push_field<'a>(
     alloc: Global,
     text: &'a str,
 ) -> Result<Option<&'a str>, AllocError>
-    ensures added { IfOk result (λ o. MatchOption o (HasNoField text.entry.now) (λ rest. PushesField text.entry.now pieces.old.items pieces.new.items rest.now)) }
-    ensures shorter { IfOk result (λ o. IfSome o (λ rest. length rest.now < length text.entry.now)) }
+    ensures added { IfOk result (λ o. MatchOption o (HasNoField text.entry.now) (λ rest.
+        PushesField text.entry.now pieces.old.items pieces.new.items rest.now)) }
+    ensures shorter { IfOk result (λ o.
+        IfSome o (λ rest. length rest.now < length text.entry.now)) }
 {
     match field_at(text) {
         Some((name, kind, rest)) => {
@@ -185,7 +195,7 @@ fn push_field<'a>(
 
 // The pieces that a text spells, whatever names stand twice.
 fn read_pieces(alloc: Global, text: &str) -> Result<Vec<Piece>, PatternFault>
-    ensures found { IfOk result (λ ps. IsSpelled text.now (map piece_value ps.items)) }
+    ensures found { IfOk result (λ ps. IsSpelled text.now (pieces_said ps.items)) }
     ensures only { (ps : List PieceValue) → IsSpelled text.now ps → AnswersPieces result ps }
 {
     let mut pieces = Vec::new(alloc);
@@ -201,7 +211,7 @@ fn read_pieces(alloc: Global, text: &str) -> Result<Vec<Piece>, PatternFault>
 
 /// The kind of the field of a name; none where the pieces have no such field.
 pub(crate) fn field_kind(pieces: &[Piece], name: &str) -> Option<FieldKind>
-    ensures { result ≡ spec.field_kind (map piece_value pieces.now) name.now }
+    ensures { result ≡ spec.field_kind (pieces_said pieces.now) name.now }
 {
     for piece in pieces {
         if let Piece::Field { name: other, kind } = piece {
@@ -215,7 +225,7 @@ pub(crate) fn field_kind(pieces: &[Piece], name: &str) -> Option<FieldKind>
 
 // Whether no name stands twice.
 fn are_distinct(pieces: &[Piece]) -> bool
-    ensures { result ≡ machinery.are_distinct (map piece_value pieces.now) }
+    ensures { result ≡ machinery.are_distinct (pieces_said pieces.now) }
 {
     let mut rest = pieces;
     while let Some((piece, later)) = rest.split_first() {
@@ -231,7 +241,7 @@ fn are_distinct(pieces: &[Piece]) -> bool
 
 // Whether pieces are a pattern: there is one, and no name stands twice.
 fn is_pattern(pieces: &[Piece]) -> bool
-    ensures { result ≡ machinery.is_pattern (map piece_value pieces.now) }
+    ensures { result ≡ machinery.is_pattern (pieces_said pieces.now) }
 {
     !pieces.is_empty() && are_distinct(pieces)
 }

@@ -19,8 +19,10 @@ impl Counter {
     /// Fills a cell and adds one.
     pub(crate) fn fill(&mut self, row: &mut Vec<bool>, cell: bool) -> Result<(), AllocError>
         requires { self.old.filled < 18446744073709551615 }
-        ensures items { row.new.items ≡ (if is_ok result then row.old.items ++ cell ∷ [] else row.old.items) }
-        ensures filled { self.new.filled ≡ (if is_ok result then self.old.filled + 1 else self.old.filled) }
+        ensures items { row.new.items
+            ≡ (if is_ok result then row.old.items ++ cell ∷ [] else row.old.items) }
+        ensures filled { self.new.filled
+            ≡ (if is_ok result then self.old.filled + 1 else self.old.filled) }
     {
         row.push(cell)?;
         self.filled += 1;
@@ -35,7 +37,8 @@ pub(crate) fn first_row(
     places: &[usize],
 ) -> Result<Vec<bool>, AllocError>
     requires { counter.old.filled + length places.now ≤ 18446744073709551615 }
-    ensures row { (text : List ℕ) → ArePlaces text places.now → IfOk result (λ row. IsRow [] text places.now row.items) }
+    ensures row { (text : List ℕ) → ArePlaces text places.now
+        → IfOk result (λ row. IsRow [] text places.now row.items) }
     ensures filled { OnOk result (counter.new.filled ≡ counter.old.filled + length places.now) }
 {
     let mut row = Vec::new(alloc);
@@ -72,7 +75,8 @@ fn stepped_row(
     requires room { counter.old.filled + length places.now ≤ 18446744073709551615 }
     requires places { ArePlaces text.now places.now }
     requires width { length below.now ≡ length places.now }
-    ensures row { IfOk result (λ row. IsRowOver (piece_value piece.now) text.now places.now below.now row.items) }
+    ensures row { IfOk result (λ row.
+        IsRowOver (piece_value piece.now) text.now places.now below.now row.items) }
     ensures filled { OnOk result (counter.new.filled ≡ counter.old.filled + length places.now) }
 {
     let mut row = Vec::new(alloc);
@@ -94,7 +98,8 @@ fn decimal_row(
     requires room { counter.old.filled + length places.now ≤ 18446744073709551615 }
     requires places { ArePlaces text.now places.now }
     requires width { length below.now ≡ length places.now }
-    ensures row { IfOk result (λ row. IsNumberRow (length places.now) text.now places.now below.now row.items) }
+    ensures row { IfOk result (λ row.
+        IsNumberRow (length places.now) text.now places.now below.now row.items) }
     ensures filled { OnOk result (counter.new.filled ≡ counter.old.filled + length places.now) }
 {
     let mut row = Vec::new(alloc);
@@ -125,7 +130,8 @@ pub(crate) fn row_over(
     requires room { counter.old.filled + length places.now ≤ 18446744073709551615 }
     requires places { ArePlaces text.now places.now }
     requires width { length below.now ≡ length places.now }
-    ensures row { IfOk result (λ row. IsRowOver (piece_value piece.now) text.now places.now below.now row.items) }
+    ensures row { IfOk result (λ row.
+        IsRowOver (piece_value piece.now) text.now places.now below.now row.items) }
     ensures filled { OnOk result (counter.new.filled ≡ counter.old.filled + length places.now) }
 {
     match piece {

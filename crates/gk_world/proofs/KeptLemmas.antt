@@ -7,7 +7,6 @@ use Rattle.gk_world.proofs.UndoLemmas.{length-layers_of}
 use Rattle.gk_world.proofs.JournalLemmas.{FitAll-drop}
 use Rattle.gk_world.specs.declared.world_fault.WorldFault.{WorldFault}
 use Rattle.gk_world.specs.declared.world_fault.WorldFault.TheVariants.{Memory}
-use Rattle.gk_world.specs.declared.cells.TheConstants.{LAYERS}
 use Rattle.gk_world.specs.declared.world.World.{World}
 use Rattle.gk_world.specs.declared.world.WorldUndo.{WorldUndo}
 use Rattle.gk_world.specs.declared.world.WorldChange.{WorldChange}
@@ -17,7 +16,7 @@ use Rattle.gk_world.specs.State.{state_of}
 use Rattle.gk_world.specs.Values.{state_at, IsLayer}
 use Rattle.gk_world.specs.World.{contents_of, Fits, undone, Steps, Refuses, CanApply, IsHere, changed, refusal, IsClear}
 use Rattle.gk_world.proofs.WorldLemmas.{contents_changed, contents_allow, contents_refuse, clear_still, here_applies}
-use Rattle.gk_world.specs.Sandbox.{SandboxValue, depth, begun, Ends, Becomes, one_if_open}
+use Rattle.gk_world.specs.Sandbox.{layers, SandboxValue, depth, begun, Ends, Becomes, one_if_open}
 use Rattle.gk_world.specs.Kept.{seen_undos, open_marks, saved_of, value_of, AreMarks, IsSound}
 
 -- ---- lengths
@@ -84,7 +83,7 @@ module _ (w : World) (us : List WorldUndo) (ms : List ℕ) (h : IsSound w us ms)
   nothing_since : rewound undone (drop (length us) us) w ≡ w
   nothing_since = ap (λ us. rewound undone us w) (drop-length us)
 
-  sound_inside : length ms < LAYERS → IsSound w us (length us ∷ ms)
+  sound_inside : length ms < layers → IsSound w us (length us ∷ ms)
   sound_inside lt = record {
     room = omega arith;
     clear = λ k le. h.clear k (omega arith);
@@ -100,7 +99,7 @@ module _ (w : World) (us : List WorldUndo) (ms : List ℕ) (h : IsSound w us ms)
     marks = sym (length-seen_undos w us) i ∷ ms;
   }
 
-module _ (w : World) (us : List WorldUndo) (d n : ℕ) (marks : List ℕ) (v : SandboxValue) (is : value_of w us (open_marks d marks) ≡ v) (few : depth v < LAYERS) (room : length marks ≡ LAYERS) (all : n ≡ length us) (h : IsSound w us (open_marks d marks)) where
+module _ (w : World) (us : List WorldUndo) (d n : ℕ) (marks : List ℕ) (v : SandboxValue) (is : value_of w us (open_marks d marks) ≡ v) (few : depth v < layers) (room : length marks ≡ layers) (all : n ≡ length us) (h : IsSound w us (open_marks d marks)) where
   begun_marks : open_marks (d + 1) (set marks d n) ≡ length us ∷ open_marks d marks
   begun_marks = marked d marks n (omega (arith, depth_is w us d marks v is)) ∙ ap (λ n. n ∷ open_marks d marks) all
 

@@ -2,7 +2,6 @@
 use Rattle.std.proofs.Common.{◌≡◌, ℕ, zero, suc, ◌+◌, List, [], ◌∷◌, length, drop, refl, sym, ap, subst, ◌∙◌, arith}
 use Rattle.gk_world.specs.Journal.{rewound, FitAll}
 use Rattle.gk_world.proofs.JournalLemmas.{FitAll-drop}
-use Rattle.gk_world.specs.declared.cells.TheConstants.{LAYERS}
 use Rattle.gk_world.specs.declared.world.World.{World}
 use Rattle.gk_world.specs.declared.world.WorldUndo.{WorldUndo}
 use Rattle.gk_world.specs.declared.world.WorldUndo.TheVariants.{File, Env, Value}
@@ -13,14 +12,14 @@ use Rattle.gk_world.specs.World.{contents_of, Fits, undone, IsClear}
 use Rattle.gk_world.specs.Undone as contents
 use Rattle.gk_world.specs.Undone.{rewind}
 use Rattle.gk_world.proofs.UndoLemmas.{undo_writes, map_undone, layers_put, Kept, kept_refl, kept_twice, kept_undone, name_same}
-use Rattle.gk_world.specs.Sandbox.{SandboxValue, with_layers, Rewinds, UndosGiveBack}
+use Rattle.gk_world.specs.Sandbox.{layers, SandboxValue, with_layers, Rewinds, UndosGiveBack}
 use Rattle.gk_world.specs.Kept.{seen_undo, seen_undos, saved_of, value_of, AreMarks, IsSound}
 
 -- an undo, on the contents
 contents_undone : (d : ℕ) (u : WorldUndo) (w : World) → Fits u w → contents_of d (undone u w) ≡ contents.undone (seen_undo w u) (contents_of d w)
 contents_undone d (File u) w h = λ i. record { files = map_undone u w.files h i; env = map_at 0 w.env; values = layers_of d w.values }
 contents_undone d (Env u) w h = λ i. record { files = map_at 0 w.files; env = map_undone u w.env h i; values = layers_of d w.values }
-contents_undone d (Value u) w h = λ i. record { files = map_at 0 w.files; env = map_at 0 w.env; values = layers_put d (slot.cell_of u) (slot.name_of w.values u) (slot.old_of u) w.values (slot.undone u w.values) (undo_writes LAYERS u w.values h) i }
+contents_undone d (Value u) w h = λ i. record { files = map_at 0 w.files; env = map_at 0 w.env; values = layers_put d (slot.cell_of u) (slot.name_of w.values u) (slot.old_of u) w.values (slot.undone u w.values) (undo_writes layers u w.values h) i }
 
 -- ---- slots keep their names
 record AllKept (t w : World) : Type 0 where
@@ -40,7 +39,7 @@ all_kept (u ∷ us) w = all_kept_undone u (rewound undone us w) w (all_kept us w
 seen_same : (u : WorldUndo) (t w : World) → AllKept t w → Fits u t → seen_undo t u ≡ seen_undo w u
 seen_same (File u) t w k h = ap (λ n. record { which = contents.of_files; name = n; old = slot.old_of u }) (name_same 1 u t.files w.files k.files h)
 seen_same (Env u) t w k h = ap (λ n. record { which = contents.of_env; name = n; old = slot.old_of u }) (name_same 1 u t.env w.env k.env h)
-seen_same (Value u) t w k h = ap (λ n. record { which = contents.of_layer (suc (slot.cell_of u)); name = n; old = slot.old_of u }) (name_same LAYERS u t.values w.values k.values h)
+seen_same (Value u) t w k h = ap (λ n. record { which = contents.of_layer (suc (slot.cell_of u)); name = n; old = slot.old_of u }) (name_same layers u t.values w.values k.values h)
 
 -- many undos, on the contents
 contents_rewound : (d : ℕ) (us : List WorldUndo) (w : World) → FitAll undone Fits us w → contents_of d (rewound undone us w) ≡ rewind (seen_undos w us) (contents_of d w)

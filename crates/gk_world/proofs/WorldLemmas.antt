@@ -2,7 +2,7 @@
 use Rattle.std.proofs.Common.{◌≡◌, ℕ, zero, suc, ◌-◌, ◌<◌, ◌≤◌, List, ◌∷◌, None, refl, sym, ap, subst, ◌∙◌, arith}
 use Rattle.gk_world.specs.Cells.{Slot, Cell}
 use Rattle.gk_world.specs.declared.world_fault.WorldFault.{WorldFault}
-use Rattle.gk_world.specs.declared.cells.TheConstants.{LAYERS}
+use Rattle.gk_world.specs.Sandbox.{layers}
 use Rattle.gk_world.specs.declared.world.World.{World}
 use Rattle.gk_world.specs.declared.world.WorldChange.{WorldChange}
 use Rattle.gk_world.specs.declared.world.WorldChange.TheVariants as changes
@@ -58,7 +58,7 @@ clear_still (changes.Value c) d v w here h clear = λ k le.
     h.0.done.others k (omega arith) ∙ clear k le
 
 -- a change of the innermost layer can be asked for
-pub here_applies : (c : WorldChange) (d : ℕ) → IsHere c d → d ≤ LAYERS → CanApply c
+pub here_applies : (c : WorldChange) (d : ℕ) → IsHere c d → d ≤ layers → CanApply c
 here_applies (changes.File c) d here le = tt
 here_applies (changes.Env c) d here le = tt
 here_applies (changes.Value c) d here le =

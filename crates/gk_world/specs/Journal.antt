@@ -1,5 +1,5 @@
 -- What a list of undos, oldest first, makes of contents.
-use Rattle.std.specs.Prelude.{◌≡◌, ◌≤◌, ℕ, List, [], ◌∷◌, length, drop}
+use Rattle.std.specs.Prelude.{◌≡◌, ◌≤◌, ℕ, List, [], ◌∷◌, ◌++◌, length, drop}
 
 module _ {U S : Type 0} (undone : U → S → S) where
   -- The contents before these changes: the newest, which is the last, is undone first. (this project's profile)
@@ -12,10 +12,22 @@ module _ {U S : Type 0} (undone : U → S → S) where
   FitAll fits [] s = Unit {0}
   FitAll fits (u ∷ us) s = FitAll fits us s × fits u (rewound us s)
 
-  -- For each older mark, the undos since then give the same contents from here as others did from there. (this project's profile)
-  abbrev pub RewindsTheSame : List U → S → List U → S → Type 0
-  RewindsTheSame old before new after = (m : ℕ) → m ≤ length old → rewound (drop m new) after ≡ rewound (drop m old) before
+  -- One undo more is recorded, as the newest: it fits, and gives back what was there before. (this project's profile)
+  abbrev pub Records : (U → S → Type 0) → List U → S → List U → S → Type 0
+  Records fits old before new after = (u : U) × (new ≡ old ++ u ∷ []) × fits u after × (undone u after ≡ before)
 
-  -- For each older mark, the undos since then fit here where others fitted there. (this project's profile)
+  -- For each mark up to this one, the undos since then give the same contents from here as others did from there. (this project's profile)
+  abbrev pub RewindsTheSameTo : ℕ → List U → S → List U → S → Type 0
+  RewindsTheSameTo mark old before new after = (m : ℕ) → m ≤ mark → rewound (drop m new) after ≡ rewound (drop m old) before
+
+  -- For each mark up to this one, the undos since then fit here where others fitted there. (this project's profile)
+  abbrev pub StaysFitTo : (U → S → Type 0) → ℕ → List U → S → List U → S → Type 0
+  StaysFitTo fits mark old before new after = (m : ℕ) → m ≤ mark → FitAll fits (drop m old) before → FitAll fits (drop m new) after
+
+  -- For each older mark the same contents. (this project's profile)
+  abbrev pub RewindsTheSame : List U → S → List U → S → Type 0
+  RewindsTheSame old before new after = RewindsTheSameTo (length old) old before new after
+
+  -- For each older mark the undos stay fit. (this project's profile)
   abbrev pub StaysFit : (U → S → Type 0) → List U → S → List U → S → Type 0
-  StaysFit fits old before new after = (m : ℕ) → m ≤ length old → FitAll fits (drop m old) before → FitAll fits (drop m new) after
+  StaysFit fits old before new after = StaysFitTo fits (length old) old before new after

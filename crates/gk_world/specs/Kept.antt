@@ -1,7 +1,6 @@
 -- How a sandbox keeps what is seen of it: no caller needs this file.
 use Rattle.std.specs.Prelude.{◌≡◌, ℕ, zero, suc, ◌≤◌, List, [], ◌∷◌, length, drop, slice_index}
 use Rattle.gk_world.specs.Journal.{rewound, FitAll}
-use Rattle.gk_world.specs.declared.cells.TheConstants.{LAYERS}
 use Rattle.gk_world.specs.declared.world.World.{World}
 use Rattle.gk_world.specs.declared.world.WorldUndo.{WorldUndo}
 use Rattle.gk_world.specs.declared.world.WorldUndo.TheVariants.{File, Env, Value}
@@ -9,7 +8,7 @@ use Rattle.gk_world.specs.Contents.{Contents}
 use Rattle.gk_world.specs.Slots.{name_of, cell_of, old_of}
 use Rattle.gk_world.specs.Undone.{UndoValue, of_files, of_env, of_layer}
 use Rattle.gk_world.specs.World.{contents_of, Fits, undone, IsClear}
-use Rattle.gk_world.specs.Sandbox.{SandboxValue}
+use Rattle.gk_world.specs.Sandbox.{layers, SandboxValue}
 
 -- An undo, as it is seen where the world is this: slots keep their names. (this project's profile)
 abbrev pub seen_undo : World → WorldUndo → UndoValue
@@ -43,7 +42,7 @@ AreMarks (m ∷ ms) n us w = (m ≤ n) × IsClear (length ms) (rewound undone (d
 
 -- What holds of a sandbox between its calls. (this project's profile)
 pub record IsSound (w : World) (us : List WorldUndo) (ms : List ℕ) : Type 0 where
-  pub room : length ms ≤ LAYERS
+  pub room : length ms ≤ layers
   pub clear : IsClear (length ms) w
   pub ordered : AreMarks ms (length us) us w
   pub fit : FitAll undone Fits us w

@@ -140,6 +140,34 @@ with_value c name text = record c { values = with_innermost (λ v. finite.insert
 abbrev pub without_value : Contents → List ℕ → Contents
 without_value c name = record c { values = with_innermost (λ v. finite.remove v name) c.values }
 
+-- A file has a text by one change, and what each layer's end gives stays. (this project's profile)
+abbrev pub PutsFile : SandboxValue → List ℕ → List ℕ → SandboxValue → Type 0
+PutsFile old name text new = Becomes (with_file old.now name text) old new
+
+-- A file has more at its end by one change, and what each layer's end gives stays. (this project's profile)
+abbrev pub AppendsToFile : SandboxValue → List ℕ → List ℕ → SandboxValue → Type 0
+AppendsToFile old name more new = Becomes (with_more old.now name more) old new
+
+-- A file is removed by one change, and what each layer's end gives stays. (this project's profile)
+abbrev pub RemovesFile : SandboxValue → List ℕ → SandboxValue → Type 0
+RemovesFile old name new = Becomes (without_file old.now name) old new
+
+-- A variable is set by one change, and what each layer's end gives stays. (this project's profile)
+abbrev pub SetsEnv : SandboxValue → List ℕ → List ℕ → SandboxValue → Type 0
+SetsEnv old name text new = Becomes (with_env old.now name text) old new
+
+-- A variable is removed by one change, and what each layer's end gives stays. (this project's profile)
+abbrev pub RemovesEnv : SandboxValue → List ℕ → SandboxValue → Type 0
+RemovesEnv old name new = Becomes (without_env old.now name) old new
+
+-- A value of the innermost layer is set by one change, and what each layer's end gives stays. (behave's documentation: context layers)
+abbrev pub SetsValue : SandboxValue → List ℕ → List ℕ → SandboxValue → Type 0
+SetsValue old name text new = Becomes (with_value old.now name text) old new
+
+-- A value of the innermost layer is deleted by one change, and what each layer's end gives stays. (behave's documentation: context layers)
+abbrev pub DeletesValue : SandboxValue → List ℕ → SandboxValue → Type 0
+DeletesValue old name new = Becomes (without_value old.now name) old new
+
 -- What the changes of contents are to the plain state; a value is of the innermost layer, so one has to be open. (behave's documentation: context layers)
 pub record ChangesAreOfState : Type 0 where
   pub file : (c : Contents) (name text : List ℕ) → state_of (with_file c name text) ≡ record (state_of c) { files = with_text (state_of c).files name text }

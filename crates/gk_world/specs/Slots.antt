@@ -1,10 +1,11 @@
 -- Slots, and the finite maps that they stand for: map_at k has, for each name, the cell k of its slot.
-use Rattle.std.specs.Prelude.{◌≡◌, ◌≢◌, ℕ, zero, suc, ◌+◌, ◌<◌, List, [], ◌∷◌, length, take, map, None, true, false, slice_index_or, slice_set, bytes_eq, String, string_bytes, option_map}
+use Rattle.std.specs.Prelude.{◌≡◌, ◌≢◌, ℕ, zero, suc, ◌+◌, ◌<◌, List, [], ◌∷◌, length, take, map, Some, None, true, false, slice_index_or, slice_set, bytes_eq, String, string_bytes, option_map}
 use Rattle.std.specs.FinMap as finite
 use Rattle.std.specs.Global.{Global}
 use Rattle.gk_world.specs.declared.slots.SlotUndo.{SlotUndo}
 use Rattle.gk_world.specs.declared.slots.SlotUndo.TheVariants.{Restore, Created}
 use Rattle.gk_world.specs.Contents.{Texts, with_entry}
+use Rattle.gk_world.specs.State.{Map}
 use Rattle.gk_world.specs.Cells.{Slot, Cell, cell_at}
 
 -- A row as a slot, and rows as slots: names and texts, without where they lie in memory.
@@ -22,6 +23,10 @@ abbrev pub map_at : ℕ → List Slot → Texts
 map_at k [] = finite.empty
 map_at k (s ∷ ss) = with_entry (map_at k ss) s.0 (cell_at k s.1)
 
+-- The text that each name has in the cell k. (this project's profile)
+abbrev pub text_at : ℕ → List Slot → Map
+text_at k s = finite.get (map_at k s)
+
 -- The values of so many layers, the innermost first: the outermost has the first cells. (behave's documentation: context layers)
 abbrev pub layers_of : ℕ → List Slot → List Texts
 layers_of zero s = []
@@ -31,6 +36,10 @@ layers_of (suc d) s = map_at d s ∷ layers_of d s
 pub record Writes (name : List ℕ) (cell : ℕ) (text : Cell) (old new : List Slot) : Type 0 where
   pub here : map_at cell new ≡ with_entry (map_at cell old) name text
   pub others : (k : ℕ) → k ≢ cell → map_at k new ≡ map_at k old
+
+-- A cell of a name has this text, and all else stays. (this project's profile)
+abbrev pub Puts : {Y Z : Type 0} → String Y → ℕ → String Z → List Slot → List Slot → Type 0
+Puts name cell text old new = Writes (string_bytes name) cell (Some (string_bytes text)) old new
 
 -- The slots, with these cells in the slot at i. (this project's profile)
 abbrev pub with_cells : List Slot → ℕ → List Cell → List Slot
@@ -55,6 +64,10 @@ abbrev pub IsPlace : List ℕ → List Slot → ℕ → Type 0
 IsPlace name [] i = ⊥
 IsPlace name (s ∷ ss) zero = bytes_eq name s.0 ≡ true
 IsPlace name (s ∷ ss) (suc i) = (bytes_eq name s.0 ≡ false) × IsPlace name ss i
+
+-- A cell of the name whose first slot is at i has another text, or none, and all else stays. (this project's profile)
+abbrev pub WritesAt : ℕ → ℕ → Cell → List Slot → List Slot → Type 0
+WritesAt i cell text old new = (name : List ℕ) → IsPlace name old i → Writes name cell text old new
 
 -- There is no slot of this name. (this project's profile)
 abbrev pub IsMissing : List ℕ → List Slot → Type 0

@@ -2,17 +2,17 @@
 use Rattle.std.specs.Prelude.{◌≡◌, ℕ, ◌<◌, ◌≤◌, ◌-◌, List, Option, Some, None, string_bytes}
 use Rattle.std.specs.FinMap as finite
 use Rattle.gk_world.specs.declared.world_fault.WorldFault.{WorldFault}
-use Rattle.gk_world.specs.declared.cells.TheConstants.{LAYERS}
 use Rattle.gk_world.specs.declared.values.ValueChange.{ValueChange}
 use Rattle.gk_world.specs.declared.values.ValueChange.TheVariants.{Set, Delete}
 use Rattle.gk_world.specs.Cells.{Slot, Cell}
 use Rattle.gk_world.specs.State.{State, state_of}
+use Rattle.gk_world.specs.Sandbox.{layers}
 use Rattle.gk_world.specs.Refusals.{put_refusal, delete_refusal, IsFault}
 use Rattle.gk_world.specs.Slots.{layers_of, Writes}
 
 -- What so many layers have, and nothing else. (behave's documentation: context layers)
 abbrev pub state_at : ℕ → List Slot → State
-state_at layers s = state_of (record { files = finite.empty; env = finite.empty; values = layers_of layers s })
+state_at d s = state_of (record { files = finite.empty; env = finite.empty; values = layers_of d s })
 
 -- The layer of a change, counted from 1 at the outermost. (behave's documentation: context layers)
 abbrev pub layer_of : ValueChange → ℕ
@@ -22,7 +22,7 @@ layer_of (Delete layer name) = layer
 -- A layer is counted from 1, and so many can be open. (behave's documentation: context layers)
 pub record IsLayer (layer : ℕ) : Type 0 where
   pub from : 0 < layer
-  pub to : layer ≤ LAYERS
+  pub to : layer ≤ layers
 
 -- Why a change of values is refused, if it is. (behave's documentation: context layers)
 abbrev pub refusal : ValueChange → State → Option WorldFault

@@ -2,12 +2,12 @@
 use Rattle.std.specs.Prelude.{◌≡◌, ℕ, ◌<◌, ◌≤◌, Option}
 use Rattle.std.specs.FinMap as finite
 use Rattle.gk_world.specs.declared.world_fault.WorldFault.{WorldFault}
-use Rattle.gk_world.specs.declared.cells.TheConstants.{LAYERS}
 use Rattle.gk_world.specs.declared.world.World.{World}
 use Rattle.gk_world.specs.declared.world.WorldUndo.{WorldUndo}
 use Rattle.gk_world.specs.declared.world.WorldUndo.TheVariants as undos
 use Rattle.gk_world.specs.declared.world.WorldChange.{WorldChange}
 use Rattle.gk_world.specs.declared.world.WorldChange.TheVariants as changes
+use Rattle.gk_world.specs.Sandbox.{layers}
 use Rattle.gk_world.specs.State.{state_of}
 use Rattle.gk_world.specs.Slots.{map_at, layers_of}
 use Rattle.gk_world.specs.Contents.{Contents, with_entry, with_innermost}
@@ -23,7 +23,7 @@ contents_of d w = record { files = map_at 0 w.files; env = map_at 0 w.env; value
 abbrev pub Fits : WorldUndo → World → Type 0
 Fits (undos.File u) w = slot.Fits 1 u w.files
 Fits (undos.Env u) w = slot.Fits 1 u w.env
-Fits (undos.Value u) w = slot.Fits LAYERS u w.values
+Fits (undos.Value u) w = slot.Fits layers u w.values
 
 -- The world before a change. (this project's profile)
 abbrev pub undone : WorldUndo → World → World

@@ -1,5 +1,5 @@
 //! A row's cells, each a text or absent.
-ghost use Rattle.std.specs.Prelude.{◌≡◌, ℕ, ◌<◌, List, [], ◌∷◌, length, map, Some, None, OnErr, IfOk, option_map, option_copied, string_bytes, slice_set, slice_index_or};
+ghost use Rattle.std.specs.Prelude.{◌≡◌, ℕ, ◌<◌, List, [], ◌∷◌, length, map, Some, None, option_map, option_copied, string_bytes, slice_set, slice_index_or};
 ghost use Rattle.gk_world.specs.Cells.{Cell};
 ghost use Rattle.gk_world.specs.Cells.{cell_at, IsOnly};
 
@@ -30,7 +30,8 @@ pub trait Cells: Drop {
     fn replace(&mut self, cell: usize, text: Option<String>) -> Option<String>
         requires { cell < width }
         ensures within { cell < length (cells self.old) }
-        ensures set { cells self.new ≡ slice_set (cells self.old) cell (option_map string_bytes text) }
+        ensures set { cells self.new ≡
+            slice_set (cells self.old) cell (option_map string_bytes text) }
         ensures old { option_map string_bytes result ≡ cell_at cell (cells self.old) };
 }
 
@@ -67,9 +68,9 @@ fn exchange(cells: &mut [Option<String>], cell: usize, text: Option<String>) -> 
 
 /// One cell for each layer, that of the outermost first.
 impl Cells for [Option<String>; LAYERS] {
-    ghost use Rattle.gk_world.specs.declared.cells.TheConstants.{LAYERS};
+    ghost use Rattle.gk_world.specs.Sandbox.{layers};
 
-    ghost width = { LAYERS };
+    ghost width = { layers };
 
     ghost cells = { λ c. map (option_map string_bytes) c };
 

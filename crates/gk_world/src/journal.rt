@@ -1,6 +1,7 @@
 //! A journal of changes.
-ghost use Rattle.std.specs.Prelude.{◌≡◌, ℕ, ◌+◌, ◌<◌, ◌≤◌, List, [], ◌∷◌, ◌++◌, length, drop, take, IfOk, IfErr, ◌⊎◌, OnOk, OnErr, vec_len};
-ghost use Rattle.gk_world.specs.Journal.{rewound, FitAll, RewindsTheSame, StaysFit};
+ghost use Rattle.std.specs.Prelude.{◌≡◌, ◌<◌, ◌≤◌, List, [], length, drop, take, IfErr, ◌⊎◌, OnOk, OnErr};
+ghost use Rattle.gk_world.specs.Journal.{rewound, FitAll, Records};
+ghost use Rattle.gk_world.specs.Journal.{RewindsTheSame, RewindsTheSameTo, StaysFit, StaysFitTo};
 
 use crate::reversible::Reversible;
 use crate::world_fault::WorldFault;
@@ -41,11 +42,15 @@ impl<T: Reversible> Journal<T> {
     /// every entry. (this project's profile)
     pub fn change(&mut self, on: &mut T, change: T::Change) -> Result<(), WorldFault>
         requires { T.can_apply change }
-        ensures recorded { OnOk result ((u : T.Undo) × (self.new ≡ self.old ++ u ∷ []) × T.fits u (T.slots on.new) × (T.undone u (T.slots on.new) ≡ T.slots on.old)) }
-        ensures same { OnOk result (RewindsTheSame T.undone self.old (T.slots on.old) self.new (T.slots on.new)) }
-        ensures fit { OnOk result (StaysFit T.undone T.fits self.old (T.slots on.old) self.new (T.slots on.new)) }
+        ensures recorded { OnOk result (Records T.undone T.fits
+            self.old (T.slots on.old) self.new (T.slots on.new)) }
+        ensures same { OnOk result (RewindsTheSame T.undone
+            self.old (T.slots on.old) self.new (T.slots on.new)) }
+        ensures fit { OnOk result (StaysFit T.undone T.fits
+            self.old (T.slots on.old) self.new (T.slots on.new)) }
         ensures done { OnOk result (T.stepped change (T.slots on.old) (T.slots on.new)) }
-        ensures refused { IfErr result (λ e. (e ≡ WorldFault.Memory) ⊎ T.refuses change (T.slots on.old) e) }
+        ensures refused { IfErr result (λ e.
+            (e ≡ WorldFault.Memory) ⊎ T.refuses change (T.slots on.old) e) }
         ensures err { OnErr result ((self.new ≡ self.old) × (T.slots on.new ≡ T.slots on.old)) }
     {
         if self.entries.reserve(1).is_err() {
@@ -62,8 +67,10 @@ impl<T: Reversible> Journal<T> {
         requires fit { FitAll T.undone T.fits (drop mark self.old) (T.slots on.old) }
         ensures slots { T.slots on.new ≡ rewound T.undone (drop mark self.old) (T.slots on.old) }
         ensures entries { self.new ≡ take mark self.old }
-        ensures same { (k : ℕ) → k ≤ mark → rewound T.undone (drop k self.new) (T.slots on.new) ≡ rewound T.undone (drop k self.old) (T.slots on.old) }
-        ensures older { (k : ℕ) → k ≤ mark → FitAll T.undone T.fits (drop k self.old) (T.slots on.old) → FitAll T.undone T.fits (drop k self.new) (T.slots on.new) }
+        ensures same { RewindsTheSameTo T.undone mark
+            self.old (T.slots on.old) self.new (T.slots on.new) }
+        ensures older { StaysFitTo T.undone T.fits mark
+            self.old (T.slots on.old) self.new (T.slots on.new) }
     {
         while self.entries.len() > mark {
             let undo = self.entries.pop().unwrap();

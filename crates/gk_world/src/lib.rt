@@ -5,8 +5,8 @@
 
 mod cells;
 mod journal;
-mod limits;
 mod listing;
+mod refusals;
 mod reversible;
 mod sandbox;
 mod slots;
@@ -17,8 +17,8 @@ mod world;
 mod world_fault;
 
 pub use journal::Journal;
-pub use limits::{LONGEST_NAME, LONGEST_TEXT};
 pub use listing::Listing;
+pub use refusals::{LONGEST_NAME, LONGEST_TEXT};
 pub use reversible::Reversible;
 pub use sandbox::{Layer, Sandbox, changes_are_of_state, layers_give_back};
 pub use slots::SlotUndo;

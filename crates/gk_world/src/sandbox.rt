@@ -6,13 +6,13 @@ ghost use Rattle.gk_world.specs.State.{see, state_of};
 ghost use Rattle.gk_world.specs.Refusals as refusals;
 ghost use Rattle.gk_world.specs.Refusals.{append_refusal, remove_refusal, delete_refusal, IsAnswer};
 ghost use Rattle.gk_world.specs.World.{IsHere, changed, refusal};
-ghost use Rattle.gk_world.specs.Sandbox.{with_file, with_more, without_file, with_env, without_env, with_value, without_value};
+ghost use Rattle.gk_world.specs.Sandbox.{PutsFile, AppendsToFile, RemovesFile, SetsEnv, RemovesEnv, SetsValue, DeletesValue};
 ghost use Rattle.gk_world.specs.Sandbox.{new_sandbox, layers, depth, begun, Ends, Becomes, UndosGiveBack, LayersGiveBack, ChangesAreOfState};
 
 use crate::cells::LAYERS;
 use crate::journal::Journal;
-use crate::limits::copied_for_put;
 use crate::listing::Listing;
+use crate::refusals::copied_for_put;
 use crate::reversible::Reversible;
 use crate::table::TableChange;
 use crate::values::ValueChange;
@@ -152,7 +152,7 @@ impl Sandbox {
     /// is answered only where nothing else refuses.
     /// (this project's profile)
     pub fn put_file(&mut self, name: &str, text: &str) -> Result<(), WorldFault>
-        ensures ok { OnOk result (Becomes (with_file self.old.now name.now text.now) self.old self.new) }
+        ensures ok { OnOk result (PutsFile self.old name.now text.now self.new) }
         ensures answer { IsAnswer (refusals.put_refusal name.now text.now) result }
         ensures err { OnErr result (self.new ≡ self.old) }
     {
@@ -164,8 +164,9 @@ impl Sandbox {
     /// A refusal changes nothing; `Memory`
     /// is answered only where nothing else refuses. (this project's profile)
     pub fn append_file(&mut self, name: &str, more: &str) -> Result<(), WorldFault>
-        ensures ok { OnOk result (Becomes (with_more self.old.now name.now more.now) self.old self.new) }
-        ensures answer { IsAnswer (append_refusal (finite.get self.old.now.files) name.now more.now) result }
+        ensures ok { OnOk result (AppendsToFile self.old name.now more.now self.new) }
+        ensures answer { IsAnswer
+            (append_refusal (finite.get self.old.now.files) name.now more.now) result }
         ensures err { OnErr result (self.new ≡ self.old) }
     {
         if let Some(fault) = self.world.files.append_refusal(name, more) {
@@ -180,7 +181,7 @@ impl Sandbox {
     /// is answered only where nothing else refuses.
     /// (this project's profile)
     pub fn remove_file(&mut self, name: &str) -> Result<(), WorldFault>
-        ensures ok { OnOk result (Becomes (without_file self.old.now name.now) self.old self.new) }
+        ensures ok { OnOk result (RemovesFile self.old name.now self.new) }
         ensures answer { IsAnswer (remove_refusal (finite.get self.old.now.files) name.now) result }
         ensures err { OnErr result (self.new ≡ self.old) }
     {
@@ -195,7 +196,7 @@ impl Sandbox {
     /// is answered only where nothing else refuses.
     /// (this project's profile)
     pub fn put_env(&mut self, name: &str, text: &str) -> Result<(), WorldFault>
-        ensures ok { OnOk result (Becomes (with_env self.old.now name.now text.now) self.old self.new) }
+        ensures ok { OnOk result (SetsEnv self.old name.now text.now self.new) }
         ensures answer { IsAnswer (refusals.put_refusal name.now text.now) result }
         ensures err { OnErr result (self.new ≡ self.old) }
     {
@@ -207,7 +208,7 @@ impl Sandbox {
     /// is answered only where nothing else refuses.
     /// (this project's profile)
     pub fn remove_env(&mut self, name: &str) -> Result<(), WorldFault>
-        ensures ok { OnOk result (Becomes (without_env self.old.now name.now) self.old self.new) }
+        ensures ok { OnOk result (RemovesEnv self.old name.now self.new) }
         ensures answer { IsAnswer (remove_refusal (finite.get self.old.now.env) name.now) result }
         ensures err { OnErr result (self.new ≡ self.old) }
     {
@@ -224,7 +225,7 @@ impl Sandbox {
     /// (behave's documentation: context layers)
     pub fn set_value(&mut self, name: &str, text: &str) -> Result<(), WorldFault>
         requires { 0 < depth self.old }
-        ensures ok { OnOk result (Becomes (with_value self.old.now name.now text.now) self.old self.new) }
+        ensures ok { OnOk result (SetsValue self.old name.now text.now self.new) }
         ensures answer { IsAnswer (refusals.put_refusal name.now text.now) result }
         ensures err { OnErr result (self.new ≡ self.old) }
     {
@@ -239,7 +240,7 @@ impl Sandbox {
     /// (behave's documentation: context layers)
     pub fn delete_value(&mut self, name: &str) -> Result<(), WorldFault>
         requires { 0 < depth self.old }
-        ensures ok { OnOk result (Becomes (without_value self.old.now name.now) self.old self.new) }
+        ensures ok { OnOk result (DeletesValue self.old name.now self.new) }
         ensures answer { IsAnswer (delete_refusal (state_of self.old.now) name.now) result }
         ensures err { OnErr result (self.new ≡ self.old) }
     {

@@ -1,10 +1,10 @@
 //! Rows of cells by name, each a text or absent. Each change can be undone.
-ghost use Rattle.std.specs.Prelude.{◌≡◌, ℕ, List, [], ◌<◌, length, MatchOption, None, Some, OnOk, OnErr, IfOk, IfErr, IfSome, IfNone, is_none, true, false, option_map, option_copied, string_bytes, slice_index_or, slice_set};
-ghost use Rattle.std.specs.FinMap as finite;
-ghost use Rattle.gk_world.specs.Slots.{map_at, with_cell, cells_of, name_at, Writes, IsPlace, IsMissing, IsAt, IsNew};
+ghost use Rattle.std.specs.Prelude.{◌≡◌, List, [], ◌<◌, length, MatchOption, None, Some, OnOk, OnErr, IfOk, IfErr, IfSome, IfNone, is_none, true, false, option_map, option_copied, string_bytes};
+ghost use Rattle.gk_world.specs.Slots.{text_at, with_cell, cells_of, name_at};
+ghost use Rattle.gk_world.specs.Slots.{Puts, Writes, WritesAt, IsPlace, IsMissing, IsAt, IsNew};
 ghost use Rattle.gk_world.specs.Cells.{cell_at};
 ghost use Rattle.gk_world.specs.Slots.{slots_of};
-ghost use Rattle.gk_world.specs.Slots.{HasCell, Fits, undone};
+ghost use Rattle.gk_world.specs.Slots.{Fits, undone};
 
 use crate::cells::Cells;
 use crate::world_fault::WorldFault;
@@ -66,7 +66,7 @@ impl<C: Cells> Slots<C> {
     fn write(&mut self, place: usize, cell: usize, text: Option<String>) -> SlotUndo
         requires first { IsPlace (name_at self.old place) self.old place }
         requires cell { cell < C.width }
-        ensures writes { (name : List ℕ) → IsPlace name self.old place → Writes name cell (option_map string_bytes text) self.old self.new }
+        ensures writes { WritesAt place cell (option_map string_bytes text) self.old self.new }
         ensures set { self.new ≡ with_cell self.old place cell (option_map string_bytes text) }
         ensures fits { Fits C.width result self.new }
         ensures before { undone result self.new ≡ self.old }
@@ -80,7 +80,7 @@ impl<C: Cells> Slots<C> {
     fn push(&mut self, name: String, cell: usize, text: String) -> Result<SlotUndo, WorldFault>
         requires missing { IsMissing (string_bytes name) self.old }
         requires cell { cell < C.width }
-        ensures writes { OnOk result (Writes (string_bytes name) cell (Some (string_bytes text)) self.old self.new) }
+        ensures writes { OnOk result (Puts name cell text self.old self.new) }
         ensures fits { IfOk result (λ u. Fits C.width u self.new) }
         ensures before { IfOk result (λ u. undone u self.new ≡ self.old) }
         ensures err { OnErr result (self.new ≡ self.old) }
@@ -112,7 +112,7 @@ impl<C: Cells> Slots<C> {
     /// The text in a cell of a name.
     pub fn text(&self, name: &str, cell: usize) -> Option<&str>
         requires { cell < C.width }
-        ensures { option_copied result ≡ finite.get (map_at cell self.now) name.now }
+        ensures { option_copied result ≡ text_at cell self.now name.now }
     {
         match self.place(name) {
             Some(place) => self.cell(place, cell),
@@ -123,7 +123,7 @@ impl<C: Cells> Slots<C> {
     /// Sets the text in a cell of a name. A name without a row gets one, which is the last.
     pub fn put(&mut self, name: String, cell: usize, text: String) -> Result<SlotUndo, WorldFault>
         requires { cell < C.width }
-        ensures writes { OnOk result (Writes (string_bytes name) cell (Some (string_bytes text)) self.old self.new) }
+        ensures writes { OnOk result (Puts name cell text self.old self.new) }
         ensures fits { IfOk result (λ u. Fits C.width u self.new) }
         ensures before { IfOk result (λ u. undone u self.new ≡ self.old) }
         ensures err { OnErr result (self.new ≡ self.old) }
@@ -141,8 +141,8 @@ impl<C: Cells> Slots<C> {
         ensures writes { IfSome result (λ _. Writes name.now cell None self.old self.new) }
         ensures fits { IfSome result (λ u. Fits C.width u self.new) }
         ensures before { IfSome result (λ u. undone u self.new ≡ self.old) }
-        ensures found { IfSome result (λ _. is_none (finite.get (map_at cell self.old) name.now) ≡ false) }
-        ensures absent { IfNone result (is_none (finite.get (map_at cell self.old) name.now) ≡ true) }
+        ensures found { IfSome result (λ _. is_none (text_at cell self.old name.now) ≡ false) }
+        ensures absent { IfNone result (is_none (text_at cell self.old name.now) ≡ true) }
         ensures none { IfNone result (self.new ≡ self.old) }
     {
         match self.place(name) {

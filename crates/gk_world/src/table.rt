@@ -1,14 +1,14 @@
 //! A table of texts by name, as of files or of variables.
-ghost use Rattle.std.specs.Prelude.{◌≡◌, ℕ, List, [], ◌++◌, IfOk, IfErr, OnOk, OnErr, None, Some, option_copied, string_bytes};
-ghost use Rattle.std.specs.FinMap as finite;
-ghost use Rattle.gk_world.specs.Slots.{map_at};
+ghost use Rattle.std.specs.Prelude.{◌≡◌, List, [], IfOk, IfErr, OnOk, OnErr, None, Some, option_copied, string_bytes};
+ghost use Rattle.gk_world.specs.Slots.{map_at, text_at};
 ghost use Rattle.gk_world.specs.Listing.{Lists};
 ghost use Rattle.gk_world.specs.Refusals as refusals;
+ghost use Rattle.gk_world.specs.Refusals.{IsReason};
 ghost use Rattle.gk_world.specs.Slots.{Fits, undone};
 ghost use Rattle.gk_world.specs.Table.{Steps, Refuses, refusal};
 
-use crate::limits::{is_bad_name, is_too_long, joined, put_refusal};
 use crate::listing::{note, sorted};
+use crate::refusals::{is_bad_name, is_too_long, joined, put_refusal};
 use crate::reversible::Reversible;
 use crate::slots::{SlotUndo, Slots};
 use crate::world_fault::WorldFault;
@@ -56,14 +56,14 @@ impl Table {
 
     /// The text of a name, if it has one. It takes no memory.
     pub fn get(&self, name: &str) -> Option<&str>
-        ensures { option_copied result ≡ finite.get (map_at 0 self.now) name.now }
+        ensures { option_copied result ≡ text_at 0 self.now name.now }
     {
         self.slots.text(name, 0)
     }
 
     /// Why the text of a name can't have more at its end, if there is a reason.
     pub fn append_refusal(&self, name: &str, more: &str) -> Option<WorldFault>
-        ensures { refusals.IsReason (refusals.append_refusal (finite.get (map_at 0 self.now)) name.now more.now) result }
+        ensures { IsReason (refusals.append_refusal (text_at 0 self.now) name.now more.now) result }
     {
         if is_bad_name(name) {
             return Some(WorldFault::BadName);
@@ -79,7 +79,7 @@ impl Table {
 
     /// Why a name can't be removed, if there is a reason.
     pub fn remove_refusal(&self, name: &str) -> Option<WorldFault>
-        ensures { refusals.IsReason (refusals.remove_refusal (finite.get (map_at 0 self.now)) name.now) result }
+        ensures { IsReason (refusals.remove_refusal (text_at 0 self.now) name.now) result }
     {
         if is_bad_name(name) {
             return Some(WorldFault::BadName);
@@ -92,7 +92,7 @@ impl Table {
 
     /// The names that have a text, with it, sorted by name.
     pub fn listing(&self, alloc: Global) -> Result<Vec<(String, String)>, AllocError>
-        ensures { IfOk result (λ pairs. Lists (finite.get (map_at 0 self.now)) pairs.items) }
+        ensures { IfOk result (λ pairs. Lists (text_at 0 self.now) pairs.items) }
     {
         let mut texts = BTreeMap::new(alloc);
         for place in 0..self.slots.len() {
@@ -104,14 +104,15 @@ impl Table {
 
     /// The text of a name, with more at its end.
     fn extended(&self, name: &str, more: &str) -> Result<String, AllocError>
-        ensures { IfOk result (λ text. string_bytes text ≡ refusals.joined (finite.get (map_at 0 self.now)) name.now more.now) }
+        ensures { IfOk result (λ text.
+            string_bytes text ≡ refusals.joined (text_at 0 self.now) name.now more.now) }
     {
         joined(self.alloc, self.get(name).unwrap_or(""), more)
     }
 
     /// Why a change is refused, if there is a reason.
     fn refusal(&self, change: &TableChange) -> Option<WorldFault>
-        ensures { refusals.IsReason (refusal change.now (map_at 0 self.now)) result }
+        ensures { IsReason (refusal change.now (map_at 0 self.now)) result }
     {
         match change {
             TableChange::Put(name, text) => put_refusal(name, text),

@@ -1,15 +1,16 @@
 //! Values by name, in layers.
-ghost use Rattle.std.specs.Prelude.{◌≡◌, ℕ, ◌≤◌, List, [], IfOk, IfErr, OnOk, OnErr, None, Some, option_copied};
-ghost use Rattle.std.specs.FinMap as finite;
+ghost use Rattle.std.specs.Prelude.{◌≡◌, ◌≤◌, List, [], IfOk, IfErr, OnOk, OnErr, None, Some, option_copied};
 ghost use Rattle.gk_world.specs.State.{see};
 ghost use Rattle.gk_world.specs.Listing.{Lists};
 ghost use Rattle.gk_world.specs.Refusals as refusals;
+ghost use Rattle.gk_world.specs.Refusals.{IsReason};
+ghost use Rattle.gk_world.specs.Sandbox as sandbox;
 ghost use Rattle.gk_world.specs.Slots.{Fits, undone};
 ghost use Rattle.gk_world.specs.Values.{Steps, Refuses, IsLayer, layer_of, refusal, state_at};
 
 use crate::cells::LAYERS;
-use crate::limits::{is_bad_name, put_refusal};
 use crate::listing::{note, sorted};
+use crate::refusals::{is_bad_name, put_refusal};
 use crate::reversible::Reversible;
 use crate::slots::{SlotUndo, Slots};
 use crate::world_fault::WorldFault;
@@ -54,7 +55,7 @@ impl Values {
 
     /// The value that is seen in the innermost of so many layers, if there is one. It takes no memory.
     pub fn get(&self, layers: usize, name: &str) -> Option<&str>
-        requires { layers ≤ LAYERS }
+        requires { layers ≤ sandbox.layers }
         ensures { option_copied result ≡ see (state_at layers self.now) name.now }
     {
         for layer in (0..layers).rev() {
@@ -68,7 +69,7 @@ impl Values {
     /// Why a name can't be deleted in the innermost of so many layers, if there is a reason.
     pub fn delete_refusal(&self, layers: usize, name: &str) -> Option<WorldFault>
         requires { IsLayer layers }
-        ensures { refusals.IsReason (refusals.delete_refusal (state_at layers self.now) name.now) result }
+        ensures { IsReason (refusals.delete_refusal (state_at layers self.now) name.now) result }
     {
         if is_bad_name(name) {
             return Some(WorldFault::BadName);
@@ -84,7 +85,7 @@ impl Values {
 
     /// The names that have a value in one of so many layers, with the value that is seen, sorted by name.
     pub fn listing(&self, alloc: Global, layers: usize) -> Result<Vec<(String, String)>, AllocError>
-        requires { layers ≤ LAYERS }
+        requires { layers ≤ sandbox.layers }
         ensures { IfOk result (λ pairs. Lists (see (state_at layers self.now)) pairs.items) }
     {
         let mut texts = BTreeMap::new(alloc);
@@ -98,7 +99,7 @@ impl Values {
     /// Why a change is refused, if there is a reason.
     fn refusal(&self, change: &ValueChange) -> Option<WorldFault>
         requires { IsLayer (layer_of change.now) }
-        ensures { refusals.IsReason (refusal change.now (state_at (layer_of change.now) self.now)) result }
+        ensures { IsReason (refusal change.now (state_at (layer_of change.now) self.now)) result }
     {
         match change {
             ValueChange::Set(_, name, text) => put_refusal(name, text),
@@ -115,14 +116,14 @@ impl Reversible for Values {
     ghost use Rattle.std.specs.Prelude.{List};
     ghost use Rattle.gk_world.specs.Cells.{Slot};
     ghost use Rattle.gk_world.specs.Slots.{Fits, undone};
-    ghost use Rattle.gk_world.specs.declared.cells.TheConstants.{LAYERS};
+    ghost use Rattle.gk_world.specs.Sandbox.{layers};
     ghost use Rattle.gk_world.specs.Values.{Steps, Refuses, IsLayer, layer_of};
 
     ghost Slots = { List Slot };
 
     ghost slots = { λ s. s };
 
-    ghost fits = { Fits LAYERS };
+    ghost fits = { Fits layers };
 
     ghost undone = { undone };
 
@@ -134,7 +135,7 @@ impl Reversible for Values {
 
     fn apply(&mut self, change: ValueChange) -> Result<SlotUndo, WorldFault>
         requires { IsLayer (layer_of change) }
-        ensures fits { IfOk result (λ u. Fits LAYERS u self.new) }
+        ensures fits { IfOk result (λ u. Fits layers u self.new) }
         ensures before { IfOk result (λ u. undone u self.new ≡ self.old) }
         ensures done { OnOk result (Steps change self.old self.new) }
         ensures err { OnErr result (self.new ≡ self.old) }

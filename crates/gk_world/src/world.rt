@@ -1,10 +1,10 @@
 //! Files, variables and values, joined.
-ghost use Rattle.std.specs.Prelude.{◌≡◌, ℕ, ◌≤◌, [], IfOk};
+ghost use Rattle.std.specs.Prelude.{◌≡◌, ◌≤◌, [], IfOk};
 ghost use Rattle.gk_world.specs.Listing.{IsListing};
+ghost use Rattle.gk_world.specs.Sandbox as sandbox;
 ghost use Rattle.gk_world.specs.State.{state_of};
 ghost use Rattle.gk_world.specs.World.{contents_of};
 
-use crate::cells::LAYERS;
 use crate::listing::Listing;
 use crate::reversible::Reversible;
 use crate::slots::SlotUndo;
@@ -52,7 +52,7 @@ impl World {
 
     /// What is seen where so many layers are open.
     pub fn listing(&self, alloc: Global, layers: usize) -> Result<Listing, AllocError>
-        requires { layers ≤ LAYERS }
+        requires { layers ≤ sandbox.layers }
         ensures { IfOk result (IsListing (state_of (contents_of layers self.now))) }
     {
         Ok(Listing {

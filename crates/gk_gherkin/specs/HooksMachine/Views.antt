@@ -1,5 +1,5 @@
 -- Proof machinery: what the code's state says. No public contract cites it.
-use Rattle.std.specs.Prelude.{◌≡◌, Some, None, Result, Ok, Err, map, option_map}
+use Rattle.std.specs.Prelude.{◌≡◌, ℕ, Bool, List, Option, Some, None, Result, Ok, Err, map, option_map}
 use Rattle.std.specs.String.{string_bytes}
 use Rattle.gk_gherkin.specs.declared.hooks_machine.Opened.{Opened}
 use Rattle.gk_gherkin.specs.declared.hooks_machine.HooksPlace.{HooksPlace}
@@ -7,7 +7,12 @@ use Rattle.gk_gherkin.specs.declared.hooks_machine.HooksPlace.TheVariants as pla
 use Rattle.gk_gherkin.specs.declared.hooks_machine.HookQuote.{HookQuote}
 use Rattle.gk_gherkin.specs.declared.hooks_machine.HooksState.{HooksState}
 use Rattle.gk_gherkin.specs.declared.hooks_machine.HooksState.TheVariants as states
+use Rattle.gk_gherkin.specs.declared.class.Fence.{Fence}
+use Rattle.gk_gherkin.specs.declared.hooks.Hook.{Hook}
+use Rattle.gk_gherkin.specs.declared.hook_headings.Heading.{Heading}
 use Rattle.gk_gherkin.specs.Feature.{step_value}
+use Rattle.gk_gherkin.specs.HookHeadings.{heading_value}
+use Rattle.gk_gherkin.specs.HooksGrammar.{heading_of}
 use Rattle.gk_gherkin.specs.Hooks.{hook_value}
 use Rattle.gk_gherkin.specs.Machine.Views.{body_value}
 use Rattle.gk_gherkin.specs.HooksMachine as spec
@@ -34,3 +39,11 @@ state_value (states.Quoted quote fence column line content) = spec.Quoted (quote
 abbrev pub IsQuote : spec.HooksPlace → Result HookQuote HooksPlace → Type 0
 IsQuote place (Ok quote) = spec.quote_of place ≡ Some (quote_value quote)
 IsQuote place (Err other) = (spec.quote_of place ≡ None) × (place_value other ≡ place)
+
+-- Whether a hook has a heading. (proof machinery)
+abbrev pub has_heading : Hook → Heading → Bool
+has_heading hook heading = spec.is_same_heading (heading_of (hook_value hook)) (heading_value heading)
+
+-- A state in a doc string is at the place after it from then on. (proof machinery)
+abbrev pub EndsDocString : HooksState → HooksState → Type 0
+EndsDocString old new = (quote : spec.HookQuoteValue) (fence : Fence) (column n : ℕ) (content : Option (List ℕ)) → state_value old ≡ spec.Quoted quote fence column n content → state_value new ≡ spec.At (spec.after_quote quote content)

@@ -19,8 +19,12 @@ use Rattle.gk_gherkin.specs.declared.machine.Place.TheVariants as places
 use Rattle.gk_gherkin.specs.declared.machine.Quote.{Quote}
 use Rattle.gk_gherkin.specs.declared.machine.State.{State}
 use Rattle.gk_gherkin.specs.declared.machine.State.TheVariants as states
-use Rattle.gk_gherkin.specs.Feature.{texts, step_value, row_value, background_value, scenario_value, feature_value}
-use Rattle.gk_gherkin.specs.Lines.{LineValue}
+use Rattle.gk_gherkin.specs.Feature.{FeatureValue, texts, step_value, row_value, background_value, scenario_value, feature_value}
+use Rattle.gk_gherkin.specs.Lines.{LineValue, borrowed_value}
+use Rattle.gk_gherkin.specs.declared.lines.BorrowedLine.{BorrowedLine}
+use Rattle.gk_gherkin.specs.declared.class.Class.{Class}
+use Rattle.gk_gherkin.specs.declared.class.Fence.{Fence}
+use Rattle.gk_gherkin.specs.declared.feature.Feature.{Feature}
 use Rattle.gk_gherkin.specs.declared.read_fault.ReadFault.{ReadFault}
 use Rattle.gk_gherkin.specs.Machine as spec
 
@@ -97,6 +101,22 @@ begun_after owner body keyword head = Ok (spec.begun_scenario (section_after own
 -- An Examples heading after an open part, whatever it stands in. (proof machinery)
 abbrev pub AddsExamples : Open → List (List ℕ) → LineValue → Result Unit ReadFault → Open → Type 0
 AddsExamples old tags line result new = (top : spec.Top) → spec.Gives (λ _. spec.Inside top (open_value new)) result (spec.examples_in (open_value old) top tags line)
+
+-- A heading at a place, after these tags, whatever it makes of the place. (proof machinery)
+abbrev pub TakesHeading : {Z : Type 0} → Place → List (String Z) → BorrowedLine → Class → Result Unit ReadFault → Place → Type 0
+TakesHeading old tags line class result new = spec.Gives (λ _. place_value new) result (spec.on_heading (place_value old) (texts tags) (borrowed_value line) class)
+
+-- The tags of a line after those before it, of which the last is on this line, at whatever place. (proof machinery)
+abbrev pub AddsTags : {Z : Type 0} → List (String Z) → BorrowedLine → Result Unit ReadFault → List (String Z) → ℕ → Type 0
+AddsTags old line result new last = (place : spec.Place) → spec.Gives (λ _. spec.Tagged place (texts new) last) result (spec.on_tags place (texts old) (borrowed_value line))
+
+-- A state in a doc string is at the place after it from then on. (proof machinery)
+abbrev pub EndsDocString : State → State → Type 0
+EndsDocString old new = (quote : spec.QuoteValue) (fence : Fence) (column n : ℕ) (content : Option (List ℕ)) → state_value old ≡ spec.Quoted quote fence column n content → state_value new ≡ spec.At (spec.after_quote quote content)
+
+-- What the feature that was read says, if there is one. (proof machinery)
+abbrev pub answer_value : Option Feature → Option FeatureValue
+answer_value answer = option_map feature_value answer
 
 -- What the text of a doc string says so far. (proof machinery)
 abbrev pub content_value : {Z : Type 0} → Option (String Z) → Option (List ℕ)

@@ -1,8 +1,7 @@
-use Rattle.std.proofs.Common.{◌∙◌, ap, inl, inr, map, refl}
-use Rattle.std.specs.Prelude.{option_map}
+use Rattle.std.proofs.Common.{◌∙◌, ap, inl, inr, refl}
 use Rattle.gk_cli.specs.Counted.{one_more}
-use Rattle.gk_cli.specs.Source.{source_value}
 use Rattle.gk_cli.specs.Suite.{device_of}
+use Rattle.gherkin_run.specs.Files.{files_value}
 use Rattle.gherkin_run.proofs.ProgramLemmas.{calls_of_run, within}
 use Rattle.gherkin_run.proofs.program.run_sources.Goals as goal
 
@@ -27,7 +26,7 @@ returns-in-Ok-clause-fault g c = inr record {
 pub fault_of_run-requires : goal.fault_of_run-requires
 fault_of_run-requires g c =
     let says = rw (c.bytes_of-steps.ensures, c.bytes_of-around.ensures, c.as_slice.ensures.value) at c.in-Err.ensures.fault in
-    within c.args.options.now (option_map source_value c.args.files.library) (option_map source_value c.args.files.hooks) (map source_value c.args.files.sources.items) _ _ _ c.in-Err.fault says
+    within c.args.options.now (files_value c.args.files) _ _ _ c.in-Err.fault says
 
 pub returns-clause-fault : goal.returns-clause-fault
 returns-clause-fault g c =
@@ -36,4 +35,4 @@ returns-clause-fault g c =
 
 pub returns-clause-calls : goal.returns-clause-calls
 returns-clause-calls g c =
-    calls_of_run _ _ _ _ (option_map source_value c.args.files.library) (option_map source_value c.args.files.hooks) (map source_value c.args.files.sources.items) c.in-Err.fault c.fault_of_run.result c.requires.room c.fault_of_run.ensures c.in-Err.ensures.fault
+    calls_of_run _ _ _ _ (files_value c.args.files) c.in-Err.fault c.fault_of_run.result c.requires.room c.fault_of_run.ensures c.in-Err.ensures.fault

@@ -1,7 +1,7 @@
 use Rattle.std.proofs.Common.{rules, ◌≡◌, ◌++◌, ◌∙◌, ℕ, List, ap, sym, Ok, drop, min}
 use Rattle.std.specs.List.{prefix_len}
 use Rattle.std.specs.String.{string_bytes}
-use Rattle.gk_gherkin.specs.Lines.{is_blank}
+use Rattle.gk_gherkin.specs.Text.{is_blank}
 use Rattle.gk_gherkin.specs.Class.{fence_text}
 use Rattle.gk_gherkin.specs.DocStrings.{content_of, fences_read}
 use Rattle.gk_gherkin.proofs.FenceTexts.{found_fence, missed_fence}

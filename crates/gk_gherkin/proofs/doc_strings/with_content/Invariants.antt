@@ -2,12 +2,12 @@ use Rattle.std.proofs.Common.{◌≡◌, ◌-◌, ◌++◌, length}
 use denote.Text.{Utf8}
 use denote.Shadow.{shadow}
 use Rattle.std.specs.String.{string_bytes}
-use Rattle.gk_gherkin.specs.Lines.{piece_value}
+use Rattle.gk_gherkin.specs.Lines.{borrowed_value}
 use Rattle.gk_gherkin.specs.DocStrings.{content_of, fences_read}
 use Rattle.gk_gherkin.proofs.doc_strings.with_content.Given as goal
 
 abbrev pub invariant-fences : goal.invariant-fences
-invariant-fences l = shadow (Utf8 l.rest) × (string_bytes l.text ++ fences_read l.fence 0 l.rest ≡ string_bytes l.fn.text ++ content_of l.fence (l.column - 1) (piece_value l.line))
+invariant-fences l = shadow (Utf8 l.rest) × (string_bytes l.text ++ fences_read l.fence 0 l.rest ≡ string_bytes l.fn.text ++ content_of l.fence (l.column - 1) (borrowed_value l.line))
 
 abbrev pub decreases-fences : goal.decreases-fences
 decreases-fences l = length l.rest

@@ -1,6 +1,6 @@
 use Rattle.std.proofs.Common.{◌≡◌, ◌≤◌, ap, ◌∙◌, arith}
 use Rattle.std.specs.List.{prefix_len}
-use Rattle.gk_gherkin.specs.Lines.{is_blank}
+use Rattle.gk_gherkin.specs.Text.{is_blank}
 use Rattle.gk_gherkin.proofs.LineCuts.{boundary_at}
 use Rattle.gk_gherkin.proofs.doc_strings.without_margin.Goals as goal
 

@@ -15,14 +15,14 @@ returns-in_err-next_state c =
     let p = err_from_is_err_and c.from_residual.result c.from_residual.ensures.1 in
     let all = lines c.args.text.now in
     let turn = YieldsList-turn (YieldsList-from_lines c.args.text.now cc) c.loop-part.yielded _ c.loop-part.yielded_by _ _ _ c.in-Some.is c.next.ensures.steps in
-    let fails = subst (λ l. spec.Fails c.in_err-next_state.field-0.0 (spec.step (state_value c.loop-part.state) l)) c.piece_from.ensures c.in_err-next_state.ensures in
+    let fails = subst (λ l. spec.Fails c.in_err-next_state.field-0.0 (spec.step (state_value c.loop-part.state) l)) c.borrowed_line.ensures c.in_err-next_state.ensures in
     rw (p.1, p.2) (ends spec.step (state_value c.loop-part.state) all (length c.loop-part.yielded) c.loop-part.number c.in-Some.part.now (spec.run (state_value c.args.state.now) (numbered_from 1 all)) turn.0 turn.1 c.in_err-next_state.field-0.0 fails c.loop-part.invariant.so_far)
 
 pub loop-part-preserved : goal.loop-part-preserved
 loop-part-preserved c =
     let all = lines c.args.text.now in
     let turn = YieldsList-turn (YieldsList-from_lines c.args.text.now cc) c.loop-part.yielded _ c.loop-part.yielded_by _ _ _ c.in-Some.is c.next.ensures.steps in
-    let taken = ap (spec.step (state_value c.loop-part.state)) (sym c.piece_from.ensures) ∙ c.in_ok-next_state.ensures in
+    let taken = ap (spec.step (state_value c.loop-part.state)) (sym c.borrowed_line.ensures) ∙ c.in_ok-next_state.ensures in
     let goes = goes_on spec.step (state_value c.loop-part.state) all (length c.loop-part.yielded) c.loop-part.number c.in-Some.part.now (spec.run (state_value c.args.state.now) (numbered_from 1 all)) turn.0 turn.1 (state_value c.next_state.new.state) taken c.loop-part.invariant.so_far in
     let longer = length_push c.loop-part.yielded c.in-Some.part in
     record {

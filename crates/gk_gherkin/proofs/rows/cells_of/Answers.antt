@@ -1,13 +1,13 @@
 use Rattle.std.proofs.Common.{◌∙◌, ap, sym, Ok, arith}
 use Rattle.std.proofs.lemmas.Str.Pattern.{strip_prefix_char}
-use Rattle.gk_gherkin.specs.Lines.{piece_value}
+use Rattle.gk_gherkin.specs.Lines.{borrowed_value}
 use Rattle.gk_gherkin.proofs.RowParts.{row_cells, no_row}
 use Rattle.gk_gherkin.proofs.rows.cells_of.Goals as goal
 
 pub returns-in-Some : goal.returns-in-Some
 returns-in-Some c =
-    rw (row_cells (piece_value c.args.line.now) c.in-Some.text.now (sym c.trim.ensures ∙ rw c.in-Some.is at (strip_prefix_char 124 c.trim.result.now _ c.strip_prefix.ensures.cases (omega arith)))) c.cells_in.ensures
+    rw (row_cells (borrowed_value c.args.line.now) c.in-Some.text.now (sym c.trim.ensures ∙ rw c.in-Some.is at (strip_prefix_char 124 c.trim.result.now _ c.strip_prefix.ensures.cases (omega arith)))) c.cells_in.ensures
 
 pub returns-in-None : goal.returns-in-None
 returns-in-None c =
-    ap Ok (no_row (piece_value c.args.line.now) (λ rest e. (rw c.in-None.is at (strip_prefix_char 124 c.trim.result.now _ c.strip_prefix.ensures.cases (omega arith))) rest (c.trim.ensures ∙ e)))
+    ap Ok (no_row (borrowed_value c.args.line.now) (λ rest e. (rw c.in-None.is at (strip_prefix_char 124 c.trim.result.now _ c.strip_prefix.ensures.cases (omega arith))) rest (c.trim.ensures ∙ e)))

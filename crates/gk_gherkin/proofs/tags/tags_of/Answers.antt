@@ -1,6 +1,7 @@
 use Rattle.std.proofs.Common.{◌≡◌, ◌≤◌, ◌<◌, ◌-◌, ◌∙◌, ◌++◌, ◌∷◌, [], ℕ, List, length, take, drop, ap, sym, Ok, arith}
 use Rattle.std.specs.List.{position_or_len, prefix_len}
-use Rattle.gk_gherkin.specs.Lines.{is_blank, trim_front, piece_value}
+use Rattle.gk_gherkin.specs.Lines.{borrowed_value}
+use Rattle.gk_gherkin.specs.Text.{is_blank, trim_front}
 use Rattle.gk_gherkin.specs.Feature.{texts}
 use Rattle.gk_gherkin.specs.Tags.{tags_of, words_of, is_tag}
 use Rattle.gk_gherkin.proofs.LineCuts.{before_first_blank}
@@ -10,7 +11,7 @@ use Rattle.gk_gherkin.proofs.tags.tags_of.Goals as goal
 pub words-init : goal.words-init
 words-init c = (
   c.trim_front-rest.utf8,
-  starts (piece_value c.args.line.now) c.trim_front-rest.result.now (texts c.new-tags.result.items) c.trim_front-rest.ensures (ap texts c.new-tags.ensures.items),
+  starts (borrowed_value c.args.line.now) c.trim_front-rest.result.now (texts c.new-tags.result.items) c.trim_front-rest.ensures (ap texts c.new-tags.ensures.items),
   ap (prefix_len is_blank) c.trim_front-rest.ensures ∙ no_blank_left c.args.line.now.text.now,
 )
 
@@ -34,7 +35,7 @@ returns-then-not-is_tag c =
     let some : 0 < length t = some_left (length t) c.is_empty.result c.is_empty.ensures c.words-test.true in
     let whole : n - 0 ≡ n = omega arith in
     let word : c.range-word.result.now ≡ take n t = c.range-word.ensures.value ∙ ap (λ (k : ℕ). take k t) whole in
-    ap Ok (refuses_word (tags_of (piece_value c.args.line.now)) t n (texts c.words.tags.items) some c.words.invariant.2 place (sym c.begins.ensures ∙ c.if-not-begins.true) c.words.invariant.1
+    ap Ok (refuses_word (tags_of (borrowed_value c.args.line.now)) t n (texts c.words.tags.items) some c.words.invariant.2 place (sym c.begins.ensures ∙ c.if-not-begins.true) c.words.invariant.1
     (ap is_tag (sym word) ∙ sym c.is_tag.ensures ∙ c.if-not-is_tag.true))
 
 pub words-preserved : goal.words-preserved
@@ -48,7 +49,7 @@ words-preserved c =
     let next : c.trim_front-rest-in-words.result.now ≡ trim_front (drop n t) = c.trim_front-rest-in-words.ensures ∙ ap trim_front c.range_from.ensures.value in
     let pushed : texts c.push_tag.new.tags.items ≡ texts c.words.tags.items ++ take n t ∷ [] = c.in_ok-push_tag.ensures.pushed ∙ ap (λ (w : List ℕ). texts c.words.tags.items ++ w ∷ []) word in (
       c.trim_front-rest-in-words.utf8,
-      takes_tag (tags_of (piece_value c.args.line.now)) t n (texts c.words.tags.items) some c.words.invariant.2 place (sym c.begins.ensures ∙ c.if-not-begins.true) c.words.invariant.1
+      takes_tag (tags_of (borrowed_value c.args.line.now)) t n (texts c.words.tags.items) some c.words.invariant.2 place (sym c.begins.ensures ∙ c.if-not-begins.true) c.words.invariant.1
           (ap is_tag (sym word) ∙ sym c.is_tag.ensures ∙ c.if-not-is_tag.false)
           ∙ ap (λ (xs : List (List ℕ)). onto_tags xs (tags_by (words_of (trim_front (drop n t))))) (sym pushed)
           ∙ ap (λ (r : List ℕ). onto_tags (texts c.push_tag.new.tags.items) (tags_by (words_of r))) (sym next),

@@ -1,7 +1,7 @@
 use Rattle.std.proofs.Common.{◌≡◌, List, ℕ, IfOk, subst, ap, ◌∙◌}
 use Rattle.std.proofs.lemmas.List.{append_assoc}
 use Rattle.std.specs.String.{string_bytes}
-use Rattle.gk_gherkin.specs.Lines.{trim_back}
+use Rattle.gk_gherkin.specs.Text.{trim_back}
 use Rattle.gk_select.proofs.outline.case_name.Goals as goal
 
 pub returns : goal.returns

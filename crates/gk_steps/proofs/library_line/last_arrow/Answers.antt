@@ -1,5 +1,5 @@
 use Rattle.std.proofs.Common.{◌≡◌, ◌-◌, ℕ, List, drop, length, codes, true, false, ap, sym, ◌∙◌, arith, subst}
-use Rattle.gk_gherkin.specs.Class.{begins}
+use Rattle.gk_gherkin.specs.Text.{begins}
 use Rattle.gk_steps.proofs.LibraryLineLemmas.{arrow_end, none_at, some_at, arrow_boundary, arrow_after, sides_from, whole_rest}
 use Rattle.gk_steps.proofs.library_line.last_arrow.Goals as goal
 

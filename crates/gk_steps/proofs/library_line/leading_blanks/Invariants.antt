@@ -1,7 +1,0 @@
-use Rattle.std.proofs.Common.{◌≡◌, ◌+◌, drop}
-use Rattle.std.specs.List.{prefix_len}
-use Rattle.gk_gherkin.specs.Lines.{is_blank}
-use Rattle.gk_steps.proofs.library_line.leading_blanks.Given as goal
-
-abbrev pub invariant-loop-i : goal.invariant-loop-i
-invariant-loop-i l = l.i + prefix_len is_blank (drop l.i l.text) ≡ prefix_len is_blank l.text

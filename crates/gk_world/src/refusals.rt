@@ -1,0 +1,63 @@
+//! Which changes of names and texts are refused, and why.
+ghost use Rattle.std.specs.Prelude.{◌≡◌, ◌++◌, IfOk, None, string_bytes};
+ghost use Rattle.gk_world.specs.Refusals as refusals;
+
+use crate::world_fault::WorldFault;
+use std::alloc::{AllocError, Global};
+
+/// The bytes that a name may have; it has one at least. (this project's profile)
+pub const LONGEST_NAME: usize = 255;
+
+/// The bytes that a text may have. (this project's profile)
+pub const LONGEST_TEXT: usize = 1_048_576;
+
+/// Whether a name has no byte, or too many.
+pub fn is_bad_name(name: &str) -> bool
+    ensures { result ≡ refusals.is_bad_name name.now }
+{
+    name.is_empty() || name.len() > LONGEST_NAME
+}
+
+/// Whether a text with more at its end is too long.
+pub fn is_too_long(text: &str, more: &str) -> bool
+    ensures { result ≡ refusals.is_too_long (text.now ++ more.now) }
+{
+    text.len() > LONGEST_TEXT || more.len() > LONGEST_TEXT - text.len()
+}
+
+/// Why a name can't have a text put, if there is a reason.
+pub fn put_refusal(name: &str, text: &str) -> Option<WorldFault>
+    ensures { refusals.IsReason (refusals.put_refusal name.now text.now) result }
+{
+    if is_bad_name(name) {
+        return Some(WorldFault::BadName);
+    }
+    if is_too_long("", text) {
+        return Some(WorldFault::TextTooLong);
+    }
+    None
+}
+
+/// A name and a text that may be put, copied.
+pub fn copied_for_put(alloc: Global, name: &str, text: &str) -> Result<(String, String), WorldFault>
+    ensures answer { refusals.IsAnswer (refusals.put_refusal name.now text.now) result }
+    ensures copies { IfOk result (λ copies.
+        (string_bytes copies.0 ≡ name.now) × (string_bytes copies.1 ≡ text.now)) }
+{
+    if let Some(fault) = put_refusal(name, text) {
+        return Err(fault);
+    }
+    let name = String::from_str(alloc, name)?;
+    let text = String::from_str(alloc, text)?;
+    Ok((name, text))
+}
+
+/// A text with more at its end. It takes memory once.
+pub fn joined(alloc: Global, text: &str, more: &str) -> Result<String, AllocError>
+    ensures { IfOk result (λ whole. string_bytes whole ≡ text.now ++ more.now) }
+{
+    let mut whole = String::with_capacity(alloc, text.len().saturating_add(more.len()))?;
+    whole.push_str(text)?;
+    whole.push_str(more)?;
+    Ok(whole)
+}

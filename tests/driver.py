@@ -1,0 +1,152 @@
+"""What the drivers of tests/ share: running the program, saying what differs, counting tests.
+
+A driver runs the program many times, in folders below a room of its own, which tests/setup.sh
+makes and removes. Each test has a trouble, a text that says what is wrong, or none.
+"""
+
+import concurrent.futures
+import os
+import subprocess
+
+HOME = os.path.dirname(os.path.dirname(os.path.realpath(__file__)))
+EXAMPLES = os.path.join(HOME, "examples")
+PATIENCE = 60  # seconds
+SHOWN = 1200  # characters of a text that are shown whole
+STREAMS = ("stdout", "stderr")
+
+
+# ---- files
+
+def read(path):
+    """The bytes of a file."""
+    with open(path, "rb") as file:
+        return file.read()
+
+
+def write(folder, files):
+    """Writes files, texts or bytes by their names, to a folder. The folder may be there or not."""
+    os.makedirs(folder, exist_ok=True)
+    for name, text in files.items():
+        with open(os.path.join(folder, name), "wb") as file:
+            file.write(text if isinstance(text, bytes) else text.encode())
+
+
+def arguments_in(text):
+    """The arguments in the bytes of a file, one a line."""
+    return text.split(b"\n")[:-1]
+
+
+def examples():
+    """The arguments of each example, its feature file last, as tests/examples.sh gives them."""
+    for name in sorted(os.listdir(EXAMPLES)):
+        if name.endswith(".feature"):
+            arguments = os.path.join(EXAMPLES, name.removesuffix(".feature") + ".arguments")
+            own = arguments_in(read(arguments)) if os.path.exists(arguments) else []
+            yield [os.fsdecode(it) for it in own] + [os.path.join("examples", name)]
+
+
+def feature(*steps, name="f", scenario="s"):
+    """The text of a feature with one scenario. A step with a block is several lines."""
+    lines = [f"Feature: {name}", f"Scenario: {scenario}", *steps]
+    return "\n".join(lines) + "\n"
+
+
+# ---- running the program
+
+def start(program, arguments, folder=HOME, environment=None, *, patience=PATIENCE,
+          stdout=subprocess.PIPE, stderr=subprocess.PIPE, before=None):
+    """Runs the program, with nothing on its standard input.
+
+    Answers its status, and what was read of its standard output and standard error. The status of
+    a run that doesn't end is a text. `before` is called in the new process, before the program."""
+    try:
+        done = subprocess.run([program, *arguments], cwd=folder, stdin=subprocess.DEVNULL,
+                              stdout=stdout, stderr=stderr, env=environment, preexec_fn=before,
+                              timeout=patience, check=False)
+    except subprocess.TimeoutExpired:
+        return f"not ended after {patience} seconds", b"", b""
+    return done.returncode, done.stdout or b"", done.stderr or b""
+
+
+def limited(room, **limits):
+    """The environment in which the library of tests/refuse.c limits the program."""
+    return {**os.environ, **{name: str(limit) for name, limit in limits.items()},
+            "LD_PRELOAD": os.path.join(room, "refuse.so")}
+
+
+def on_all_processors(work, items):
+    """What `work` answers for each item, in order. Several items are worked on at a time."""
+    with concurrent.futures.ThreadPoolExecutor(os.cpu_count()) as pool:
+        yield from pool.map(work, items)
+
+
+# ---- saying what differs
+
+def shown(text):
+    """Bytes as a part of a message, cut where they are many."""
+    text = text.decode("utf-8", "backslashreplace")
+    return repr(text if len(text) <= SHOWN else text[:800] + " .. " + text[-300:])
+
+
+def first_difference(printed, wanted):
+    """The place of the first byte that differs."""
+    pairs = enumerate(zip(printed, wanted))
+    return next((at for at, (one, other) in pairs if one != other), min(len(printed), len(wanted)))
+
+
+def stream_difference(name, printed, wanted):
+    """What was printed on a stream, and what has to be, in words. Of long texts a part is shown."""
+    if max(len(printed), len(wanted)) <= SHOWN:
+        return f"  {name} {shown(printed)}\n    and not {shown(wanted)}"
+    at = first_difference(printed, wanted)
+    part = slice(max(0, at - 40), at + 80)
+    return f"  {name}, byte {at}: {shown(printed[part])}\n    and not {shown(wanted[part])}"
+
+
+def differences(ended, wanted):
+    """A list of what differs between a run and what has to come out, in words.
+
+    Both are a status and the bytes on standard output and standard error."""
+    found = []
+    if ended[0] != wanted[0]:
+        found.append(f"  status {ended[0]}, and not {wanted[0]}")
+    for name, printed, text in zip(STREAMS, ended[1:], wanted[1:]):
+        if printed != text:
+            found.append(stream_difference(name, printed, text))
+    return found
+
+
+def trouble(name, ended, wanted):
+    """What is wrong with a run of this name, or nothing where it ended as wanted."""
+    found = differences(ended, wanted)
+    return "\n".join([f"{name}:", *found]) if found else ""
+
+
+# ---- counting tests
+
+class Tests:
+    """Counts the tests that passed and failed."""
+
+    def __init__(self, most_shown=None):
+        """No tests yet. Of many failures only the first so many are shown."""
+        self.passed = self.failed = 0
+        self.most_shown = most_shown
+
+    def add(self, found):
+        """Counts a test, which has passed where its trouble is empty, and prints that trouble."""
+        if not found:
+            self.passed += 1
+            return
+        self.failed += 1
+        if self.most_shown is None or self.failed <= self.most_shown:
+            print(found)
+
+    def add_all(self, troubles):
+        """Counts a test for each of these troubles."""
+        for found in troubles:
+            self.add(found)
+
+    def close(self):
+        """Prints the closing line, and answers the status that the driver ends with."""
+        print(f"{self.passed} passed, {self.failed} failed")
+        return 1 if self.failed else 0

@@ -1,0 +1,315 @@
+#!/usr/bin/env python3
+"""Shows that a fresh clone is ready to run, and what ./run does elsewhere. Called by tests/ready.sh.
+
+Each test works on a copy of the repository as a clone has it. Where ./run builds, a stand-in for the command rt
+is found, which proves nothing: it takes a moment for each crate, and 'builds' a program that says which it is.
+"""
+
+import os
+import shutil
+import signal
+import subprocess
+import sys
+import tempfile
+import time
+
+HOME = os.path.dirname(os.path.dirname(os.path.realpath(__file__)))
+EXAMPLE = "examples/first.feature"
+REPORT = open(os.path.join(HOME, "examples/first.report"), "rb").read()
+NOBODY = 65534
+SOURCE = "crates/gk_gherkin/src/lib.rt"
+# The commands that ./run may count on, and one for the stand-in.
+COMMANDS = ("cat chmod cp cut dirname du find mkdir mktemp mv python3 readlink rm sh sha256sum sort tail touch xargs "
+            "sleep").split()
+STAND_IN = """#!/bin/sh
+echo "$1 ${PWD##*/}" >> "$CALLS"
+case $1 in
+version)
+    echo a stand-in
+    exit
+    ;;
+esac
+echo "$$" >> "$CALLS.pids"
+echo "so far: 1 of 2 functions checked"
+sleep "${SLOW:-0}"
+mkdir -p out
+echo kept > out/work
+[ "$1" = lib ] || printf '#!/bin/sh\\necho built here\\n' > out/gherkin_run
+[ "$1" = lib ] || chmod +x out/gherkin_run
+exit "${REFUSED:-0}"
+"""
+
+
+class Clone:
+    """A copy of the repository as a clone has it, but for the stored runs and edits, and the ways to run it."""
+
+    def __init__(self, room, name="a clone"):
+        self.room = room
+        self.folder = os.path.join(room, name)
+        shutil.copytree(HOME, self.folder, copy_function=shutil.copy,
+                        ignore=shutil.ignore_patterns(".git", "out", "runs", "must-fail", "__pycache__"))
+        self.calls = os.path.join(room, "calls")
+
+    def path(self, name):
+        return os.path.join(self.folder, name)
+
+    def commands(self, with_rt):
+        """A folder that has the commands that ./run counts on, and the stand-in for rt where it is wanted."""
+        folder = tempfile.mkdtemp(dir=self.room)
+        os.chmod(folder, 0o755)
+        for name in COMMANDS:
+            os.symlink(shutil.which(name), os.path.join(folder, name))
+        if with_rt:
+            with open(os.path.join(folder, "rt"), "w", encoding="utf-8") as file:
+                file.write(STAND_IN)
+            os.chmod(file.name, 0o755)
+        return folder
+
+    def start(self, *words, with_rt=False, script=None, user=None, **more):
+        """Begins ./run with these words, from the top of the clone unless `folder` names another."""
+        folder = more.pop("folder", self.folder)
+        settings = {"PATH": self.commands(with_rt), "CALLS": self.calls, **more}
+        return subprocess.Popen([script or "./run", *words], cwd=folder, env=settings, stdin=subprocess.DEVNULL,
+                                stdout=subprocess.PIPE, stderr=subprocess.PIPE, user=user, group=user,
+                                start_new_session=True)
+
+    def run(self, *words, **more):
+        """Runs ./run; its status and what it printed on its two streams."""
+        process = self.start(*(words or [EXAMPLE]), **more)
+        out, err = process.communicate(timeout=60)
+        return process.returncode, out, err
+
+    def change(self, name=SOURCE):
+        """Changes the end of a file, and leaves its time as it was."""
+        was = os.stat(self.path(name))
+        with open(self.path(name), "ab") as file:
+            file.write(b"\n")
+        os.utime(self.path(name), ns=(was.st_atime_ns, was.st_mtime_ns))
+
+    def called(self):
+        """What the stand-in for rt was called for."""
+        if not os.path.exists(self.calls):
+            return []
+        with open(self.calls, encoding="utf-8") as file:
+            return file.read().splitlines()
+
+    def renew_sums(self):
+        """Makes the sums in dist/ those of what lies there."""
+        subprocess.run("sha256sum gherkin_run > gherkin_run.sha256", shell=True, cwd=self.path("dist"), check=True)
+
+
+def is_right(answer):
+    """Whether the example's report was printed, and nothing else."""
+    return answer == (0, REPORT, b"")
+
+
+def says(answer, status, words):
+    """Whether ./run ended so, printed no report and said these words."""
+    return answer[0] == status and answer[1] == b"" and words in answer[2]
+
+
+def first_run_takes_less_than_five_seconds(clone):
+    began = time.monotonic()
+    answer = clone.run()
+    return is_right(answer) and time.monotonic() - began < 5
+
+
+def later_runs_say_nothing_too(clone):
+    return is_right(clone.run()) and is_right(clone.run())
+
+
+def the_program_of_dist_is_named(clone):
+    answer = clone.run("--which")
+    return answer == (0, os.path.join(os.path.realpath(clone.folder), "dist/gherkin_run\n").encode(), b"")
+
+
+def it_runs_from_any_folder(clone):
+    feature = clone.path(EXAMPLE)
+    ways = [("/", clone.path("run")), (clone.room, "a clone/run"), (clone.path("docs"), "../run")]
+    return all(is_right(clone.run(feature, folder=folder, script=script)) for folder, script in ways)
+
+
+def it_runs_through_a_link(clone):
+    link = os.path.join(clone.room, "link")
+    os.symlink(clone.path("run"), link)
+    ways = [("/", link), (clone.room, "./link")]
+    return all(is_right(clone.run(clone.path(EXAMPLE), folder=folder, script=script)) for folder, script in ways)
+
+
+def it_runs_where_nothing_can_be_written(clone):
+    subprocess.run(["chmod", "-R", "a-w", clone.folder], check=True)
+    answers = [clone.run(user=as_nobody()), clone.run(user=as_nobody())]
+    is_clean = not os.path.exists(clone.path("out"))
+    subprocess.run(["chmod", "-R", "u+w", clone.folder], check=True)
+    return all(map(is_right, answers)) and is_clean
+
+
+def two_users_run_it_at_once(clone):
+    started = [clone.start(EXAMPLE, user=user) for user in (None, as_nobody()) * 4]
+    ended = [(*process.communicate(), process.returncode) for process in started]
+    later = [clone.run(user=user) for user in (None, as_nobody())]
+    return all(it == (REPORT, b"", 0) for it in ended) and all(map(is_right, later))
+
+
+def a_changed_source_is_built(clone):
+    clone.run()
+    clone.change()
+    status, out, err = clone.run(with_rt=True)
+    lines = err.decode().splitlines()
+    proved = [line for line in lines if " proved: " in line]
+    return (status, out) == (0, b"built here\n") and len(proved) == 8 and "run gherkin_run" in clone.called()
+
+
+def what_was_built_runs_at_once(clone):
+    clone.change()
+    clone.run(with_rt=True)
+    answer = clone.run()
+    return answer == (0, b"built here\n", b"") and clone.run("--which")[1].endswith(b"/out/gherkin_run\n")
+
+
+def a_source_that_is_changed_back_runs_dist(clone):
+    with open(clone.path(SOURCE), "rb") as file:
+        was = file.read()
+    clone.change()
+    clone.run(with_rt=True)
+    with open(clone.path(SOURCE), "wb") as file:
+        file.write(was)
+    return is_right(clone.run())
+
+
+def a_source_more_or_less_is_a_change(clone):
+    clone.run()
+    added = clone.path("crates/gk_gherkin/src/more.rt")
+    with open(added, "w", encoding="utf-8"):
+        pass
+    more = clone.run()
+    os.remove(added)
+    again = clone.run()
+    os.remove(clone.path(SOURCE))
+    return is_right(again) and all(says(it, 70, b"needs the command rt") for it in (more, clone.run()))
+
+
+def a_change_that_is_not_proved_runs_nothing(clone):
+    clone.change()
+    answer = clone.run(with_rt=True, REFUSED="1")
+    return says(answer, 70, b"could not be proved") and says(clone.run(), 70, b"needs the command rt")
+
+
+def a_changed_byte_in_dist_is_refused(clone):
+    clone.run()
+    clone.change("dist/gherkin_run")
+    checked = subprocess.run(["tests/dist.sh", os.path.join(HOME, "dist/gherkin_run")], cwd=clone.folder, check=False,
+                             env={**os.environ, "PATH": f"{clone.commands(True)}:{os.environ['PATH']}",
+                                  "CALLS": clone.calls}, stdout=subprocess.PIPE)
+    return checked.returncode == 1 and b"has another sum" in checked.stdout and says(clone.run(), 70, b"needs")
+
+
+def building_without_the_toolchain_says_so(clone):
+    clone.change()
+    return says(clone.run(), 70, b"needs the command rt of the Rattle toolchain")
+
+
+def building_where_nothing_can_be_written_says_so(clone):
+    clone.change()
+    subprocess.run(["chmod", "-R", "a-w", clone.folder], check=True)
+    answer = clone.run(with_rt=True, user=as_nobody())
+    subprocess.run(["chmod", "-R", "u+w", clone.folder], check=True)
+    return says(answer, 70, b"can't be written")
+
+
+def another_processor_is_named(clone):
+    with open(clone.path("dist/gherkin_run"), "r+b") as file:
+        file.seek(18)
+        file.write(b"\xb7\x00")
+    clone.renew_sums()
+    return says(clone.run(with_rt=True), 70, b"doesn't run here") and not clone.called()
+
+
+def an_older_library_is_named(clone):
+    with open(clone.path("dist/gherkin_run"), "rb") as file:
+        program = file.read()
+    with open(clone.path("dist/gherkin_run"), "wb") as file:
+        file.write(program.replace(b"GLIBC_2.34", b"GLIBC_9.34"))
+    clone.renew_sums()
+    answer = clone.run(with_rt=True)
+    return says(answer, 70, b"./run --build") and clone.run("--build", with_rt=True)[0] == 0 and clone.run()[1] == (
+        b"built here\n")
+
+
+def two_builds_at_once_are_one(clone):
+    clone.change()
+    started = [clone.start(EXAMPLE, with_rt=True, SLOW="0.3") for _ in range(2)]
+    ended = [(process.communicate()[0], process.returncode) for process in started]
+    return ended == [(b"built here\n", 0)] * 2 and clone.called().count("run gherkin_run") == 1
+
+
+def an_interrupt_leaves_nothing_half_built(clone):
+    clone.change()
+    process = clone.start(EXAMPLE, with_rt=True, SLOW="30")
+    while not os.path.exists(clone.calls + ".pids"):
+        time.sleep(0.05)
+    time.sleep(0.3)
+    began = time.monotonic()
+    os.killpg(process.pid, signal.SIGINT)
+    out, _ = process.communicate(timeout=60)
+    with open(clone.calls + ".pids", encoding="utf-8") as file:
+        left = [pid for pid in file.read().split() if is_running(pid)]
+    is_clean = not left and not os.path.exists(clone.path("out/gherkin_run.sources"))
+    return is_clean and out == b"" and process.returncode != 0 and time.monotonic() - began < 20 and (
+        clone.run(with_rt=True)[1] == b"built here\n")
+
+
+def cleaning_leaves_the_program(clone):
+    clone.change()
+    clone.run(with_rt=True)
+    status, out, err = clone.run("--clean")
+    left = [name for name in os.listdir(clone.path("crates")) if os.path.exists(clone.path(f"crates/{name}/out"))]
+    return (status, out, left) == (0, b"", []) and b"removed" in err and clone.run() == (0, b"built here\n", b"")
+
+
+def is_running(pid):
+    """Whether a process is there, and isn't only to be waited for."""
+    try:
+        with open(f"/proc/{pid}/stat", encoding="utf-8") as file:
+            return file.read().rpartition(")")[2].split()[0] != "Z"
+    except FileNotFoundError:
+        return False
+
+
+def as_nobody():
+    """The user to run as where nothing is to be written: permissions bind everybody but root."""
+    return NOBODY if os.geteuid() == 0 else None
+
+
+TESTS = [
+    first_run_takes_less_than_five_seconds, later_runs_say_nothing_too, the_program_of_dist_is_named,
+    it_runs_from_any_folder, it_runs_through_a_link, it_runs_where_nothing_can_be_written, two_users_run_it_at_once,
+    a_changed_source_is_built, what_was_built_runs_at_once, a_source_that_is_changed_back_runs_dist,
+    a_source_more_or_less_is_a_change, a_change_that_is_not_proved_runs_nothing, a_changed_byte_in_dist_is_refused,
+    building_without_the_toolchain_says_so, building_where_nothing_can_be_written_says_so, another_processor_is_named,
+    an_older_library_is_named, two_builds_at_once_are_one, an_interrupt_leaves_nothing_half_built,
+    cleaning_leaves_the_program,
+]
+
+
+def passes(test):
+    """Whether a test passes, on a clone of its own."""
+    with tempfile.TemporaryDirectory() as room:
+        os.chmod(room, 0o755)
+        try:
+            return test(Clone(room))
+        except (OSError, subprocess.SubprocessError) as error:
+            print(error)
+            return False
+
+
+def main():
+    failed = [test.__name__.replace("_", " ") for test in TESTS if not passes(test)]
+    for name in failed:
+        print(f"not so: {name}")
+    print(f"{len(TESTS) - len(failed)} passed, {len(failed)} failed")
+    return 1 if failed else 0
+
+
+if __name__ == "__main__":
+    sys.exit(main())

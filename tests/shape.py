@@ -1,0 +1,303 @@
+#!/usr/bin/env python3
+"""Holds the shape of the crates against stored limits: shape.py [--list]. Called by tests/shape.sh.
+
+CHECKS names what is counted, and the function of each check says which places it counts. The file
+tests/shape.limits has the limit of each count, a name and a number a line. A count has to be the
+limit: one that is above it has to come down again, and one that is below it earns a lower limit.
+"""
+
+import collections
+import itertools
+import os
+import re
+import sys
+
+import driver
+
+CRATES = os.path.join(driver.HOME, "crates")
+LIMITS = os.path.join(driver.HOME, "tests", "shape.limits")
+WIDTH = 100  # columns of a contract line
+ARGUMENTS = 5  # of a function that isn't public
+SHARED = 10  # lines that two places may not share
+# Modules that have no specification by their kind.
+ROOTS = ("lib", "main")
+# A comment of specs/Lib.antt that marks the modules below it, up to the next comment.
+MACHINERY = "-- Proof machinery"
+BEGINS_LEFT_OUT = re.compile(r"(pub )?(ghost )?use\b|(pub )?(const|static) \w+: \[.*\] = \[$")
+WORKED_EXAMPLES = re.compile(r"(Worked.*|.*Examples)\.antt")
+# Words that a line's shape keeps.
+KEYWORDS = frozenset("""
+    fn pub let match if else for while return in ensures requires where abbrev record data
+    rw simp cc omega auto Ok Err Some None self mut
+""".split())
+
+Place = collections.namedtuple("Place", "path line text")
+
+
+# ---- sources
+
+def sources(*endings):
+    """The paths below crates/, from the top of the repository, of the files with these endings."""
+    for folder, folders, names in os.walk(CRATES):
+        folders[:] = sorted(it for it in folders if it not in ("out", "must-fail"))
+        for name in sorted(names):
+            if name.endswith(endings):
+                yield os.path.relpath(os.path.join(folder, name), driver.HOME)
+
+
+def code():
+    """The paths of the code: the .rt files below the folders src/ of the crates."""
+    return (path for path in sources(".rt") if path.split(os.sep)[2] == "src")
+
+
+def text_of(path):
+    """The text of a file of the repository."""
+    return driver.read(os.path.join(driver.HOME, path)).decode()
+
+
+def lines_of(path):
+    """The lines of a file of the repository."""
+    return text_of(path).split("\n")
+
+
+def without_literals(line):
+    """A line of code without what stands in its strings and characters, and without its comment."""
+    line = re.sub(r'"(\\.|[^"\\])*"', '""', line)
+    line = re.sub(r"'(\\.[^']*|[^'\\])'", "''", line)
+    return re.sub(r"//.*", "", line)
+
+
+# ---- contract lines
+
+CLAUSE = re.compile(r"\s*(ensures|requires|(ghost )?invariant)\b")
+
+
+def contract_lines(path):
+    """The lines of the clauses of a file, with their numbers.
+
+    A clause ends where the braces that it has opened are closed."""
+    depth, has_opened, inside = 0, False, False
+    for number, line in enumerate(lines_of(path), 1):
+        if not inside and CLAUSE.match(line):
+            depth, has_opened, inside = 0, False, True
+        if inside:
+            yield number, line
+            bare = without_literals(line)
+            depth += bare.count("{") - bare.count("}")
+            has_opened = has_opened or "{" in bare
+            inside = depth > 0 or not has_opened
+
+
+def wide_contract_lines():
+    """Lines of contracts of more than WIDTH columns."""
+    for path in code():
+        for number, line in contract_lines(path):
+            if len(line) > WIDTH:
+                yield Place(path, number, f"{len(line)} columns")
+
+
+# ---- arguments
+
+FUNCTION = re.compile(r"^[ \t]*(?P<before>(?:[a-z]+(?:\([a-z]+\))? )*)fn (?P<name>\w+)",
+                      re.MULTILINE)
+SELF = re.compile(r"(&\s*('\w+\s+)?)?(mut\s+)?self\b")
+OPENING, CLOSING = "([{<", ")]}>"
+
+
+def list_at(text, start, opening):
+    """The parts of the list in brackets that begins there, and the place after it.
+
+    There is no list, and nothing is passed over, where no such bracket stands there."""
+    if not text.startswith(opening, start):
+        return [], start
+    parts, depth = [""], 0
+    for place in range(start, len(text)):
+        character = text[place]
+        is_arrow = character == ">" and text[place - 1] in "-="
+        if character in CLOSING and not is_arrow:
+            depth -= 1
+            if depth == 0:
+                return [it.strip() for it in parts if it.strip()], place + 1
+        if character == "," and depth == 1:
+            parts.append("")
+        elif depth > 0:
+            parts[-1] += character
+        if character in OPENING:
+            depth += 1
+    raise ValueError(f"a list without end: {text[start:start + 80]}")
+
+
+def arguments_of(text, start):
+    """The arguments of a function whose name ends there, but for self."""
+    _, start = list_at(text, start, "<")
+    arguments, _ = list_at(text, start, "(")
+    return [it for it in arguments if not SELF.match(it)]
+
+
+def long_argument_lists():
+    """Functions that aren't public, with more than ARGUMENTS arguments aside from self."""
+    for path in code():
+        text = "\n".join(without_literals(line) for line in lines_of(path))
+        for found in FUNCTION.finditer(text):
+            count = len(arguments_of(text, found.end()))
+            if "pub" not in found["before"].split() and count > ARGUMENTS:
+                line = text.count("\n", 0, found.start("name")) + 1
+                yield Place(path, line, f"{found['name']} has {count} arguments")
+
+
+# ---- modules and their specifications
+
+def crates_with_specs():
+    """The folders of the crates that have specifications."""
+    for crate in sorted(os.listdir(CRATES)):
+        if os.path.isdir(os.path.join(CRATES, crate, "specs")):
+            yield os.path.join("crates", crate)
+
+
+def names_in(folder, ending):
+    """The names of the files of a folder of the repository with an ending, without it."""
+    names = sorted(os.listdir(os.path.join(driver.HOME, folder)))
+    return [it.removesuffix(ending) for it in names if it.endswith(ending)]
+
+
+def snake_case(name):
+    """The name of the module that a specification of a name is of."""
+    return re.sub(r"(?<!^)(?=[A-Z])", "_", name).lower()
+
+
+def machinery(crate):
+    """The specifications that specs/Lib.antt of a crate marks as proof machinery."""
+    marked, is_marked = set(), False
+    for line in lines_of(os.path.join(crate, "specs", "Lib.antt")):
+        if line.startswith("--"):
+            is_marked = line.startswith(MACHINERY)
+        elif is_marked and line.startswith("pub mod "):
+            marked.add(line.removeprefix("pub mod ").strip())
+    return marked
+
+
+def modules_without_spec():
+    """Modules of src/ for which specs/ has no file of the same name."""
+    for crate in crates_with_specs():
+        specified = {snake_case(it) for it in names_in(os.path.join(crate, "specs"), ".antt")}
+        for name in names_in(os.path.join(crate, "src"), ".rt"):
+            if name not in specified and name not in ROOTS:
+                yield Place(os.path.join(crate, "src", f"{name}.rt"), 1, "no file of specs/")
+
+
+def specs_without_module():
+    """Files of specs/ for which src/ has no module of the same name.
+
+    Proof machinery needs none."""
+    for crate in crates_with_specs():
+        modules, excepted = names_in(os.path.join(crate, "src"), ".rt"), machinery(crate)
+        for name in names_in(os.path.join(crate, "specs"), ".antt"):
+            if snake_case(name) not in modules and name not in excepted and name != "Lib":
+                yield Place(os.path.join(crate, "specs", f"{name}.antt"), 1, "no module of src/")
+
+
+# ---- lines of one shape
+
+def shape(line):
+    """A line with its names, strings and numbers put aside."""
+    line = re.sub(r'"(\\.|[^"\\])*"', '"', line)
+    line = re.sub(r"\b\d[\d_]*\b", "0", line)
+    return re.sub(r"[A-Za-z_][A-Za-z0-9_']*", lambda it: it[0] if it[0] in KEYWORDS else "n", line)
+
+
+def shapes_of(path):
+    """The numbers and shapes of the lines of a file.
+
+    Imports, comments, a constant that is a table, and lines without letters are left out."""
+    is_left_out = False
+    for number, line in enumerate(lines_of(path), 1):
+        line = line.strip()
+        is_left_out = is_left_out or BEGINS_LEFT_OUT.match(line) is not None
+        if is_left_out:
+            is_left_out = path.endswith(".rt") and not line.endswith(";")
+        elif re.search(r"[A-Za-z]", line) and not line.startswith(("//", "--", "#!")):
+            yield number, shape(line)
+
+
+def windows(files):
+    """The places, each a path and an index, of SHARED lines one after another, by their shapes.
+
+    Lines of a few shapes that come again and again, as those of a table, aren't counted."""
+    found = collections.defaultdict(list)
+    for path, lines in files.items():
+        shapes = [it for _, it in lines]
+        for at in range(len(shapes) - SHARED + 1):
+            window = tuple(shapes[at:at + SHARED])
+            if len(set(window)) >= SHARED // 2:
+                found[window].append((path, at))
+    return found
+
+
+def sharing_pairs(files):
+    """The pairs of places that share SHARED lines and don't overlap."""
+    pairs = set()
+    for places in windows(files).values():
+        for (one, at), (other, place) in itertools.combinations(places, 2):
+            if one != other or abs(at - place) >= SHARED:
+                pairs.add((one, at, other, place))
+    return pairs
+
+
+def repeated_places():
+    """Pairs of places that share SHARED or more lines of one shape, each counted once, whole."""
+    files = {path: list(shapes_of(path)) for path in sources(".rt", ".antt")
+             if not WORKED_EXAMPLES.fullmatch(os.path.basename(path))}
+    pairs = sharing_pairs(files)
+    for one, at, other, place in sorted(pairs):
+        if (one, at - 1, other, place - 1) in pairs:
+            continue
+        length = SHARED
+        while (one, at + length - SHARED + 1, other, place + length - SHARED + 1) in pairs:
+            length += 1
+        twin = f"{other}:{files[other][place][0]}"
+        yield Place(one, files[one][at][0], f"{length} lines as at {twin}")
+
+
+# ---- all of it
+
+CHECKS = (wide_contract_lines, long_argument_lists, modules_without_spec, specs_without_module,
+          repeated_places)
+
+
+def limits():
+    """The stored limits, by the names of the counts."""
+    rows = (line.split() for line in driver.read(LIMITS).decode().splitlines())
+    return {name: int(number) for name, number in rows}
+
+
+def trouble(name, count, limit):
+    """What is to be done where a count isn't its limit, or nothing."""
+    file = os.path.relpath(LIMITS, driver.HOME)
+    if limit is None:
+        return f"{name}: {count}, and {file} has no limit: give it one"
+    if count > limit:
+        return (f"{name}: {count}, and the limit is {limit}: mend what is new; "
+                "tests/shape.sh --list names all places")
+    if count < limit:
+        return f"{name}: {count}, and the limit is {limit}: lower it to {count} in {file}"
+    return ""
+
+
+def main():
+    if sys.argv[1:] not in ([], ["--list"]):
+        print("shape.py [--list]", file=sys.stderr)
+        return 2
+    tests, stored = driver.Tests(), limits()
+    for check in CHECKS:
+        places = list(check())
+        if "--list" in sys.argv:
+            print(f"{check.__name__}: {len(places)}")
+            print(*(f"  {it.path}:{it.line}: {it.text}" for it in places), sep="\n")
+        tests.add(trouble(check.__name__, len(places), stored.pop(check.__name__, None)))
+    for name in stored:
+        tests.add(f"{name}: nothing is counted under this name: remove its limit")
+    return tests.close()
+
+
+if __name__ == "__main__":
+    sys.exit(main())

@@ -1,0 +1,24 @@
+#!/bin/sh
+# Keeps the program that was just built, in out/, with its sums: tools/keep.sh SOURCES
+#
+# SOURCES is what tools/sources.sh printed before the build. Where the sources have changed since, nothing is
+# kept, and the status is 1. Each file is put in its place whole.
+set -eu
+
+cd "$(dirname -- "$(readlink -f -- "$0")")/.."
+if [ "$(tools/sources.sh)" != "$1" ]; then
+    echo "the sources have changed while the program was built, so it isn't kept" >&2
+    exit 1
+fi
+mkdir -p out
+room=$(mktemp -d out/keep.XXXXXX)
+trap 'rm -rf "$room"' EXIT
+cp crates/gherkin_run/out/gherkin_run "$room/gherkin_run"
+(cd "$room" && sha256sum gherkin_run > gherkin_run.sha256)
+rt version > "$room/gherkin_run.kit"
+echo "$1" > "$room/gherkin_run.sources"
+# The sum of the sources comes last, so what it stands for is there.
+rm -f out/gherkin_run.sources
+for kind in "" .sha256 .kit .sources; do
+    mv "$room/gherkin_run$kind" "out/gherkin_run$kind"
+done
