@@ -67,12 +67,12 @@ abbrev pub SaysCallsOfRun : Device → Device → Fault → Type 0
 SaysCallsOfRun old new Memory = IsUntouched old new ⊎ IsCutForSome old new
 SaysCallsOfRun old new fault = SaysCalls old new fault
 
--- A text was written once, and nothing else. (this project's profile)
+-- This text, and nothing else, was appended to standard output, and the status is 0. (this project's profile)
 pub record IsShown (text : List ℕ) (old new : Device) (status : ℕ) : Type 0 where
   pub written : Appends old.bytes new.bytes text
   pub well : status ≡ 0
 
--- A text of help was written once, and nothing else: which one is clap's. (this project's profile)
+-- Some text, and nothing else, was appended, with status 0: what it is, clap decides, and nothing here says. (this project's profile)
 abbrev pub IsHelp : Device → Device → ℕ → Type 0
 IsHelp old new status = (text : List ℕ) × IsShown text old new status
 
@@ -216,7 +216,7 @@ SaysProgram w old new (TooLong name) = IsGiven w (string_bytes name) × AreTaken
 SaysProgram w old new Memory = IsUntouched old new ⊎ IsFaultOfGiven w old new Memory
 SaysProgram w old new fault = IsFaultOfGiven w old new fault
 
--- What was asked for was done: a text of help was written once, with status 0, or there was a run. (this project's profile)
+-- What was asked for was done: for help some text was written, with status 0, or there was a run. (this project's profile)
 abbrev pub IsDone : Asked → Device → Device → ℕ → Type 0
 IsDone (Help e) old new status = IsHelp old new status
 IsDone (Run w) old new status = IsRun w old new status

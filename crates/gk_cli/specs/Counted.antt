@@ -23,19 +23,19 @@ failures_of c = c.failures
 abbrev pub one_more : ℕ → ℕ
 one_more n = min (n + 1) (2 ^ 64 - 1)
 
--- It was called once. (this project's profile)
+-- The device was called once more. (this project's profile)
 abbrev pub IsCalledOnce : {T : Type 0} → Counted T → Counted T → Type 0
 IsCalledOnce old new = calls_of new ≡ one_more (calls_of old)
 
--- It wasn't flushed. (this project's profile)
+-- The device wasn't flushed in between. (this project's profile)
 abbrev pub IsUnflushed : {T : Type 0} → Counted T → Counted T → Type 0
 IsUnflushed old new = flushes_of new ≡ flushes_of old
 
--- It didn't fail. (this project's profile)
+-- No call of the device failed in between. (this project's profile)
 abbrev pub IsQuiet : {T : Type 0} → Counted T → Counted T → Type 0
 IsQuiet old new = failures_of new ≡ failures_of old
 
--- It failed once. (this project's profile)
+-- One more call of the device failed. (this project's profile)
 abbrev pub HasFailedOnce : {T : Type 0} → Counted T → Counted T → Type 0
 HasFailedOnce old new = failures_of new ≡ one_more (failures_of old)
 

@@ -22,7 +22,7 @@ use Rattle.gk_report.specs.Report.{report}
 use Rattle.gk_cli.specs.declared.growing_report.GrowingReport.{GrowingReport}
 use Rattle.gk_cli.specs.declared.run_fault.RunFault.{RunFault}
 use Rattle.gk_cli.specs.declared.written_run.Glue.{Glue}
-use Rattle.gk_cli.specs.declared.written_run.Progress.{Progress}
+use Rattle.gk_cli.specs.declared.written_run.RunSoFar.{RunSoFar}
 use Rattle.gk_cli.specs.Suite.{Device, IsReported}
 use Rattle.gk_cli.specs.GrowingReport.{style_of, so_far, IsStopped, IsGrown, Grows, Stops}
 
@@ -80,15 +80,15 @@ AreWrittenUpTo Give features old g new fault =
     (before : Device) → IsGrown before old g [] → (done others : List ChosenValue) × (rows : List FeatureRow) × (features ≡ done ++ others) × Give done rows × IsStopped before new (so_far (style_of g) rows) fault
 
 -- The next feature of a run was run, and its part was written.
-abbrev pub RunsNext : Glue → SandboxValue → Chosen → Device → Progress → Device → Progress → Type 0
+abbrev pub RunsNext : Glue → SandboxValue → Chosen → Device → RunSoFar → Device → RunSoFar → Type 0
 RunsNext glue now feature old before new after =
     IsRunNext (run_of glue.library.now glue.hooks.now before.suite.stop) (state_of now.now) before.suite.is_open after.suite.is_open (chosen_value feature) old before.report new after.report
 
 -- The next feature of a run has no result, or its part wasn't written whole.
-abbrev pub EndsRunNext : Glue → SandboxValue → Chosen → Device → Progress → Device → RunFault → Type 0
+abbrev pub EndsRunNext : Glue → SandboxValue → Chosen → Device → RunSoFar → Device → RunFault → Type 0
 EndsRunNext glue now feature old before new fault =
     EndsNext (run_of glue.library.now glue.hooks.now before.suite.stop) (state_of now.now) before.suite.is_open (chosen_value feature) old before.report new fault
 
--- The rows of features are those of some cuts in a run that was begun.
+-- These rows are results of these features, for some cuts, in a run that stands so, from this sandbox.
 abbrev pub AreRun : Glue → SandboxValue → Suite → List ChosenValue → List FeatureRow → Type 0
 AreRun glue now suite = AreFeatures (run_of glue.library.now glue.hooks.now suite.stop) (state_of now.now) suite.is_open

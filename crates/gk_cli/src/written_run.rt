@@ -38,8 +38,8 @@ struct Glue<'a> {
     hooks: &'a HookFile,
 }
 
-/// How far a run has come: the run that was begun, and its report so far.
-struct Progress {
+/// A run that was begun, and its report so far.
+struct RunSoFar {
     suite: Suite,
     report: GrowingReport,
 }
@@ -48,24 +48,24 @@ struct Progress {
 fn run_next<W: Write>(
     glue: &Glue<'_>,
     sandbox: &mut Sandbox,
-    progress: &mut Progress,
+    so_far: &mut RunSoFar,
     feature: Chosen,
     out: &mut Counted<W>,
 ) -> Result<(), RunFault>
     requires layer { suc (depth sandbox.old) < layers }
     requires paired { IsPaired feature }
     ensures ok { OnOk result (RunsNext glue.now sandbox.old feature
-        (device_of W.contents out.old) progress.old
-        (device_of W.contents out.new) progress.new) }
+        (device_of W.contents out.old) so_far.old
+        (device_of W.contents out.new) so_far.new) }
     ensures err { IfErr result (EndsRunNext glue.now sandbox.old feature
-        (device_of W.contents out.old) progress.old (device_of W.contents out.new)) }
-    ensures style { style_of progress.new.report ≡ style_of progress.old.report }
-    ensures kept { IsKept progress.old.suite progress.new.suite }
+        (device_of W.contents out.old) so_far.old (device_of W.contents out.new)) }
+    ensures style { style_of so_far.new.report ≡ style_of so_far.old.report }
+    ensures kept { IsKept so_far.old.suite so_far.new.suite }
     ensures same { IsSame sandbox.old sandbox.new }
 {
-    let suite = &mut progress.suite;
+    let suite = &mut so_far.suite;
     match suite.feature(glue.alloc, sandbox, glue.library, glue.hooks, feature) {
-        Ok(result) => progress.report.add(glue.alloc, result, out),
+        Ok(result) => so_far.report.add(glue.alloc, result, out),
         Err(NoRoom) => Err(RunFault::Memory),
     }
 }
@@ -74,25 +74,25 @@ fn run_next<W: Write>(
 fn run_features<W: Write>(
     glue: &Glue<'_>,
     sandbox: &mut Sandbox,
-    progress: &mut Progress,
+    so_far: &mut RunSoFar,
     features: Vec<Chosen>,
     out: &mut Counted<W>,
 ) -> Result<(), RunFault>
     requires layer { suc (depth sandbox.old) < layers }
     requires paired { AllByRecursion IsPaired features.items }
-    ensures ok { OnOk result (AreWritten (AreRun glue.now sandbox.old progress.old.suite)
+    ensures ok { OnOk result (AreWritten (AreRun glue.now sandbox.old so_far.old.suite)
         (map chosen_value features.items)
-        (device_of W.contents out.old) progress.old.report
-        (device_of W.contents out.new) progress.new.report) }
-    ensures err { IfErr result (AreWrittenUpTo (AreRun glue.now sandbox.old progress.old.suite)
+        (device_of W.contents out.old) so_far.old.report
+        (device_of W.contents out.new) so_far.new.report) }
+    ensures err { IfErr result (AreWrittenUpTo (AreRun glue.now sandbox.old so_far.old.suite)
         (map chosen_value features.items)
-        (device_of W.contents out.old) progress.old.report (device_of W.contents out.new)) }
-    ensures style { style_of progress.new.report ≡ style_of progress.old.report }
-    ensures kept { IsKept progress.old.suite progress.new.suite }
+        (device_of W.contents out.old) so_far.old.report (device_of W.contents out.new)) }
+    ensures style { style_of so_far.new.report ≡ style_of so_far.old.report }
+    ensures kept { IsKept so_far.old.suite so_far.new.suite }
     ensures same { IsSame sandbox.old sandbox.new }
 {
     for feature in features {
-        run_next(glue, sandbox, progress, feature, out)?;
+        run_next(glue, sandbox, so_far, feature, out)?;
     }
     Ok(())
 }
@@ -130,14 +130,14 @@ fn run_all<W: Write>(
     } = inputs;
     let report = GrowingReport::start(alloc, options.style, out)?;
     let suite = Suite::start(alloc, sandbox, &library, &hooks, options.stop);
-    let mut progress = Progress { suite, report };
+    let mut so_far = RunSoFar { suite, report };
     let glue = Glue {
         alloc,
         library: &library,
         hooks: &hooks,
     };
-    let written = run_features(&glue, sandbox, &mut progress, features, out);
-    let Progress { suite, report } = progress;
+    let written = run_features(&glue, sandbox, &mut so_far, features, out);
+    let RunSoFar { suite, report } = so_far;
     let around = suite.finish(alloc, sandbox, &library, &hooks);
     match written {
         Ok(()) => report.finish(alloc, around, out),

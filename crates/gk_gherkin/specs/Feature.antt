@@ -74,7 +74,7 @@ pub record FeatureValue : Type 0 where
 abbrev pub texts : {Z : Type 0} → List (String Z) → List (List ℕ)
 texts strings = map string_bytes strings
 
--- The texts that were found, where any were looked for with success. (this project's profile)
+-- What a list of texts says, or none where there is no list. (this project's profile)
 abbrev pub found_texts : {Y Z : Type 0} → Option (Vec (String Z) Y) → Option (List (List ℕ))
 found_texts found = option_map (λ v. texts v.items) found
 

@@ -270,7 +270,7 @@ abbrev pub tag_line : Option (List (List ℕ)) → Place → List (List ℕ) →
 tag_line (Some more) place tags line = Ok (Tagged place (tags ++ more) line.line)
 tag_line None place tags line = Err (BadTag line.line)
 
--- The same, by the tags of the line. (proof machinery)
+-- A tag line after these tags, by the tags that the line itself spells. (proof machinery)
 abbrev pub on_tags : Place → List (List ℕ) → LineValue → Read
 on_tags place tags line = tag_line (tags_of line) place tags line
 

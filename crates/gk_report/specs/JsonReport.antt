@@ -105,7 +105,7 @@ json_head = codes "{\"features\":["
 abbrev pub feature_object : Bool → Bool → FeatureRow → List ℕ
 feature_object no_skipped first f = cond first [] (codes ",") ++ compact_text (feature_data no_skipped f)
 
--- The part of a feature: its object, nothing where it is hidden. (this project's profile)
+-- The part of a feature: its object, or nothing where it is hidden. (this project's profile)
 unfoldable pub json_part : Bool → Bool → FeatureRow → List ℕ
 json_part no_skipped first f = cond (is_hidden no_skipped f.status) [] (feature_object no_skipped first f)
 

@@ -65,7 +65,7 @@ WalksAfter run section old registered ending new left =
 abbrev pub LooksUp : Run → Step → Next → Type 0
 LooksUp run step next = IsLookedUp (library_value run.library.now) (step_value step) next.mark next.ending
 
--- One step of a case that stands so was taken.
+-- One step was taken, of a case that had ended so far like this.
 abbrev pub TakesNext : Run → Ending → Step → SandboxValue → Cleanups → Next → SandboxValue → Cleanups → Type 0
 TakesNext run ending step old registered next new left =
     IsNext (library_value run.library.now) ending (state_of old.now) (cleanups_value registered) (step_value step) next.mark next.ending (state_of new.now) (cleanups_value left)
@@ -85,16 +85,16 @@ abbrev pub Cleans : Run → List CleanupValue → SandboxValue → Closed → Ty
 Cleans run registered old closed =
     IsCleaned (cleaned (library_value run.library.now) (state_of old.now) registered) closed.ending closed.outcomes.items
 
--- A section was closed.
+-- A section's after lists and cleanups were run, or memory was refused in them.
 abbrev pub Closes : Run → Section → Cleanups → SandboxValue → Closed → Type 0
 Closes run section registered old closed =
     IsClosed (closing (library_value run.library.now) (hooks_value run.hooks.now) section.level (texts section.tags.now) (state_of old.now) (cleanups_value registered)) closed.ending closed.outcomes.items
 
--- The result of a case that came to this.
+-- The row of a case, from its heading and from how its run ended.
 abbrev pub row_with : Heading → CaseEnd → CaseRow
 row_with heading end = record { keyword = string_bytes heading.keyword; name = string_bytes heading.name; line = heading.line; status = end.status; around = end.around; cleanups = end.cleanups.items; steps = map step_row end.steps.items }
 
--- A case came to this from its section's state.
+-- A case ran from its section's state, and ended like this.
 abbrev pub EndsCase : Run → List (String Global) → ReservedSteps → State → CaseEnd → Type 0
 EndsCase run tags steps outside end =
     IsCaseEnd (run_value run) outside (ran (texts tags) (map step_value steps.steps.items)) end.status end.around end.cleanups.items (map step_row end.steps.items)
@@ -109,7 +109,7 @@ abbrev pub IsBegun : Run → Section → State → Ending → SandboxValue → C
 IsBegun run section outside before now registered =
     IsWalked (begun (library_value run.library.now) (hooks_value run.hooks.now) section.level (texts section.tags.now) outside) before (state_of now.now) (cleanups_value registered)
 
--- A feature came to this from the state outside.
+-- A feature ran from the state outside, and ended like this.
 abbrev pub EndsFeature : Run → List (String Global) → ReservedCases → State → Bool → FeatureEnd → Type 0
 EndsFeature run tags cases outside is_begun end =
     IsFeatureEnd (run_value run) levels.Feature outside is_begun (texts tags) (members_in cases) end.around (map case_row end.cases.items)

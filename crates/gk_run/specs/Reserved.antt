@@ -11,13 +11,13 @@ use Rattle.gk_run.specs.Chosen.{MemberValue, members_of}
 abbrev pub heading_of : Case → Heading
 heading_of case = record { keyword = case.keyword; name = case.name; line = case.line }
 
--- Room is reserved for the results of this case's steps.
+-- The same case, now with room for its results, which the record itself holds.
 pub record IsCaseReserved (case : Case) (reserved : ReservedCase) : Type 0 where
   pub heading : reserved.heading ≡ heading_of case
   pub own_tags : reserved.own_tags ≡ case.own_tags
   pub steps : reserved.steps.steps ≡ case.steps
 
--- Room is reserved for the results of these cases.
+-- The same cases, now with room for their results, which the record itself holds.
 pub record AreCasesReserved (cases : Vec Case Global) (selected : Vec Bool Global) (reserved : ReservedCases) : Type 0 where
   pub same_cases : reserved.cases ≡ cases
   pub same_choice : reserved.selected ≡ selected

@@ -34,7 +34,7 @@ pub struct CaseEnd {
     pub steps: Vec<StepResult>,
 }
 
-/// The result of a case that came to this.
+/// The result of a case, from its heading and from how its run ended.
 pub fn case_result(heading: Heading, end: CaseEnd) -> CaseResult
     ensures { case_row result ≡ row_with heading end }
 {
@@ -143,7 +143,7 @@ pub fn run_case(
     case_in(&run, sandbox, case)
 }
 
-// The results of steps of which nothing but this mark becomes.
+// The results of steps that aren't run: each has this mark.
 fn told_steps(steps: ReservedSteps, mark: Mark) -> Vec<StepResult>
     ensures { map step_row result.items
         ≡ map (λ step. row_of_step step mark) (map step_value steps.steps.items) }

@@ -109,7 +109,7 @@ case_of_row i part n row = row_case (inherited_value i) (scenario_value part.sce
 abbrev pub cases_of_rows : Inherited → OutlinePart → ℕ → List Row → List CaseValue
 cases_of_rows i part n rows = rows_cases (inherited_value i) (scenario_value part.scenario.now) part.number (examples_value part.examples.now) n (map row_value rows)
 
--- The rows of a part have as many cells as its header. (this project's profile)
+-- Each of these rows has as many cells as the part's header. (this project's profile)
 abbrev pub FitPart : OutlinePart → List Row → Type 0
 FitPart part rows = AllByRecursion (FitsHeader (examples_value part.examples.now)) (map row_value rows)
 

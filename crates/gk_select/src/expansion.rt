@@ -31,7 +31,7 @@ use gk_gherkin::{Examples, Feature, Row, Rule, Scenario, Step};
 use std::alloc::{AllocError, Global};
 use std::mem::replace;
 
-// The Examples of an outline, with their number, counted from 1.
+// An outline with one part of its Examples, and the number of that part, counted from 1.
 #[derive(Clone, Copy)]
 struct OutlinePart<'a> {
     scenario: &'a Scenario,

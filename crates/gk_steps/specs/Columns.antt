@@ -86,7 +86,7 @@ pub record IsTable (size : ℕ) (ps : List PieceValue) (text : List ℕ) (places
   pub size_is : length rows ≡ size
   pub each : (r : ℕ) (d : Vec Bool Global) → r < size → IsRow (drop (length ps - r) ps) text places (slice_index_or rows r d).items
 
--- The rows for all pieces of a pattern, from the last ones on.
+-- The rows of all last pieces of a pattern, from none of them to the whole pattern.
 abbrev pub IsWholeTable : List Piece → List ℕ → List ℕ → List (Vec Bool Global) → Type 0
 IsWholeTable pieces text places rows = IsTable (length pieces + 1) (pieces_said pieces) text places rows
 

@@ -13,7 +13,7 @@ use Rattle.gk_steps.specs.Action.{ActionRowValue, action_row, kind_of_field}
 use Rattle.gk_steps.specs.Finding.{EntryValue}
 use Rattle.gk_steps.specs.LibraryFile.{Sides, SpellsEntry, is_ignored, type_of, sides_of, HasNeededFields, HasRightKinds, IsBadType, IsBadPattern, IsUnknownAction, IsMissingField, IsOtherKind, IsAmbiguous, StopsLibraryAt}
 
--- The two sides of an arrow. (the texts of a pair)
+-- The texts on the two sides of an arrow: a pattern, and the name of an action.
 abbrev pub sides : List ℕ → List ℕ → Sides
 sides pattern action = record { pattern = pattern; action = action }
 
@@ -32,7 +32,7 @@ is_none_or_kind (Some other) kind = is_same_kind other kind
 abbrev pub has_needed : List (List ℕ) → List PieceValue → Bool
 has_needed names ps = list_all (λ name. is_some (field_kind ps name)) names
 
--- The field of a name is of its kind, where there is one.
+-- Whether the field of this name, where there is one, is of the kind that the name asks for.
 abbrev pub has_right_kind : List PieceValue → List ℕ → Bool
 has_right_kind ps name = is_none_or_kind (field_kind ps name) (kind_of_field name)
 

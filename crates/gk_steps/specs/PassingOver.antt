@@ -4,19 +4,19 @@ use Rattle.gk_steps.specs.Pattern.{PieceValue, Literal, FieldPiece}
 
 -- A text begins with another.
 abbrev pub BeginsWith : List ℕ → List ℕ → Type 0
-BeginsWith text front = (rest : List ℕ) × (text ≡ front ++ rest)
+BeginsWith text prefix = (rest : List ℕ) × (text ≡ prefix ++ rest)
 
--- It doesn't.
+-- A text doesn't begin with another.
 abbrev pub BeginsNotWith : List ℕ → List ℕ → Type 0
-BeginsNotWith text front = (rest : List ℕ) → text ≡ front ++ rest → ⊥
+BeginsNotWith text prefix = (rest : List ℕ) → text ≡ prefix ++ rest → ⊥
 
 -- A text ends with another.
 abbrev pub EndsWith : List ℕ → List ℕ → Type 0
-EndsWith text back = (prefix : List ℕ) × (text ≡ prefix ++ back)
+EndsWith text suffix = (prefix : List ℕ) × (text ≡ prefix ++ suffix)
 
--- It doesn't.
+-- A text doesn't end with another.
 abbrev pub EndsNotWith : List ℕ → List ℕ → Type 0
-EndsNotWith text back = (prefix : List ℕ) → text ≡ prefix ++ back → ⊥
+EndsNotWith text suffix = (prefix : List ℕ) → text ≡ prefix ++ suffix → ⊥
 
 -- A literal that stands first in the pattern begins the text.
 abbrev pub FitsStart : List PieceValue → List ℕ → Type 0

@@ -76,11 +76,11 @@ pub record AddsField (text : List ℕ) (before : List PieceValue) (after : List 
   pub has : HasField text name kind rest
   pub added : after ≡ before ++ FieldPiece name kind ∷ []
 
--- The same of what pieces say.
+-- A field that the text begins with is added to what pieces say, and this is the rest.
 abbrev pub PushesField : List ℕ → List Piece → List Piece → List ℕ → Type 0
 PushesField text before after rest = AddsField text (pieces_said before) (pieces_said after) rest
 
--- The same of a literal.
+-- A literal that the text begins with is added to what pieces say, and this is the rest.
 abbrev pub PushesLiteral : List ℕ → List Piece → List Piece → List ℕ → Type 0
 PushesLiteral text before after rest = AddsLiteral text (pieces_said before) (pieces_said after) rest
 

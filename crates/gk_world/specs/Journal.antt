@@ -24,10 +24,10 @@ module _ {U S : Type 0} (undone : U → S → S) where
   abbrev pub StaysFitTo : (U → S → Type 0) → ℕ → List U → S → List U → S → Type 0
   StaysFitTo fits mark old before new after = (m : ℕ) → m ≤ mark → FitAll fits (drop m old) before → FitAll fits (drop m new) after
 
-  -- For each older mark the same contents. (this project's profile)
+  -- For every mark of the older undos, the undos since then give the same contents. (this project's profile)
   abbrev pub RewindsTheSame : List U → S → List U → S → Type 0
   RewindsTheSame old before new after = RewindsTheSameTo (length old) old before new after
 
-  -- For each older mark the undos stay fit. (this project's profile)
+  -- For every mark of the older undos, the undos since then stay fit. (this project's profile)
   abbrev pub StaysFit : (U → S → Type 0) → List U → S → List U → S → Type 0
   StaysFit fits old before new after = StaysFitTo fits (length old) old before new after

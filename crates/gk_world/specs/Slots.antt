@@ -65,7 +65,7 @@ IsPlace name [] i = ⊥
 IsPlace name (s ∷ ss) zero = bytes_eq name s.0 ≡ true
 IsPlace name (s ∷ ss) (suc i) = (bytes_eq name s.0 ≡ false) × IsPlace name ss i
 
--- A cell of the name whose first slot is at i has another text, or none, and all else stays. (this project's profile)
+-- In the slot at i, the first of its name, this cell has this text or none, and all else stays. (this project's profile)
 abbrev pub WritesAt : ℕ → ℕ → Cell → List Slot → List Slot → Type 0
 WritesAt i cell text old new = (name : List ℕ) → IsPlace name old i → Writes name cell text old new
 

@@ -44,6 +44,6 @@ IsQuote place (Err other) = (spec.quote_of place ≡ None) × (place_value other
 abbrev pub has_heading : Hook → Heading → Bool
 has_heading hook heading = spec.is_same_heading (heading_of (hook_value hook)) (heading_value heading)
 
--- A state in a doc string is at the place after it from then on. (proof machinery)
+-- A state that was in a doc string is now at the place after the doc string. (proof machinery)
 abbrev pub EndsDocString : HooksState → HooksState → Type 0
 EndsDocString old new = (quote : spec.HookQuoteValue) (fence : Fence) (column n : ℕ) (content : Option (List ℕ)) → state_value old ≡ spec.Quoted quote fence column n content → state_value new ≡ spec.At (spec.after_quote quote content)

@@ -102,15 +102,15 @@ begun_after owner body keyword head = Ok (spec.begun_scenario (section_after own
 abbrev pub AddsExamples : Open → List (List ℕ) → LineValue → Result Unit ReadFault → Open → Type 0
 AddsExamples old tags line result new = (top : spec.Top) → spec.Gives (λ _. spec.Inside top (open_value new)) result (spec.examples_in (open_value old) top tags line)
 
--- A heading at a place, after these tags, whatever it makes of the place. (proof machinery)
+-- From a place, a heading line after these tags gives the place that the machine says, or its fault. (proof machinery)
 abbrev pub TakesHeading : {Z : Type 0} → Place → List (String Z) → BorrowedLine → Class → Result Unit ReadFault → Place → Type 0
 TakesHeading old tags line class result new = spec.Gives (λ _. place_value new) result (spec.on_heading (place_value old) (texts tags) (borrowed_value line) class)
 
--- The tags of a line after those before it, of which the last is on this line, at whatever place. (proof machinery)
+-- At every place the tags of this line come after the older ones, and this is the line of the last of them; or it is the fault of the machine. (proof machinery)
 abbrev pub AddsTags : {Z : Type 0} → List (String Z) → BorrowedLine → Result Unit ReadFault → List (String Z) → ℕ → Type 0
 AddsTags old line result new last = (place : spec.Place) → spec.Gives (λ _. spec.Tagged place (texts new) last) result (spec.on_tags place (texts old) (borrowed_value line))
 
--- A state in a doc string is at the place after it from then on. (proof machinery)
+-- A state that was in a doc string is now at the place after the doc string. (proof machinery)
 abbrev pub EndsDocString : State → State → Type 0
 EndsDocString old new = (quote : spec.QuoteValue) (fence : Fence) (column n : ℕ) (content : Option (List ℕ)) → state_value old ≡ spec.Quoted quote fence column n content → state_value new ≡ spec.At (spec.after_quote quote content)
 

@@ -34,7 +34,7 @@ returns-in-Ok-clause-ok g c =
     let there = device_of g.W.Write.contents c.run_features-written.new.out in
     let new = device_of g.W.Write.contents c.finish.new.out in
     let begun = c.in_ok-report.report in
-    let grown = c.run_features-written.new.progress.report in
+    let grown = c.run_features-written.new.so_far.report in
     let suite = c.start-suite.result in
     let around = c.finish-around.result in
     let Give : List ChosenValue → List FeatureRow → Type 0 = AreFeatures run (state_of c.start-suite.new.sandbox.now) suite.is_open in
@@ -42,7 +42,7 @@ returns-in-Ok-clause-ok g c =
     subst (λ (stop : Bool). AreWritten (AreFeatures (run_of c.args.inputs.library c.args.inputs.hooks stop) (state_of c.start-suite.new.sandbox.now) suite.is_open) features head begun there grown) c.start-suite.ensures.stops c.in-Ok.ensures.ok in
     if_ok c.finish.result (λ status reported. as_whole run run contents features style old head begun new status refl c.in_ok-report.ensures.style c.in_ok-report.ensures.ok
     (finished Give run contents features around head begun there grown new status
-    (λ rows are. judged_by c.finished_runs_are_judged.ensures run c.args.sandbox.now c.start-suite.new.sandbox c.run_features-written.new.sandbox suite c.run_features-written.new.progress.suite around features rows
+    (λ rows are. judged_by c.finished_runs_are_judged.ensures run c.args.sandbox.now c.start-suite.new.sandbox c.run_features-written.new.sandbox suite c.run_features-written.new.so_far.suite around features rows
     c.start-suite.ensures c.run_features-written.ensures.kept c.run_features-written.ensures.same are (λ outside walked. c.finish-around.ensures.around outside c.args.options.now.stop walked))
     c.run_features-written.ensures.style written reported)) c.finish.ensures.ok
 
@@ -57,7 +57,7 @@ returns-in-Ok-clause-err g c =
     let there = device_of g.W.Write.contents c.run_features-written.new.out in
     let new = device_of g.W.Write.contents c.finish.new.out in
     let begun = c.in_ok-report.report in
-    let grown = c.run_features-written.new.progress.report in
+    let grown = c.run_features-written.new.so_far.report in
     let suite = c.start-suite.result in
     let around = c.finish-around.result in
     let Give : List ChosenValue → List FeatureRow → Type 0 = AreFeatures run (state_of c.start-suite.new.sandbox.now) suite.is_open in
@@ -65,7 +65,7 @@ returns-in-Ok-clause-err g c =
     subst (λ (stop : Bool). AreWritten (AreFeatures (run_of c.args.inputs.library c.args.inputs.hooks stop) (state_of c.start-suite.new.sandbox.now) suite.is_open) features head begun there grown) c.start-suite.ensures.stops c.in-Ok.ensures.ok in
     if_err c.finish.result (λ fault reported. as_part run run contents features style old head begun new fault refl c.in_ok-report.ensures.style c.in_ok-report.ensures.ok
     (finished_short Give run contents features around head begun there grown new fault
-    (λ rows are. judged_by c.finished_runs_are_judged.ensures run c.args.sandbox.now c.start-suite.new.sandbox c.run_features-written.new.sandbox suite c.run_features-written.new.progress.suite around features rows
+    (λ rows are. judged_by c.finished_runs_are_judged.ensures run c.args.sandbox.now c.start-suite.new.sandbox c.run_features-written.new.sandbox suite c.run_features-written.new.so_far.suite around features rows
     c.start-suite.ensures c.run_features-written.ensures.kept c.run_features-written.ensures.same are (λ outside walked. c.finish-around.ensures.around outside c.args.options.now.stop walked))
     c.run_features-written.ensures.style written reported)) c.finish.ensures.err
 

@@ -17,12 +17,12 @@ use Rattle.gk_cli.proofs.written_run.run_features.Goals as goal
 pub loop-feature-init : goal.loop-feature-init
 loop-feature-init g c =
     let here : into_iter_items c.into_iter-feature-iterator.result ≡ c.args.features.items = c.into_iter-feature-iterator.ensures.into_iter_gives.0 in
-    let run = run_of c.args.glue.now.library.now c.args.glue.now.hooks.now c.args.progress.now.suite.stop in
+    let run = run_of c.args.glue.now.library.now c.args.glue.now.hooks.now c.args.so_far.now.suite.stop in
     let first = state_of c.args.sandbox.now.now in
-    let was_open = c.args.progress.now.suite.is_open in
+    let was_open = c.args.so_far.now.suite.is_open in
     let all = map chosen_value c.args.features.items in
     let device = device_of g.W.Write.contents c.args.out.now in
-    let report = c.args.progress.now.report in
+    let report = c.args.so_far.now.report in
     record {
       goes = subst (λ (left : List ChosenValue). Running run first was_open all device report left was_open device report) (sym (ap (map chosen_value) here)) (running_first run first was_open all device report);
       style = refl;
@@ -43,63 +43,63 @@ run_next-requires-clause-paired g c =
 
 pub loop-feature-preserved : goal.loop-feature-preserved
 loop-feature-preserved g c =
-    let run = run_of c.args.glue.now.library.now c.args.glue.now.hooks.now c.args.progress.now.suite.stop in
+    let run = run_of c.args.glue.now.library.now c.args.glue.now.hooks.now c.args.so_far.now.suite.stop in
     let first = state_of c.args.sandbox.now.now in
-    let was_open = c.args.progress.now.suite.is_open in
+    let was_open = c.args.so_far.now.suite.is_open in
     let all = map chosen_value c.args.features.items in
     let s = c.in-Some.ensures.steps in
     let f = ap length s.0 in
     let this = chosen_value c.in-Some.feature in
     let left = map chosen_value (into_iter_items c.next.new.self) in
     let now = state_of c.loop-feature.sandbox.now in
-    let is_open = c.loop-feature.progress.suite.is_open in
+    let is_open = c.loop-feature.so_far.suite.is_open in
     let stops = c.loop-feature.invariant.kept.stops in
     let old = device_of g.W.Write.contents c.args.out.now in
     let there = device_of g.W.Write.contents c.loop-feature.out in
     let new = device_of g.W.Write.contents c.run_next.new.out in
-    let before = subst (λ (ls : List ChosenValue). Running run first was_open all old c.args.progress.now.report ls is_open there c.loop-feature.progress.report) (ap (map chosen_value) s.0) c.loop-feature.invariant.goes in
-    let one : IsRunNext run now is_open c.run_next.new.progress.suite.is_open this there c.loop-feature.progress.report new c.run_next.new.progress.report =
-    subst (λ (x : Bool). IsRunNext (run_of c.args.glue.now.library.now c.args.glue.now.hooks.now x) now is_open c.run_next.new.progress.suite.is_open this there c.loop-feature.progress.report new c.run_next.new.progress.report) stops c.in_ok-run_next.ensures.ok in
+    let before = subst (λ (ls : List ChosenValue). Running run first was_open all old c.args.so_far.now.report ls is_open there c.loop-feature.so_far.report) (ap (map chosen_value) s.0) c.loop-feature.invariant.goes in
+    let one : IsRunNext run now is_open c.run_next.new.so_far.suite.is_open this there c.loop-feature.so_far.report new c.run_next.new.so_far.report =
+    subst (λ (x : Bool). IsRunNext (run_of c.args.glue.now.library.now c.args.glue.now.hooks.now x) now is_open c.run_next.new.so_far.suite.is_open this there c.loop-feature.so_far.report new c.run_next.new.so_far.report) stops c.in_ok-run_next.ensures.ok in
     let paired : AllByRecursion IsPaired (c.in-Some.feature ∷ into_iter_items c.next.new.self) = subst (AllByRecursion IsPaired) s.0 c.loop-feature.invariant.paired in
     record {
-      goes = running_next run first now was_open all old c.args.progress.now.report this left is_open c.run_next.new.progress.suite.is_open there c.loop-feature.progress.report new c.run_next.new.progress.report
+      goes = running_next run first now was_open all old c.args.so_far.now.report this left is_open c.run_next.new.so_far.suite.is_open there c.loop-feature.so_far.report new c.run_next.new.so_far.report
           (ap state_of c.loop-feature.invariant.same.contents) c.loop-feature.invariant.earlier one before;
       style = c.run_next.ensures.style ∙ c.loop-feature.invariant.style;
       same = same_on _ _ _ c.loop-feature.invariant.same c.run_next.ensures.same;
-      kept = kept_on c.args.progress.now.suite c.loop-feature.progress.suite c.run_next.new.progress.suite c.loop-feature.invariant.kept c.run_next.ensures.kept;
-      earlier = λ h. c.loop-feature.invariant.earlier (and_left is_open (stays_open_by c.args.progress.now.suite.stop one.row.status) (sym one.opens ∙ h));
+      kept = kept_on c.args.so_far.now.suite c.loop-feature.so_far.suite c.run_next.new.so_far.suite c.loop-feature.invariant.kept c.run_next.ensures.kept;
+      earlier = λ h. c.loop-feature.invariant.earlier (and_left is_open (stays_open_by c.args.so_far.now.suite.stop one.row.status) (sym one.opens ∙ h));
       paired = paired.1;
       counted = omega arith;
     }
 
 pub returns-in_err-run_next-clause-err : goal.returns-in_err-run_next-clause-err
 returns-in_err-run_next-clause-err g c =
-    let run = run_of c.args.glue.now.library.now c.args.glue.now.hooks.now c.args.progress.now.suite.stop in
+    let run = run_of c.args.glue.now.library.now c.args.glue.now.hooks.now c.args.so_far.now.suite.stop in
     let first = state_of c.args.sandbox.now.now in
-    let was_open = c.args.progress.now.suite.is_open in
+    let was_open = c.args.so_far.now.suite.is_open in
     let all = map chosen_value c.args.features.items in
     let s = c.in-Some.ensures.steps in
     let this = chosen_value c.in-Some.feature in
     let left = map chosen_value (into_iter_items c.next.new.self) in
     let now = state_of c.loop-feature.sandbox.now in
-    let is_open = c.loop-feature.progress.suite.is_open in
+    let is_open = c.loop-feature.so_far.suite.is_open in
     let stops = c.loop-feature.invariant.kept.stops in
     let old = device_of g.W.Write.contents c.args.out.now in
     let there = device_of g.W.Write.contents c.loop-feature.out in
     let new = device_of g.W.Write.contents c.run_next.new.out in
-    let before = subst (λ (ls : List ChosenValue). Running run first was_open all old c.args.progress.now.report ls is_open there c.loop-feature.progress.report) (ap (map chosen_value) s.0) c.loop-feature.invariant.goes in
-    let ended : EndsNext run now is_open this there c.loop-feature.progress.report new c.in_err-run_next.field-0.0 =
-    subst (λ (x : Bool). EndsNext (run_of c.args.glue.now.library.now c.args.glue.now.hooks.now x) now is_open this there c.loop-feature.progress.report new c.in_err-run_next.field-0.0) stops c.in_err-run_next.ensures.err in
+    let before = subst (λ (ls : List ChosenValue). Running run first was_open all old c.args.so_far.now.report ls is_open there c.loop-feature.so_far.report) (ap (map chosen_value) s.0) c.loop-feature.invariant.goes in
+    let ended : EndsNext run now is_open this there c.loop-feature.so_far.report new c.in_err-run_next.field-0.0 =
+    subst (λ (x : Bool). EndsNext (run_of c.args.glue.now.library.now c.args.glue.now.hooks.now x) now is_open this there c.loop-feature.so_far.report new c.in_err-run_next.field-0.0) stops c.in_err-run_next.ensures.err in
     passed_on c.from_residual.result c.from_residual.ensures.1 (λ fault same.
-    subst (AreWrittenUpTo (AreFeatures run first was_open) all old c.args.progress.now.report new) (sym same)
-    (running_stopped run first now was_open all old c.args.progress.now.report this left is_open there c.loop-feature.progress.report new c.in_err-run_next.field-0.0 (ap state_of c.loop-feature.invariant.same.contents) c.loop-feature.invariant.earlier c.loop-feature.invariant.style
+    subst (AreWrittenUpTo (AreFeatures run first was_open) all old c.args.so_far.now.report new) (sym same)
+    (running_stopped run first now was_open all old c.args.so_far.now.report this left is_open there c.loop-feature.so_far.report new c.in_err-run_next.field-0.0 (ap state_of c.loop-feature.invariant.same.contents) c.loop-feature.invariant.earlier c.loop-feature.invariant.style
     ended before))
 
 pub returns-in_err-run_next-clause-style : goal.returns-in_err-run_next-clause-style
 returns-in_err-run_next-clause-style g c = c.run_next.ensures.style ∙ c.loop-feature.invariant.style
 
 pub returns-in_err-run_next-clause-kept : goal.returns-in_err-run_next-clause-kept
-returns-in_err-run_next-clause-kept g c = kept_on c.args.progress.now.suite c.loop-feature.progress.suite c.run_next.new.progress.suite c.loop-feature.invariant.kept c.run_next.ensures.kept
+returns-in_err-run_next-clause-kept g c = kept_on c.args.so_far.now.suite c.loop-feature.so_far.suite c.run_next.new.so_far.suite c.loop-feature.invariant.kept c.run_next.ensures.kept
 
 pub returns-in_err-run_next-clause-same : goal.returns-in_err-run_next-clause-same
 returns-in_err-run_next-clause-same g c = same_on _ _ _ c.loop-feature.invariant.same c.run_next.ensures.same
@@ -107,5 +107,5 @@ returns-in_err-run_next-clause-same g c = same_on _ _ _ c.loop-feature.invariant
 pub returns-clause-ok : goal.returns-clause-ok
 returns-clause-ok g c =
     let none : into_iter_items c.loop-feature.feature-iterator ≡ [] = nothing_in (into_iter_items c.loop-feature.feature-iterator) (c.loop-feature.invariant.counted ∙ c.in-None.ensures.steps.0) in
-    running_last (run_of c.args.glue.now.library.now c.args.glue.now.hooks.now c.args.progress.now.suite.stop) (state_of c.args.sandbox.now.now) c.args.progress.now.suite.is_open (map chosen_value c.args.features.items) (device_of g.W.Write.contents c.args.out.now) c.args.progress.now.report
-    (map chosen_value (into_iter_items c.loop-feature.feature-iterator)) c.loop-feature.progress.suite.is_open (device_of g.W.Write.contents c.loop-feature.out) c.loop-feature.progress.report (ap (map chosen_value) none) c.loop-feature.invariant.goes
+    running_last (run_of c.args.glue.now.library.now c.args.glue.now.hooks.now c.args.so_far.now.suite.stop) (state_of c.args.sandbox.now.now) c.args.so_far.now.suite.is_open (map chosen_value c.args.features.items) (device_of g.W.Write.contents c.args.out.now) c.args.so_far.now.report
+    (map chosen_value (into_iter_items c.loop-feature.feature-iterator)) c.loop-feature.so_far.suite.is_open (device_of g.W.Write.contents c.loop-feature.out) c.loop-feature.so_far.report (ap (map chosen_value) none) c.loop-feature.invariant.goes

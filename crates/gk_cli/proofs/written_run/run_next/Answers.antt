@@ -11,4 +11,4 @@ pub returns-in-Ok-clause-err : goal.returns-in-Ok-clause-err
 returns-in-Ok-clause-err g c = if_err c.add.result (λ fault stops. inr (feature_row c.in-Ok.result, c.in-Ok.ensures.row, stops)) c.add.ensures.err
 
 pub returns-in-Err-clause-err : goal.returns-in-Err-clause-err
-returns-in-Err-clause-err g c = inl (stops_here (device_of g.W.Write.contents c.args.out.now) c.args.progress.now.report)
+returns-in-Err-clause-err g c = inl (stops_here (device_of g.W.Write.contents c.args.out.now) c.args.so_far.now.report)
