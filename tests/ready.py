@@ -71,7 +71,7 @@ class Clone:
         settings = {"PATH": self.commands(with_rt), "CALLS": self.calls, **more}
         return subprocess.Popen([script or "./run", *words], cwd=folder, env=settings, stdin=subprocess.DEVNULL,
                                 stdout=subprocess.PIPE, stderr=subprocess.PIPE, user=user, group=user,
-                                start_new_session=True)
+                                start_new_session=True, preexec_fn=as_from_a_terminal)
 
     def run(self, *words, **more):
         """Runs ./run; its status and what it printed on its two streams."""
@@ -274,6 +274,11 @@ def is_running(pid):
             return file.read().rpartition(")")[2].split()[0] != "Z"
     except FileNotFoundError:
         return False
+
+
+def as_from_a_terminal():
+    """Lets a process that is begun be interrupted, also where these tests run in the background."""
+    signal.signal(signal.SIGINT, signal.SIG_DFL)
 
 
 def as_nobody():

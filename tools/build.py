@@ -234,7 +234,7 @@ def main():
     parser = argparse.ArgumentParser(description="Builds the program.")
     parser.add_argument("--jobs", type=int, default=len(os.sched_getaffinity(0)), metavar="N")
     jobs = parser.parse_args().jobs
-    for number in (signal.SIGTERM, signal.SIGHUP):
+    for number in (signal.SIGINT, signal.SIGTERM, signal.SIGHUP):
         signal.signal(number, interrupted)
     os.makedirs(os.path.join(OUT, "logs"), exist_ok=True)
     with open(os.path.join(OUT, "lock"), "w", encoding="utf-8") as lock:
