@@ -13,9 +13,11 @@ import fcntl
 import glob
 import os
 import re
+import shutil
 import signal
 import subprocess
 import sys
+import tempfile
 import threading
 import time
 from concurrent.futures import ThreadPoolExecutor
@@ -26,11 +28,21 @@ PROGRAM = "gherkin_run"
 SO_FAR = re.compile(r"so far: (\d+) of (\d+) functions checked")
 
 
-def listed_crates():
-    """The crates that crates.txt lists, each with those crates of the repository that it needs."""
+def lines_of_crates():
+    """The lines of crates.txt, without comments."""
     with open(os.path.join(HOME, "crates.txt"), encoding="utf-8") as file:
         lines = [line.partition("#")[0].strip() for line in file]
-    needs = {line.partition(":")[0].strip(): line.partition(":")[2].split() for line in lines if line}
+    return [f"{line}\n" for line in lines if line]
+
+
+def name_in(line):
+    """The crate that a line of crates.txt is about."""
+    return line.partition(":")[0].split()[0]
+
+
+def listed_crates():
+    """The crates that crates.txt lists, each with those crates of the repository that it needs."""
+    needs = {name_in(line): line.partition(":")[2].split() for line in lines_of_crates()}
     return {name: [need for need in needed if need in needs] for name, needed in needs.items()}
 
 
@@ -127,13 +139,13 @@ class Build:
         self.progress = Progress(self.crates)
         self.running = {}
 
-    def prove(self, name, jobs):
-        """Proves a crate, and builds the program where it is the last one. Returns whether it is proved."""
+    def prove(self, name, jobs, home=HOME):
+        """Proves a crate in a tree, and builds the program where it is the last one. Returns whether it is proved."""
         words = ["run", "--jobs", str(jobs), "--", "--help"] if name == PROGRAM else ["lib", "--jobs", str(jobs)]
         began = time.monotonic()
         self.progress.starts(name)
         with open(log_of(name), "w", encoding="utf-8") as log:
-            process = subprocess.Popen(["rt", *words], cwd=os.path.join(HOME, "crates", name), text=True,
+            process = subprocess.Popen(["rt", *words], cwd=os.path.join(home, "crates", name), text=True,
                                        stdin=subprocess.DEVNULL, stdout=subprocess.PIPE, stderr=subprocess.STDOUT,
                                        errors="replace", start_new_session=True)
             self.running[name] = process
@@ -145,11 +157,28 @@ class Build:
         self.progress.ends(name, is_proved, time.monotonic() - began)
         return is_proved
 
+    def prove_apart(self, name, jobs):
+        """Proves a crate in a tree of its own, since the toolchain locks a crate and all that it stands on.
+        What is kept of it is then moved to its place."""
+        with tempfile.TemporaryDirectory(prefix="beside.", dir=OUT) as home:
+            crates = below(self.needs, name)
+            with open(os.path.join(home, "crates.txt"), "w", encoding="utf-8") as listed:
+                listed.writelines(line for line in lines_of_crates() if name_in(line) in crates)
+            for each in crates:
+                shutil.copytree(crate(each), crate(each, home), copy_function=os.link)
+            is_proved = self.prove(name, jobs, home)
+            kept, place = (os.path.join(crate(name, tree), "out") for tree in (home, HOME))
+            os.makedirs(kept, exist_ok=True)
+            shutil.rmtree(place, ignore_errors=True)
+            os.rename(kept, place)
+            return is_proved
+
     def prove_beside(self, names):
-        """Proves crates side by side; the first has the processes that the others leave."""
-        rest = max(self.jobs - len(names) + 1, 1)
+        """Proves crates side by side; the largest has the processors that the others leave."""
+        largest, *others = sorted(names, key=size, reverse=True)
         with ThreadPoolExecutor(len(names)) as pool:
-            shares = [pool.submit(self.prove, name, 1 if place else rest) for place, name in enumerate(names)]
+            shares = [pool.submit(self.prove, largest, max(self.jobs - len(others), 1))]
+            shares += [pool.submit(self.prove_apart, name, 1) for name in others]
             try:
                 return all([share.result() for share in shares])
             except KeyboardInterrupt:
@@ -158,11 +187,14 @@ class Build:
                 raise
 
     def run(self):
-        """Proves all crates. Those that need none go side by side, the others one by one: the toolchain locks a
-        crate and all that it stands on. Returns whether all are proved."""
-        lowest = [name for name in self.crates if not self.needs[name]]
-        others = [name for name in self.crates if self.needs[name]]
-        return self.prove_beside(lowest) and all(self.prove(name, self.jobs) for name in others)
+        """Proves all crates, those side by side that need none of each other. Returns whether all are proved."""
+        left = list(self.crates)
+        while left:
+            names = [name for name in left if not set(self.needs[name]) & set(left)]
+            if not self.prove_beside(names):
+                return False
+            left = [name for name in left if name not in names]
+        return True
 
     def stop(self):
         """Ends what runs, with everything that it began."""
@@ -173,6 +205,18 @@ class Build:
                     process.wait(timeout=5)
                 except (ProcessLookupError, subprocess.TimeoutExpired):
                     continue
+
+
+def crate(name, home=HOME):
+    """The folder of a crate in a tree."""
+    return os.path.join(home, "crates", name)
+
+
+def size(name):
+    """How many bytes of sources a crate has."""
+    files = [os.path.join(folder, file) for folder, _, files in os.walk(crate(name)) for file in files
+             if file.endswith((".rt", ".antt"))]
+    return sum(os.path.getsize(file) for file in files)
 
 
 def log_of(name):
