@@ -1,13 +1,12 @@
 -- The entries of an index map as slots.
-use Rattle.std.proofs.Common.{◌≡◌, ℕ, zero, suc, ◌<◌, Bool, true, false, cond, List, [], ◌∷◌, ◌++◌, get_or, set, length, Option, None, Some, is_some, MatchOption, String, string_bytes, position, slice_get, bytes_eq, refl, sym, ap, ◌∙◌, subst, true≢false, arith}
+use Rattle.std.proofs.Common.{◌≡◌, ℕ, zero, suc, ◌+◌, ◌<◌, Bool, true, false, cond, List, [], ◌∷◌, ◌++◌, get_or, set, length, take, option_to_list, Option, None, Some, is_some, IsSome, MatchOption, String, string_bytes, position, slice_get, bytes_eq, refl, sym, ap, ◌∙◌, subst, true≢false, arith, length-append}
 use Rattle.std.proofs.lemmas.List.Quantifiers.{position-Some}
 use Rattle.std.specs.Global.{Global}
 use Rattle.std.specs.Map.{lookup, keys_of, values_of}
 use Rattle.indexmap.specs.IndexMap.{set_value_at}
 use Rattle.gk_world.specs.Cells.{Slot, Cell}
-use Rattle.gk_world.specs.Slots.{cells_of, name_at, with_cells, with_cell, IsPlace, IsMissing, IsAt, IsNew}
-use Rattle.gk_world.specs.Slots.{seen, slots_of}
-use Rattle.gk_world.proofs.SlotsLemmas.{place_is}
+use Rattle.gk_world.specs.Slots.{cells_of, name_at, with_cells, with_cell, IsPlace, IsMissing, IsAt, IsNew, NamesDiffer, seen, slots_of}
+use Rattle.gk_world.proofs.SlotsLemmas.{place_is, differ-front, push-back}
 
 -- whether a key is this name
 abbrev pub is_name : List ℕ → String Global → Bool
@@ -106,3 +105,14 @@ module _ {C : Type 0} (cells : C → List Cell) where
   pub length-slots_of : (es : List (String Global × C)) → length (slots_of cells es) ≡ length es
   length-slots_of [] = refl
   length-slots_of (e ∷ es) = ap suc (length-slots_of es)
+
+  -- what is left where the last row is taken off
+  pub differ-popped : (es fs : List (String Global × C)) (o : Option (String Global × C)) → es ≡ fs ++ option_to_list o → NamesDiffer (slots_of cells es) → NamesDiffer (slots_of cells fs)
+  differ-popped es fs o e d = differ-front (slots_of cells fs) (slots_of cells (option_to_list o)) (subst NamesDiffer (ap (slots_of cells) e ∙ slots_of-append fs (option_to_list o)) d)
+
+  -- the rows before the last, where it is taken off
+  pub popped : (es fs : List (String Global × C)) (o : Option (String Global × C)) (s : List Slot) (place : ℕ) → slots_of cells es ≡ s → es ≡ fs ++ option_to_list o → length s ≡ place + 1 → (0 < length es → IsSome o) → take place s ≡ slots_of cells fs
+  popped es fs None s place view e last found = absurd (true≢false (sym (found (omega (arith, last, ap length view, length-slots_of es)))))
+  popped es fs (Some r) s place view e last found =
+      let more : s ≡ slots_of cells fs ++ seen cells r ∷ [] = sym view ∙ ap (slots_of cells) e ∙ slots_of-append fs (r ∷ []) in
+      push-back (slots_of cells fs) s (seen cells r) place more (omega (arith, last, ap length more, length-append (slots_of cells fs) (seen cells r ∷ [])))

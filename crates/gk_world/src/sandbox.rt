@@ -2,22 +2,20 @@
 ghost use Rattle.std.specs.Prelude.{◌≡◌, ◌<◌, length, None, OnOk, OnErr, IfOk, option_copied};
 ghost use Rattle.std.specs.FinMap as finite;
 ghost use Rattle.gk_world.specs.Listing.{IsListing};
-ghost use Rattle.gk_world.specs.State.{see, state_of};
+ghost use Rattle.gk_world.specs.State.{see, state_of, layers};
 ghost use Rattle.gk_world.specs.Refusals as refusals;
 ghost use Rattle.gk_world.specs.Refusals.{append_refusal, remove_refusal, delete_refusal, IsAnswer};
 ghost use Rattle.gk_world.specs.World.{IsHere, changed, refusal};
-ghost use Rattle.gk_world.specs.Sandbox.{PutsFile, AppendsToFile, RemovesFile, SetsEnv, RemovesEnv, SetsValue, DeletesValue};
-ghost use Rattle.gk_world.specs.Sandbox.{new_sandbox, layers, depth, begun, Ends, Becomes, UndosGiveBack, LayersGiveBack, ChangesAreOfState};
+ghost use Rattle.gk_world.specs.Sandbox.{PutsFile, AppendsToFile, RemovesFile, SetsEnv, RemovesEnv, SetsValue, DeletesValue, new_sandbox, depth, begun, Ends, EndsByUndos, Becomes, UndosGiveBack, LayersGiveBack, ChangesAreOfState};
 
 use crate::cells::LAYERS;
 use crate::journal::Journal;
 use crate::listing::Listing;
-use crate::refusals::copied_for_put;
+use crate::refusals::{WorldFault, copied_for_put};
 use crate::reversible::Reversible;
 use crate::table::TableChange;
 use crate::values::ValueChange;
 use crate::world::{World, WorldChange};
-use crate::world_fault::WorldFault;
 use std::alloc::{AllocError, Global};
 use std::marker::Model;
 
@@ -51,13 +49,11 @@ pub struct Sandbox {
 }
 
 impl Model for Sandbox {
-    ghost use Rattle.gk_world.specs.Sandbox.{SandboxValue, sandbox_code};
+    ghost use Rattle.gk_world.specs.Sandbox.{SandboxValue, sandbox_code, value_of, open_marks, IsSound};
 
     ghost Value = { SandboxValue };
 
     ghost coded = { sandbox_code };
-
-    ghost use Rattle.gk_world.specs.Kept.{value_of, open_marks, IsSound};
 
     ghost view = { λ s. value_of s.world s.journal (open_marks s.depth s.marks) };
 
@@ -100,7 +96,7 @@ impl Sandbox {
         ensures values { length self.now.now.values ≡ depth self.now }
         ensures outside { depth self.now ≡ 0 → length self.now.entries ≡ 0 }
     {
-        let _ = &self.journal;
+        self.world.names_differ();
     }
 
     /// Begins a layer inside the open ones. Its number is then the depth, and it has no values yet. It
@@ -119,11 +115,13 @@ impl Sandbox {
     /// changes are those at its beginning. It takes no memory. (behave's documentation: context layers)
     pub fn end(&mut self, layer: Layer)
         requires { layer ≡ depth self.old }
-        ensures { Ends self.old self.new }
+        ensures ends { Ends self.old self.new }
+        ensures undone { EndsByUndos self.old self.new }
     {
         // A layer can't be dropped; taking it apart spends it.
         let Layer { number } = layer;
         let outer = number - 1;
+        self.world.names_differ();
         self.journal.rewind(&mut self.world, self.marks[outer]);
         self.depth = outer;
     }
@@ -145,7 +143,9 @@ impl Sandbox {
                 Err(fault) => Err(fault),
             };
         }
-        self.journal.change(&mut self.world, change)
+        let answer = self.journal.change(&mut self.world, change);
+        self.world.names_differ();
+        answer
     }
 
     /// Puts a file. Refusals come in the order `BadName`, `TextTooLong`. A refusal changes nothing; `Memory`

@@ -11,7 +11,7 @@ undo-requires g c =
 pub loop-self-preserved : goal.loop-self-preserved
 loop-self-preserved g c =
     let p = popped g.T.Reversible.undone g.T.Reversible.fits c.loop-self.self-inside.entries.items c.pop.new.self.items c.pop.result c.unwrap-undo.result c.args.mark (g.T.Reversible.slots c.loop-self.on) c.pop.ensures.items c.unwrap-undo.ensures (omega arith) c.loop-self.invariant.fit in
-    let e = c.undo.ensures in
+    let e = c.undo.ensures.slots in
     record {
       within = p.within;
       older = p.older ∙ c.loop-self.invariant.older;
