@@ -1,9 +1,10 @@
 -- The entries of an index map as slots.
-use Rattle.std.proofs.Common.{◌≡◌, ℕ, zero, suc, ◌+◌, ◌<◌, Bool, true, false, cond, List, [], ◌∷◌, ◌++◌, get_or, set, length, take, option_to_list, Option, None, Some, is_some, IsSome, MatchOption, String, string_bytes, position, slice_get, bytes_eq, refl, sym, ap, ◌∙◌, subst, true≢false, arith, length-append}
+use Rattle.std.proofs.Common.{◌≡◌, ℕ, zero, suc, ◌+◌, ◌<◌, Bool, true, false, cond, List, [], ◌∷◌, ◌++◌, get_or, set, length, take, option_to_list, Option, None, Some, is_some, IsSome, MatchOption, String, string_bytes, position, slice_get, bytes_eq, string_eq, refl, sym, ap, ◌∙◌, subst, true≢false, arith, length-append}
 use Rattle.std.proofs.lemmas.List.Quantifiers.{position-Some}
 use Rattle.std.specs.Global.{Global}
 use Rattle.std.specs.Map.{lookup, keys_of, values_of}
-use Rattle.indexmap.specs.IndexMap.{set_value_at}
+use Rattle.indexmap.specs.IndexMap.{IndexMap, set_value_at, insert_entry}
+use Rattle.indexmap.proofs.CallerLemmas.{insert_entry-new}
 use Rattle.gk_world.specs.Cells.{Slot, Cell}
 use Rattle.gk_world.specs.Slots.{cells_of, name_at, with_cells, with_cell, IsPlace, IsMissing, IsAt, IsNew, NamesDiffer, seen, slots_of}
 use Rattle.gk_world.proofs.SlotsLemmas.{place_is, differ-front, push-back}
@@ -97,10 +98,14 @@ module _ {C : Type 0} (cells : C → List Cell) where
   slots_of-append (e ∷ es) fs = ap (λ l. seen cells e ∷ l) (slots_of-append es fs)
 
   -- a row that is added
-  pub pushed : (es fs : List (String Global × C)) (s : List Slot) (k : String Global) (new : C) → slots_of cells es ≡ s → IsMissing (string_bytes k) s → (lookup (is_name (string_bytes k)) es ≡ None → fs ≡ es ++ (k, new) ∷ []) → slots_of cells fs ≡ s ++ (string_bytes k, cells new) ∷ []
+  pushed : (es fs : List (String Global × C)) (s : List Slot) (k : String Global) (new : C) → slots_of cells es ≡ s → IsMissing (string_bytes k) s → (lookup (is_name (string_bytes k)) es ≡ None → fs ≡ es ++ (k, new) ∷ []) → slots_of cells fs ≡ s ++ (string_bytes k, cells new) ∷ []
   pushed es fs s k new e miss h =
       let none = lookup-missing (string_bytes k) es (subst (IsMissing (string_bytes k)) (sym e) miss) in
       ap (slots_of cells) (h none) ∙ slots_of-append es ((k, new) ∷ []) ∙ ap (λ l. l ++ (string_bytes k, cells new) ∷ []) e
+
+  -- a row that an index map inserts
+  pub inserted : {S : Type 0} (m : IndexMap (String Global) C S) (fs : List (String Global × C)) (s : List Slot) (k : String Global) (new : C) → slots_of cells m.entries ≡ s → IsMissing (string_bytes k) s → fs ≡ insert_entry string_eq m.entries k new → slots_of cells fs ≡ s ++ (string_bytes k, cells new) ∷ []
+  inserted m fs s k new e miss is = pushed m.entries fs s k new e miss (λ none. is ∙ insert_entry-new string_eq m k new none)
 
   pub length-slots_of : (es : List (String Global × C)) → length (slots_of cells es) ≡ length es
   length-slots_of [] = refl

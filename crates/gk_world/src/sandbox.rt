@@ -149,8 +149,7 @@ impl Sandbox {
     }
 
     /// Puts a file. Refusals come in the order `BadName`, `TextTooLong`. A refusal changes nothing; `Memory`
-    /// is answered only where nothing else refuses.
-    /// (this project's profile)
+    /// is answered only where nothing else refuses. (this project's profile)
     pub fn put_file(&mut self, name: &str, text: &str) -> Result<(), WorldFault>
         ensures ok { OnOk result (PutsFile self.old name.now text.now self.new) }
         ensures answer { IsAnswer (refusals.put_refusal name.now text.now) result }
@@ -161,8 +160,7 @@ impl Sandbox {
     }
 
     /// Puts more at the end of a file. Refusals come in the order `BadName`, `Absent`, `TextTooLong`.
-    /// A refusal changes nothing; `Memory`
-    /// is answered only where nothing else refuses. (this project's profile)
+    /// A refusal changes nothing; `Memory` is answered only where nothing else refuses. (this project's profile)
     pub fn append_file(&mut self, name: &str, more: &str) -> Result<(), WorldFault>
         ensures ok { OnOk result (AppendsToFile self.old name.now more.now self.new) }
         ensures answer { IsAnswer
@@ -177,24 +175,8 @@ impl Sandbox {
         self.change(WorldChange::File(TableChange::Append(name, more)))
     }
 
-    /// Removes a file. Refusals come in the order `BadName`, `Absent`. A refusal changes nothing; `Memory`
-    /// is answered only where nothing else refuses.
-    /// (this project's profile)
-    pub fn remove_file(&mut self, name: &str) -> Result<(), WorldFault>
-        ensures ok { OnOk result (RemovesFile self.old name.now self.new) }
-        ensures answer { IsAnswer (remove_refusal (finite.get self.old.now.files) name.now) result }
-        ensures err { OnErr result (self.new ≡ self.old) }
-    {
-        if let Some(fault) = self.world.files.remove_refusal(name) {
-            return Err(fault);
-        }
-        let name = String::from_str(self.alloc, name)?;
-        self.change(WorldChange::File(TableChange::Remove(name)))
-    }
-
     /// Sets a variable. Refusals come in the order `BadName`, `TextTooLong`. A refusal changes nothing; `Memory`
-    /// is answered only where nothing else refuses.
-    /// (this project's profile)
+    /// is answered only where nothing else refuses. (this project's profile)
     pub fn put_env(&mut self, name: &str, text: &str) -> Result<(), WorldFault>
         ensures ok { OnOk result (SetsEnv self.old name.now text.now self.new) }
         ensures answer { IsAnswer (refusals.put_refusal name.now text.now) result }
@@ -202,21 +184,6 @@ impl Sandbox {
     {
         let (name, text) = copied_for_put(self.alloc, name, text)?;
         self.change(WorldChange::Env(TableChange::Put(name, text)))
-    }
-
-    /// Removes a variable. Refusals come in the order `BadName`, `Absent`. A refusal changes nothing; `Memory`
-    /// is answered only where nothing else refuses.
-    /// (this project's profile)
-    pub fn remove_env(&mut self, name: &str) -> Result<(), WorldFault>
-        ensures ok { OnOk result (RemovesEnv self.old name.now self.new) }
-        ensures answer { IsAnswer (remove_refusal (finite.get self.old.now.env) name.now) result }
-        ensures err { OnErr result (self.new ≡ self.old) }
-    {
-        if let Some(fault) = self.world.env.remove_refusal(name) {
-            return Err(fault);
-        }
-        let name = String::from_str(self.alloc, name)?;
-        self.change(WorldChange::Env(TableChange::Remove(name)))
     }
 
     /// Sets a value of the innermost layer, which hides outer ones of its name while the layer lasts.
@@ -232,6 +199,34 @@ impl Sandbox {
         let (name, text) = copied_for_put(self.alloc, name, text)?;
         let layer = self.depth();
         self.change(WorldChange::Value(ValueChange::Set(layer, name, text)))
+    }
+
+    /// Removes a file. Refusals come in the order `BadName`, `Absent`. A refusal changes nothing; `Memory`
+    /// is answered only where nothing else refuses. (this project's profile)
+    pub fn remove_file(&mut self, name: &str) -> Result<(), WorldFault>
+        ensures ok { OnOk result (RemovesFile self.old name.now self.new) }
+        ensures answer { IsAnswer (remove_refusal (finite.get self.old.now.files) name.now) result }
+        ensures err { OnErr result (self.new ≡ self.old) }
+    {
+        if let Some(fault) = self.world.files.remove_refusal(name) {
+            return Err(fault);
+        }
+        let name = String::from_str(self.alloc, name)?;
+        self.change(WorldChange::File(TableChange::Remove(name)))
+    }
+
+    /// Removes a variable. Refusals come in the order `BadName`, `Absent`. A refusal changes nothing; `Memory`
+    /// is answered only where nothing else refuses. (this project's profile)
+    pub fn remove_env(&mut self, name: &str) -> Result<(), WorldFault>
+        ensures ok { OnOk result (RemovesEnv self.old name.now self.new) }
+        ensures answer { IsAnswer (remove_refusal (finite.get self.old.now.env) name.now) result }
+        ensures err { OnErr result (self.new ≡ self.old) }
+    {
+        if let Some(fault) = self.world.env.remove_refusal(name) {
+            return Err(fault);
+        }
+        let name = String::from_str(self.alloc, name)?;
+        self.change(WorldChange::Env(TableChange::Remove(name)))
     }
 
     /// Deletes a value of the innermost layer. Refusals come in the order `BadName`, `Absent` (no layer
