@@ -21,7 +21,7 @@ use Rattle.gk_select.specs.Expansion.{cases}
 use Rattle.gk_select.specs.Choice.{is_chosen}
 use Rattle.gk_steps.specs.Matching.{match_of}
 use Rattle.gk_steps.specs.Finding.{found}
-use Rattle.gk_world.specs.Contents.{nothing_yet}
+use Rattle.gk_world.specs.State.{nothing_yet}
 use Rattle.gk_run.specs.declared.results.Status.TheVariants as statuses
 use Rattle.gk_run.specs.Acting.{act}
 use Rattle.gk_run.specs.Results.{Results}

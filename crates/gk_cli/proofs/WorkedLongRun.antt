@@ -28,7 +28,7 @@ use Rattle.gk_steps.specs.Matching.{match_of}
 use Rattle.gk_steps.specs.Action.{action_row, text_row}
 use Rattle.gk_steps.specs.Finding.{EntryValue, found}
 use Rattle.gk_steps.specs.LibraryFile.{is_ignored, type_of, sides_of, last_arrow, SpellsEntry, SpellEntries, ReadsLibrary}
-use Rattle.gk_world.specs.Contents.{nothing_yet}
+use Rattle.gk_world.specs.State.{nothing_yet}
 use Rattle.gk_run.specs.declared.results.Status.{Status}
 use Rattle.gk_run.specs.declared.results.Status.TheVariants as statuses
 use Rattle.gk_run.specs.declared.results.Reason.TheVariants as reasons

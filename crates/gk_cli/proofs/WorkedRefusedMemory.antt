@@ -10,8 +10,7 @@ use Rattle.gk_select.specs.Expansion.{cases}
 use Rattle.gk_select.specs.Choice.{is_chosen}
 use Rattle.gk_steps.specs.Matching.{match_of}
 use Rattle.gk_steps.specs.Finding.{LibraryValue, found}
-use Rattle.gk_world.specs.Contents.{nothing_yet}
-use Rattle.gk_world.specs.State.{State}
+use Rattle.gk_world.specs.State.{nothing_yet, State}
 use Rattle.gk_run.specs.declared.results.Status.{Status}
 use Rattle.gk_run.specs.declared.results.Status.TheVariants as statuses
 use Rattle.gk_run.specs.declared.results.Reason.TheVariants as reasons

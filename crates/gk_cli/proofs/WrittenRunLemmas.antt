@@ -2,8 +2,7 @@
 use Rattle.std.proofs.Common.{◌≡◌, ℕ, Bool, true, ◌&&◌, List, [], ◌∷◌, ◌++◌, inl, inr, refl, ap, sym, subst, ◌∙◌, append_assoc}
 use Rattle.std.specs.Prelude.{Result, Ok, Err, IfOk, IfErr, OnOk}
 use Rattle.std.proofs.lemmas.List.{append-nil}
-use Rattle.gk_world.specs.Contents.{Contents}
-use Rattle.gk_world.specs.State.{State}
+use Rattle.gk_world.specs.State.{Contents, State}
 use Rattle.gk_run.specs.declared.results.Status.{Status}
 use Rattle.gk_run.specs.Results.{FeatureRow, Results}
 use Rattle.gk_run.specs.Alone.{Run}

@@ -1,7 +1,7 @@
 -- What a whole run may answer and write.
 use Rattle.std.specs.Prelude.{◌≡◌, ◌≢◌, ◌≤◌, ◌+◌, ◌⊎◌, ℕ, false, List, [], length, Option, None}
 use Rattle.std.specs.Io.KnownBytes.{Appends}
-use Rattle.gk_world.specs.Contents.{Contents}
+use Rattle.gk_world.specs.State.{Contents}
 use Rattle.gk_run.specs.Results.{Results}
 use Rattle.gk_run.specs.Alone.{Run}
 use Rattle.gk_run.specs.Judged.{Judged, plain_results, has_memory}

@@ -4,8 +4,7 @@ use Rattle.gk_gherkin.specs.declared.hooks.HookFile.{HookFile}
 use Rattle.gk_gherkin.specs.Hooks.{hooks_value}
 use Rattle.gk_steps.specs.declared.library.Library.{Library}
 use Rattle.gk_steps.specs.Finding.{LibraryValue, library_value}
-use Rattle.gk_world.specs.Contents.{Contents}
-use Rattle.gk_world.specs.State.{State, state_of}
+use Rattle.gk_world.specs.State.{Contents, State, state_of}
 use Rattle.gk_world.specs.Sandbox.{SandboxValue}
 use Rattle.gk_run.specs.declared.chosen.Chosen.{Chosen}
 use Rattle.gk_run.specs.declared.open_run.Suite.{Suite}

@@ -1,7 +1,8 @@
 //! A run whose report is written as its features end.
 ghost use Rattle.std.specs.Prelude.{◌≡◌, ◌<◌, suc, map, IfOk, IfErr, OnOk};
 ghost use Rattle.std.specs.List.{AllByRecursion};
-ghost use Rattle.gk_world.specs.Sandbox.{depth, layers};
+ghost use Rattle.gk_world.specs.Sandbox.{depth};
+ghost use Rattle.gk_world.specs.State.{layers, Contents};
 ghost use Rattle.gk_steps.specs.Finding.{library_value};
 ghost use Rattle.gk_run.specs.Alone.{run_of};
 ghost use Rattle.gk_run.specs.Chosen.{chosen_value, IsPaired};
@@ -12,7 +13,6 @@ ghost use Rattle.gk_cli.specs.Inputs.{inputs_value};
 ghost use Rattle.gk_cli.specs.Suite.{device_of, run_by};
 ghost use Rattle.gk_cli.specs.GrowingReport.{style_of};
 ghost use Rattle.gk_cli.specs.WrittenRun.{RunsNext, EndsRunNext, AreRun, IsDryNext, EndsDryNext, AreWritten, AreWrittenUpTo, IsWhole, IsPart, dry_run_of};
-ghost use Rattle.gk_world.specs.Contents.{Contents};
 
 use crate::arguments::Options;
 use crate::counted::Counted;

@@ -11,10 +11,9 @@ use Rattle.std.proofs.lemmas.List.{append-nil, length-map, drop_all}
 use Rattle.std.proofs.lemmas.Fmt.{length_signed_le}
 use Rattle.std.proofs.lemmas.Cmp.{nat_list_cmp_total}
 use Rattle.std.proofs.lemmas.Map.Text.{is_eq-slice_cmp}
-use Rattle.gk_world.specs.declared.world_fault.WorldFault.{WorldFault}
-use Rattle.gk_world.specs.declared.world_fault.WorldFault.TheVariants as faults
-use Rattle.gk_world.specs.Contents.{Texts, Contents}
-use Rattle.gk_world.specs.State.{State, Map, with_text, without, laid, see, state_of}
+use Rattle.gk_world.specs.declared.refusals.WorldFault.{WorldFault}
+use Rattle.gk_world.specs.declared.refusals.WorldFault.TheVariants as faults
+use Rattle.gk_world.specs.State.{Texts, Contents, State, Map, with_text, without, laid, see, state_of}
 use Rattle.gk_world.specs.Refusals.{first_true, IsAnswer, IsFault, joined, is_bad_name, is_too_long}
 use Rattle.gk_world.specs.Sandbox as changes
 use Rattle.gk_world.specs.Sandbox.{SandboxValue, Becomes}

@@ -1,8 +1,7 @@
 -- The results of a dry run are judged.
 use Rattle.std.proofs.Common.{Bool, List, [], ap, cond, refl, sym, ◌++◌, ◌∙◌, ◌∷◌, ◌≡◌}
 use Rattle.gk_steps.specs.Finding.{LibraryValue}
-use Rattle.gk_world.specs.Contents.{Contents}
-use Rattle.gk_world.specs.State.{state_of}
+use Rattle.gk_world.specs.State.{Contents, state_of}
 use Rattle.gk_run.specs.declared.results.Status.TheVariants as statuses
 use Rattle.gk_run.specs.Alone.{Run}
 use Rattle.gk_run.specs.Chosen.{ChosenValue}

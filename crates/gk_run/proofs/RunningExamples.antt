@@ -15,8 +15,7 @@ use Rattle.gk_steps.specs.declared.pattern.FieldKind.TheVariants.{Plain, Decimal
 use Rattle.gk_steps.specs.Pattern.{PieceValue, FieldPiece, Literal}
 use Rattle.gk_steps.specs.Matching.{match_of}
 use Rattle.gk_steps.specs.Finding.{EntryValue, LibraryValue, found, found_any}
-use Rattle.gk_world.specs.Contents.{Contents}
-use Rattle.gk_world.specs.State.{State, nothing}
+use Rattle.gk_world.specs.State.{Contents, State, nothing}
 use Rattle.gk_run.specs.declared.results.Status.{Status}
 use Rattle.gk_run.specs.declared.results.Status.TheVariants.{Passed, Failed, Skipped, Undefined, Untested, Memory}
 use Rattle.gk_run.specs.declared.results.Reason.{Reason}

@@ -11,8 +11,8 @@ use Rattle.gk_gherkin.specs.declared.feature.Block.{Block}
 use Rattle.gk_steps.specs.declared.finding.Found.{Found}
 use Rattle.gk_steps.specs.declared.library.Library.{Library}
 use Rattle.gk_steps.specs.Finding.{LibraryValue, FoundValue, library_value, found_value, action_of, text_field, number_field, found_any, HasCandidate}
-use Rattle.gk_world.specs.declared.world_fault.WorldFault.{WorldFault}
-use Rattle.gk_world.specs.declared.world_fault.WorldFault.TheVariants as faults
+use Rattle.gk_world.specs.declared.refusals.WorldFault.{WorldFault}
+use Rattle.gk_world.specs.declared.refusals.WorldFault.TheVariants as faults
 use Rattle.gk_world.specs.State.{State, with_text, without, see, state_of}
 use Rattle.gk_world.specs.Refusals.{first_true, is_bad_name, is_too_long, joined}
 use Rattle.gk_world.specs.Sandbox.{SandboxValue}

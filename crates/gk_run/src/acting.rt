@@ -4,7 +4,6 @@ ghost use Rattle.gk_gherkin.specs.Feature.{block_value};
 ghost use Rattle.gk_steps.specs.Finding.{library_value, found_value, found_any, text_field};
 ghost use Rattle.gk_world.specs.State.{State, state_of};
 ghost use Rattle.gk_world.specs.Sandbox.{depth};
-ghost use Rattle.gk_world.specs.Refusals as refusals;
 ghost use Rattle.gk_run.specs.Cleanups.{cleanups_value};
 ghost use Rattle.gk_run.specs.Acting as words;
 ghost use Rattle.gk_run.specs.Acting.{given, given_value, table, carried_out_of, registers, act_of, Performs, changes_nothing, may_skip, may_register, IsDone, IsExactly, IsExact, HasRegistered, KeepsLayers, IsHeld, IsNotHeld, IsText, HasText, NeedsCandidate, CleanupNeedsCandidate};
@@ -23,7 +22,7 @@ use file_actions::{
 };
 use gk_gherkin::Block;
 use gk_steps::{Action, Found, Library};
-use gk_world::{LONGEST_NAME, Sandbox, WorldFault};
+use gk_world::{Sandbox, WorldFault};
 use number_actions::{add_number, number_is, set_number};
 use std::alloc::{AllocError, Global};
 use value_actions::{delete_value, set_value, value_absent, value_is};
@@ -71,13 +70,6 @@ fn outcome_of(answer: Result<(), WorldFault>) -> Outcome
         Err(WorldFault::OtherLayer) => Outcome::Failed(Reason::OtherLayer),
         Err(WorldFault::Memory) => Outcome::Memory,
     }
-}
-
-// A name without a byte, or with too many.
-fn is_bad_name(name: &str) -> bool
-    ensures { result ≡ refusals.is_bad_name name.now }
-{
-    name.is_empty() || name.len() > LONGEST_NAME
 }
 
 // Whether something is held.

@@ -2,8 +2,8 @@
 ghost use Rattle.std.specs.Prelude.{◌≡◌, ◌<◌, Bool, true, ◌&&◌, ◌||◌, suc, map, IfOk};
 ghost use Rattle.std.specs.List.{list_any};
 ghost use Rattle.gk_gherkin.specs.Feature.{texts};
-ghost use Rattle.gk_world.specs.State.{State, state_of, enter};
-ghost use Rattle.gk_world.specs.Sandbox.{depth, layers};
+ghost use Rattle.gk_world.specs.State.{State, state_of, enter, layers};
+ghost use Rattle.gk_world.specs.Sandbox.{depth};
 ghost use Rattle.gk_run.specs.Acting.{KeepsLayers};
 ghost use Rattle.gk_run.specs.Ending as endings;
 ghost use Rattle.gk_run.specs.Results as rows;

@@ -1,7 +1,7 @@
 //! A run that was begun and isn't finished.
 ghost use Rattle.std.specs.Prelude.{◌≡◌, ◌<◌, ◌&&◌, Bool, suc, [], IfOk, OnErr};
-ghost use Rattle.gk_world.specs.State.{State, state_of};
-ghost use Rattle.gk_world.specs.Sandbox.{depth, layers, Ends};
+ghost use Rattle.gk_world.specs.State.{State, state_of, layers};
+ghost use Rattle.gk_world.specs.Sandbox.{depth, Ends};
 ghost use Rattle.gk_gherkin.specs.Hooks.{hooks_value};
 ghost use Rattle.gk_steps.specs.Finding.{library_value};
 ghost use Rattle.gk_run.specs.Cleanups.{cleanups_value};

@@ -2,8 +2,8 @@
 ghost use Rattle.std.specs.Prelude.{◌≡◌, ◌<◌, map, IfOk, false};
 ghost use Rattle.gk_gherkin.specs.Feature.{step_value};
 ghost use Rattle.gk_select.specs.Case.{case_value};
-ghost use Rattle.gk_world.specs.State.{State, state_of, enter};
-ghost use Rattle.gk_world.specs.Sandbox.{depth, layers};
+ghost use Rattle.gk_world.specs.State.{State, state_of, enter, layers};
+ghost use Rattle.gk_world.specs.Sandbox.{depth};
 ghost use Rattle.gk_run.specs.Acting.{KeepsLayers};
 ghost use Rattle.gk_run.specs.Results.{step_row, case_row};
 ghost use Rattle.gk_run.specs.Alone.{run_of, told_row, row_of_step};

@@ -1,5 +1,6 @@
 ghost use Rattle.std.specs.Prelude.{◌≡◌, ◌<◌, ◌+◌};
-ghost use Rattle.gk_world.specs.Sandbox.{depth, layers};
+ghost use Rattle.gk_world.specs.Sandbox.{depth};
+ghost use Rattle.gk_world.specs.State.{layers};
 
 use gk_world::{Listing, Sandbox, WorldFault};
 use std::alloc::{AllocError, Global};

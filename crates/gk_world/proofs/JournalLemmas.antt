@@ -62,6 +62,18 @@ module _ {U S : Type 0} (undone : U → S → S) where
         older = sym (ap (take m) e' ∙ take-append-le m after (u ∷ []) le);
       }
 
+  -- what holds at each turn of a rewind
+  pub record IsRewinding (fits : U → S → Type 0) (start : List U) (from : S) (m : ℕ) (now : List U) (s : S) : Type 0 where
+    pub within : m ≤ length now
+    pub older : take m now ≡ take m start
+    pub fit : FitAll undone fits (drop m now) s
+    pub same : rewound undone (drop m now) s ≡ rewound undone (drop m start) from
+
+  pub rewound_on : (fits : U → S → Type 0) (start : List U) (from : S) (m : ℕ) (before after : List U) (o : Option U) (u : U) (s t : S) → IsRewinding fits start from m before s → before ≡ after ++ option_to_list o → o ≡ Some u → m < length before → t ≡ undone u s → IsRewinding fits start from m after t
+  rewound_on fits start from m before after o u s t h e is lt back =
+      let p = popped fits before after o u m s e is lt h.fit in
+      subst (IsRewinding fits start from m after) (sym back) (record { within = p.within; older = p.older ∙ h.older; fit = p.fit; same = p.same ∙ h.same })
+
   pub rewound-append : (us vs : List U) (s : S) → rewound undone (us ++ vs) s ≡ rewound undone us (rewound undone vs s)
   rewound-append [] vs s = refl
   rewound-append (u ∷ us) vs s = ap (undone u) (rewound-append us vs s)

@@ -1,6 +1,6 @@
-pub mod KeptLemmas
+pub mod SandboxLemmas
 pub mod ListingLemmas
-pub mod RewindLemmas
+pub mod ReversibleLemmas
 pub mod JournalLemmas
 pub mod RowsLemmas
 pub mod RemovedLemmas
@@ -8,4 +8,4 @@ pub mod SlotsLemmas
 pub mod UndoLemmas
 pub mod WorldLemmas
 pub mod StateLemmas
-pub mod SandboxLemmas
+pub mod SandboxLaws

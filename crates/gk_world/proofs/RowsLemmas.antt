@@ -1,13 +1,13 @@
 -- The entries of an index map as slots.
-use Rattle.std.proofs.Common.{◌≡◌, ℕ, zero, suc, ◌<◌, Bool, true, false, cond, List, [], ◌∷◌, ◌++◌, get_or, set, length, Option, None, Some, is_some, MatchOption, String, string_bytes, position, slice_get, bytes_eq, refl, sym, ap, ◌∙◌, subst, true≢false, arith}
+use Rattle.std.proofs.Common.{◌≡◌, ℕ, zero, suc, ◌+◌, ◌<◌, Bool, true, false, cond, List, [], ◌∷◌, ◌++◌, get_or, set, length, take, option_to_list, Option, None, Some, is_some, IsSome, MatchOption, String, string_bytes, position, slice_get, bytes_eq, string_eq, refl, sym, ap, ◌∙◌, subst, true≢false, arith, length-append}
 use Rattle.std.proofs.lemmas.List.Quantifiers.{position-Some}
 use Rattle.std.specs.Global.{Global}
 use Rattle.std.specs.Map.{lookup, keys_of, values_of}
-use Rattle.indexmap.specs.IndexMap.{set_value_at}
-use Rattle.gk_world.specs.Cells.{Slot, Cell}
-use Rattle.gk_world.specs.Slots.{cells_of, name_at, with_cells, with_cell, IsPlace, IsMissing, IsAt, IsNew}
-use Rattle.gk_world.specs.Slots.{seen, slots_of}
-use Rattle.gk_world.proofs.SlotsLemmas.{place_is}
+use Rattle.indexmap.specs.IndexMap.{IndexMap, set_value_at, insert_entry}
+use Rattle.indexmap.proofs.CallerLemmas.{insert_entry-new}
+use Rattle.gk_world.specs.Cells.{Slot, Cell, cell_at}
+use Rattle.gk_world.specs.Slots.{Writes, HasCell, cells_of, name_at, with_cells, with_cell, IsPlace, IsMissing, IsAt, IsNew, NamesDiffer, seen, slots_of}
+use Rattle.gk_world.proofs.SlotsLemmas.{place_is, writes, has_cell, cell-back, differ-with_cells, differ-front, push-back}
 
 -- whether a key is this name
 abbrev pub is_name : List ℕ → String Global → Bool
@@ -87,22 +87,60 @@ module _ {C : Type 0} (cells : C → List Cell) where
   no-name-at-place es s i is at = no-name es i at ∙ ap (λ s. name_at s i) is
 
   -- a write of one cell of the row at i
-  pub row-write : (es : List (String Global × C)) (s : List Slot) (i j : ℕ) (x new : C) (c : Cell) → slots_of cells es ≡ s → slice_get (values_of es) i ≡ Some x → cells new ≡ set (cells x) j c → slots_of cells (set_value_at es i new) ≡ with_cell s i j c
+  row-write : (es : List (String Global × C)) (s : List Slot) (i j : ℕ) (x new : C) (c : Cell) → slots_of cells es ≡ s → slice_get (values_of es) i ≡ Some x → cells new ≡ set (cells x) j c → slots_of cells (set_value_at es i new) ≡ with_cell s i j c
   row-write es s i j x new c is at e =
       rows-set es i new
       ∙ ap (with_cells (slots_of cells es) i) (e ∙ ap (λ l. set l j c) (cells-at-place es s i x is at))
       ∙ ap (λ t. with_cells t i (set (cells_of s i) j c)) is
+
+  -- what a write of one cell of the row at i makes of slots, and what its undo makes of these
+  pub record IsWritten (width : ℕ) (s t : List Slot) (i j : ℕ) (c old : Cell) : Type 0 where
+    pub set_to : t ≡ with_cell s i j c
+    pub on_maps : (name : List ℕ) → IsPlace name s i → Writes name j c s t
+    pub has : HasCell width t i j
+    pub back : with_cell t i j old ≡ s
+
+  pub written : (width : ℕ) (es : List (String Global × C)) (s : List Slot) (i j : ℕ) (x new : C) (c old : Cell) → slots_of cells es ≡ s → i < length s → j < width → slice_get (values_of es) i ≡ Some x → j < length (cells x) → cells new ≡ set (cells x) j c → old ≡ cell_at j (cells x) → IsWritten width s (slots_of cells (set_value_at es i new)) i j c old
+  written width es s i j x new c old is there allowed at within e was =
+      let t = slots_of cells (set_value_at es i new) in
+      let row : cells x ≡ cells_of s i = cells-at-place es s i x is at in
+      let same : t ≡ with_cell s i j c = row-write es s i j x new c is at e in
+      let here : j < length (cells_of s i) = subst (λ l. j < length l) row within in
+      record {
+        set_to = same;
+        on_maps = λ name found. writes name s t i j c same found here;
+        has = has_cell width s t i j c same there here allowed;
+        back = cell-back s t i j c old same there (was ∙ ap (cell_at j) row);
+      }
+
+  pub differ-written : (es : List (String Global × C)) (i : ℕ) (new : C) → NamesDiffer (slots_of cells es) → NamesDiffer (slots_of cells (set_value_at es i new))
+  differ-written es i new d = subst NamesDiffer (sym (rows-set es i new)) (differ-with_cells (slots_of cells es) i (cells new) d)
 
   slots_of-append : (es fs : List (String Global × C)) → slots_of cells (es ++ fs) ≡ slots_of cells es ++ slots_of cells fs
   slots_of-append [] fs = refl
   slots_of-append (e ∷ es) fs = ap (λ l. seen cells e ∷ l) (slots_of-append es fs)
 
   -- a row that is added
-  pub pushed : (es fs : List (String Global × C)) (s : List Slot) (k : String Global) (new : C) → slots_of cells es ≡ s → IsMissing (string_bytes k) s → (lookup (is_name (string_bytes k)) es ≡ None → fs ≡ es ++ (k, new) ∷ []) → slots_of cells fs ≡ s ++ (string_bytes k, cells new) ∷ []
+  pushed : (es fs : List (String Global × C)) (s : List Slot) (k : String Global) (new : C) → slots_of cells es ≡ s → IsMissing (string_bytes k) s → (lookup (is_name (string_bytes k)) es ≡ None → fs ≡ es ++ (k, new) ∷ []) → slots_of cells fs ≡ s ++ (string_bytes k, cells new) ∷ []
   pushed es fs s k new e miss h =
       let none = lookup-missing (string_bytes k) es (subst (IsMissing (string_bytes k)) (sym e) miss) in
       ap (slots_of cells) (h none) ∙ slots_of-append es ((k, new) ∷ []) ∙ ap (λ l. l ++ (string_bytes k, cells new) ∷ []) e
 
+  -- a row that an index map inserts
+  pub inserted : {S : Type 0} (m : IndexMap (String Global) C S) (fs : List (String Global × C)) (s : List Slot) (k : String Global) (new : C) → slots_of cells m.entries ≡ s → IsMissing (string_bytes k) s → fs ≡ insert_entry string_eq m.entries k new → slots_of cells fs ≡ s ++ (string_bytes k, cells new) ∷ []
+  inserted m fs s k new e miss is = pushed m.entries fs s k new e miss (λ none. is ∙ insert_entry-new string_eq m k new none)
+
   pub length-slots_of : (es : List (String Global × C)) → length (slots_of cells es) ≡ length es
   length-slots_of [] = refl
   length-slots_of (e ∷ es) = ap suc (length-slots_of es)
+
+  -- what is left where the last row is taken off
+  pub differ-popped : (es fs : List (String Global × C)) (o : Option (String Global × C)) → es ≡ fs ++ option_to_list o → NamesDiffer (slots_of cells es) → NamesDiffer (slots_of cells fs)
+  differ-popped es fs o e d = differ-front (slots_of cells fs) (slots_of cells (option_to_list o)) (subst NamesDiffer (ap (slots_of cells) e ∙ slots_of-append fs (option_to_list o)) d)
+
+  -- the rows before the last, where it is taken off
+  pub popped : (es fs : List (String Global × C)) (o : Option (String Global × C)) (s : List Slot) (place : ℕ) → slots_of cells es ≡ s → es ≡ fs ++ option_to_list o → length s ≡ place + 1 → (0 < length es → IsSome o) → take place s ≡ slots_of cells fs
+  popped es fs None s place view e last found = absurd (true≢false (sym (found (omega (arith, last, ap length view, length-slots_of es)))))
+  popped es fs (Some r) s place view e last found =
+      let more : s ≡ slots_of cells fs ++ seen cells r ∷ [] = sym view ∙ ap (slots_of cells) e ∙ slots_of-append fs (r ∷ []) in
+      push-back (slots_of cells fs) s (seen cells r) place more (omega (arith, last, ap length more, length-append (slots_of cells fs) (seen cells r ∷ [])))

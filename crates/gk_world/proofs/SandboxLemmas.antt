@@ -1,51 +1,262 @@
--- What changes and ended layers leave of the layers further out, and what changes are to the plain state.
-use Rattle.std.proofs.Common.{◌≡◌, ℕ, ◌<◌, List, [], ◌∷◌, length, get_or, refl, sym, ap, ◌∙◌, arith}
-use Rattle.std.specs.FinMap as finite
-use Rattle.gk_world.specs.Contents.{Texts, Contents}
-use Rattle.gk_world.specs.State.{with_text, without, laid, own_of, outer_of, state_of}
-use Rattle.gk_world.specs.Sandbox.{SandboxValue, Works, done, change, layer, LayersGiveBack, ChangesAreOfState, with_value, without_value}
-use Rattle.gk_world.proofs.StateLemmas.{inserted, removed}
+-- How a sandbox keeps what is seen of it.
+use Rattle.std.proofs.Common.{◌≡◌, ◌≢◌, ◌⊎◌, inl, inr, ℕ, zero, suc, ◌+◌, ◌-◌, ◌<◌, ◌≤◌, None, Result, Ok, Err, OnOk, OnErr, IfErr, List, [], ◌∷◌, ◌++◌, length, drop, take, set, get_or, get_or-set_other, get_or-set_same, refl, sym, ap, subst, ◌∙◌, arith}
+use Rattle.std.proofs.lemmas.List.{length-take-le, length-append, take-append-drop}
+use Rattle.std.proofs.Math.Seq.{drop-length}
+use Rattle.gk_world.specs.Journal.{rewound, FitAll, StaysFit}
+use Rattle.gk_world.proofs.UndoLemmas.{length-layers_of}
+use Rattle.gk_world.proofs.JournalLemmas.{FitAll-drop}
+use Rattle.gk_world.specs.declared.refusals.WorldFault.{WorldFault}
+use Rattle.gk_world.specs.declared.refusals.WorldFault.TheVariants.{Memory}
+use Rattle.gk_world.specs.declared.world.World.{World}
+use Rattle.gk_world.specs.declared.world.WorldUndo.{WorldUndo}
+use Rattle.gk_world.specs.declared.world.WorldChange.{WorldChange}
+use Rattle.gk_world.specs.Slots.{map_at, layers_of}
+use Rattle.gk_world.specs.Refusals.{IsFault, IsAnswer, delete_refusal}
+use Rattle.gk_world.specs.State.{state_of, layers}
+use Rattle.gk_world.specs.Values.{state_at, IsLayer}
+use Rattle.gk_world.specs.World.{contents_of, Fits, undone, Steps, Refuses, CanApply, IsHere, changed, refusal, IsClear, NamesDiffer}
+use Rattle.gk_world.proofs.WorldLemmas.{contents_changed, contents_allow, contents_refuse, clear_still, here_applies}
+use Rattle.gk_world.specs.Sandbox.{SandboxValue, depth, begun, Ends, EndsByUndos, Becomes, Records, seen_undo, seen_undos, open_marks, saved_of, value_of, AreMarks, IsSound}
+use Rattle.gk_world.proofs.ReversibleLemmas.{contents_undone, contents_rewound, AllKept, all_kept, kept_back, seen_kept, seen_undos-append}
 
-abbrev rest_of : {A : Type 0} → List A → List A
-rest_of [] = []
-rest_of (x ∷ xs) = xs
+-- ---- lengths
+pub length-open_marks : (d : ℕ) (marks : List ℕ) → length (open_marks d marks) ≡ d
+length-open_marks zero marks = refl
+length-open_marks (suc d) marks = ap suc (length-open_marks d marks)
 
--- changes and ended layers leave what the ends of the open layers give
-kept : {s t : SandboxValue} → Works s t → (t.saved ≡ s.saved) × (t.marks ≡ s.marks)
-kept done = (refl, refl)
-kept (change b w) = let r = kept w in (r.0 ∙ b.layers, r.1 ∙ b.marks)
-kept (layer w e v) =
-    let inner = kept w in
-    let after = kept v in
-    (after.0 ∙ ap rest_of (sym e.given_back ∙ inner.0), after.1 ∙ ap rest_of (sym e.forgotten ∙ inner.1))
+length-saved_of : (ms : List ℕ) (us : List WorldUndo) (w : World) → length (saved_of ms us w) ≡ length ms
+length-saved_of [] us w = refl
+length-saved_of (m ∷ ms) us w = ap suc (length-saved_of ms us w)
 
-pub give_back : LayersGiveBack
-give_back s t u w e =
-    let inner = kept w in
-    let saved : u.now ∷ u.saved ≡ s.now ∷ s.saved = sym e.given_back ∙ inner.0 in
-    let marks : length u.entries ∷ u.marks ≡ length s.entries ∷ s.marks = sym e.forgotten ∙ inner.1 in
-    record {
-      contents = ap (λ l. get_or l 0 s.now) saved;
-      layers = ap rest_of saved;
-      marks = ap rest_of marks;
-      recorded = ap (λ l. get_or l 0 0) marks;
+length-seen_undos : (w : World) (us : List WorldUndo) → length (seen_undos w us) ≡ length us
+length-seen_undos w [] = refl
+length-seen_undos w (u ∷ us) = ap suc (length-seen_undos w us)
+
+-- the depth and the number of entries, from what is seen
+marks_are : (w : World) (us : List WorldUndo) (ms : List ℕ) (v : SandboxValue) → value_of w us ms ≡ v → depth v ≡ length ms
+marks_are w us ms v is = sym (ap depth is) ∙ length-saved_of ms us w
+
+pub depth_is : (w : World) (us : List WorldUndo) (d : ℕ) (marks : List ℕ) (v : SandboxValue) → value_of w us (open_marks d marks) ≡ v → d ≡ depth v
+depth_is w us d marks v is = sym (length-open_marks d marks) ∙ sym (marks_are w us (open_marks d marks) v is)
+
+pub recorded_is : (w : World) (us : List WorldUndo) (ms : List ℕ) (v : SandboxValue) → value_of w us ms ≡ v → length us ≡ length v.entries
+recorded_is w us ms v is = sym (length-seen_undos w us) ∙ ap (λ (v : SandboxValue). length v.entries) is
+
+-- ---- what rewinding to each mark gives
+abbrev pub Same : ℕ → List WorldUndo → List WorldUndo → World → World → Type 0
+Same n us vs w t = (m : ℕ) → m ≤ n → rewound undone (drop m vs) t ≡ rewound undone (drop m us) w
+
+saved_of-same : (ms : List ℕ) (n : ℕ) (us vs : List WorldUndo) (w t : World) → AreMarks ms n us w → Same n us vs w t → saved_of ms vs t ≡ saved_of ms us w
+saved_of-same [] n us vs w t h same = refl
+saved_of-same (m ∷ ms) n us vs w t h same = λ i. contents_of (length ms) (same m h.0 i) ∷ saved_of-same ms m us vs w t h.2 (λ k le. same k (omega (arith, h.0))) i
+
+marks-same : (ms : List ℕ) (n : ℕ) (us vs : List WorldUndo) (w t : World) → AreMarks ms n us w → Same n us vs w t → AreMarks ms n vs t
+marks-same [] n us vs w t h same = h
+marks-same (m ∷ ms) n us vs w t h same = (h.0, subst (IsClear (length ms)) (sym (same m h.0)) h.1, marks-same ms m us vs w t h.2 (λ k le. same k (omega (arith, h.0))))
+
+marks-more : (ms : List ℕ) (n k : ℕ) (us : List WorldUndo) (w : World) → 0 < length ms → n ≤ k → AreMarks ms n us w → AreMarks ms k us w
+marks-more [] n k us w lt le h = absurd (omega arith)
+marks-more (m ∷ ms) n k us w lt le h = (omega (arith, h.0), h.1, h.2)
+
+-- ---- a layer begins
+open_marks-set : (d i : ℕ) (marks : List ℕ) (n : ℕ) → d ≤ i → open_marks d (set marks i n) ≡ open_marks d marks
+open_marks-set zero i marks n le = refl
+open_marks-set (suc d) i marks n le =
+    let ne : d ≢ i = omega arith in
+    λ k. get_or-set_other marks i d n 0 ne k ∷ open_marks-set d i marks n (omega arith) k
+
+marked : (d : ℕ) (marks : List ℕ) (n : ℕ) → d < length marks → open_marks (d + 1) (set marks d n) ≡ n ∷ open_marks d marks
+marked d marks n lt =
+    let one : d + 1 ≡ suc d = omega arith in
+    ap (λ d'. open_marks d' (set marks d n)) one ∙ (λ k. get_or-set_same marks d n 0 lt k ∷ open_marks-set d d marks n (omega arith) k)
+
+module _ (w : World) (us : List WorldUndo) (ms : List ℕ) (h : IsSound w us ms) where
+  nothing_since : rewound undone (drop (length us) us) w ≡ w
+  nothing_since = ap (λ us. rewound undone us w) (drop-length us)
+
+  sound_inside : length ms < layers → IsSound w us (length us ∷ ms)
+  sound_inside lt = record {
+    room = omega arith;
+    clear = λ k le. h.clear k (omega arith);
+    ordered = (omega arith, subst (IsClear (length ms)) (sym nothing_since) h.clear, h.ordered);
+    fit = h.fit;
+  }
+
+  value_inside : value_of w us (length us ∷ ms) ≡ begun (value_of w us ms)
+  value_inside = λ i. record {
+    now = record { files = map_at 0 w.files; env = map_at 0 w.env; values = h.clear (length ms) (omega arith) i ∷ layers_of (length ms) w.values };
+    saved = contents_of (length ms) (nothing_since i) ∷ saved_of ms us w;
+    entries = seen_undos w us;
+    marks = sym (length-seen_undos w us) i ∷ ms;
+  }
+
+module _ (w : World) (us : List WorldUndo) (d n : ℕ) (marks : List ℕ) (v : SandboxValue) (is : value_of w us (open_marks d marks) ≡ v) (few : depth v < layers) (room : length marks ≡ layers) (all : n ≡ length us) (h : IsSound w us (open_marks d marks)) where
+  begun_marks : open_marks (d + 1) (set marks d n) ≡ length us ∷ open_marks d marks
+  begun_marks = marked d marks n (omega (arith, depth_is w us d marks v is)) ∙ ap (λ n. n ∷ open_marks d marks) all
+
+  pub begun_sound : IsSound w us (open_marks (d + 1) (set marks d n))
+  begun_sound = subst (IsSound w us) (sym begun_marks) (sound_inside w us (open_marks d marks) h (omega (arith, length-open_marks d marks, depth_is w us d marks v is)))
+
+  pub begun_value : value_of w us (open_marks (d + 1) (set marks d n)) ≡ begun v
+  begun_value = ap (value_of w us) begun_marks ∙ value_inside w us (open_marks d marks) h ∙ ap begun is
+
+-- ---- a layer ends
+module _ (w : World) (us : List WorldUndo) (m : ℕ) (ms : List ℕ) (h : IsSound w us (m ∷ ms)) (t : World) (vs : List WorldUndo)
+    (back : t ≡ rewound undone (drop m us) w) (left : vs ≡ take m us) (same : Same m us vs w t)
+    (older : (k : ℕ) → k ≤ m → FitAll undone Fits (drop k us) w → FitAll undone Fits (drop k vs) t) where
+  left_are : length vs ≡ m
+  left_are = ap length left ∙ length-take-le m us h.ordered.0
+
+  sound_outside : IsSound t vs ms
+  sound_outside = record {
+    room = omega (arith, h.room);
+    clear = subst (IsClear (length ms)) (sym back) h.ordered.1;
+    ordered = subst (λ n. AreMarks ms n vs t) (sym left_are) (marks-same ms m us vs w t h.ordered.2 same);
+    fit = older 0 (omega arith) h.fit;
+  }
+
+  ends_outside : Ends (value_of w us (m ∷ ms)) (value_of t vs ms)
+  ends_outside = record {
+    given_back = λ i. contents_of (length ms) (sym back i) ∷ sym (saved_of-same ms m us vs w t h.ordered.2 same) i;
+    forgotten = λ i. (sym left_are ∙ sym (length-seen_undos t vs)) i ∷ ms;
+  }
+
+  -- the undos since the mark give back the contents, with an empty map for the layer
+  undone_outside : NamesDiffer w → EndsByUndos (value_of w us (m ∷ ms)) (value_of t vs ms)
+  undone_outside names =
+      let d : ℕ = length (m ∷ ms) in
+      record {
+        since = seen_undos w (drop m us);
+        older =
+            ap (seen_undos w) (sym (take-append-drop m us) ∙ ap (λ l. l ++ drop m us) (sym left))
+            ∙ seen_undos-append w vs (drop m us)
+            ∙ ap (λ l. l ++ seen_undos w (drop m us)) (sym (seen_kept vs t w (subst (λ t. AllKept t w) (sym back) (all_kept (drop m us) w)) sound_outside.fit));
+        given_back =
+            sym (contents_rewound d (drop m us) w names (FitAll-drop undone Fits m us w h.fit))
+            ∙ ap (contents_of d) (sym back)
+            ∙ (λ i. record { files = map_at 0 t.files; env = map_at 0 t.env; values = sound_outside.clear (length ms) (omega arith) i ∷ layers_of (length ms) t.values });
+      }
+
+-- what is known of the innermost mark
+module _ (w : World) (us : List WorldUndo) (d number : ℕ) (marks : List ℕ) (v : SandboxValue) (is : value_of w us (open_marks d marks) ≡ v) (innermost : number ≡ depth v) (above : 0 < number) (h : IsSound w us (open_marks d marks)) where
+  outer_is : d ≡ suc (number - 1)
+  outer_is = omega (arith, depth_is w us d marks v is)
+
+  sound_here : IsSound w us (get_or marks (number - 1) 0 ∷ open_marks (number - 1) marks)
+  sound_here = subst (λ d. IsSound w us (open_marks d marks)) outer_is h
+
+  pub mark_within : get_or marks (number - 1) 0 ≤ length us
+  mark_within = sound_here.ordered.0
+
+  pub fit_since : FitAll undone Fits (drop (get_or marks (number - 1) 0) us) w
+  fit_since = FitAll-drop undone Fits (get_or marks (number - 1) 0) us w h.fit
+
+  module _ (t : World) (vs : List WorldUndo)
+      (back : t ≡ rewound undone (drop (get_or marks (number - 1) 0) us) w) (left : vs ≡ take (get_or marks (number - 1) 0) us)
+      (same : Same (get_or marks (number - 1) 0) us vs w t)
+      (older : (k : ℕ) → k ≤ get_or marks (number - 1) 0 → FitAll undone Fits (drop k us) w → FitAll undone Fits (drop k vs) t) where
+    pub ended_sound : IsSound t vs (open_marks (number - 1) marks)
+    ended_sound = sound_outside w us _ _ sound_here t vs back left same older
+
+    pub ended : Ends v (value_of t vs (open_marks (number - 1) marks))
+    ended = subst (λ v. Ends v (value_of t vs (open_marks (number - 1) marks))) (ap (λ d. value_of w us (open_marks d marks)) (sym outer_is) ∙ is) (ends_outside w us _ _ sound_here t vs back left same older)
+
+    pub ended_undone : NamesDiffer w → EndsByUndos v (value_of t vs (open_marks (number - 1) marks))
+    ended_undone names = subst (λ v. EndsByUndos v (value_of t vs (open_marks (number - 1) marks))) (ap (λ d. value_of w us (open_marks d marks)) (sym outer_is) ∙ is) (undone_outside w us _ _ sound_here t vs back left same older names)
+
+-- ---- what is recorded
+records : (d : ℕ) (ms : List ℕ) (us vs : List WorldUndo) (w t : World) (u : WorldUndo) → vs ≡ us ++ u ∷ [] → FitAll undone Fits us w → Fits u t → undone u t ≡ w → NamesDiffer t → d ≡ length ms → 0 < length ms → Records (saved_of ms us w) (value_of w us ms) (value_of t vs ms)
+records d [] us vs w t u e fit fits back names is lt = absurd (omega arith)
+records d (m ∷ ms) us vs w t u e fit fits back names is lt = (
+  seen_undo t u,
+  ap (seen_undos t) e ∙ seen_undos-append t us (u ∷ []) ∙ ap (λ l. l ++ seen_undo t u ∷ []) (sym (seen_kept us w t (kept_back u t w back) fit)),
+  sym (contents_undone (length (m ∷ ms)) u t names fits) ∙ ap (contents_of (length (m ∷ ms))) back,
+)
+
+records_none : (ms : List ℕ) (us vs : List WorldUndo) (w t : World) → vs ≡ us → AreMarks ms (length us) us w → length ms ≡ 0 → Records (saved_of ms us w) (value_of w us ms) (value_of t vs ms)
+records_none [] [] vs w t e h z = ap (seen_undos t) e
+records_none [] (u ∷ us) vs w t e h z = absurd (omega (arith, h))
+records_none (m ∷ ms) us vs w t e h z = absurd (omega arith)
+
+-- ---- changes
+module _ (c : WorldChange) (w : World) (us : List WorldUndo) (ms : List ℕ) (v : SandboxValue) (is : value_of w us ms ≡ v) (here : IsHere c (depth v)) (h : IsSound w us ms) where
+  here_now : IsHere c (length ms)
+  here_now = subst (IsHere c) (marks_are w us ms v is) here
+
+  pub applies : CanApply c
+  applies = here_applies c (length ms) here_now h.room
+
+  pub refuses : (e : WorldFault) → Refuses c w e → IsFault (refusal c v.now) e
+  refuses e r = subst (λ (v : SandboxValue). IsFault (refusal c v.now) e) is (contents_refuse c (length ms) w e here_now r)
+
+  pub may_be : refusal c v.now ≡ None → (e : WorldFault) → (e ≡ Memory) ⊎ Refuses c w e → IsFault (refusal c v.now) e
+  may_be none e (inl m) = subst (IsFault (refusal c v.now)) (sym m) none
+  may_be none e (inr r) = refuses e r
+
+  pub allows : (t : World) → Steps c w t → refusal c v.now ≡ None
+  allows t s = subst (λ (v : SandboxValue). refusal c v.now ≡ None) is (contents_allow c (length ms) w t here_now s)
+
+  module _ (t : World) (vs : List WorldUndo) (s : Steps c w t) (same : Same (length us) us vs w t) where
+    becomes : Records (saved_of ms us w) (value_of w us ms) (value_of t vs ms) → Becomes (changed c v.now) v (value_of t vs ms)
+    becomes more = subst (λ (v : SandboxValue). Becomes (changed c v.now) v (value_of t vs ms)) is (record {
+      contents = contents_changed c (length ms) w t here_now s;
+      layers = saved_of-same ms (length us) us vs w t h.ordered same;
+      marks = refl;
+      recorded = more;
+    })
+
+    pub becomes_recorded : (u : WorldUndo) → vs ≡ us ++ u ∷ [] → Fits u t → undone u t ≡ w → NamesDiffer t → 0 < length ms → Becomes (changed c v.now) v (value_of t vs ms)
+    becomes_recorded u e fits back names lt = becomes (records (length ms) ms us vs w t u e h.fit fits back names refl lt)
+
+    pub becomes_unrecorded : vs ≡ us → length ms ≡ 0 → Becomes (changed c v.now) v (value_of t vs ms)
+    becomes_unrecorded e z = becomes (records_none ms us vs w t e h.ordered z)
+
+    pub sound_still : (u : WorldUndo) → vs ≡ us ++ u ∷ [] → (0 < length ms) → FitAll undone Fits vs t → IsSound t vs ms
+    sound_still u is lt fit = record {
+      room = h.room;
+      clear = clear_still c (length ms) w t here_now s h.clear;
+      ordered = marks-more ms (length us) (length vs) vs t lt (omega (arith, ap length is, length-append us (u ∷ []))) (marks-same ms (length us) us vs w t h.ordered same);
+      fit = fit;
     }
 
--- ---- the plain state
-set_own : (f e : Texts) (vs : List Texts) (name text : List ℕ) → 0 < length vs → let c : Contents = record { files = f; env = e; values = vs } in state_of (with_value c name text) ≡ record (state_of c) { own = with_text (state_of c).own name text }
-set_own f e [] name text lt = absurd (omega arith)
-set_own f e (v ∷ vs) name text lt = λ i. record { files = finite.get f; env = finite.get e; outer = laid vs; own = inserted v name text i }
+-- a change of an open layer, whether it is refused or not
+module _ {A : Type 0} (c : WorldChange) (w : World) (us : List WorldUndo) (ms : List ℕ) (v : SandboxValue) (is : value_of w us ms ≡ v) (here : IsHere c (depth v)) (h : IsSound w us ms) (lt : 0 < length ms) (t : World) (vs : List WorldUndo) where
+  pub recorded_value : (r : Result A WorldFault) → NamesDiffer t → OnOk r (Steps c w t) → OnOk r (Same (length us) us vs w t) → OnOk r ((u : WorldUndo) × (vs ≡ us ++ u ∷ []) × Fits u t × (undone u t ≡ w)) → OnOk r (Becomes (changed c v.now) v (value_of t vs ms))
+  recorded_value (Ok x) names s same more = becomes_recorded c w us ms v is here h t vs s same more.0 more.1 more.2 more.3 names lt
+  recorded_value (Err e) names s same more = tt
 
-taken_own : (f e : Texts) (vs : List Texts) (name : List ℕ) → 0 < length vs → let c : Contents = record { files = f; env = e; values = vs } in state_of (without_value c name) ≡ record (state_of c) { own = without (state_of c).own name }
-taken_own f e [] name lt = absurd (omega arith)
-taken_own f e (v ∷ vs) name lt = λ i. record { files = finite.get f; env = finite.get e; outer = laid vs; own = removed v name i }
+  pub recorded_sound : (r : Result A WorldFault) → OnOk r (Steps c w t) → OnOk r (Same (length us) us vs w t) → OnOk r ((u : WorldUndo) × (vs ≡ us ++ u ∷ []) × Fits u t × (undone u t ≡ w)) → OnOk r (StaysFit undone Fits us w vs t) → OnErr r ((vs ≡ us) × (t ≡ w)) → IsSound t vs ms
+  recorded_sound (Ok x) s same more fit err = sound_still c w us ms v is here h t vs s same more.0 more.1 lt (fit 0 (omega arith) h.fit)
+  recorded_sound (Err e) s same more fit err = subst (λ t. IsSound t vs ms) (sym err.1) (subst (λ us. IsSound w us ms) (sym err.0) h)
 
-pub of_state : ChangesAreOfState
-of_state = record {
-  file = λ c name text i. record { files = inserted c.files name text i; env = finite.get c.env; outer = outer_of c.values; own = own_of c.values };
-  no_file = λ c name i. record { files = removed c.files name i; env = finite.get c.env; outer = outer_of c.values; own = own_of c.values };
-  env = λ c name text i. record { files = finite.get c.files; env = inserted c.env name text i; outer = outer_of c.values; own = own_of c.values };
-  no_env = λ c name i. record { files = finite.get c.files; env = removed c.env name i; outer = outer_of c.values; own = own_of c.values };
-  value = λ c name text lt. set_own c.files c.env c.values name text lt;
-  no_value = λ c name lt. taken_own c.files c.env c.values name lt;
-}
+  pub recorded_answer : (r : Result A WorldFault) → refusal c v.now ≡ None → IfErr r (λ e. (e ≡ Memory) ⊎ Refuses c w e) → IsAnswer (refusal c v.now) r
+  recorded_answer (Ok x) none refused = none
+  recorded_answer (Err e) none refused = may_be c w us ms v is here h none e refused
+
+  pub recorded_same : (r : Result A WorldFault) → OnErr r ((vs ≡ us) × (t ≡ w)) → OnErr r (value_of t vs ms ≡ v)
+  recorded_same (Ok x) err = tt
+  recorded_same (Err e) err = ap (λ t. value_of t vs ms) err.1 ∙ ap (λ us. value_of w us ms) err.0 ∙ is
+
+-- what is said of values in the innermost layer
+pub delete_refusal_is : (w : World) (us : List WorldUndo) (ms : List ℕ) (v : SandboxValue) → value_of w us ms ≡ v → (d : ℕ) → d ≡ depth v → (name : List ℕ) → delete_refusal (state_at d w.values) name ≡ delete_refusal (state_of v.now) name
+delete_refusal_is w us ms v is d e name =
+    ap (λ d. delete_refusal (state_at d w.values) name) (e ∙ marks_are w us ms v is)
+    ∙ ap (λ (v : SandboxValue). delete_refusal (state_of v.now) name) is
+
+pub layer_is : (w : World) (us : List WorldUndo) (ms : List ℕ) (v : SandboxValue) → value_of w us ms ≡ v → IsSound w us ms → (d : ℕ) → d ≡ depth v → 0 < depth v → IsLayer d
+layer_is w us ms v is h d e lt = record { from = omega (arith, e, lt); to = omega (arith, e, marks_are w us ms v is, h.room) }
+
+-- each open layer has a map of values
+pub values_are : (w : World) (us : List WorldUndo) (ms : List ℕ) (v : SandboxValue) → value_of w us ms ≡ v → length v.now.values ≡ depth v
+values_are w us ms v is =
+    sym (ap (λ (v : SandboxValue). length v.now.values) is)
+    ∙ length-layers_of (length ms) w.values
+    ∙ sym (marks_are w us ms v is)
+
+none_recorded : (ms : List ℕ) (n : ℕ) (us : List WorldUndo) (w : World) → AreMarks ms n us w → length ms ≡ 0 → n ≡ 0
+none_recorded [] n us w h e = h
+none_recorded (m ∷ ms) n us w h e = absurd (omega arith)
+
+-- with no layer open nothing is recorded
+pub unrecorded : (w : World) (us : List WorldUndo) (ms : List ℕ) (v : SandboxValue) → value_of w us ms ≡ v → IsSound w us ms → depth v ≡ 0 → length v.entries ≡ 0
+unrecorded w us ms v is h e = sym (recorded_is w us ms v is) ∙ none_recorded ms (length us) us w h.ordered (sym (marks_are w us ms v is) ∙ e)

@@ -7,12 +7,9 @@ use Rattle.std.proofs.lemmas.Map.Text.{is_eq-slice_cmp}
 use Rattle.std.proofs.lemmas.Slice.Eq.{bytes_eq-Decides}
 use Rattle.std.proofs.lemmas.List.{take-append-le, length-append}
 use Rattle.std.proofs.Math.Seq.{take-length}
-use Rattle.gk_world.specs.Cells.{Slot, Cell}
-use Rattle.gk_world.specs.Contents.{Texts}
-use Rattle.gk_world.specs.Slots.{map_at, Writes, with_cells, with_cell, cells_of, name_at, IsPlace, IsMissing, IsAt, IsNew}
-use Rattle.gk_world.specs.Contents.{with_entry}
-use Rattle.gk_world.specs.Cells.{cell_at, IsOnly}
-use Rattle.gk_world.specs.Slots.{HasCell, IsNewest}
+use Rattle.gk_world.specs.Cells.{Slot, Cell, cell_at, IsOnly}
+use Rattle.gk_world.specs.State.{Texts, with_entry}
+use Rattle.gk_world.specs.Slots.{map_at, Writes, with_cells, with_cell, cells_of, name_at, IsPlace, IsMissing, IsAt, IsNew, HasCell, IsNewest, NamesDiffer}
 
 pub same_texts : (m n : Texts) → ((q : List ℕ) → get m q ≡ get n q) → m ≡ n
 same_texts m n h = same_map nat_list_cmp_total (slice_cmp-IsAntisymmetric nat_cmp-IsAntisymmetric) m n h
@@ -118,10 +115,70 @@ named n (w ∷ s) (suc i) h = named n s i h.1
 pub first_is : (n : List ℕ) (s : List Slot) (i : ℕ) → IsPlace n s i → IsPlace (name_at s i) s i
 first_is n s i h = subst (λ n. IsPlace n s i) (named n s i h) h
 
-IsPlace-with_cells : (n : List ℕ) (s : List Slot) (i : ℕ) (c : List Cell) → IsPlace n s i → IsPlace n (with_cells s i c) i
-IsPlace-with_cells n [] i c h = absurd h
-IsPlace-with_cells n (w ∷ s) zero c h = h
-IsPlace-with_cells n (w ∷ s) (suc i) c h = (h.0, IsPlace-with_cells n s i c h.1)
+-- ---- names that differ
+unequal : (n m : List ℕ) → bytes_eq n m ≡ false → bytes_eq m n ≡ false
+unequal n m f = by (bytes_eq m n) refl
+  where
+    by : (b : Bool) → bytes_eq m n ≡ b → bytes_eq m n ≡ false
+    by true e = absurd (true≢false (sym ((bytes_eq-Decides n m).1 (sym ((bytes_eq-Decides m n).0 e))) ∙ f))
+    by false e = e
+
+missing-name : (n : List ℕ) (s : List Slot) (i : ℕ) → IsMissing n s → i < length s → bytes_eq (name_at s i) n ≡ false
+missing-name n [] i h lt = absurd (omega arith)
+missing-name n (w ∷ s) zero h lt = unequal n w.0 h.0
+missing-name n (w ∷ s) (suc i) h lt = missing-name n s i h.1 (omega arith)
+
+-- where names differ, each slot is the first of its name
+pub first_of : (s : List Slot) (i : ℕ) → NamesDiffer s → i < length s → IsPlace (name_at s i) s i
+first_of [] i d lt = absurd (omega arith)
+first_of (w ∷ s) zero d lt = (bytes_eq-Decides w.0 w.0).1 refl
+first_of (w ∷ s) (suc i) d lt = (missing-name w.0 s i d.0 (omega arith), first_of s i d.1 (omega arith))
+
+pub missing_before : (s : List Slot) (i : ℕ) → NamesDiffer s → i < length s → IsMissing (name_at s i) (take i s)
+missing_before [] i d lt = absurd (omega arith)
+missing_before (w ∷ s) zero d lt = tt
+missing_before (w ∷ s) (suc i) d lt = (missing-name w.0 s i d.0 (omega arith), missing_before s i d.1 (omega arith))
+
+missing-with_cells : (n : List ℕ) (s : List Slot) (i : ℕ) (c : List Cell) → IsMissing n s → IsMissing n (with_cells s i c)
+missing-with_cells n [] i c h = tt
+missing-with_cells n (w ∷ s) zero c h = h
+missing-with_cells n (w ∷ s) (suc i) c h = (h.0, missing-with_cells n s i c h.1)
+
+pub differ-with_cells : (s : List Slot) (i : ℕ) (c : List Cell) → NamesDiffer s → NamesDiffer (with_cells s i c)
+differ-with_cells [] i c d = tt
+differ-with_cells (w ∷ s) zero c d = d
+differ-with_cells (w ∷ s) (suc i) c d = (missing-with_cells w.0 s i c d.0, differ-with_cells s i c d.1)
+
+missing-take : (n : List ℕ) (k : ℕ) (s : List Slot) → IsMissing n s → IsMissing n (take k s)
+missing-take n zero s h = tt
+missing-take n (suc k) [] h = tt
+missing-take n (suc k) (w ∷ s) h = (h.0, missing-take n k s h.1)
+
+pub differ-take : (k : ℕ) (s : List Slot) → NamesDiffer s → NamesDiffer (take k s)
+differ-take zero s d = tt
+differ-take (suc k) [] d = tt
+differ-take (suc k) (w ∷ s) d = (missing-take w.0 k s d.0, differ-take k s d.1)
+
+missing-front : (n : List ℕ) (s t : List Slot) → IsMissing n (s ++ t) → IsMissing n s
+missing-front n [] t h = tt
+missing-front n (w ∷ s) t h = (h.0, missing-front n s t h.1)
+
+pub differ-front : (s t : List Slot) → NamesDiffer (s ++ t) → NamesDiffer s
+differ-front [] t d = tt
+differ-front (w ∷ s) t d = (missing-front w.0 s t d.0, differ-front s t d.1)
+
+missing-push : (n : List ℕ) (s : List Slot) (w : Slot) → IsMissing n s → bytes_eq n w.0 ≡ false → IsMissing n (s ++ w ∷ [])
+missing-push n [] w h f = (f, tt)
+missing-push n (v ∷ s) w h f = (h.0, missing-push n s w h.1 f)
+
+pub differ-push : (s : List Slot) (w : Slot) → NamesDiffer s → IsMissing w.0 s → NamesDiffer (s ++ w ∷ [])
+differ-push [] w d h = (tt, tt)
+differ-push (v ∷ s) w d h = (missing-push v.0 s w d.0 (unequal w.0 v.0 h.0), differ-push s w d.1 h.1)
+
+length-with_cells : (s : List Slot) (i : ℕ) (c : List Cell) → length (with_cells s i c) ≡ length s
+length-with_cells [] i c = refl
+length-with_cells (w ∷ s) zero c = refl
+length-with_cells (w ∷ s) (suc i) c = ap suc (length-with_cells s i c)
 
 cells-written : (s : List Slot) (i : ℕ) (cs : List Cell) → i < length s → cells_of (with_cells s i cs) i ≡ cs
 cells-written [] i cs lt = absurd (omega arith)
@@ -134,19 +191,18 @@ length-set (d ∷ cs) zero c = refl
 length-set (d ∷ cs) (suc j) c = ap suc (length-set cs j c)
 
 -- a slot whose cell is written has that cell
-pub has_cell : (w : ℕ) (s t : List Slot) (i j : ℕ) (c : Cell) → t ≡ with_cell s i j c → IsPlace (name_at s i) s i → j < length (cells_of s i) → j < w → HasCell w t i j
-has_cell w s t i j c e first within allowed = subst (λ t. HasCell w t i j) (sym e) (record {
-  first = first_is (name_at s i) (with_cell s i j c) i (IsPlace-with_cells (name_at s i) s i (set (cells_of s i) j c) first);
-  within = subst (λ n. j < n) (sym (ap length (cells-written s i (set (cells_of s i) j c) (place-within _ s i first)) ∙ length-set (cells_of s i) j c)) within;
+pub has_cell : (w : ℕ) (s t : List Slot) (i j : ℕ) (c : Cell) → t ≡ with_cell s i j c → i < length s → j < length (cells_of s i) → j < w → HasCell w t i j
+has_cell w s t i j c e there within allowed = subst (λ t. HasCell w t i j) (sym e) (record {
+  there = subst (λ n. i < n) (sym (length-with_cells s i (set (cells_of s i) j c))) there;
+  within = subst (λ n. j < n) (sym (ap length (cells-written s i (set (cells_of s i) j c) there) ∙ length-set (cells_of s i) j c)) within;
   allowed = allowed;
 })
 
 -- a slot that is added is the newest
-pub newest : (width : ℕ) (n : List ℕ) (s t : List Slot) (cells : List Cell) (i j : ℕ) (c : Cell) → t ≡ s ++ (n, cells) ∷ [] → i ≡ length s → IsMissing n s → IsOnly j c cells → j < width → IsNewest width t i j
-newest width n s t cells i j c e is h only allowed =
+pub newest : (width : ℕ) (n : List ℕ) (s t : List Slot) (cells : List Cell) (i j : ℕ) (c : Cell) → t ≡ s ++ (n, cells) ∷ [] → i ≡ length s → IsOnly j c cells → j < width → IsNewest width t i j
+newest width n s t cells i j c e is only allowed =
     subst (λ t. IsNewest width t i j) (sym e) (subst (λ i. IsNewest width (s ++ (n, cells) ∷ []) i j) (sym is) (record {
       last = length-append s ((n, cells) ∷ []);
-      only = subst (IsMissing (name_at (s ++ (n, cells) ∷ []) (length s))) (sym (take-append-le (length s) s ((n, cells) ∷ []) (omega arith) ∙ take-length s)) (subst (λ n. IsMissing n s) (ap (λ (w : Slot). w.0) (last s)) h);
       others = λ k ne. ap (λ (w : Slot). cell_at k w.1) (sym (last s)) ∙ only.others k ne;
       allowed = allowed;
     }))

@@ -7,8 +7,7 @@ use Rattle.std.specs.FinMap as finite
 use Rattle.std.specs.FinMap.{get-empty, get-insert, get-remove}
 use Rattle.std.proofs.lemmas.Cmp.{nat_list_cmp_total}
 use Rattle.std.proofs.lemmas.Map.Text.{is_eq-slice_cmp}
-use Rattle.gk_world.specs.Contents.{Texts, Contents, with_layer}
-use Rattle.gk_world.specs.State.{with_text, without, laid_over, enter, laid, own_of, outer_of, state_of}
+use Rattle.gk_world.specs.State.{Texts, Contents, with_layer, with_text, without, laid_over, enter, laid, own_of, outer_of, state_of}
 
 -- a map with a text put in
 pub inserted : (m : Texts) (name text : List ℕ) → finite.get (finite.insert m name text) ≡ with_text (finite.get m) name text

@@ -2,16 +2,13 @@
 use Rattle.std.proofs.Common.{◌≡◌, ◌≢◌, ℕ, zero, suc, ◌+◌, ◌<◌, ◌≤◌, ◌==◌, Bool, true, false, cond, List, [], ◌∷◌, ◌++◌, get_or, take, length, None, option_map, string_bytes, bytes_eq, refl, sym, ap, ◌∙◌, subst, true≢false, arith}
 use Rattle.std.proofs.lemmas.Bool.Decides.{Decides-eqb}
 use Rattle.std.specs.FinMap as map
-use Rattle.gk_world.specs.Cells.{Slot, Cell}
+use Rattle.gk_world.specs.Cells.{Slot, Cell, cell_at}
 use Rattle.gk_world.specs.declared.slots.SlotUndo.{SlotUndo}
 use Rattle.gk_world.specs.declared.slots.SlotUndo.TheVariants.{Restore, Created}
-use Rattle.gk_world.specs.Contents.{Texts}
-use Rattle.gk_world.specs.Cells.{cell_at}
-use Rattle.gk_world.specs.Slots.{map_at, layers_of, name_at, with_cells, Writes}
-use Rattle.gk_world.specs.Contents.{with_entry}
-use Rattle.gk_world.specs.Slots.{Fits, undone, name_of, cell_of, old_of}
-use Rattle.gk_world.specs.Undone.{with_values}
-use Rattle.gk_world.proofs.SlotsLemmas.{writes, map_at-push, same_write, get-map_at-missing, same_texts, get-with_entry, place-within, bytes_self}
+use Rattle.gk_world.specs.State.{Texts, with_entry}
+use Rattle.gk_world.specs.Slots.{map_at, layers_of, name_at, with_cells, Writes, Fits, undone, name_of, cell_of, old_of, NamesDiffer, Undoes}
+use Rattle.gk_world.specs.Reversible.{with_values}
+use Rattle.gk_world.proofs.SlotsLemmas.{writes, map_at-push, same_write, get-map_at-missing, same_texts, get-with_entry, bytes_self, first_of, missing_before, differ-with_cells, differ-take}
 
 -- the last slot, split off
 last_off : (s : List Slot) (n : ℕ) → length s ≡ n + 1 → s ≡ take n s ++ get_or s n ([], []) ∷ []
@@ -28,15 +25,16 @@ taken_back m n c none = same_texts _ _ (λ q. by (bytes_eq q n) q refl ∙ sym (
     by false q h = refl
 
 -- an undo sets a cell of its name to the old text
-pub undo_writes : (w : ℕ) (u : SlotUndo) (s : List Slot) → Fits w u s → Writes (name_of s u) (cell_of u) (old_of u) s (undone u s)
-undo_writes w (Restore place cell old) s h = writes (name_at s place) s _ place cell (option_map string_bytes old) refl h.first h.within
-undo_writes w (Created place cell) s h =
+pub undo_writes : (w : ℕ) (u : SlotUndo) (s : List Slot) → NamesDiffer s → Fits w u s → Undoes u s (undone u s)
+undo_writes w (Restore place cell old) s d h = writes (name_at s place) s _ place cell (option_map string_bytes old) refl (first_of s place d h.there) h.within
+undo_writes w (Created place cell) s d h =
+    let within : place < length s = omega (arith, h.last) in
     let x : Slot = get_or s place ([], []) in
     let before : List Slot = take place s in
-    let e : (k : ℕ) → map_at k s ≡ with_entry (map_at k before) x.0 (cell_at k x.1) = λ k. ap (map_at k) (last_off s place h.last) ∙ map_at-push k x.0 before x.1 h.only in
+    let e : (k : ℕ) → map_at k s ≡ with_entry (map_at k before) x.0 (cell_at k x.1) = λ k. ap (map_at k) (last_off s place h.last) ∙ map_at-push k x.0 before x.1 (missing_before s place d within) in
     record {
-      here = taken_back (map_at cell before) x.0 (cell_at cell x.1) (get-map_at-missing cell x.0 before h.only) ∙ ap (λ m. with_entry m x.0 None) (sym (e cell));
-      others = λ k ne. sym (e k ∙ same_write (map_at k before) x.0 (cell_at k x.1) (get-map_at-missing k x.0 before h.only ∙ sym (h.others k ne)));
+      here = taken_back (map_at cell before) x.0 (cell_at cell x.1) (get-map_at-missing cell x.0 before (missing_before s place d within)) ∙ ap (λ m. with_entry m x.0 None) (sym (e cell));
+      others = λ k ne. sym (e k ∙ same_write (map_at k before) x.0 (cell_at k x.1) (get-map_at-missing k x.0 before (missing_before s place d within) ∙ sym (h.others k ne)));
     }
 
 pub length-layers_of : (d : ℕ) (s : List Slot) → length (layers_of d s) ≡ d
@@ -91,9 +89,14 @@ pub kept_undone : (u : SlotUndo) (s : List Slot) → Kept (undone u s) s
 kept_undone (Restore place cell old) s = kept_cells s place _
 kept_undone (Created place cell) s = kept_take place s
 
+-- names still differ after an undo
+pub differ_undone : (u : SlotUndo) (s : List Slot) → NamesDiffer s → NamesDiffer (undone u s)
+differ_undone (Restore place cell old) s d = differ-with_cells s place _ d
+differ_undone (Created place cell) s d = differ-take place s d
+
 -- an undo that fits where the names are kept has the same name
 pub name_same : (w : ℕ) (u : SlotUndo) (t s : List Slot) → Kept t s → Fits w u t → name_of t u ≡ name_of s u
-name_same w (Restore place cell old) t s k h = k.names place (place-within _ t place h.first)
+name_same w (Restore place cell old) t s k h = k.names place h.there
 name_same w (Created place cell) t s k h = k.names place (omega (arith, h.last))
 
 -- an undo that fits is of one of so many cells
@@ -102,7 +105,7 @@ cell_within w (Restore place cell old) s h = h.allowed
 cell_within w (Created place cell) s h = h.allowed
 
 -- where there is one cell alone, an undo sets its name to the old text
-pub map_undone : (u : SlotUndo) (s : List Slot) → Fits 1 u s → map_at 0 (undone u s) ≡ with_entry (map_at 0 s) (name_of s u) (old_of u)
-map_undone u s h =
+pub map_undone : (u : SlotUndo) (s : List Slot) → NamesDiffer s → Fits 1 u s → map_at 0 (undone u s) ≡ with_entry (map_at 0 s) (name_of s u) (old_of u)
+map_undone u s d h =
     let e : cell_of u ≡ 0 = omega (arith, cell_within 1 u s h) in
-    subst (λ k. map_at k (undone u s) ≡ with_entry (map_at k s) (name_of s u) (old_of u)) e (undo_writes 1 u s h).here
+    subst (λ k. map_at k (undone u s) ≡ with_entry (map_at k s) (name_of s u) (old_of u)) e (undo_writes 1 u s d h).here

@@ -1,17 +1,15 @@
 -- What changes of the world are on its contents.
 use Rattle.std.proofs.Common.{◌≡◌, ℕ, zero, suc, ◌-◌, ◌<◌, ◌≤◌, List, ◌∷◌, None, refl, sym, ap, subst, ◌∙◌, arith}
 use Rattle.gk_world.specs.Cells.{Slot, Cell}
-use Rattle.gk_world.specs.declared.world_fault.WorldFault.{WorldFault}
-use Rattle.gk_world.specs.Sandbox.{layers}
+use Rattle.gk_world.specs.declared.refusals.WorldFault.{WorldFault}
+use Rattle.gk_world.specs.State.{layers, state_of, with_entry, with_innermost}
 use Rattle.gk_world.specs.declared.world.World.{World}
 use Rattle.gk_world.specs.declared.world.WorldChange.{WorldChange}
 use Rattle.gk_world.specs.declared.world.WorldChange.TheVariants as changes
 use Rattle.gk_world.specs.declared.values.ValueChange.{ValueChange}
 use Rattle.gk_world.specs.declared.values.ValueChange.TheVariants as values
-use Rattle.gk_world.specs.State.{state_of}
 use Rattle.gk_world.specs.Refusals.{IsFault}
 use Rattle.gk_world.specs.Slots.{map_at, layers_of, Writes}
-use Rattle.gk_world.specs.Contents.{with_entry, with_innermost}
 use Rattle.gk_world.specs.Values as value
 use Rattle.gk_world.specs.World.{contents_of, Steps, Refuses, IsHere, CanApply, changed, refusal, IsClear}
 

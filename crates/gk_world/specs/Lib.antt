@@ -1,8 +1,7 @@
--- What the world is, in reading order. Cells, Slots, Table, Values, World, Journal and Kept are how it is kept.
-pub mod Contents
+-- What the world is, in reading order. Cells, Slots, Table, Values, World and Journal are how it is kept.
 pub mod State
 pub mod Refusals
-pub mod Undone
+pub mod Reversible
 pub mod Sandbox
 pub mod Listing
 pub mod Cells
@@ -11,4 +10,3 @@ pub mod Table
 pub mod Values
 pub mod World
 pub mod Journal
-pub mod Kept

@@ -8,8 +8,7 @@ use Rattle.std.specs.String.{string_cmp}
 use Rattle.std.specs.FinMap as finite
 use Rattle.gk_world.specs.declared.listing.Listing.{Listing}
 use Rattle.gk_world.specs.Cells.{Slot}
-use Rattle.gk_world.specs.Contents.{Texts}
-use Rattle.gk_world.specs.State.{Map, State, see}
+use Rattle.gk_world.specs.State.{Texts, Map, State, see}
 
 -- What pairs of the program say, without where they lie in memory. (this project's profile)
 abbrev pub texts_of : {Y Z : Type 0} → List (String Y × String Z) → Texts

@@ -1,7 +1,7 @@
 -- Which change of the world is refused, and why: the reasons of one change stand in their order, and the first that holds is the fault.
 use Rattle.std.specs.Prelude.{◌≡◌, ◌≢◌, ℕ, Bool, cond, ◌||◌, ◌==◌, nat_lt, List, [], ◌∷◌, ◌++◌, length, Option, Some, None, is_none, unwrap_or, MatchOption, Result, Ok, Err}
-use Rattle.gk_world.specs.declared.world_fault.WorldFault.{WorldFault}
-use Rattle.gk_world.specs.declared.world_fault.WorldFault.TheVariants.{Absent, TextTooLong, BadName, OtherLayer, Memory}
+use Rattle.gk_world.specs.declared.refusals.WorldFault.{WorldFault}
+use Rattle.gk_world.specs.declared.refusals.WorldFault.TheVariants.{Absent, TextTooLong, BadName, OtherLayer, Memory}
 use Rattle.gk_world.specs.State.{Map, State, see}
 
 -- Of answers with their tests, the first whose test holds. (this project's profile)

@@ -1,12 +1,18 @@
 -- A sandbox, as contracts see it.
-use Rattle.std.specs.Prelude.{◌≡◌, ℕ, zero, suc, ◌+◌, ◌<◌, List, [], ◌∷◌, length, drop, Option, Some, None, refl}
+use Rattle.std.specs.Prelude.{◌≡◌, ℕ, zero, suc, ◌<◌, ◌≤◌, List, [], ◌∷◌, ◌++◌, length, drop, slice_index, Option, Some, None, refl}
 use Rattle.std.specs.FinMap as finite
 use Rattle.std.specs.Coded.{Coded, code_by, coded×, coded_list, coded_option, coded_ℕ}
 use Rattle.std.proofs.Common.{ap}
-use Rattle.gk_world.specs.Contents.{Contents, with_layer, with_innermost, nothing_yet, contents_code}
+use Rattle.gk_world.specs.declared.world.World.{World}
+use Rattle.gk_world.specs.declared.world.WorldUndo.{WorldUndo}
+use Rattle.gk_world.specs.declared.world.WorldUndo.TheVariants.{File, Env, Value}
+use Rattle.gk_world.specs.State.{layers, Contents, with_layer, with_innermost, nothing_yet, contents_code, with_text, without, state_of}
 use Rattle.gk_world.specs.Refusals.{joined}
-use Rattle.gk_world.specs.State.{with_text, without, state_of}
-use Rattle.gk_world.specs.Undone.{Which, of_files, of_env, of_layer, UndoValue, rewind}
+use Rattle.gk_world.specs.Reversible.{Which, of_files, of_env, of_layer, UndoValue, undone, rewind}
+use Rattle.gk_world.specs.Slots.{name_of, cell_of, old_of}
+use Rattle.gk_world.specs.Journal.{rewound, FitAll}
+use Rattle.gk_world.specs.World as world
+use Rattle.gk_world.specs.World.{contents_of, Fits, IsClear}
 
 -- The contents; for each open layer, the innermost first, what its end gives; the undos that are recorded, the oldest first; and how many there were when each layer began. (this project's profile)
 pub record SandboxValue : Type 0 where
@@ -14,10 +20,6 @@ pub record SandboxValue : Type 0 where
   pub saved : List Contents
   pub entries : List UndoValue
   pub marks : List ℕ
-
--- How many layers can be open: run, feature and scenario. (behave's documentation: context layers)
-abbrev pub layers : ℕ
-layers = 3
 
 -- A new sandbox: nothing in it, and no layer open. (this project's profile)
 abbrev pub new_sandbox : SandboxValue
@@ -36,17 +38,23 @@ pub record Ends (old new : SandboxValue) : Type 0 where
   pub given_back : old.saved ≡ new.now ∷ new.saved
   pub forgotten : old.marks ≡ length new.entries ∷ new.marks
 
--- How many more changes are recorded after one: with no layer open none is. (this project's profile)
-abbrev pub one_if_open : List Contents → ℕ
-one_if_open [] = 0
-one_if_open (c ∷ cs) = 1
+-- A layer ends: what is recorded since its beginning, undone from the newest on, gives its contents with an empty map for the layer. What was recorded before stays. (this project's profile)
+pub record EndsByUndos (old new : SandboxValue) : Type 0 where
+  pub since : List UndoValue
+  pub older : old.entries ≡ new.entries ++ since
+  pub given_back : rewind since old.now ≡ with_layer new.now
+
+-- A change is recorded as the newest undo, which gives back the contents before it, and the older ones stay. With no layer open it isn't recorded. (this project's profile)
+abbrev pub Records : List Contents → SandboxValue → SandboxValue → Type 0
+Records [] old new = new.entries ≡ old.entries
+Records (c ∷ cs) old new = (u : UndoValue) × (new.entries ≡ old.entries ++ u ∷ []) × (undone u new.now ≡ old.now)
 
 -- The contents have become these by one change, and what each layer's end gives stays. With no layer open the change isn't recorded, and stays. (this project's profile)
 pub record Becomes (now : Contents) (old new : SandboxValue) : Type 0 where
   pub contents : new.now ≡ now
   pub layers : new.saved ≡ old.saved
   pub marks : new.marks ≡ old.marks
-  pub recorded : length new.entries ≡ length old.entries + one_if_open old.saved
+  pub recorded : Records old.saved old new
 
 -- What changes and inner layers, each of them ended, make of a sandbox; a refused change makes nothing of it. (behave's documentation: context layers)
 pub data Works : SandboxValue → SandboxValue → Type 0 where
@@ -176,3 +184,40 @@ pub record ChangesAreOfState : Type 0 where
   pub no_env : (c : Contents) (name : List ℕ) → state_of (without_env c name) ≡ record (state_of c) { env = without (state_of c).env name }
   pub value : (c : Contents) (name text : List ℕ) → 0 < length c.values → state_of (with_value c name text) ≡ record (state_of c) { own = with_text (state_of c).own name text }
   pub no_value : (c : Contents) (name : List ℕ) → 0 < length c.values → state_of (without_value c name) ≡ record (state_of c) { own = without (state_of c).own name }
+
+-- An undo, as it is seen where the world is this: slots keep their names. (this project's profile)
+abbrev pub seen_undo : World → WorldUndo → UndoValue
+seen_undo w (File u) = record { which = of_files; name = name_of w.files u; old = old_of u }
+seen_undo w (Env u) = record { which = of_env; name = name_of w.env u; old = old_of u }
+seen_undo w (Value u) = record { which = of_layer (suc (cell_of u)); name = name_of w.values u; old = old_of u }
+
+-- Undos, as they are seen. (this project's profile)
+abbrev pub seen_undos : World → List WorldUndo → List UndoValue
+seen_undos w [] = []
+seen_undos w (u ∷ us) = seen_undo w u ∷ seen_undos w us
+
+-- The marks of the open layers, the innermost first. (this project's profile)
+abbrev pub open_marks : ℕ → List ℕ → List ℕ
+open_marks zero marks = []
+open_marks (suc d) marks = slice_index marks d ∷ open_marks d marks
+
+-- What rewinding to each mark would give. (this project's profile)
+abbrev pub saved_of : List ℕ → List WorldUndo → World → List Contents
+saved_of [] us w = []
+saved_of (m ∷ ms) us w = contents_of (length ms) (rewound world.undone (drop m us) w) ∷ saved_of ms us w
+
+-- What is seen of a world, its undos and its marks. (this project's profile)
+abbrev pub value_of : World → List WorldUndo → List ℕ → SandboxValue
+value_of w us ms = record { now = contents_of (length ms) w; saved = saved_of ms us w; entries = seen_undos w us; marks = ms }
+
+-- No mark is above n or an inner mark, with no open layer there are no entries, and no layer had values before it began. (this project's profile)
+abbrev pub AreMarks : List ℕ → ℕ → List WorldUndo → World → Type 0
+AreMarks [] n us w = n ≡ 0
+AreMarks (m ∷ ms) n us w = (m ≤ n) × IsClear (length ms) (rewound world.undone (drop m us) w) × AreMarks ms m us w
+
+-- What holds of a sandbox between its calls. (this project's profile)
+pub record IsSound (w : World) (us : List WorldUndo) (ms : List ℕ) : Type 0 where
+  pub room : length ms ≤ layers
+  pub clear : IsClear (length ms) w
+  pub ordered : AreMarks ms (length us) us w
+  pub fit : FitAll world.undone Fits us w

@@ -4,8 +4,7 @@ use Rattle.std.specs.FinMap as finite
 use Rattle.std.specs.Global.{Global}
 use Rattle.gk_world.specs.declared.slots.SlotUndo.{SlotUndo}
 use Rattle.gk_world.specs.declared.slots.SlotUndo.TheVariants.{Restore, Created}
-use Rattle.gk_world.specs.Contents.{Texts, with_entry}
-use Rattle.gk_world.specs.State.{Map}
+use Rattle.gk_world.specs.State.{Texts, with_entry, Map}
 use Rattle.gk_world.specs.Cells.{Slot, Cell, cell_at}
 
 -- A row as a slot, and rows as slots: names and texts, without where they lie in memory.
@@ -86,16 +85,20 @@ pub record IsNew (name : List ℕ) (s : List Slot) : Type 0 where
   pub missing : IsMissing name s
   pub absent : (k : ℕ) → finite.get (map_at k s) name ≡ None
 
--- The slot at this place is the first of its name, and has this cell, one of so many. (this project's profile)
+-- No two slots have the same name. (this project's profile)
+abbrev pub NamesDiffer : List Slot → Type 0
+NamesDiffer [] = Unit {0}
+NamesDiffer (s ∷ ss) = IsMissing s.0 ss × NamesDiffer ss
+
+-- There is a slot at this place, and it has this cell, one of so many. (this project's profile)
 pub record HasCell (width : ℕ) (s : List Slot) (place cell : ℕ) : Type 0 where
-  pub first : IsPlace (name_at s place) s place
+  pub there : place < length s
   pub within : cell < length (cells_of s place)
   pub allowed : cell < width
 
--- The slot at this place is the last, the only one of its name, and has nothing but in this cell, one of so many. (this project's profile)
+-- The slot at this place is the last, and has nothing but in this cell, one of so many. (this project's profile)
 pub record IsNewest (width : ℕ) (s : List Slot) (place cell : ℕ) : Type 0 where
   pub last : length s ≡ place + 1
-  pub only : IsMissing (name_at s place) (take place s)
   pub others : (k : ℕ) → k ≢ cell → cell_at k (cells_of s place) ≡ None
   pub allowed : cell < width
 
@@ -123,3 +126,7 @@ cell_of (Created place cell) = cell
 abbrev pub old_of : SlotUndo → Cell
 old_of (Restore place cell old) = option_map string_bytes old
 old_of (Created place cell) = None
+
+-- An undo, on maps: the cell of its name has the old text again, or none, and all else stays. (this project's profile)
+abbrev pub Undoes : SlotUndo → List Slot → List Slot → Type 0
+Undoes u old new = Writes (name_of old u) (cell_of u) (old_of u) old new

@@ -1,11 +1,11 @@
 -- What a change of a table does to its map, and why it may be refused.
 use Rattle.std.specs.Prelude.{◌≡◌, List, Option, None, string_bytes}
 use Rattle.std.specs.FinMap as finite
-use Rattle.gk_world.specs.declared.world_fault.WorldFault.{WorldFault}
+use Rattle.gk_world.specs.declared.refusals.WorldFault.{WorldFault}
 use Rattle.gk_world.specs.declared.table.TableChange.{TableChange}
 use Rattle.gk_world.specs.declared.table.TableChange.TheVariants.{Put, Append, Remove}
 use Rattle.gk_world.specs.Cells.{Slot}
-use Rattle.gk_world.specs.Contents.{Texts}
+use Rattle.gk_world.specs.State.{Texts}
 use Rattle.gk_world.specs.Refusals.{put_refusal, append_refusal, remove_refusal, joined, IsFault}
 use Rattle.gk_world.specs.Slots.{map_at}
 

@@ -1,12 +1,11 @@
 -- What a change of values does to their layers' maps, and why it may be refused.
 use Rattle.std.specs.Prelude.{◌≡◌, ℕ, ◌<◌, ◌≤◌, ◌-◌, List, Option, Some, None, string_bytes}
 use Rattle.std.specs.FinMap as finite
-use Rattle.gk_world.specs.declared.world_fault.WorldFault.{WorldFault}
+use Rattle.gk_world.specs.declared.refusals.WorldFault.{WorldFault}
 use Rattle.gk_world.specs.declared.values.ValueChange.{ValueChange}
 use Rattle.gk_world.specs.declared.values.ValueChange.TheVariants.{Set, Delete}
 use Rattle.gk_world.specs.Cells.{Slot, Cell}
-use Rattle.gk_world.specs.State.{State, state_of}
-use Rattle.gk_world.specs.Sandbox.{layers}
+use Rattle.gk_world.specs.State.{State, state_of, layers}
 use Rattle.gk_world.specs.Refusals.{put_refusal, delete_refusal, IsFault}
 use Rattle.gk_world.specs.Slots.{layers_of, Writes}
 

@@ -1,16 +1,14 @@
 -- Files, variables and values joined: what is changed, and what contents they are.
 use Rattle.std.specs.Prelude.{◌≡◌, ℕ, ◌<◌, ◌≤◌, Option}
 use Rattle.std.specs.FinMap as finite
-use Rattle.gk_world.specs.declared.world_fault.WorldFault.{WorldFault}
+use Rattle.gk_world.specs.declared.refusals.WorldFault.{WorldFault}
 use Rattle.gk_world.specs.declared.world.World.{World}
 use Rattle.gk_world.specs.declared.world.WorldUndo.{WorldUndo}
 use Rattle.gk_world.specs.declared.world.WorldUndo.TheVariants as undos
 use Rattle.gk_world.specs.declared.world.WorldChange.{WorldChange}
 use Rattle.gk_world.specs.declared.world.WorldChange.TheVariants as changes
-use Rattle.gk_world.specs.Sandbox.{layers}
-use Rattle.gk_world.specs.State.{state_of}
+use Rattle.gk_world.specs.State.{layers, state_of, Contents, with_entry, with_innermost}
 use Rattle.gk_world.specs.Slots.{map_at, layers_of}
-use Rattle.gk_world.specs.Contents.{Contents, with_entry, with_innermost}
 use Rattle.gk_world.specs.Slots as slot
 use Rattle.gk_world.specs.Table as table
 use Rattle.gk_world.specs.Values as value
@@ -30,6 +28,18 @@ abbrev pub undone : WorldUndo → World → World
 undone (undos.File u) w = record w { files = slot.undone u w.files }
 undone (undos.Env u) w = record w { env = slot.undone u w.env }
 undone (undos.Value u) w = record w { values = slot.undone u w.values }
+
+-- One part's undo, on maps; the other parts stay. (this project's profile)
+abbrev pub Undoes : WorldUndo → World → World → Type 0
+Undoes (undos.File u) v w = slot.Undoes u v.files w.files × (w.env ≡ v.env) × (w.values ≡ v.values)
+Undoes (undos.Env u) v w = slot.Undoes u v.env w.env × (w.files ≡ v.files) × (w.values ≡ v.values)
+Undoes (undos.Value u) v w = slot.Undoes u v.values w.values × (w.files ≡ v.files) × (w.env ≡ v.env)
+
+-- No part has a name twice. (this project's profile)
+pub record NamesDiffer (w : World) : Type 0 where
+  pub files : slot.NamesDiffer w.files
+  pub env : slot.NamesDiffer w.env
+  pub values : slot.NamesDiffer w.values
 
 -- One part has the change's outcome, and the others stay. (this project's profile)
 abbrev pub Steps : WorldChange → World → World → Type 0

@@ -1,7 +1,6 @@
 //! A row's cells, each a text or absent.
 ghost use Rattle.std.specs.Prelude.{◌≡◌, ℕ, ◌<◌, List, [], ◌∷◌, length, map, Some, None, option_map, option_copied, string_bytes, slice_set, slice_index_or};
-ghost use Rattle.gk_world.specs.Cells.{Cell};
-ghost use Rattle.gk_world.specs.Cells.{cell_at, IsOnly};
+ghost use Rattle.gk_world.specs.Cells.{Cell, cell_at, IsOnly};
 
 use std::mem::replace;
 
@@ -68,7 +67,7 @@ fn exchange(cells: &mut [Option<String>], cell: usize, text: Option<String>) -> 
 
 /// One cell for each layer, that of the outermost first.
 impl Cells for [Option<String>; LAYERS] {
-    ghost use Rattle.gk_world.specs.Sandbox.{layers};
+    ghost use Rattle.gk_world.specs.State.{layers};
 
     ghost width = { layers };
 

@@ -3,8 +3,8 @@ ghost use Rattle.std.specs.Prelude.{◌≡◌, ◌<◌, ◌≤◌, List, [], len
 ghost use Rattle.gk_world.specs.Journal.{rewound, FitAll, Records};
 ghost use Rattle.gk_world.specs.Journal.{RewindsTheSame, RewindsTheSameTo, StaysFit, StaysFitTo};
 
+use crate::refusals::WorldFault;
 use crate::reversible::Reversible;
-use crate::world_fault::WorldFault;
 use std::alloc::Global;
 use std::marker::Model;
 

@@ -14,15 +14,13 @@ mod state;
 mod table;
 mod values;
 mod world;
-mod world_fault;
 
 pub use journal::Journal;
 pub use listing::Listing;
-pub use refusals::{LONGEST_NAME, LONGEST_TEXT};
+pub use refusals::{LONGEST_NAME, LONGEST_TEXT, WorldFault, is_bad_name};
 pub use reversible::Reversible;
 pub use sandbox::{Layer, Sandbox, changes_are_of_state, layers_give_back};
 pub use slots::SlotUndo;
 pub use state::{layers_enter, put_texts, removed_texts};
 pub use table::{Table, TableChange};
 pub use values::{ValueChange, Values};
-pub use world_fault::WorldFault;

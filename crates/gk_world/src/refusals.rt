@@ -2,8 +2,34 @@
 ghost use Rattle.std.specs.Prelude.{◌≡◌, ◌++◌, IfOk, None, string_bytes};
 ghost use Rattle.gk_world.specs.Refusals as refusals;
 
-use crate::world_fault::WorldFault;
 use std::alloc::{AllocError, Global};
+
+/// Why a change is refused. A refused change changes nothing. Of several reasons the first in the order
+/// `BadName`, `Absent`, `OtherLayer`, `TextTooLong` is answered. (this project's profile)
+#[derive(Clone, Copy, Debug, PartialEq, Eq)]
+pub enum WorldFault {
+    /// What is to be extended, removed or deleted isn't there.
+    Absent,
+    /// The text would have more bytes than `LONGEST_TEXT`.
+    TextTooLong,
+    /// The name has no byte, or more bytes than `LONGEST_NAME`.
+    BadName,
+    /// The value is set in an outer layer alone.
+    OtherLayer,
+    /// A growth of memory was refused.
+    Memory,
+}
+
+impl From<AllocError> for WorldFault {
+    ghost use Rattle.std.specs.Prelude.{◌≡◌};
+    ghost use Rattle.gk_world.specs.declared.refusals.WorldFault.TheVariants.{Memory};
+
+    ghost from_gives = { λ _ e. e ≡ Memory };
+
+    fn from(_e: AllocError) -> WorldFault {
+        WorldFault::Memory
+    }
+}
 
 /// The bytes that a name may have; it has one at least. (this project's profile)
 pub const LONGEST_NAME: usize = 255;
@@ -11,7 +37,7 @@ pub const LONGEST_NAME: usize = 255;
 /// The bytes that a text may have. (this project's profile)
 pub const LONGEST_TEXT: usize = 1_048_576;
 
-/// Whether a name has no byte, or too many.
+/// Whether a name has no byte, or more than `LONGEST_NAME`. It takes no memory.
 pub fn is_bad_name(name: &str) -> bool
     ensures { result ≡ refusals.is_bad_name name.now }
 {

@@ -1,8 +1,8 @@
 //! What can be changed so that each change can be undone.
 ghost use Rattle.std.specs.Prelude.{◌≡◌, IfOk, IfErr, OnOk, OnErr};
-ghost use Rattle.gk_world.specs.declared.world_fault.WorldFault.{WorldFault};
+ghost use Rattle.gk_world.specs.declared.refusals.WorldFault.{WorldFault};
 
-use crate::world_fault::WorldFault;
+use crate::refusals::WorldFault;
 
 /// Slots whose changes can be undone, the newest first. An undo is an ordinary value: to drop it is to
 /// give its change up for good. (this project's profile)
@@ -21,6 +21,10 @@ pub trait Reversible {
 
     /// The slots before the change.
     ghost undone: { Self.Undo → Slots → Slots };
+
+    /// Whether an undo leads, on the maps that slots stand for, from these to those: its name has its
+    /// old text again, or is gone, and all else stays.
+    ghost undoes: { Self.Undo → Slots → Slots → Type 0 };
 
     /// Whether an allowed change can lead from these slots to those.
     ghost stepped: { Self.Change → Slots → Slots → Type 0 };
@@ -44,5 +48,6 @@ pub trait Reversible {
     /// Takes a change back. It takes no memory.
     fn undo(&mut self, undo: Self::Undo)
         requires { fits undo (slots self.old) }
-        ensures { slots self.new ≡ undone undo (slots self.old) };
+        ensures slots { slots self.new ≡ undone undo (slots self.old) }
+        ensures maps { undoes undo (slots self.old) (slots self.new) };
 }

@@ -2,22 +2,20 @@
 ghost use Rattle.std.specs.Prelude.{◌≡◌, ◌<◌, length, None, OnOk, OnErr, IfOk, option_copied};
 ghost use Rattle.std.specs.FinMap as finite;
 ghost use Rattle.gk_world.specs.Listing.{IsListing};
-ghost use Rattle.gk_world.specs.State.{see, state_of};
+ghost use Rattle.gk_world.specs.State.{see, state_of, layers};
 ghost use Rattle.gk_world.specs.Refusals as refusals;
 ghost use Rattle.gk_world.specs.Refusals.{append_refusal, remove_refusal, delete_refusal, IsAnswer};
 ghost use Rattle.gk_world.specs.World.{IsHere, changed, refusal};
-ghost use Rattle.gk_world.specs.Sandbox.{PutsFile, AppendsToFile, RemovesFile, SetsEnv, RemovesEnv, SetsValue, DeletesValue};
-ghost use Rattle.gk_world.specs.Sandbox.{new_sandbox, layers, depth, begun, Ends, Becomes, UndosGiveBack, LayersGiveBack, ChangesAreOfState};
+ghost use Rattle.gk_world.specs.Sandbox.{PutsFile, AppendsToFile, RemovesFile, SetsEnv, RemovesEnv, SetsValue, DeletesValue, new_sandbox, depth, begun, Ends, EndsByUndos, Becomes, UndosGiveBack, LayersGiveBack, ChangesAreOfState};
 
 use crate::cells::LAYERS;
 use crate::journal::Journal;
 use crate::listing::Listing;
-use crate::refusals::copied_for_put;
+use crate::refusals::{WorldFault, copied_for_put};
 use crate::reversible::Reversible;
 use crate::table::TableChange;
 use crate::values::ValueChange;
 use crate::world::{World, WorldChange};
-use crate::world_fault::WorldFault;
 use std::alloc::{AllocError, Global};
 use std::marker::Model;
 
@@ -51,13 +49,11 @@ pub struct Sandbox {
 }
 
 impl Model for Sandbox {
-    ghost use Rattle.gk_world.specs.Sandbox.{SandboxValue, sandbox_code};
+    ghost use Rattle.gk_world.specs.Sandbox.{SandboxValue, sandbox_code, value_of, open_marks, IsSound};
 
     ghost Value = { SandboxValue };
 
     ghost coded = { sandbox_code };
-
-    ghost use Rattle.gk_world.specs.Kept.{value_of, open_marks, IsSound};
 
     ghost view = { λ s. value_of s.world s.journal (open_marks s.depth s.marks) };
 
@@ -100,7 +96,7 @@ impl Sandbox {
         ensures values { length self.now.now.values ≡ depth self.now }
         ensures outside { depth self.now ≡ 0 → length self.now.entries ≡ 0 }
     {
-        let _ = &self.journal;
+        self.world.names_differ();
     }
 
     /// Begins a layer inside the open ones. Its number is then the depth, and it has no values yet. It
@@ -119,11 +115,13 @@ impl Sandbox {
     /// changes are those at its beginning. It takes no memory. (behave's documentation: context layers)
     pub fn end(&mut self, layer: Layer)
         requires { layer ≡ depth self.old }
-        ensures { Ends self.old self.new }
+        ensures ends { Ends self.old self.new }
+        ensures undone { EndsByUndos self.old self.new }
     {
         // A layer can't be dropped; taking it apart spends it.
         let Layer { number } = layer;
         let outer = number - 1;
+        self.world.names_differ();
         self.journal.rewind(&mut self.world, self.marks[outer]);
         self.depth = outer;
     }
@@ -145,12 +143,13 @@ impl Sandbox {
                 Err(fault) => Err(fault),
             };
         }
-        self.journal.change(&mut self.world, change)
+        let answer = self.journal.change(&mut self.world, change);
+        self.world.names_differ();
+        answer
     }
 
     /// Puts a file. Refusals come in the order `BadName`, `TextTooLong`. A refusal changes nothing; `Memory`
-    /// is answered only where nothing else refuses.
-    /// (this project's profile)
+    /// is answered only where nothing else refuses. (this project's profile)
     pub fn put_file(&mut self, name: &str, text: &str) -> Result<(), WorldFault>
         ensures ok { OnOk result (PutsFile self.old name.now text.now self.new) }
         ensures answer { IsAnswer (refusals.put_refusal name.now text.now) result }
@@ -161,8 +160,7 @@ impl Sandbox {
     }
 
     /// Puts more at the end of a file. Refusals come in the order `BadName`, `Absent`, `TextTooLong`.
-    /// A refusal changes nothing; `Memory`
-    /// is answered only where nothing else refuses. (this project's profile)
+    /// A refusal changes nothing; `Memory` is answered only where nothing else refuses. (this project's profile)
     pub fn append_file(&mut self, name: &str, more: &str) -> Result<(), WorldFault>
         ensures ok { OnOk result (AppendsToFile self.old name.now more.now self.new) }
         ensures answer { IsAnswer
@@ -177,24 +175,8 @@ impl Sandbox {
         self.change(WorldChange::File(TableChange::Append(name, more)))
     }
 
-    /// Removes a file. Refusals come in the order `BadName`, `Absent`. A refusal changes nothing; `Memory`
-    /// is answered only where nothing else refuses.
-    /// (this project's profile)
-    pub fn remove_file(&mut self, name: &str) -> Result<(), WorldFault>
-        ensures ok { OnOk result (RemovesFile self.old name.now self.new) }
-        ensures answer { IsAnswer (remove_refusal (finite.get self.old.now.files) name.now) result }
-        ensures err { OnErr result (self.new ≡ self.old) }
-    {
-        if let Some(fault) = self.world.files.remove_refusal(name) {
-            return Err(fault);
-        }
-        let name = String::from_str(self.alloc, name)?;
-        self.change(WorldChange::File(TableChange::Remove(name)))
-    }
-
     /// Sets a variable. Refusals come in the order `BadName`, `TextTooLong`. A refusal changes nothing; `Memory`
-    /// is answered only where nothing else refuses.
-    /// (this project's profile)
+    /// is answered only where nothing else refuses. (this project's profile)
     pub fn put_env(&mut self, name: &str, text: &str) -> Result<(), WorldFault>
         ensures ok { OnOk result (SetsEnv self.old name.now text.now self.new) }
         ensures answer { IsAnswer (refusals.put_refusal name.now text.now) result }
@@ -202,21 +184,6 @@ impl Sandbox {
     {
         let (name, text) = copied_for_put(self.alloc, name, text)?;
         self.change(WorldChange::Env(TableChange::Put(name, text)))
-    }
-
-    /// Removes a variable. Refusals come in the order `BadName`, `Absent`. A refusal changes nothing; `Memory`
-    /// is answered only where nothing else refuses.
-    /// (this project's profile)
-    pub fn remove_env(&mut self, name: &str) -> Result<(), WorldFault>
-        ensures ok { OnOk result (RemovesEnv self.old name.now self.new) }
-        ensures answer { IsAnswer (remove_refusal (finite.get self.old.now.env) name.now) result }
-        ensures err { OnErr result (self.new ≡ self.old) }
-    {
-        if let Some(fault) = self.world.env.remove_refusal(name) {
-            return Err(fault);
-        }
-        let name = String::from_str(self.alloc, name)?;
-        self.change(WorldChange::Env(TableChange::Remove(name)))
     }
 
     /// Sets a value of the innermost layer, which hides outer ones of its name while the layer lasts.
@@ -232,6 +199,34 @@ impl Sandbox {
         let (name, text) = copied_for_put(self.alloc, name, text)?;
         let layer = self.depth();
         self.change(WorldChange::Value(ValueChange::Set(layer, name, text)))
+    }
+
+    /// Removes a file. Refusals come in the order `BadName`, `Absent`. A refusal changes nothing; `Memory`
+    /// is answered only where nothing else refuses. (this project's profile)
+    pub fn remove_file(&mut self, name: &str) -> Result<(), WorldFault>
+        ensures ok { OnOk result (RemovesFile self.old name.now self.new) }
+        ensures answer { IsAnswer (remove_refusal (finite.get self.old.now.files) name.now) result }
+        ensures err { OnErr result (self.new ≡ self.old) }
+    {
+        if let Some(fault) = self.world.files.remove_refusal(name) {
+            return Err(fault);
+        }
+        let name = String::from_str(self.alloc, name)?;
+        self.change(WorldChange::File(TableChange::Remove(name)))
+    }
+
+    /// Removes a variable. Refusals come in the order `BadName`, `Absent`. A refusal changes nothing; `Memory`
+    /// is answered only where nothing else refuses. (this project's profile)
+    pub fn remove_env(&mut self, name: &str) -> Result<(), WorldFault>
+        ensures ok { OnOk result (RemovesEnv self.old name.now self.new) }
+        ensures answer { IsAnswer (remove_refusal (finite.get self.old.now.env) name.now) result }
+        ensures err { OnErr result (self.new ≡ self.old) }
+    {
+        if let Some(fault) = self.world.env.remove_refusal(name) {
+            return Err(fault);
+        }
+        let name = String::from_str(self.alloc, name)?;
+        self.change(WorldChange::Env(TableChange::Remove(name)))
     }
 
     /// Deletes a value of the innermost layer. Refusals come in the order `BadName`, `Absent` (no layer

@@ -1,13 +1,10 @@
 //! Rows of cells by name, each a text or absent. Each change can be undone.
 ghost use Rattle.std.specs.Prelude.{◌≡◌, List, [], ◌<◌, length, MatchOption, None, Some, OnOk, OnErr, IfOk, IfErr, IfSome, IfNone, is_none, true, false, option_map, option_copied, string_bytes};
-ghost use Rattle.gk_world.specs.Slots.{text_at, with_cell, cells_of, name_at};
-ghost use Rattle.gk_world.specs.Slots.{Puts, Writes, WritesAt, IsPlace, IsMissing, IsAt, IsNew};
+ghost use Rattle.gk_world.specs.Slots.{text_at, with_cell, cells_of, name_at, Puts, Writes, WritesAt, IsPlace, IsMissing, IsAt, IsNew, slots_of, Fits, undone, Undoes, NamesDiffer};
 ghost use Rattle.gk_world.specs.Cells.{cell_at};
-ghost use Rattle.gk_world.specs.Slots.{slots_of};
-ghost use Rattle.gk_world.specs.Slots.{Fits, undone};
 
 use crate::cells::Cells;
-use crate::world_fault::WorldFault;
+use crate::refusals::WorldFault;
 use indexmap::IndexMap;
 use std::alloc::Global;
 use std::marker::Model;
@@ -21,7 +18,8 @@ pub enum SlotUndo {
     Created(usize, usize),
 }
 
-/// Rows in the order in which their names came. A row stays, where all of its cells are absent.
+/// Rows in the order in which their names came, each name once. A row stays, where all of its cells are
+/// absent.
 #[derive(Drop)]
 pub struct Slots<C: Cells> {
     rows: IndexMap<String, C>,
@@ -30,11 +28,13 @@ pub struct Slots<C: Cells> {
 impl<C: Cells> Model for Slots<C> {
     ghost use Rattle.std.specs.Prelude.{List};
     ghost use Rattle.gk_world.specs.Cells.{Slot};
-    ghost use Rattle.gk_world.specs.Slots.{slots_of};
+    ghost use Rattle.gk_world.specs.Slots.{slots_of, NamesDiffer};
 
     ghost Value = { List Slot };
 
     ghost view = { λ s. slots_of C.cells s.rows.entries };
+
+    ghost invariant = { λ s. NamesDiffer (slots_of C.cells s.rows.entries) };
 }
 
 impl<C: Cells> Slots<C> {
@@ -64,7 +64,7 @@ impl<C: Cells> Slots<C> {
 
     /// Puts a text, or none, into a cell of the row at a place.
     fn write(&mut self, place: usize, cell: usize, text: Option<String>) -> SlotUndo
-        requires first { IsPlace (name_at self.old place) self.old place }
+        requires place { place < length self.old }
         requires cell { cell < C.width }
         ensures writes { WritesAt place cell (option_map string_bytes text) self.old self.new }
         ensures set { self.new ≡ with_cell self.old place cell (option_map string_bytes text) }
@@ -87,8 +87,17 @@ impl<C: Cells> Slots<C> {
         ensures memory { IfErr result (λ e. e ≡ WorldFault.Memory) }
     {
         let place = self.rows.len();
-        self.rows.insert(name, C::only(cell, text))?;
-        Ok(SlotUndo::Created(place, cell))
+        match self.rows.insert(name, C::only(cell, text)) {
+            Ok(_) => Ok(SlotUndo::Created(place, cell)),
+            Err(_) => Err(WorldFault::Memory),
+        }
+    }
+
+    /// No two rows have the same name. It takes no memory.
+    pub fn names_differ(&self)
+        ensures { NamesDiffer self.now }
+    {
+        let _ = &self.rows;
     }
 
     /// How many rows there are.
@@ -156,8 +165,10 @@ impl<C: Cells> Slots<C> {
     /// Takes a change back. It takes no memory.
     pub fn undo(&mut self, undo: SlotUndo)
         requires { Fits C.width undo self.old }
-        ensures { self.new ≡ undone undo self.old }
+        ensures slots { self.new ≡ undone undo self.old }
+        ensures maps { Undoes undo self.old self.new }
     {
+        self.names_differ();
         match undo {
             SlotUndo::Restore(place, cell, old) => drop(self.write(place, cell, old)),
             SlotUndo::Created(_, _) => drop(self.rows.pop()),

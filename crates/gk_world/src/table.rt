@@ -1,17 +1,15 @@
 //! A table of texts by name, as of files or of variables.
 ghost use Rattle.std.specs.Prelude.{◌≡◌, List, [], IfOk, IfErr, OnOk, OnErr, None, Some, option_copied, string_bytes};
-ghost use Rattle.gk_world.specs.Slots.{map_at, text_at};
+ghost use Rattle.gk_world.specs.Slots.{map_at, text_at, Fits, undone, NamesDiffer};
 ghost use Rattle.gk_world.specs.Listing.{Lists};
 ghost use Rattle.gk_world.specs.Refusals as refusals;
 ghost use Rattle.gk_world.specs.Refusals.{IsReason};
-ghost use Rattle.gk_world.specs.Slots.{Fits, undone};
 ghost use Rattle.gk_world.specs.Table.{Steps, Refuses, refusal};
 
 use crate::listing::{note, sorted};
-use crate::refusals::{is_bad_name, is_too_long, joined, put_refusal};
+use crate::refusals::{WorldFault, is_bad_name, is_too_long, joined, put_refusal};
 use crate::reversible::Reversible;
 use crate::slots::{SlotUndo, Slots};
-use crate::world_fault::WorldFault;
 use std::alloc::{AllocError, Global};
 use std::collections::BTreeMap;
 use std::marker::Model;
@@ -110,6 +108,13 @@ impl Table {
         joined(self.alloc, self.get(name).unwrap_or(""), more)
     }
 
+    /// No two slots have the same name. It takes no memory.
+    pub fn names_differ(&self)
+        ensures { NamesDiffer self.now }
+    {
+        self.slots.names_differ();
+    }
+
     /// Why a change is refused, if there is a reason.
     fn refusal(&self, change: &TableChange) -> Option<WorldFault>
         ensures { IsReason (refusal change.now (map_at 0 self.now)) result }
@@ -129,7 +134,7 @@ impl Reversible for Table {
 
     ghost use Rattle.std.specs.Prelude.{List};
     ghost use Rattle.gk_world.specs.Cells.{Slot};
-    ghost use Rattle.gk_world.specs.Slots.{Fits, undone};
+    ghost use Rattle.gk_world.specs.Slots.{Fits, undone, Undoes};
     ghost use Rattle.gk_world.specs.Table.{Steps, Refuses};
 
     ghost Slots = { List Slot };
@@ -139,6 +144,8 @@ impl Reversible for Table {
     ghost fits = { Fits 1 };
 
     ghost undone = { undone };
+
+    ghost undoes = { Undoes };
 
     ghost stepped = { Steps };
 

@@ -4,16 +4,15 @@ ghost use Rattle.gk_world.specs.State.{see};
 ghost use Rattle.gk_world.specs.Listing.{Lists};
 ghost use Rattle.gk_world.specs.Refusals as refusals;
 ghost use Rattle.gk_world.specs.Refusals.{IsReason};
-ghost use Rattle.gk_world.specs.Sandbox as sandbox;
-ghost use Rattle.gk_world.specs.Slots.{Fits, undone};
+ghost use Rattle.gk_world.specs.State as state;
+ghost use Rattle.gk_world.specs.Slots.{Fits, undone, NamesDiffer};
 ghost use Rattle.gk_world.specs.Values.{Steps, Refuses, IsLayer, layer_of, refusal, state_at};
 
 use crate::cells::LAYERS;
 use crate::listing::{note, sorted};
-use crate::refusals::{is_bad_name, put_refusal};
+use crate::refusals::{WorldFault, is_bad_name, put_refusal};
 use crate::reversible::Reversible;
 use crate::slots::{SlotUndo, Slots};
-use crate::world_fault::WorldFault;
 use std::alloc::{AllocError, Global};
 use std::collections::BTreeMap;
 use std::marker::Model;
@@ -55,7 +54,7 @@ impl Values {
 
     /// The value that is seen in the innermost of so many layers, if there is one. It takes no memory.
     pub fn get(&self, layers: usize, name: &str) -> Option<&str>
-        requires { layers ≤ sandbox.layers }
+        requires { layers ≤ state.layers }
         ensures { option_copied result ≡ see (state_at layers self.now) name.now }
     {
         for layer in (0..layers).rev() {
@@ -85,7 +84,7 @@ impl Values {
 
     /// The names that have a value in one of so many layers, with the value that is seen, sorted by name.
     pub fn listing(&self, alloc: Global, layers: usize) -> Result<Vec<(String, String)>, AllocError>
-        requires { layers ≤ sandbox.layers }
+        requires { layers ≤ state.layers }
         ensures { IfOk result (λ pairs. Lists (see (state_at layers self.now)) pairs.items) }
     {
         let mut texts = BTreeMap::new(alloc);
@@ -94,6 +93,13 @@ impl Values {
             note(alloc, &mut texts, name, self.get(layers, name))?;
         }
         sorted(alloc, texts)
+    }
+
+    /// No two slots have the same name. It takes no memory.
+    pub fn names_differ(&self)
+        ensures { NamesDiffer self.now }
+    {
+        self.slots.names_differ();
     }
 
     /// Why a change is refused, if there is a reason.
@@ -115,8 +121,8 @@ impl Reversible for Values {
 
     ghost use Rattle.std.specs.Prelude.{List};
     ghost use Rattle.gk_world.specs.Cells.{Slot};
-    ghost use Rattle.gk_world.specs.Slots.{Fits, undone};
-    ghost use Rattle.gk_world.specs.Sandbox.{layers};
+    ghost use Rattle.gk_world.specs.Slots.{Fits, undone, Undoes};
+    ghost use Rattle.gk_world.specs.State.{layers};
     ghost use Rattle.gk_world.specs.Values.{Steps, Refuses, IsLayer, layer_of};
 
     ghost Slots = { List Slot };
@@ -126,6 +132,8 @@ impl Reversible for Values {
     ghost fits = { Fits layers };
 
     ghost undone = { undone };
+
+    ghost undoes = { Undoes };
 
     ghost stepped = { Steps };
 

@@ -1,16 +1,16 @@
 //! Files, variables and values, joined.
 ghost use Rattle.std.specs.Prelude.{◌≡◌, ◌≤◌, [], IfOk};
 ghost use Rattle.gk_world.specs.Listing.{IsListing};
-ghost use Rattle.gk_world.specs.Sandbox as sandbox;
+ghost use Rattle.gk_world.specs.State as state;
 ghost use Rattle.gk_world.specs.State.{state_of};
-ghost use Rattle.gk_world.specs.World.{contents_of};
+ghost use Rattle.gk_world.specs.World.{contents_of, NamesDiffer};
 
 use crate::listing::Listing;
+use crate::refusals::WorldFault;
 use crate::reversible::Reversible;
 use crate::slots::SlotUndo;
 use crate::table::{Table, TableChange};
 use crate::values::{ValueChange, Values};
-use crate::world_fault::WorldFault;
 use std::alloc::{AllocError, Global};
 
 /// A change of one part of the world.
@@ -50,9 +50,18 @@ impl World {
         }
     }
 
+    /// No part has a name twice. It takes no memory.
+    pub fn names_differ(&self)
+        ensures { NamesDiffer self.now }
+    {
+        self.files.names_differ();
+        self.env.names_differ();
+        self.values.names_differ();
+    }
+
     /// What is seen where so many layers are open.
     pub fn listing(&self, alloc: Global, layers: usize) -> Result<Listing, AllocError>
-        requires { layers ≤ sandbox.layers }
+        requires { layers ≤ state.layers }
         ensures { IfOk result (IsListing (state_of (contents_of layers self.now))) }
     {
         Ok(Listing {
@@ -69,7 +78,7 @@ impl Reversible for World {
     type Undo = WorldUndo;
 
     ghost use Rattle.gk_world.specs.declared.world.World.{World};
-    ghost use Rattle.gk_world.specs.World.{Fits, undone, Steps, Refuses, CanApply};
+    ghost use Rattle.gk_world.specs.World.{Fits, undone, Undoes, Steps, Refuses, CanApply};
 
     ghost Slots = { World };
 
@@ -78,6 +87,8 @@ impl Reversible for World {
     ghost fits = { Fits };
 
     ghost undone = { undone };
+
+    ghost undoes = { Undoes };
 
     ghost stepped = { Steps };
 

@@ -7,10 +7,10 @@ ghost use Rattle.gk_world.specs.State.{state_of};
 ghost use Rattle.gk_run.specs.Acting as words;
 ghost use Rattle.gk_run.specs.Acting.{IsActed, Performs, Checks};
 
-use crate::acting::{Arguments, exists, has_text, is_absent, is_bad_name, is_text, outcome_of};
+use crate::acting::{Arguments, exists, has_text, is_absent, is_text, outcome_of};
 use crate::results::{Outcome, Reason};
 use gk_gherkin::Block;
-use gk_world::Sandbox;
+use gk_world::{Sandbox, is_bad_name};
 use std::alloc::{AllocError, Global};
 
 // A file has a text.

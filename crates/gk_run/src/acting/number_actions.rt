@@ -7,11 +7,11 @@ ghost use Rattle.gk_world.specs.Refusals as refusals;
 ghost use Rattle.gk_world.specs.Sandbox.{depth};
 ghost use Rattle.gk_run.specs.Acting.{passes, with_own, IsNumber, IsActed, Performs, Checks};
 
+use crate::acting::Arguments;
 use crate::acting::value_actions::set;
-use crate::acting::{Arguments, is_bad_name};
 use crate::numbers::number_of;
 use crate::results::{Outcome, Reason};
-use gk_world::Sandbox;
+use gk_world::{Sandbox, is_bad_name};
 use std::alloc::{AllocError, Global};
 
 // The innermost layer's value is a number.

@@ -1,6 +1,6 @@
 use Rattle.std.proofs.Common.{map, refl, subst, sym}
 use Rattle.gk_steps.specs.Finding.{library_value}
-use Rattle.gk_world.specs.Contents.{Contents}
+use Rattle.gk_world.specs.State.{Contents}
 use Rattle.gk_run.specs.declared.results.Status.TheVariants.{Passed}
 use Rattle.gk_run.specs.Chosen.{chosen_value}
 use Rattle.gk_run.specs.DryRun.{AreDryFeatures}

@@ -1,8 +1,7 @@
 use Rattle.std.proofs.Common.{◌≡◌, ◌<◌, ◌∷◌, [], ◌∙◌, Bool, List, suc, length, map, arith, ap, sym, subst, refl}
 use Rattle.std.specs.List.{AllByRecursion}
 use Rattle.std.specs.Vec.Iter.{into_iter_items}
-use Rattle.gk_world.specs.State.{state_of}
-use Rattle.gk_world.specs.Sandbox.{layers}
+use Rattle.gk_world.specs.State.{state_of, layers}
 use Rattle.gk_run.specs.Alone.{run_of}
 use Rattle.gk_run.specs.Chosen.{ChosenValue, chosen_value, IsPaired}
 use Rattle.gk_run.specs.Features.{stays_open_by}

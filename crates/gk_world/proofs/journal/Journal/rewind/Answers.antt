@@ -1,6 +1,5 @@
-use Rattle.std.proofs.Common.{◌∙◌, ap, subst, sym, length, ◌≤◌, arith}
-use Rattle.gk_world.specs.Journal.{rewound, FitAll}
-use Rattle.gk_world.proofs.JournalLemmas.{popped, rewound-before, FitAll-before, settled}
+use Rattle.std.proofs.Common.{length, ◌≤◌, arith}
+use Rattle.gk_world.proofs.JournalLemmas.{popped, rewound_on, rewound-before, FitAll-before, settled}
 use Rattle.gk_world.proofs.journal.Journal.rewind.Goals as goal
 
 pub undo-requires : goal.undo-requires
@@ -10,14 +9,7 @@ undo-requires g c =
 
 pub loop-self-preserved : goal.loop-self-preserved
 loop-self-preserved g c =
-    let p = popped g.T.Reversible.undone g.T.Reversible.fits c.loop-self.self-inside.entries.items c.pop.new.self.items c.pop.result c.unwrap-undo.result c.args.mark (g.T.Reversible.slots c.loop-self.on) c.pop.ensures.items c.unwrap-undo.ensures (omega arith) c.loop-self.invariant.fit in
-    let e = c.undo.ensures in
-    record {
-      within = p.within;
-      older = p.older ∙ c.loop-self.invariant.older;
-      fit = subst (FitAll g.T.Reversible.undone g.T.Reversible.fits _) (sym e) p.fit;
-      same = ap (rewound g.T.Reversible.undone _) e ∙ p.same ∙ c.loop-self.invariant.same;
-    }
+    rewound_on g.T.Reversible.undone g.T.Reversible.fits _ _ c.args.mark c.loop-self.self-inside.entries.items c.pop.new.self.items c.pop.result c.unwrap-undo.result _ _ c.loop-self.invariant c.pop.ensures.items c.unwrap-undo.ensures (omega arith) c.undo.ensures.slots
 
 pub returns-clause-same : goal.returns-clause-same
 returns-clause-same g c =

@@ -1,5 +1,5 @@
 use Rattle.std.proofs.Common.{arith}
-use Rattle.gk_world.proofs.KeptLemmas.{depth_is, begun_sound, begun_value}
+use Rattle.gk_world.proofs.SandboxLemmas.{depth_is, begun_sound, begun_value}
 use Rattle.gk_world.proofs.sandbox.Sandbox.begin.Goals as goal
 
 pub offset_bounds-self-inside-self-inside : goal.offset_bounds-self-inside-self-inside

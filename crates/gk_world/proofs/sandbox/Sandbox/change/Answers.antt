@@ -1,31 +1,31 @@
 use Rattle.std.proofs.Common.{arith}
-use Rattle.gk_world.specs.Kept.{open_marks}
-use Rattle.gk_world.proofs.KeptLemmas.{length-open_marks, applies, recorded_value, recorded_sound, recorded_answer, recorded_same}
+use Rattle.gk_world.specs.Sandbox.{open_marks}
+use Rattle.gk_world.proofs.SandboxLemmas.{length-open_marks, applies, recorded_value, recorded_sound, recorded_answer, recorded_same}
 use Rattle.gk_world.proofs.sandbox.Sandbox.change.Goals as goal
 
-pub change-requires : goal.change-requires
-change-requires c =
+pub change-answer-requires : goal.change-answer-requires
+change-answer-requires c =
     let i = c.self.inside in
     applies c.args.change i.world i.journal (open_marks i.depth i.marks) c.args.self.now c.self.view_is c.requires.here c.self.invariant
 
 pub returns-clause-answer : goal.returns-clause-answer
 returns-clause-answer c =
     let i = c.self.inside in
-    recorded_answer c.args.change i.world i.journal (open_marks i.depth i.marks) c.args.self.now c.self.view_is c.requires.here c.self.invariant (omega (arith, length-open_marks i.depth i.marks)) c.change.new.on c.change.new.self c.change.result c.requires.allowed c.change.ensures.refused
+    recorded_answer c.args.change i.world i.journal (open_marks i.depth i.marks) c.args.self.now c.self.view_is c.requires.here c.self.invariant (omega (arith, length-open_marks i.depth i.marks)) c.change-answer.new.on c.change-answer.new.self c.change-answer.result c.requires.allowed c.change-answer.ensures.refused
 
 pub returns-clause-ok : goal.returns-clause-ok
 returns-clause-ok c =
     let i = c.self.inside in
-    let r = c.change.ensures in
-    recorded_value c.args.change i.world i.journal (open_marks i.depth i.marks) c.args.self.now c.self.view_is c.requires.here c.self.invariant (omega (arith, length-open_marks i.depth i.marks)) c.change.new.on c.change.new.self c.change.result r.done r.same r.recorded
+    let r = c.change-answer.ensures in
+    recorded_value c.args.change i.world i.journal (open_marks i.depth i.marks) c.args.self.now c.self.view_is c.requires.here c.self.invariant (omega (arith, length-open_marks i.depth i.marks)) c.change-answer.new.on c.change-answer.new.self c.change-answer.result c.names_differ.ensures r.done r.same r.recorded
 
 pub returns-clause-err : goal.returns-clause-err
 returns-clause-err c =
     let i = c.self.inside in
-    recorded_same c.args.change i.world i.journal (open_marks i.depth i.marks) c.args.self.now c.self.view_is c.requires.here c.self.invariant (omega (arith, length-open_marks i.depth i.marks)) c.change.new.on c.change.new.self c.change.result c.change.ensures.err
+    recorded_same c.args.change i.world i.journal (open_marks i.depth i.marks) c.args.self.now c.self.view_is c.requires.here c.self.invariant (omega (arith, length-open_marks i.depth i.marks)) c.change-answer.new.on c.change-answer.new.self c.change-answer.result c.change-answer.ensures.err
 
 pub invariant_of-self-2 : goal.invariant_of-self-2
 invariant_of-self-2 c =
     let i = c.self.inside in
-    let r = c.change.ensures in
-    recorded_sound c.args.change i.world i.journal (open_marks i.depth i.marks) c.args.self.now c.self.view_is c.requires.here c.self.invariant (omega (arith, length-open_marks i.depth i.marks)) c.change.new.on c.change.new.self c.change.result r.done r.same r.recorded r.fit r.err
+    let r = c.change-answer.ensures in
+    recorded_sound c.args.change i.world i.journal (open_marks i.depth i.marks) c.args.self.now c.self.view_is c.requires.here c.self.invariant (omega (arith, length-open_marks i.depth i.marks)) c.change-answer.new.on c.change-answer.new.self c.change-answer.result r.done r.same r.recorded r.fit r.err

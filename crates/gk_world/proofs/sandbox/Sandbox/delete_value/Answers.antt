@@ -2,8 +2,8 @@ use Rattle.std.proofs.Common.{◌≡◌, None, sym, subst, ◌∙◌}
 use Rattle.std.proofs.lemmas.Result.{err_from_is_err_and}
 use Rattle.gk_world.specs.Refusals.{delete_refusal, IsFault}
 use Rattle.gk_world.specs.State.{state_of}
-use Rattle.gk_world.specs.Kept.{open_marks}
-use Rattle.gk_world.proofs.KeptLemmas.{delete_refusal_is, layer_is}
+use Rattle.gk_world.specs.Sandbox.{open_marks}
+use Rattle.gk_world.proofs.SandboxLemmas.{delete_refusal_is, layer_is}
 use Rattle.gk_world.proofs.sandbox.Sandbox.delete_value.Goals as goal
 
 pub delete_refusal-requires : goal.delete_refusal-requires

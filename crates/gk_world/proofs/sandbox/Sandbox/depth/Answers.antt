@@ -1,4 +1,4 @@
-use Rattle.gk_world.proofs.KeptLemmas.{depth_is}
+use Rattle.gk_world.proofs.SandboxLemmas.{depth_is}
 use Rattle.gk_world.proofs.sandbox.Sandbox.depth.Goals as goal
 
 pub returns : goal.returns

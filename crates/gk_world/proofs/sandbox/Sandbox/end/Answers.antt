@@ -1,5 +1,5 @@
 use Rattle.std.proofs.Common.{◌∙◌}
-use Rattle.gk_world.proofs.KeptLemmas.{mark_within, fit_since, ended_sound, ended}
+use Rattle.gk_world.proofs.SandboxLemmas.{mark_within, fit_since, ended_sound, ended, ended_undone}
 use Rattle.gk_world.proofs.sandbox.Sandbox.end.Goals as goal
 
 pub rewind-requires-clause-mark : goal.rewind-requires-clause-mark
@@ -18,8 +18,14 @@ invariant_of-self c =
     let r = c.rewind.ensures in
     ended_sound i.world i.journal i.depth c.layer.inside.number i.marks c.args.self.now c.self.view_is (c.layer.view_is ∙ c.requires) c.layer.invariant c.self.invariant c.rewind.new.on c.rewind.new.self r.slots r.entries r.same r.older
 
-pub returns : goal.returns
-returns c =
+pub returns-clause-ends : goal.returns-clause-ends
+returns-clause-ends c =
     let i = c.self.inside in
     let r = c.rewind.ensures in
     ended i.world i.journal i.depth c.layer.inside.number i.marks c.args.self.now c.self.view_is (c.layer.view_is ∙ c.requires) c.layer.invariant c.self.invariant c.rewind.new.on c.rewind.new.self r.slots r.entries r.same r.older
+
+pub returns-clause-undone : goal.returns-clause-undone
+returns-clause-undone c =
+    let i = c.self.inside in
+    let r = c.rewind.ensures in
+    ended_undone i.world i.journal i.depth c.layer.inside.number i.marks c.args.self.now c.self.view_is (c.layer.view_is ∙ c.requires) c.layer.invariant c.self.invariant c.rewind.new.on c.rewind.new.self r.slots r.entries r.same r.older c.names_differ.ensures

@@ -3,7 +3,7 @@ use Rattle.gk_world.specs.State.{State, state_of}
 use Rattle.gk_world.specs.Listing.{IsListing}
 use Rattle.gk_world.specs.World.{contents_of}
 use Rattle.gk_world.specs.Sandbox.{SandboxValue}
-use Rattle.gk_world.proofs.KeptLemmas.{length-open_marks}
+use Rattle.gk_world.proofs.SandboxLemmas.{length-open_marks}
 use Rattle.gk_world.proofs.sandbox.Sandbox.listing.Goals as goal
 
 pub listing-requires : goal.listing-requires

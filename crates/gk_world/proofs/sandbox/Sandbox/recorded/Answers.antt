@@ -1,6 +1,6 @@
 use Rattle.std.proofs.Common.{◌∙◌}
-use Rattle.gk_world.specs.Kept.{open_marks}
-use Rattle.gk_world.proofs.KeptLemmas.{recorded_is}
+use Rattle.gk_world.specs.Sandbox.{open_marks}
+use Rattle.gk_world.proofs.SandboxLemmas.{recorded_is}
 use Rattle.gk_world.proofs.sandbox.Sandbox.recorded.Goals as goal
 
 pub returns : goal.returns

@@ -2,7 +2,7 @@ use Rattle.std.proofs.Common.{arith, ap, ◌∙◌, sym}
 use Rattle.gk_world.specs.State.{see, state_of}
 use Rattle.gk_world.specs.Values.{state_at}
 use Rattle.gk_world.specs.Sandbox.{SandboxValue}
-use Rattle.gk_world.proofs.KeptLemmas.{length-open_marks}
+use Rattle.gk_world.proofs.SandboxLemmas.{length-open_marks}
 use Rattle.gk_world.proofs.sandbox.Sandbox.value.Goals as goal
 
 pub get-requires : goal.get-requires

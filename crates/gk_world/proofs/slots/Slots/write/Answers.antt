@@ -1,35 +1,29 @@
-use Rattle.std.proofs.Common.{◌<◌, ◌∙◌, length, ap, subst, arith}
-use Rattle.gk_world.specs.Cells.{cell_at}
-use Rattle.gk_world.proofs.SlotsLemmas.{place-within, writes, has_cell, cell-back}
-use Rattle.gk_world.proofs.RowsLemmas.{length-slots_of, cells-at-place, row-write}
+use Rattle.std.proofs.Common.{length, ap, arith}
+use Rattle.gk_world.proofs.RowsLemmas.{length-slots_of, written, differ-written}
 use Rattle.gk_world.proofs.slots.Slots.write.Goals as goal
 
 pub index_mut-cells-requires : goal.index_mut-cells-requires
-index_mut-cells-requires g c =
-    let lt : c.args.place < length c.args.self.now = place-within _ _ _ c.requires.first in
-    omega (arith, length-slots_of g.C.Cells.cells c.self.inside.rows.entries, ap length c.self.view_is)
+index_mut-cells-requires g c = omega (arith, c.requires.place, length-slots_of g.C.Cells.cells c.self.inside.rows.entries, ap length c.self.view_is)
+
+pub invariant_of-self : goal.invariant_of-self
+invariant_of-self g c = differ-written g.C.Cells.cells c.self.inside.rows.entries c.args.place c.replace-old.new.self c.self.invariant
 
 pub returns-clause-set : goal.returns-clause-set
 returns-clause-set g c =
-    row-write g.C.Cells.cells c.self.inside.rows.entries c.args.self.now c.args.place c.args.cell c.index_mut-cells.result.now c.replace-old.new.self _ c.self.view_is c.index_mut-cells.ensures.value c.replace-old.ensures.set
+    let w = written g.C.Cells.cells g.C.Cells.width c.self.inside.rows.entries c.args.self.now c.args.place c.args.cell c.index_mut-cells.result.now c.replace-old.new.self _ _ c.self.view_is c.requires.place c.requires.cell c.index_mut-cells.ensures.value c.replace-old.ensures.within c.replace-old.ensures.set c.replace-old.ensures.old in
+    w.set_to
 
 pub returns-clause-writes : goal.returns-clause-writes
-returns-clause-writes g c = λ name found.
-    let row = cells-at-place g.C.Cells.cells c.self.inside.rows.entries c.args.self.now c.args.place c.index_mut-cells.result.now c.self.view_is c.index_mut-cells.ensures.value in
-    writes name c.args.self.now _ c.args.place c.args.cell _
-    (row-write g.C.Cells.cells c.self.inside.rows.entries c.args.self.now c.args.place c.args.cell c.index_mut-cells.result.now c.replace-old.new.self _ c.self.view_is c.index_mut-cells.ensures.value c.replace-old.ensures.set)
-    found (subst (λ l. c.args.cell < length l) row c.replace-old.ensures.within)
+returns-clause-writes g c =
+    let w = written g.C.Cells.cells g.C.Cells.width c.self.inside.rows.entries c.args.self.now c.args.place c.args.cell c.index_mut-cells.result.now c.replace-old.new.self _ _ c.self.view_is c.requires.place c.requires.cell c.index_mut-cells.ensures.value c.replace-old.ensures.within c.replace-old.ensures.set c.replace-old.ensures.old in
+    w.on_maps
 
 pub returns-clause-fits : goal.returns-clause-fits
 returns-clause-fits g c =
-    let row = cells-at-place g.C.Cells.cells c.self.inside.rows.entries c.args.self.now c.args.place c.index_mut-cells.result.now c.self.view_is c.index_mut-cells.ensures.value in
-    has_cell g.C.Cells.width c.args.self.now _ c.args.place c.args.cell _
-    (row-write g.C.Cells.cells c.self.inside.rows.entries c.args.self.now c.args.place c.args.cell c.index_mut-cells.result.now c.replace-old.new.self _ c.self.view_is c.index_mut-cells.ensures.value c.replace-old.ensures.set)
-    c.requires.first (subst (λ l. c.args.cell < length l) row c.replace-old.ensures.within) c.requires.cell
+    let w = written g.C.Cells.cells g.C.Cells.width c.self.inside.rows.entries c.args.self.now c.args.place c.args.cell c.index_mut-cells.result.now c.replace-old.new.self _ _ c.self.view_is c.requires.place c.requires.cell c.index_mut-cells.ensures.value c.replace-old.ensures.within c.replace-old.ensures.set c.replace-old.ensures.old in
+    w.has
 
 pub returns-clause-before : goal.returns-clause-before
 returns-clause-before g c =
-    let row = cells-at-place g.C.Cells.cells c.self.inside.rows.entries c.args.self.now c.args.place c.index_mut-cells.result.now c.self.view_is c.index_mut-cells.ensures.value in
-    cell-back c.args.self.now _ c.args.place c.args.cell _ _
-    (row-write g.C.Cells.cells c.self.inside.rows.entries c.args.self.now c.args.place c.args.cell c.index_mut-cells.result.now c.replace-old.new.self _ c.self.view_is c.index_mut-cells.ensures.value c.replace-old.ensures.set)
-    (place-within _ _ _ c.requires.first) (c.replace-old.ensures.old ∙ ap (cell_at c.args.cell) row)
+    let w = written g.C.Cells.cells g.C.Cells.width c.self.inside.rows.entries c.args.self.now c.args.place c.args.cell c.index_mut-cells.result.now c.replace-old.new.self _ _ c.self.view_is c.requires.place c.requires.cell c.index_mut-cells.ensures.value c.replace-old.ensures.within c.replace-old.ensures.set c.replace-old.ensures.old in
+    w.back

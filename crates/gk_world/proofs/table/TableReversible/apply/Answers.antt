@@ -1,15 +1,15 @@
 use Rattle.std.proofs.Common.{rules, ◌≡◌, ◌∙◌, sym, ap, subst, List, Some, None, Result, Ok, Err, OnOk, IfOk, IfErr, String, string_bytes, ℕ, Bool, true, false, [], ◌∷◌, is_some, is_none, true≢false}
 use Rattle.std.specs.Global.{Global}
 use Rattle.std.specs.FinMap as finite
-use Rattle.gk_world.specs.declared.world_fault.WorldFault.{WorldFault}
-use Rattle.gk_world.specs.declared.world_fault.WorldFault.TheVariants.{Memory, BadName, Absent}
+use Rattle.gk_world.specs.declared.refusals.WorldFault.{WorldFault}
+use Rattle.gk_world.specs.declared.refusals.WorldFault.TheVariants.{Memory, BadName, Absent}
 use Rattle.gk_world.specs.declared.table.TableChange.{TableChange}
 use Rattle.gk_world.specs.declared.table.TableChange.TheVariants.{Put, Append, Remove}
 use Rattle.gk_world.specs.Cells.{Slot}
 use Rattle.gk_world.specs.Refusals.{first_true, is_bad_name, remove_refusal, joined, IsFault}
 use Rattle.gk_world.specs.Slots.{map_at, Writes, Fits, undone}
 use Rattle.gk_world.specs.Table.{Steps, Refuses, refusal, changed}
-use Rattle.gk_world.specs.Contents.{with_entry}
+use Rattle.gk_world.specs.State.{with_entry}
 use Rattle.gk_world.proofs.RemovedLemmas.{found_only, found_done, none_same, none_refused}
 use Rattle.gk_world.proofs.table.TableReversible.apply.Goals as goal
 

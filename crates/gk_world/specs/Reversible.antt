@@ -1,6 +1,6 @@
 -- Undoing a change of the contents.
 use Rattle.std.specs.Prelude.{ℕ, suc, cond, nat_eq, List, [], ◌∷◌, length, Option}
-use Rattle.gk_world.specs.Contents.{Texts, Contents, with_entry}
+use Rattle.gk_world.specs.State.{Texts, Contents, with_entry}
 
 -- Which map of the contents: the files, the variables, or the values of the layer with this number, counted from 1 at the outermost. (this project's profile)
 pub data Which : Type 0 where

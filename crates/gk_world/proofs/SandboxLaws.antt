@@ -1,0 +1,50 @@
+-- What changes and ended layers leave of the layers further out, and what changes are to the plain state.
+use Rattle.std.proofs.Common.{◌≡◌, ℕ, ◌<◌, List, [], ◌∷◌, length, get_or, refl, sym, ap, ◌∙◌, arith}
+use Rattle.std.specs.FinMap as finite
+use Rattle.gk_world.specs.State.{Texts, Contents, with_text, without, laid, own_of, outer_of, state_of}
+use Rattle.gk_world.specs.Sandbox.{SandboxValue, Works, done, change, layer, LayersGiveBack, ChangesAreOfState, with_value, without_value}
+use Rattle.gk_world.proofs.StateLemmas.{inserted, removed}
+
+abbrev rest_of : {A : Type 0} → List A → List A
+rest_of [] = []
+rest_of (x ∷ xs) = xs
+
+-- changes and ended layers leave what the ends of the open layers give
+kept : {s t : SandboxValue} → Works s t → (t.saved ≡ s.saved) × (t.marks ≡ s.marks)
+kept done = (refl, refl)
+kept (change b w) = let r = kept w in (r.0 ∙ b.layers, r.1 ∙ b.marks)
+kept (layer w e v) =
+    let inner = kept w in
+    let after = kept v in
+    (after.0 ∙ ap rest_of (sym e.given_back ∙ inner.0), after.1 ∙ ap rest_of (sym e.forgotten ∙ inner.1))
+
+pub give_back : LayersGiveBack
+give_back s t u w e =
+    let inner = kept w in
+    let saved : u.now ∷ u.saved ≡ s.now ∷ s.saved = sym e.given_back ∙ inner.0 in
+    let marks : length u.entries ∷ u.marks ≡ length s.entries ∷ s.marks = sym e.forgotten ∙ inner.1 in
+    record {
+      contents = ap (λ l. get_or l 0 s.now) saved;
+      layers = ap rest_of saved;
+      marks = ap rest_of marks;
+      recorded = ap (λ l. get_or l 0 0) marks;
+    }
+
+-- ---- the plain state
+set_own : (f e : Texts) (vs : List Texts) (name text : List ℕ) → 0 < length vs → let c : Contents = record { files = f; env = e; values = vs } in state_of (with_value c name text) ≡ record (state_of c) { own = with_text (state_of c).own name text }
+set_own f e [] name text lt = absurd (omega arith)
+set_own f e (v ∷ vs) name text lt = λ i. record { files = finite.get f; env = finite.get e; outer = laid vs; own = inserted v name text i }
+
+taken_own : (f e : Texts) (vs : List Texts) (name : List ℕ) → 0 < length vs → let c : Contents = record { files = f; env = e; values = vs } in state_of (without_value c name) ≡ record (state_of c) { own = without (state_of c).own name }
+taken_own f e [] name lt = absurd (omega arith)
+taken_own f e (v ∷ vs) name lt = λ i. record { files = finite.get f; env = finite.get e; outer = laid vs; own = removed v name i }
+
+pub of_state : ChangesAreOfState
+of_state = record {
+  file = λ c name text i. record { files = inserted c.files name text i; env = finite.get c.env; outer = outer_of c.values; own = own_of c.values };
+  no_file = λ c name i. record { files = removed c.files name i; env = finite.get c.env; outer = outer_of c.values; own = own_of c.values };
+  env = λ c name text i. record { files = finite.get c.files; env = inserted c.env name text i; outer = outer_of c.values; own = own_of c.values };
+  no_env = λ c name i. record { files = finite.get c.files; env = removed c.env name i; outer = outer_of c.values; own = own_of c.values };
+  value = λ c name text lt. set_own c.files c.env c.values name text lt;
+  no_value = λ c name lt. taken_own c.files c.env c.values name lt;
+}
