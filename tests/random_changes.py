@@ -243,7 +243,7 @@ def layered(seed):
     """The same of a run that changes 40 names in each of its three layers.
 
     The run's layer and the features' are changed by hooks, and the hooks after them check that all
-    is there again. The hooks make the same of each feature, whatever the scenarios of the first did."""
+    is there again. What the scenarios of the first feature did changes nothing in the second."""
     chance, world = random.Random(seed), World(MANY_NAMES)
     of_run, of_feature, of_scenario = CARRIED_OUT
     world.env = dict(OUTSIDE)

@@ -1,10 +1,10 @@
 #!/usr/bin/env python3
-"""Runs with one count or length of a size at which nobody looks: sizes.py PROGRAM ROOM.
+"""Runs with one count or length of a size at which nobody looks: sizes.py PROGRAM ROOM [all].
 
 Each function that is marked as a row of the table makes the run of a size: its files, its options,
 and what has to come out, worked out beside it and not taken from the program. A row is tried with
-each of SIZES and with some random ones, in each format, and the whole report is compared. Called by
-tests/sizes.sh.
+each of SIZES and with some random ones, and the whole report is compared. Called by tests/sizes.sh,
+which says in which formats.
 """
 
 import collections
@@ -18,6 +18,7 @@ import driver
 from reports import FORMATS, Feature, Report, Scenario, Style, verdict
 
 SIZES = [0, 1, 127, 128, 129, 255, 256, 257, 4095, 4096, 4097, 65_535, 65_536, 65_537]
+SMALL = 4097  # up to here every format is tried
 MOST = 70_000  # of the random sizes
 RANDOM_SIZES = 2  # of each row
 NAME_LIMIT = 255
@@ -143,7 +144,8 @@ class Sized:
         """The status and the bytes on standard output and standard error."""
         if self.fault:
             return self.status, b"", f"gherkin_run: {self.fault}\n".encode()
-        report = Report(Style(style, False), [it.feature(style) for it in self.made])
+        features = {it: it.feature(style) for it in dict.fromkeys(self.made)}
+        report = Report(Style(style, False), [features[it] for it in self.made])
         return report.status(), report.text(), b""
 
 
@@ -173,7 +175,7 @@ def row(least=0, most=MOST):
 # ---- lengths of files and lines
 
 def padded(text, size):
-    """A text of this size: a comment, and below it the text if there is room. Its last byte counts."""
+    """A text of this size: a comment, and below it the text if there is room."""
     rest = size - len(text) - 2
     return "#" + "x" * rest + "\n" + text if rest >= 0 else ("#" + "x" * size)[:size]
 
@@ -218,7 +220,8 @@ def bytes_of_a_line_of_blanks(size):
 @row()
 def blanks_around_lines(size):
     """They are trimmed, and each line has its column."""
-    made = Made().scenario("it passes", Step("these files:", block=("| name | text |", "| f | x |")))
+    table = Step("these files:", block=("| name | text |", "| f | x |"))
+    made = Made().scenario("it passes", table)
     made.lines = [f"{blanks(size)}{line}{blanks(size)}" for line in made.lines]
     return Sized(made)
 
@@ -330,7 +333,7 @@ def digits_of_a_number(size):
 # ---- lengths of names
 
 def kept_name(noun, letter, size):
-    """A name of at most 255 bytes is kept, and is another than one that differs in its last byte."""
+    """A name of at most 255 bytes is kept. One that differs in its last byte is another."""
     name = letters(size) if letter == "a" else letter * (size // 2) + "z" * (size % 2)
     is_kept = size <= NAME_LIMIT
     put = Step(f"put {name}", "passed" if is_kept else "failed: bad name", quoted("x"))
@@ -351,14 +354,16 @@ for _noun in OWN_ENTRIES:
 def bytes_of_a_name_in_a_table(size):
     is_kept = 0 < size <= NAME_LIMIT
     block = ("| name | text |", f"| {letters(size)} | x |")
-    return Sized(Made().scenario(Step("these files:", "passed" if is_kept else "failed: bad name", block)))
+    status = "passed" if is_kept else "failed: bad name"
+    return Sized(Made().scenario(Step("these files:", status, block)))
 
 
 @row(least=1)
 def bytes_of_the_new_name_of_a_file(size):
     is_kept, name = size <= NAME_LIMIT, letters(size)
+    status = "passed" if is_kept else "failed: bad name"
     steps = ['a file named "f" containing "x"',
-             Step(f'the file "f" is renamed to "{name}"', "passed" if is_kept else "failed: bad name"),
+             Step(f'the file "f" is renamed to "{name}"', status),
              Step(f'the file "{name}" should be "x"', "passed" if is_kept else "skipped"),
              Step('the file "f" should exist', "failed: absent" if is_kept else "skipped")]
     return Sized(Made().scenario(*steps))
@@ -457,7 +462,7 @@ def bytes_of_the_name_of_a_field(size):
     return with_library(made, pattern, fault="" if size else "l.steps:1: bad pattern")
 
 
-@row(most=1000)
+@row(most=4097)
 def fields_of_a_pattern(size):
     fields = ",".join(f"{{f{number}}}" for number in range(size))
     texts = ",".join(f"t{number}" for number in range(size))
@@ -530,8 +535,8 @@ def rules_of_a_feature(size):
 
 @row()
 def steps_of_a_scenario(size):
-    steps = [*["it passes"] * size, Step("it fails", "failed: fail step"), Step("it passes", "skipped")]
-    return Sized(Made().scenario(*steps))
+    last = [Step("it fails", "failed: fail step"), Step("it passes", "skipped")]
+    return Sized(Made().scenario(*["it passes"] * size, *last))
 
 
 @row()
@@ -561,7 +566,7 @@ def rows_of_a_table(size):
 
 @row(least=1)
 def cells_of_a_row(size):
-    """The first and the last of a step's table and of the examples, and a row with one cell more."""
+    """The first and the last of the examples' cells, below a step with a table of as many."""
     header = "".join(f" h{number} |" for number in range(size))
     table = [f"|{header}", f"|{header}"]
     made = Made().add("Scenario Outline: o")
@@ -606,7 +611,8 @@ def examples_of_an_outline(size):
 
 @row()
 def placeholders_in_a_text(size):
-    made = Made().add("Scenario Outline: o", f"Given x{'<a>' * size}<b>", "Examples:", "| a |", "| 12 |")
+    made = Made().add("Scenario Outline: o", f"Given x{'<a>' * size}<b>")
+    made.add("Examples:", "| a |", "| 12 |")
     made.case("Scenario Outline", "o -- @1.1", 6, [(3, f"x{'12' * size}<b>", "undefined")])
     return Sized(made)
 
@@ -672,7 +678,8 @@ def cleanups_of_a_scenario(size):
 
 @row()
 def steps_of_a_hook(size):
-    hooks = ["before_scenario:", '* the number "n" is set to 0', *['* the number "n" grows by 1'] * size,
+    hooks = ["before_scenario:", '* the number "n" is set to 0',
+             *['* the number "n" grows by 1'] * size,
              "after_scenario:", f'* the number "n" should be {size + 1}']
     made = Made().scenario(f'the number "n" should be {size}', 'the number "n" grows by 1')
     return with_hooks(made, "\n".join(hooks) + "\n")
@@ -690,7 +697,8 @@ def hooks_of_a_file(size):
 @row(most=4097)
 def hooks_of_a_scenario(size):
     """The hooks of each of its tags run, and in their order."""
-    hooks = "".join(f'before_tag @t{number}:\n* the number "n" grows by 1\n' for number in range(size))
+    hooks = "".join(f'before_tag @t{number}:\n* the number "n" grows by 1\n'
+                    for number in range(size))
     hooks = 'before_tag @t:\n* the number "n" is set to 0\n' + hooks
     tags = " ".join(["@t", *(f"@t{number}" for number in range(size))])
     return with_hooks(Made().scenario(f'the number "n" should be {size}', tags=tags), hooks)
@@ -707,7 +715,8 @@ def files_of_a_run(size):
 
 @row()
 def options_of_tags(size):
-    made = Made().scenario("it passes", tags="@a @b").scenario(Step("it passes", "skipped"), tags="@a")
+    made = Made().scenario("it passes", tags="@a @b")
+    made.scenario(Step("it passes", "skipped"), tags="@a")
     return Sized(made, options=[*["--tags=a"] * size, "--tags=b"])
 
 
@@ -753,8 +762,8 @@ def bytes_of_the_name_of_an_option(size):
 @row()
 def bytes_of_the_text_of_an_option(size):
     text = letters(size)
-    steps = [Step("see V", block=quoted(text)), Step("see V", "failed: differs", quoted(other(text)))]
-    made = Made().scenario(*steps)
+    made = Made().scenario(Step("see V", block=quoted(text)),
+                           Step("see V", "failed: differs", quoted(other(text))))
     run = with_library(made, OWN_ENTRIES["variable"])
     run.options = [*run.options, f"--env=V={text}"]
     return run
@@ -765,8 +774,8 @@ def bytes_of_the_text_of_an_option(size):
 class Table:
     """The runs of the rows, each in a folder of its own."""
 
-    def __init__(self, program, room):
-        self.program, self.room = program, room
+    def __init__(self, program, room, is_whole):
+        self.program, self.room, self.is_whole = program, room, is_whole
 
     def troubles(self, place):
         """What is wrong with each run of the row at a place, or nothing."""
@@ -774,20 +783,25 @@ class Table:
         chance = random.Random(name)
         sizes = [it for it in SIZES if least <= it <= most]
         sizes += [int(most ** chance.random()) for _ in range(RANDOM_SIZES)]
-        return [found for size in sizes for found in self.of_size(place, name, make(size), size)]
+        found = []
+        for number, size in enumerate(sizes, place):
+            is_each = self.is_whole or size <= SMALL
+            styles = FORMATS if is_each else [FORMATS[number % len(FORMATS)]]
+            found += self.of_size(place, name, make(size), size, styles)
+        return found
 
-    def of_size(self, place, name, run, size):
-        """What is wrong with the run of a size in each format, or nothing."""
+    def of_size(self, place, name, run, size, styles):
+        """What is wrong with the run of a size in these formats, or nothing."""
         folder = os.path.join(self.room, f"row{place}")
         driver.write(folder, run.files)
-        for style in FORMATS:
+        for style in styles:
             ended = driver.start(self.program, run.arguments(style), folder, patience=PATIENCE)
             yield driver.trouble(f"{name}: {size}, {style}", ended, run.wanted(style))
         shutil.rmtree(folder)
 
 
 def main():
-    table = Table(sys.argv[1], sys.argv[2])
+    table = Table(sys.argv[1], sys.argv[2], sys.argv[3:] == ["all"])
     tests = driver.Tests(most_shown=20)
     for troubles in driver.on_all_processors(table.troubles, range(len(ROWS))):
         tests.add_all(troubles)
