@@ -4,7 +4,8 @@
  *   REFUSE        the number, from 1, of the growth that is refused. A growth is a call of malloc, calloc or
  *                 realloc
  *   REFUSE_LOG    a file to which is written, at the end of the program, whether that growth was met: "met"
- *                 or "unmet". A program that ends by a signal writes nothing there
+ *                 or "unmet", or "retried" where the next growth was of no more bytes than the refused one.
+ *                 A program that ends by a signal writes nothing there
  *   WRITE_PIECE   how many bytes a call of write takes at most
  *   WRITE_FAILS   the number, from 1, of the call of write that fails
  *   WRITE_ERROR   the error of that call, a number of errno; without it the call takes no byte and has none
@@ -33,24 +34,28 @@ extern void *__libc_realloc(void *place, size_t size);
 static long refused_number = -1;
 static long growths;
 static int is_met;
+static int is_retried;
+static size_t refused_size;
 
-static int is_refused(void) {
+static int is_refused(size_t size) {
   if (refused_number < 0) {
     const char *number = getenv("REFUSE");
     refused_number = number ? atol(number) : 0;
   }
   growths++;
+  if (is_met && growths == refused_number + 1) is_retried = size <= refused_size;
   if (growths != refused_number) return 0;
   is_met = 1;
+  refused_size = size;
   errno = ENOMEM;
   return 1;
 }
 
-void *malloc(size_t size) { return is_refused() ? NULL : __libc_malloc(size); }
+void *malloc(size_t size) { return is_refused(size) ? NULL : __libc_malloc(size); }
 
-void *calloc(size_t count, size_t size) { return is_refused() ? NULL : __libc_calloc(count, size); }
+void *calloc(size_t count, size_t size) { return is_refused(count * size) ? NULL : __libc_calloc(count, size); }
 
-void *realloc(void *place, size_t size) { return is_refused() ? NULL : __libc_realloc(place, size); }
+void *realloc(void *place, size_t size) { return is_refused(size) ? NULL : __libc_realloc(place, size); }
 
 static long number_of(const char *name) {
   const char *text = getenv(name);
@@ -113,7 +118,7 @@ int open64(const char *name, int flags, ...) {
 
 __attribute__((destructor)) static void tell(void) {
   const char *name = getenv("REFUSE_LOG");
-  const char *text = is_met ? "met\n" : "unmet\n";
+  const char *text = is_retried ? "retried\n" : is_met ? "met\n" : "unmet\n";
   int file = name ? open(name, O_WRONLY | O_CREAT | O_TRUNC, 0600) : -1;
   if (file < 0) return;
   if (write(file, text, strlen(text)) < 0) _exit(70);

@@ -316,6 +316,100 @@ Then the value "v" should be "1"
     "a faulty file": (
         ["a.feature"], {"a.feature": "@a\n" + driver.feature("Given x", "| a | b |", "| c |")}),
 }
+# The end of a layer brings back a file that was removed in it, though the next growth is refused.
+REMOVED_IN_A_SCENARIO = "a file that a scenario removes"
+REMOVED_BEFORE_A_FEATURE = "a file that a hook before a feature removes"
+THREE_SCENARIOS = "three scenarios that do the same"
+RUNS[REMOVED_IN_A_SCENARIO] = (
+    ["--hooks", "h.hooks", "a.feature"],
+    {
+        "h.hooks": 'before_feature:\nGiven a file named "a" containing "1"\n',
+        "a.feature": """Feature: f
+Scenario: A
+When the file "a" is removed
+And a file named "b" containing "2"
+Scenario: B
+Then the file "a" should be "1"
+And the file "b" should not exist
+""",
+    },
+)
+RUNS[REMOVED_BEFORE_A_FEATURE] = (
+    ["--hooks", "h.hooks", "a.feature", "b.feature"],
+    {
+        "h.hooks": """before_all:
+Given a file named "a" containing "1"
+before_tag @x:
+When the file "a" is removed
+And a file named "b" containing "2"
+""",
+        "a.feature": '@x\nFeature: A\nScenario: s\nThen the file "a" should not exist\n',
+        "b.feature": """Feature: B
+Scenario: s
+Then the file "a" should be "1"
+And the file "b" should not exist
+""",
+    },
+)
+RUNS[THREE_SCENARIOS] = (
+    ["a.feature"],
+    {"a.feature": "Feature: f\n" + "".join(f"""Scenario: {name}
+Given the file "f" should not exist
+When a file named "f" containing "x"
+Then the file "f" should be "x"
+And it passes
+""" for name in ("first", "second", "third"))},
+)
+# Reports with which some run has to end.
+SEEN = {
+    REMOVED_IN_A_SCENARIO: """Feature: f ... memory
+  Scenario: A ... memory
+    When the file "a" is removed ... passed
+    And a file named "b" containing "2" ... memory
+  Scenario: B ... passed
+    Then the file "a" should be "1" ... passed
+    And the file "b" should not exist ... passed
+
+0 features passed, 0 failed, 0 skipped, 1 memory
+1 scenario passed, 0 failed, 0 skipped, 1 memory
+3 steps passed, 0 failed, 0 skipped, 0 undefined, 1 memory
+""",
+    REMOVED_BEFORE_A_FEATURE: """Feature: A ... memory
+  Scenario: s ... untested
+    Then the file "a" should not exist ... untested
+  (hooks and cleanups) ... memory
+
+Feature: B ... passed
+  Scenario: s ... passed
+    Then the file "a" should be "1" ... passed
+    And the file "b" should not exist ... passed
+
+1 feature passed, 0 failed, 0 skipped, 1 memory
+1 scenario passed, 0 failed, 0 skipped, 1 untested
+2 steps passed, 0 failed, 0 skipped, 0 undefined, 1 untested
+""",
+    THREE_SCENARIOS: """Feature: f ... memory
+  Scenario: first ... passed
+    Given the file "f" should not exist ... passed
+    When a file named "f" containing "x" ... passed
+    Then the file "f" should be "x" ... passed
+    And it passes ... passed
+  Scenario: second ... memory
+    Given the file "f" should not exist ... passed
+    When a file named "f" containing "x" ... passed
+    Then the file "f" should be "x" ... memory
+    And it passes ... untested
+  Scenario: third ... passed
+    Given the file "f" should not exist ... passed
+    When a file named "f" containing "x" ... passed
+    Then the file "f" should be "x" ... passed
+    And it passes ... passed
+
+0 features passed, 0 failed, 0 skipped, 1 memory
+2 scenarios passed, 0 failed, 0 skipped, 1 memory
+10 steps passed, 0 failed, 0 skipped, 0 undefined, 1 untested, 1 memory
+""",
+}
 
 
 class Refusals:
@@ -347,7 +441,7 @@ class Refusals:
         ending = self.ample.ending(ended)
         if met == b"unmet" and ending == "unharmed":
             return "unmet", ended[1]
-        if met == b"met" and ending:
+        if met == b"retried" and ending or met == b"met" and ending in ("stopped", "marked"):
             return ending, ended[1]
         return f"{self.name}, growth {number} refused: {met.decode()}, {ended}", ended[1]
 
@@ -379,7 +473,7 @@ class Counts:
         if not case.ample.is_read_well():
             self.tests.add(f"{case.name}: its rows give other counts or statuses")
             return
-        written = set()
+        written, marked = set(), set()
         for ending, printed in case.endings():
             self.tests.add("" if ending in ENDINGS else ending)
             if ending in ENDINGS:
@@ -387,8 +481,13 @@ class Counts:
             if ending == "stopped":
                 written.add(printed)
                 self.pieces += printed != b""
+            if ending == "marked":
+                marked.add(printed.decode())
         if case.ample.report is not None:
             self.add_pieces(case, written)
+        if case.name in SEEN:
+            is_seen = SEEN[case.name] in marked
+            self.tests.add("" if is_seen else f"{case.name}: no run ended with\n{SEEN[case.name]}")
 
     def add_pieces(self, case, written):
         """Each piece is made when those before it are written, so some run ends at each of them."""
