@@ -285,6 +285,7 @@ fn push_rules_cases(
     Ok(())
 }
 
+// The cases of a feature that is given up: the texts of its plain scenarios are moved.
 #[tactic(auto, unfolding(crate::specs::Expansion::cases))]
 fn moved_cases(alloc: Global, feature: Feature) -> Result<Vec<Case>, AllocError>
     requires { IsExpandable (feature_value feature) }
@@ -327,8 +328,7 @@ fn copied_case(
     })
 }
 
-// Pushes the cases of a scenario that is kept.
-fn push_copied_cases(
+fn push_copied_scenario(
     alloc: Global,
     cases: &mut Vec<Case>,
     inherited: &Inherited<'_>,
@@ -339,14 +339,13 @@ fn push_copied_cases(
         (spec.scenario_cases (inherited_value inherited.now) (scenario_value scenario.now)) }
 {
     if is_outline(scenario) {
-        push_outline_cases(alloc, cases, inherited, scenario, &scenario.examples)
-    } else {
-        cases.push(copied_case(alloc, inherited, scenario)?)?;
-        Ok(())
+        return push_outline_cases(alloc, cases, inherited, scenario, &scenario.examples);
     }
+    cases.push(copied_case(alloc, inherited, scenario)?)?;
+    Ok(())
 }
 
-fn push_cases_of_scenarios(
+fn push_copied_scenarios(
     alloc: Global,
     cases: &mut Vec<Case>,
     inherited: &Inherited<'_>,
@@ -357,12 +356,12 @@ fn push_cases_of_scenarios(
         (cases_of_scenarios inherited.now scenarios.now) }
 {
     for scenario in scenarios {
-        push_copied_cases(alloc, cases, inherited, scenario)?;
+        push_copied_scenario(alloc, cases, inherited, scenario)?;
     }
     Ok(())
 }
 
-fn push_cases_of_rules(
+fn push_copied_rules(
     alloc: Global,
     cases: &mut Vec<Case>,
     feature: &Feature,
@@ -373,11 +372,12 @@ fn push_cases_of_rules(
 {
     for rule in &feature.rules {
         let inherited = inherited_in_rule(feature, rule);
-        push_cases_of_scenarios(alloc, cases, &inherited, &rule.scenarios)?;
+        push_copied_scenarios(alloc, cases, &inherited, &rule.scenarios)?;
     }
     Ok(())
 }
 
+// The cases of a feature that is kept: each text is copied.
 #[tactic(auto, unfolding(crate::specs::Expansion::cases))]
 fn copied_cases(alloc: Global, feature: &Feature) -> Result<Vec<Case>, AllocError>
     requires { IsExpandable (feature_value feature.now) }
@@ -385,8 +385,8 @@ fn copied_cases(alloc: Global, feature: &Feature) -> Result<Vec<Case>, AllocErro
 {
     let mut cases = Vec::new(alloc);
     let inherited = inherited_in_feature(feature);
-    push_cases_of_scenarios(alloc, &mut cases, &inherited, &feature.scenarios)?;
-    push_cases_of_rules(alloc, &mut cases, feature)?;
+    push_copied_scenarios(alloc, &mut cases, &inherited, &feature.scenarios)?;
+    push_copied_rules(alloc, &mut cases, feature)?;
     Ok(cases)
 }
 

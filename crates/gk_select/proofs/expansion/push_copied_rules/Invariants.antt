@@ -3,7 +3,7 @@ use Rattle.std.specs.List.{AllByRecursion}
 use Rattle.gk_gherkin.specs.Feature.{RuleValue, rule_value, feature_value}
 use Rattle.gk_select.specs.Case.{case_value}
 use Rattle.gk_select.specs.Expansion.{rule_cases, RowsFit}
-use Rattle.gk_select.proofs.expansion.push_cases_of_rules.Given as goal
+use Rattle.gk_select.proofs.expansion.push_copied_rules.Given as goal
 
 abbrev pub invariant-loop-rule : goal.invariant-loop-rule
 invariant-loop-rule l = record {

@@ -3,7 +3,7 @@ use Rattle.gk_gherkin.specs.Feature.{scenario_value}
 use Rattle.gk_select.specs.Case.{case_value}
 use Rattle.gk_select.specs.Expansion.{scenario_cases, RowsFit}
 use Rattle.gk_select.specs.Inherited.{inherited_value}
-use Rattle.gk_select.proofs.expansion.push_cases_of_scenarios.Given as goal
+use Rattle.gk_select.proofs.expansion.push_copied_scenarios.Given as goal
 
 abbrev pub invariant-loop-scenario : goal.invariant-loop-scenario
 invariant-loop-scenario l = record {
