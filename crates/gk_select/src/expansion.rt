@@ -361,22 +361,6 @@ fn push_copied_scenarios(
     Ok(())
 }
 
-fn push_copied_rules(
-    alloc: Global,
-    cases: &mut Vec<Case>,
-    feature: &Feature,
-) -> Result<(), AllocError>
-    requires { IsExpandable (feature_value feature.now) }
-    ensures { Appends case_value result cases.old.items cases.new.items
-        (cases_of_rules feature.now feature.now.rules.items) }
-{
-    for rule in &feature.rules {
-        let inherited = inherited_in_rule(feature, rule);
-        push_copied_scenarios(alloc, cases, &inherited, &rule.scenarios)?;
-    }
-    Ok(())
-}
-
 // The cases of a feature that is kept: each text is copied.
 #[tactic(auto, unfolding(crate::specs::Expansion::cases))]
 fn copied_cases(alloc: Global, feature: &Feature) -> Result<Vec<Case>, AllocError>
@@ -386,7 +370,10 @@ fn copied_cases(alloc: Global, feature: &Feature) -> Result<Vec<Case>, AllocErro
     let mut cases = Vec::new(alloc);
     let inherited = inherited_in_feature(feature);
     push_copied_scenarios(alloc, &mut cases, &inherited, &feature.scenarios)?;
-    push_copied_rules(alloc, &mut cases, feature)?;
+    for rule in &feature.rules {
+        let inherited = inherited_in_rule(feature, rule);
+        push_copied_scenarios(alloc, &mut cases, &inherited, &rule.scenarios)?;
+    }
     Ok(cases)
 }
 
