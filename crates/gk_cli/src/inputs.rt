@@ -22,7 +22,7 @@ use crate::source::Source;
 use gk_gherkin::{Feature, HookFile, ReadFault, read_feature, read_hooks};
 use gk_run::Chosen;
 use gk_select::{
-    Case, Choice, SelectFault, TagRule, expand, read_features_are_expandable, read_tags,
+    Case, Choice, SelectFault, TagRule, into_cases, read_features_are_expandable, read_tags,
 };
 use gk_steps::{Library, LibraryFault, default_library, read_library};
 use std::alloc::{AllocError, Global};
@@ -165,7 +165,7 @@ fn chosen_of(
 {
     let copies = copies_of(alloc, source, &feature)?;
     let line = feature.line;
-    let cases = expand(alloc, feature)?;
+    let cases = into_cases(alloc, feature)?;
     let selected = selections(alloc, choice, cases.as_slice())?;
     let (source, name, tags) = copies;
     Ok(Chosen {

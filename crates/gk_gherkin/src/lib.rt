@@ -27,6 +27,6 @@ pub use grammar::{hooks_reading_is_unique, parts_are_concatenations, reading_is_
 pub use hooks::{Hook, HookFile, HookKind};
 pub use hooks_reader::read_hooks;
 pub use lines::{BorrowedLine, Document, LIMIT, Line, Place, borrowed_line, read_lines, text_of};
-pub use read_fault::ReadFault;
+pub use read_fault::{ReadFault, Refused};
 pub use reader::read_feature;
 pub use text::trim_back;

@@ -6,6 +6,13 @@ ghost use Rattle.gk_gherkin.specs.declared.read_fault.ReadFault.TheVariants.{Mem
 use std::alloc::{AllocError, AllocFailed};
 use std::fmt;
 
+/// The error of a growth of memory that was refused. A fault is made of each by one `From`.
+pub trait Refused: Drop {}
+
+impl Refused for AllocError {}
+
+impl<T: Drop> Refused for AllocFailed<T> {}
+
 /// Why a file could not be read. Lines are counted from 1. Of more faults than one, `TooLong` comes
 /// before `NotUtf8`, that before any fault of a line, and of these the first line's. (this project's
 /// profile)

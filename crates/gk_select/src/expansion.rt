@@ -18,7 +18,7 @@ ghost use Rattle.gk_select.specs.Outline.{FitsHeader, AllFit};
 ghost use Rattle.gk_select.specs.declared.select_fault.SelectFault.TheVariants.{TooMany, Memory};
 
 use crate::case::Case;
-use crate::copies::{push_filled_steps, push_texts};
+use crate::copies::{push_filled_steps, push_steps, push_texts};
 use crate::counting::has_room;
 use crate::filling::fill;
 use crate::inherited::{
@@ -285,8 +285,9 @@ fn push_rules_cases(
     Ok(())
 }
 
+// The cases of a feature that is given up: the texts of its plain scenarios are moved.
 #[tactic(auto, unfolding(crate::specs::Expansion::cases))]
-fn all_cases(alloc: Global, feature: Feature) -> Result<Vec<Case>, AllocError>
+fn moved_cases(alloc: Global, feature: Feature) -> Result<Vec<Case>, AllocError>
     requires { IsExpandable (feature_value feature) }
     ensures { IfOk result (λ v. map case_value v.items ≡ cases (feature_value feature)) }
 {
@@ -300,6 +301,82 @@ fn all_cases(alloc: Global, feature: Feature) -> Result<Vec<Case>, AllocError>
     Ok(cases)
 }
 
+// The case of a plain scenario, whose texts are copied.
+fn copied_case(
+    alloc: Global,
+    inherited: &Inherited<'_>,
+    scenario: &Scenario,
+) -> Result<Case, AllocError>
+    ensures { IfOk result (λ c. case_value c ≡
+        spec.plain_case (inherited_value inherited.now) (scenario_value scenario.now)) }
+{
+    let mut own_tags = Vec::new(alloc);
+    push_texts(alloc, &mut own_tags, &scenario.tags)?;
+    let mut tags = Vec::new(alloc);
+    push_inherited_tags(alloc, &mut tags, inherited)?;
+    push_texts(alloc, &mut tags, &scenario.tags)?;
+    let mut steps = Vec::new(alloc);
+    push_inherited_steps(alloc, &mut steps, inherited)?;
+    push_steps(alloc, &mut steps, &scenario.steps)?;
+    Ok(Case {
+        name: String::from_str(alloc, scenario.name.as_str())?,
+        keyword: String::from_str(alloc, scenario.keyword.as_str())?,
+        line: scenario.line,
+        tags,
+        own_tags,
+        steps,
+    })
+}
+
+fn push_copied_scenario(
+    alloc: Global,
+    cases: &mut Vec<Case>,
+    inherited: &Inherited<'_>,
+    scenario: &Scenario,
+) -> Result<(), AllocError>
+    requires { AllByRecursion AllFit (map examples_value scenario.now.examples.items) }
+    ensures { Appends case_value result cases.old.items cases.new.items
+        (spec.scenario_cases (inherited_value inherited.now) (scenario_value scenario.now)) }
+{
+    if is_outline(scenario) {
+        return push_outline_cases(alloc, cases, inherited, scenario, &scenario.examples);
+    }
+    cases.push(copied_case(alloc, inherited, scenario)?)?;
+    Ok(())
+}
+
+fn push_copied_scenarios(
+    alloc: Global,
+    cases: &mut Vec<Case>,
+    inherited: &Inherited<'_>,
+    scenarios: &[Scenario],
+) -> Result<(), AllocError>
+    requires { RowsFit (map scenario_value scenarios.now) }
+    ensures { Appends case_value result cases.old.items cases.new.items
+        (cases_of_scenarios inherited.now scenarios.now) }
+{
+    for scenario in scenarios {
+        push_copied_scenario(alloc, cases, inherited, scenario)?;
+    }
+    Ok(())
+}
+
+// The cases of a feature that is kept: each text is copied.
+#[tactic(auto, unfolding(crate::specs::Expansion::cases))]
+fn copied_cases(alloc: Global, feature: &Feature) -> Result<Vec<Case>, AllocError>
+    requires { IsExpandable (feature_value feature.now) }
+    ensures { IfOk result (λ v. map case_value v.items ≡ cases (feature_value feature.now)) }
+{
+    let mut cases = Vec::new(alloc);
+    let inherited = inherited_in_feature(feature);
+    push_copied_scenarios(alloc, &mut cases, &inherited, &feature.scenarios)?;
+    for rule in &feature.rules {
+        let inherited = inherited_in_rule(feature, rule);
+        push_copied_scenarios(alloc, &mut cases, &inherited, &rule.scenarios)?;
+    }
+    Ok(cases)
+}
+
 /// The cases of a feature in file order: each plain scenario once, and each row of an outline once.
 ///
 /// A scenario is an outline by its keyword, `Scenario Outline` or `Scenario Template`, or where it has
@@ -308,9 +385,27 @@ fn all_cases(alloc: Global, feature: Feature) -> Result<Vec<Case>, AllocError>
 ///
 /// `TooMany` comes exactly where the cases have more steps than `STEP_LIMIT`; they are counted before
 /// anything is built. `Memory` comes only where a growth was refused, and never in place of `TooMany`.
-/// A refusal answers no cases. A plain scenario's texts are moved into its case. (Cucumber's Gherkin
-/// reference: scenario outline, background, tag inheritance; this project's profile)
-pub fn expand(alloc: Global, feature: Feature) -> Result<Vec<Case>, SelectFault>
+/// A refusal answers no cases. The feature's texts are copied; `into_cases` moves them. (Cucumber's
+/// Gherkin reference: scenario outline, background, tag inheritance; this project's profile)
+pub fn expand(alloc: Global, feature: &Feature) -> Result<Vec<Case>, SelectFault>
+    requires { IsExpandable (feature_value feature.now) }
+    // What is answered is the feature's cases.
+    ensures ok { IfOk result (λ v. map case_value v.items ≡ cases (feature_value feature.now)) }
+    // More steps than the limit are refused.
+    ensures too_many { HasTooManySteps (feature_value feature.now) → result ≡ Err TooMany }
+    // Which fault it is.
+    ensures fault { IfErr result (λ e. MatchBool
+        (nat_lt step_limit (step_count (feature_value feature.now))) (e ≡ TooMany) (e ≡ Memory)) }
+{
+    if !has_room(feature) {
+        return Err(SelectFault::TooMany);
+    }
+    Ok(copied_cases(alloc, feature)?)
+}
+
+/// What `expand` answers, of a feature that is given up: a plain scenario's texts are moved into its
+/// case. A refusal answers no cases, and the feature is dropped.
+pub fn into_cases(alloc: Global, feature: Feature) -> Result<Vec<Case>, SelectFault>
     requires { IsExpandable (feature_value feature) }
     // What is answered is the feature's cases.
     ensures ok { IfOk result (λ v. map case_value v.items ≡ cases (feature_value feature)) }
@@ -323,10 +418,10 @@ pub fn expand(alloc: Global, feature: Feature) -> Result<Vec<Case>, SelectFault>
     if !has_room(&feature) {
         return Err(SelectFault::TooMany);
     }
-    Ok(all_cases(alloc, feature)?)
+    Ok(moved_cases(alloc, feature)?)
 }
 
-/// Features that `read_feature` answers meet the condition of `expand`: in what the grammar reads each
+/// Features that `read_feature` answers meet the condition of `expand` and `into_cases`: in what the grammar reads each
 /// row of Examples has as many cells as its header. (Cucumber's Gherkin reference: examples)
 pub fn read_features_are_expandable()
     ensures { (lines : Lines) (f : FeatureValue) → Reads lines (Some f) → IsExpandable f }

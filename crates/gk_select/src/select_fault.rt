@@ -3,7 +3,7 @@ ghost use Rattle.std.specs.Prelude.{◌≡◌, Some};
 ghost use Rattle.gk_select.specs.SelectFault.{text_of_select_fault};
 ghost use Rattle.gk_select.specs.declared.select_fault.SelectFault.TheVariants.{Memory};
 
-use std::alloc::{AllocError, AllocFailed};
+use gk_gherkin::Refused;
 use std::fmt;
 
 /// Why a feature is not expanded, or a text of tags is refused. (this project's profile)
@@ -17,18 +17,10 @@ pub enum SelectFault {
     Memory,
 }
 
-impl From<AllocError> for SelectFault {
+impl<E: Refused> From<E> for SelectFault {
     ghost from_gives = { λ _ e. e ≡ Memory };
 
-    fn from(_e: AllocError) -> SelectFault {
-        SelectFault::Memory
-    }
-}
-
-impl<T: Drop> From<AllocFailed<T>> for SelectFault {
-    ghost from_gives = { λ _ e. e ≡ Memory };
-
-    fn from(_e: AllocFailed<T>) -> SelectFault {
+    fn from(_refused: E) -> SelectFault {
         SelectFault::Memory
     }
 }
