@@ -332,6 +332,8 @@ record IsInText (done : Lines) (quote : QuoteValue) (fence : Fence) (n : ℕ) : 
   inside : AllByRecursion (λ line. closes fence line ≡ false) content
   place : Place
   reached : run (At Above) before ≡ Ok (At place)
+  column : ℕ
+  opened : run (At Above) (before ++ opening ∷ []) ≡ Ok (Quoted quote fence column n None)
 
 abbrev Marks : State → Lines → Type 0
 Marks (At place) done = Unit {0}
@@ -356,16 +358,16 @@ tag_marks : (r : Option (List (List ℕ))) (place : Place) (tags : List (List �
 tag_marks (Some others) place tags l t done is e = to (done ++ l ∷ []) e (record { before = done; line = l; ignored = []; whole = refl; number = refl; is = is; skipped = skip_none })
 tag_marks None place tags l t done is e = no_ok e
 
-fence_marks : (place : Place) (q : Option QuoteValue) (l : LineValue) (fence : Fence) (t : State) (done : Lines) → run (At Above) done ≡ Ok (At place) → class l ≡ FenceLine fence → on_fence q place l fence ≡ Ok t → Marks t (done ++ l ∷ [])
-fence_marks place (Some quote) l fence t done r is e = to (done ++ l ∷ []) e (record { before = done; opening = l; content = []; whole = refl; number = refl; is = is; inside = tt; place = place; reached = r })
-fence_marks place None l fence t done r is e = placed_marks (on_place place l (FenceLine fence)) t _ e
+fence_marks : (place : Place) (q : Option QuoteValue) (l : LineValue) (fence : Fence) (t : State) (done : Lines) → run (At Above) done ≡ Ok (At place) → class l ≡ FenceLine fence → step (At place) l ≡ on_fence q place l fence → on_fence q place l fence ≡ Ok t → Marks t (done ++ l ∷ [])
+fence_marks place (Some quote) l fence t done r is s e = to (done ++ l ∷ []) e (record { before = done; opening = l; content = []; whole = refl; number = refl; is = is; inside = tt; place = place; reached = r; column = l.column; opened = one_more_line step (At Above) done (At place) (Quoted quote fence l.column l.line None) l r s })
+fence_marks place None l fence t done r is s e = placed_marks (on_place place l (FenceLine fence)) t _ e
 
 quote_marks : (b : Bool) (quote : QuoteValue) (fence : Fence) (column n : ℕ) (texts : Option (List ℕ)) (l : LineValue) (done : Lines) → closes fence l ≡ b → IsInText done quote fence n → Marks (in_quote b quote fence column n texts l) (done ++ l ∷ [])
 quote_marks true quote fence column n texts l done c m = tt
-quote_marks false quote fence column n texts l done c m = record { before = m.before; opening = m.opening; content = m.content ++ l ∷ []; whole = ap (λ (ls : Lines). ls ++ l ∷ []) m.whole ∙ append_assoc m.before (m.opening ∷ m.content) (l ∷ []); number = m.number; is = m.is; inside = All-push (λ line. closes fence line ≡ false) m.content l m.inside c; place = m.place; reached = m.reached }
+quote_marks false quote fence column n texts l done c m = record { before = m.before; opening = m.opening; content = m.content ++ l ∷ []; whole = ap (λ (ls : Lines). ls ++ l ∷ []) m.whole ∙ append_assoc m.before (m.opening ∷ m.content) (l ∷ []); number = m.number; is = m.is; inside = All-push (λ line. closes fence line ≡ false) m.content l m.inside c; place = m.place; reached = m.reached; column = m.column; opened = m.opened }
 
 marks_on : (s : State) (l : LineValue) (c : Class) (t : State) (done : Lines) → run (At Above) done ≡ Ok s → class l ≡ c → Marks s done → on s l c ≡ Ok t → Marks t (done ++ l ∷ [])
-unfolding on
+unfolding on step
 marks_on (At place) l Blank t done r is m e = to _ e tt
 marks_on (At place) l Comment t done r is m e = subst (λ t. Marks t (done ++ l ∷ [])) (comment_ok place (At place) t l is e).1 tt
 marks_on (At place) l TagLine t done r is m e = tag_marks (tags_of l) place [] l t done is e
@@ -373,7 +375,7 @@ marks_on (At place) l FeatureHeading t done r is m e = placed_marks (on_heading 
 marks_on (At place) l RuleHeading t done r is m e = placed_marks (on_heading place [] l RuleHeading) t _ e
 marks_on (At place) l ScenarioHeading t done r is m e = placed_marks (on_heading place [] l ScenarioHeading) t _ e
 marks_on (At place) l ExamplesHeading t done r is m e = placed_marks (on_heading place [] l ExamplesHeading) t _ e
-marks_on (At place) l (FenceLine fence) t done r is m e = fence_marks place (quote_of place) l fence t done r is e
+marks_on (At place) l (FenceLine fence) t done r is m e = fence_marks place (quote_of place) l fence t done r is (ap (on (At place) l) is) e
 marks_on (At place) l k t done r is m e = placed_marks (on_place place l k) t _ e
 marks_on (Tagged place tags n) l Blank t done r is m e = to _ e (after_ignored done n l (subst IsIgnoredClass (sym is) tt) m)
 marks_on (Tagged place tags n) l Comment t done r is m e = subst (λ t. Marks t (done ++ l ∷ [])) (comment_ok place (Tagged place tags n) t l is e).1 (after_ignored done n l (subst IsIgnoredClass (sym is) tt) m)
@@ -422,7 +424,7 @@ end_fault ls (Quoted quote fence column n texts) e r h =
     let b = marks (At Above) ls (Quoted quote fence column n texts) [] (run_nil (At Above)) tt r in
     let closed : (closing : LineValue) → closes fence closing ≡ true → IsReadable (ls ++ closing ∷ []) =
     λ closing c. readable_at (ls ++ closing ∷ []) (after_quote quote texts) (one_more_line step (At Above) ls (Quoted quote fence column n texts) (At (after_quote quote texts)) closing r (closing_step quote fence column n texts closing c)) in
-    let ends : EndsInDocString IsReadable class ls n = record { before = b.before; fence = fence; opening = b.opening; content = b.content; whole = b.whole; number = b.number; is = b.is; inside = b.inside; fits = readable_at b.before b.place b.reached; unread = λ readable. not_quoted quote fence column n texts (sym (runs ls readable.0 readable.1).1 ∙ r); closed = closed } in
+    let ends : EndsInDocString IsReadable class ls n = record { before = b.before; fence = fence; opening = b.opening; content = b.content; whole = b.whole; number = b.number; is = b.is; inside = b.inside; fits = readable_at b.before b.place b.reached; opens = λ readable. not_quoted quote fence b.column n None (sym (runs (b.before ++ b.opening ∷ []) readable.0 readable.1).1 ∙ b.opened); unread = λ readable. not_quoted quote fence column n texts (sym (runs ls readable.0 readable.1).1 ∙ r); closed = closed } in
     let same : UnclosedText n ≡ e = err_same h in
     subst (λ e. FeatureFault e ls) same ends
 

@@ -66,7 +66,7 @@ module _ (Readable : Lines → Type 0) {C : Type 0} (kind : LineValue → C) whe
     pub wanted : (other : LineValue) → class other ≡ RowLine → BeginsSome (before ++ other ∷ []) → IfSome (cells_of other) (λ wanted. length wanted ≡ width)
     pub differs : length cells ≢ width
 
-  -- The lines end in a doc string that line n opened: any line that closes it would make them readable, and none stands there. (this project's profile)
+  -- The lines end in a doc string that line n opened: those before it are readable, with it they aren't, and any line that closes it would make them all readable, but none stands there. (this project's profile)
   pub record EndsInDocString (ls : Lines) (n : ℕ) : Type 0 where
     pub before : Lines
     pub fence : Fence
@@ -77,6 +77,7 @@ module _ (Readable : Lines → Type 0) {C : Type 0} (kind : LineValue → C) whe
     pub is : class opening ≡ FenceLine fence
     pub inside : AllByRecursion (λ line. closes fence line ≡ false) content
     pub fits : Readable before
+    pub opens : Readable (before ++ opening ∷ []) → ⊥
     pub unread : Readable ls → ⊥
     pub closed : (closing : LineValue) → closes fence closing ≡ true → Readable (ls ++ closing ∷ [])
 
