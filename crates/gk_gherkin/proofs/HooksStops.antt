@@ -31,7 +31,7 @@ use Rattle.gk_gherkin.proofs.HooksSound.{Same, PlaceBuilt, Built-run, hooks_soun
 use Rattle.gk_gherkin.proofs.HooksComplete.{hooks_run}
 
 -- after a line that halts, nothing is readable
-halted : (before : Lines) (l : LineValue) (s : HooksState) (e : ReadFault) → run (At NoHook) before ≡ Ok s → step s l ≡ Err e → BeginsNone AreHooksReadable hooks_class (before ++ l ∷ [])
+pub halted : (before : Lines) (l : LineValue) (s : HooksState) (e : ReadFault) → run (At NoHook) before ≡ Ok s → step s l ≡ Err e → BeginsNone AreHooksReadable hooks_class (before ++ l ∷ [])
 halted before l s e r h rest readable =
     let k = hooks_run ((before ++ l ∷ []) ++ rest) readable.0 readable.1 in
     no_err (sym k.1 ∙ halted_run step (At NoHook) s before l e rest r h)
@@ -41,7 +41,7 @@ reads_at : (ls : Lines) (place : HooksPlace) → run (At NoHook) ls ≡ Ok (At p
 unfolding reading finish
 reads_at ls place r = hooks_sound ls (hooks_of place) (ap (λ (r : HooksRead). r >>= finish) r)
 
-readable_at : (ls : Lines) (place : HooksPlace) → run (At NoHook) ls ≡ Ok (At place) → AreHooksReadable ls
+pub readable_at : (ls : Lines) (place : HooksPlace) → run (At NoHook) ls ≡ Ok (At place) → AreHooksReadable ls
 readable_at ls place r = (hooks_of place, reads_at ls place r)
 
 readable_more : (ls : Lines) (s : HooksState) (next : HooksPlace) (l : LineValue) → run (At NoHook) ls ≡ Ok s → step s l ≡ Ok (At next) → AreHooksReadable (ls ++ l ∷ [])
@@ -264,7 +264,7 @@ run_nil : (s : HooksState) → run s [] ≡ Ok s
 unfolding run_by
 run_nil s = refl
 
-not_quoted : {p : HooksPlace} {P : Type 0} (quote : HookQuoteValue) (fence : Fence) (column n : ℕ) (texts : Option (List ℕ)) → ◌≡◌ {A = HooksRead} (Ok (At p)) (Ok (Quoted quote fence column n texts)) → P
+pub not_quoted : {p : HooksPlace} {P : Type 0} (quote : HookQuoteValue) (fence : Fence) (column n : ℕ) (texts : Option (List ℕ)) → ◌≡◌ {A = HooksRead} (Ok (At p)) (Ok (Quoted quote fence column n texts)) → P
 not_quoted quote fence column n texts e = cc
 
 closing_step : (quote : HookQuoteValue) (fence : Fence) (column n : ℕ) (texts : Option (List ℕ)) (l : LineValue) → closes fence l ≡ true → step (Quoted quote fence column n texts) l ≡ Ok (At (after_quote quote texts))

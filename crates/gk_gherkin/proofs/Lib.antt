@@ -24,6 +24,9 @@ pub mod HooksStops
 pub mod HooksReading
 pub mod WorkedLines
 pub mod WorkedFiles
-pub mod WorkedFaults
+pub mod OneFault
+pub mod OneFeatureFault
+pub mod OneHooksFault
+pub mod OneFaultOfBytes
 pub mod WorkedHookHeadings
 pub mod WorkedHooks

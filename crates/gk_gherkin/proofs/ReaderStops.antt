@@ -26,13 +26,13 @@ use Rattle.gk_gherkin.proofs.ReaderRuns.{no_err, err_same, bind_err, Halts, halt
 use Rattle.gk_gherkin.proofs.RowStops.{line_of, Refuses, RowStop, Stopped, stopped_then, row_takes, first_row, first_of, stepped_stops, other_width, row_stops, RowSays, row_says}
 
 -- after a line that halts, nothing is readable
-halted : (before : Lines) (l : LineValue) (s : State) (e : ReadFault) → run (At Above) before ≡ Ok s → step s l ≡ Err e → BeginsNone IsReadable class (before ++ l ∷ [])
+pub halted : (before : Lines) (l : LineValue) (s : State) (e : ReadFault) → run (At Above) before ≡ Ok s → step s l ≡ Err e → BeginsNone IsReadable class (before ++ l ∷ [])
 halted before l s e r h rest readable =
     let k = runs ((before ++ l ∷ []) ++ rest) readable.0 readable.1 in
     no_err (sym k.1 ∙ halted_run step (At Above) s before l e rest r h)
 
 -- what is reached at a place is readable
-readable_at : (ls : Lines) (place : Place) → run (At Above) ls ≡ Ok (At place) → IsReadable ls
+pub readable_at : (ls : Lines) (place : Place) → run (At Above) ls ≡ Ok (At place) → IsReadable ls
 unfolding reading finish
 readable_at ls place r = (answer place, sound ls (answer place) (ap (λ (r : Read). r >>= finish) r))
 
@@ -63,7 +63,7 @@ unfolding tags_of
 good_tag_tags = refl
 
 -- the heading that may follow tags at a place
-abbrev heading_for : Place → LineValue
+abbrev pub heading_for : Place → LineValue
 heading_for Above = feature_heading
 heading_for (Inside top part) = scenario_heading
 
@@ -76,7 +76,7 @@ unfolding step on on_heading
 heading_step Above tags n = ap (on (Tagged Above tags n) feature_heading) feature_heading_class
 heading_step (Inside top part) tags n = ap (on (Tagged (Inside top part) tags n) scenario_heading) scenario_heading_class
 
-readable_after_tags : (ls : Lines) (place : Place) (tags : List (List ℕ)) (n : ℕ) → run (At Above) ls ≡ Ok (Tagged place tags n) → IsReadable (ls ++ heading_for place ∷ [])
+pub readable_after_tags : (ls : Lines) (place : Place) (tags : List (List ℕ)) (n : ℕ) → run (At Above) ls ≡ Ok (Tagged place tags n) → IsReadable (ls ++ heading_for place ∷ [])
 readable_after_tags ls place tags n r = readable_at (ls ++ heading_for place ∷ []) (after_heading place tags) (one_more_line step (At Above) ls (Tagged place tags n) (At (after_heading place tags)) (heading_for place) r (heading_step place tags n))
 
 heading_takes_tags : (place : Place) → TakesTags (class (heading_for place))
@@ -405,10 +405,10 @@ run_nil s = refl
 not_at : {p : Place} {P : Type 0} (place : Place) (tags : List (List ℕ)) (n : ℕ) → ◌≡◌ {A = Read} (Ok (At p)) (Ok (Tagged place tags n)) → P
 not_at place tags n e = cc
 
-not_quoted : {p : Place} {P : Type 0} (quote : QuoteValue) (fence : Fence) (column n : ℕ) (texts : Option (List ℕ)) → ◌≡◌ {A = Read} (Ok (At p)) (Ok (Quoted quote fence column n texts)) → P
+pub not_quoted : {p : Place} {P : Type 0} (quote : QuoteValue) (fence : Fence) (column n : ℕ) (texts : Option (List ℕ)) → ◌≡◌ {A = Read} (Ok (At p)) (Ok (Quoted quote fence column n texts)) → P
 not_quoted quote fence column n texts e = cc
 
-closing_step : (quote : QuoteValue) (fence : Fence) (column n : ℕ) (texts : Option (List ℕ)) (l : LineValue) → closes fence l ≡ true → step (Quoted quote fence column n texts) l ≡ Ok (At (after_quote quote texts))
+pub closing_step : (quote : QuoteValue) (fence : Fence) (column n : ℕ) (texts : Option (List ℕ)) (l : LineValue) → closes fence l ≡ true → step (Quoted quote fence column n texts) l ≡ Ok (At (after_quote quote texts))
 unfolding step on
 closing_step quote fence column n texts l c = ap (λ (b : Bool). let r : Read = Ok (in_quote b quote fence column n texts l) in r) c
 

@@ -156,6 +156,10 @@ FaultSays OfLines TooLong bytes = IsTooLong bytes
 FaultSays OfLines (NotUtf8 n) bytes = IsNotUtf8At bytes n
 FaultSays OfLines fault bytes = IsText bytes × OfLines fault (lines_of bytes)
 
+-- No bytes have two faults, neither of two classes nor on two lines; refused memory aside, which is no fault of theirs. (this project's profile)
+abbrev pub HaveOneFault : (ReadFault → Lines → Type 0) → Type 0
+HaveOneFault OfLines = (bytes : List ℕ) (one other : ReadFault) → one ≢ Memory → other ≢ Memory → FaultSays OfLines one bytes → FaultSays OfLines other bytes → one ≡ other
+
 -- What a fault says where the lines alone are read. (this project's profile)
 abbrev pub LinesFaultSays : ReadFault → List ℕ → Type 0
 LinesFaultSays fault bytes = FaultSays (λ other ls. ⊥) fault bytes
