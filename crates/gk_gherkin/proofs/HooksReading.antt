@@ -40,7 +40,7 @@ module _ (bytes : List ℕ) (ls : Lines) (same : ls ≡ lines_of bytes) where
 
   pub fault : (r : Result HookFile ReadFault) → IsText bytes → Gives hooks_value r (reading ls) → IfErr r (λ e. FaultSays HooksFault e bytes)
   fault (Ok x) t g = tt
-  fault (Err faults.Memory) t g = t
+  fault (Err faults.Memory) t g = (t, tt)
   fault (Err faults.TooLong) t g = absurd (hooks_faulty ls faults.TooLong g)
   fault (Err (faults.NotUtf8 n)) t g = absurd (hooks_faulty ls (faults.NotUtf8 n) g)
   fault (Err (faults.Unexpected n)) t g = (t, subst (HooksFault (faults.Unexpected n)) same (hooks_faulty ls (faults.Unexpected n) g))

@@ -8,11 +8,14 @@ pub mod ReaderComplete
 pub mod ReaderRuns
 pub mod RowStops
 pub mod ReaderStops
+pub mod NeedsLoop
+pub mod NeededMemory
 pub mod ReaderWhole
 pub mod Prefixes
 pub mod TextEnds
 pub mod RowParts
 pub mod TagWords
+pub mod FirstTags
 pub mod FenceTexts
 pub mod HookHeadingTexts
 pub mod HookHeadingsDecided

@@ -15,3 +15,4 @@ pub mod HooksGrammar
 pub mod ReadFault
 pub mod Machine
 pub mod HooksMachine
+pub mod MemoryNeeds

@@ -10,7 +10,7 @@ use Rattle.gk_gherkin.proofs.hooks_reader.read_hooks.Goals as goal
 pub returns-in_err-text-clause-fault : goal.returns-in_err-text-clause-fault
 returns-in_err-text-clause-fault c =
     let p = err_from_is_err_and c.from_residual.result c.from_residual.ensures.1 in
-    rw (p.1, p.2) (lines_fault HooksFault c.in_err-text.field-0.0 c.args.bytes.now c.in_err-text.ensures.fault)
+    rw (p.1, p.2) (lines_fault HooksFault c.in_err-text.field-0.0 c.args.bytes.now c.in_err-text.ensures.free c.in_err-text.ensures.fault)
 
 pub returns-clause-found : goal.returns-clause-found
 returns-clause-found c =
