@@ -24,6 +24,7 @@ pub mod HooksSound
 pub mod HooksComplete
 pub mod FreshHookHeadings
 pub mod HooksStops
+pub mod HooksNeededMemory
 pub mod HooksReading
 pub mod WorkedLines
 pub mod WorkedFiles

@@ -16,3 +16,4 @@ pub mod ReadFault
 pub mod Machine
 pub mod HooksMachine
 pub mod MemoryNeeds
+pub mod HooksMemoryNeeds

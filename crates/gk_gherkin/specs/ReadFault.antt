@@ -152,14 +152,22 @@ pub record IsBadHook (before : Lines) (line : LineValue) : Type 0 where
   pub fits : SomeLikeIt AreHooksReadable hooks_class before line
   pub bad : (hook_heading line ≡ None) ⊎ StoodBefore before line
 
--- What a fault says of the lines of a hooks file. (this project's profile)
+-- The first line that isn't ignored is a hook's heading. No line before it needs memory, and no other line that stands first. (this project's profile)
+pub record HooksNeedMemory (ls : Lines) : Type 0 where
+  pub line : LineValue
+  pub rest : Lines
+  pub next : Next IsIgnored ls line rest
+  pub is : hooks_class line ≡ HookLine
+  pub heading : hook_heading line ≢ None
+
+-- What a fault says of the lines of a hooks file; refused memory, that they need some. (this project's profile)
 abbrev pub HooksFault : ReadFault → Lines → Type 0
 HooksFault (Unexpected n) ls = StopsAt AreHooksReadable hooks_class ls n (NoneLikeIt AreHooksReadable hooks_class)
 HooksFault (BadHook n) ls = StopsAt AreHooksReadable hooks_class ls n IsBadHook
 HooksFault (BadRow n) ls = StopsAt AreHooksReadable hooks_class ls n (IsBadRow AreHooksReadable hooks_class)
 HooksFault (CellCount n) ls = StopsAt AreHooksReadable hooks_class ls n (IsOtherWidth AreHooksReadable hooks_class)
 HooksFault (UnclosedText n) ls = EndsInDocString AreHooksReadable hooks_class ls n
-HooksFault Memory ls = Unit {0}
+HooksFault Memory ls = HooksNeedMemory ls
 HooksFault _ ls = ⊥
 
 -- What a fault says of the bytes: too many before no UTF-8, and both before any fault of the lines. (this project's profile)
