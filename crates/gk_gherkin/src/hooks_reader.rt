@@ -93,8 +93,8 @@ fn read(alloc: Global, text: &str) -> Result<HookFile, ReadFault>
 /// - `CellCount`: a row with another number of cells than the first of its table.
 /// - `UnclosedText`, at the line of its opening fence: the file ends in a doc string.
 ///
-/// `Memory` comes only where a growth was refused. A refusal answers nothing of what was read before
-/// it.
+/// `Memory` comes only where a growth was refused, and none is asked for before the first heading. A
+/// refusal answers nothing of what was read before it.
 pub fn read_hooks(alloc: Global, bytes: &[u8]) -> Result<HookFile, ReadFault>
     // What is answered is what the lines say.
     ensures found { IfOk result (λ file.

@@ -103,8 +103,8 @@ fn read(alloc: Global, text: &str) -> Result<Option<Feature>, ReadFault>
 /// - `UnclosedText`, at the line of its opening fence: the file ends in a doc string.
 /// - `TagsAtEnd`, at the last tag line: the file ends after tags.
 ///
-/// `Memory` comes only where a growth was refused. A refusal answers nothing of what was read before
-/// it.
+/// `Memory` comes only where a growth was refused, and none is asked for before the first tag or the
+/// feature's heading. A refusal answers nothing of what was read before it.
 pub fn read_feature(alloc: Global, bytes: &[u8]) -> Result<Option<Feature>, ReadFault>
     // What is answered is what the lines say.
     ensures found { IfOk result (λ f.
