@@ -6,9 +6,11 @@ use Rattle.gk_gherkin.specs.declared.read_fault.ReadFault.TheVariants as faults
 use Rattle.gk_gherkin.specs.Lines.{Lines, lines_of, IsText}
 use Rattle.gk_gherkin.specs.Hooks.{HookValue, hooks_value}
 use Rattle.gk_gherkin.specs.HooksGrammar.{ReadsHooks}
-use Rattle.gk_gherkin.specs.ReadFault.{FaultSays, HooksFault, AnswersHooksOrLacksMemory}
+use Rattle.gk_gherkin.specs.ReadFault.{FaultSays, HooksNeedMemory, HooksFault, AnswersHooksOrLacksMemory}
 use Rattle.gk_gherkin.specs.Machine.{Gives}
-use Rattle.gk_gherkin.specs.HooksMachine.{reading}
+use Rattle.gk_gherkin.specs.HooksMachine.{NoHook, At, reading}
+use Rattle.gk_gherkin.specs.HooksMemoryNeeds.{NeedSome}
+use Rattle.gk_gherkin.proofs.HooksNeededMemory.{hooks_need_memory}
 use Rattle.gk_gherkin.proofs.HooksSound.{hooks_sound}
 use Rattle.gk_gherkin.proofs.HooksComplete.{hooks_complete}
 use Rattle.gk_gherkin.proofs.HooksStops.{hooks_faulty}
@@ -38,16 +40,16 @@ module _ (bytes : List ℕ) (ls : Lines) (same : ls ≡ lines_of bytes) where
   only (Err (faults.BadRow n)) hooks g h = not_both (sym g ∙ hooks_complete ls hooks (subst (λ ls. ReadsHooks ls hooks) (sym same) h))
   only (Err (faults.BadHook n)) hooks g h = not_both (sym g ∙ hooks_complete ls hooks (subst (λ ls. ReadsHooks ls hooks) (sym same) h))
 
-  pub fault : (r : Result HookFile ReadFault) → IsText bytes → Gives hooks_value r (reading ls) → IfErr r (λ e. FaultSays HooksFault e bytes)
-  fault (Ok x) t g = tt
-  fault (Err faults.Memory) t g = t
-  fault (Err faults.TooLong) t g = absurd (hooks_faulty ls faults.TooLong g)
-  fault (Err (faults.NotUtf8 n)) t g = absurd (hooks_faulty ls (faults.NotUtf8 n) g)
-  fault (Err (faults.Unexpected n)) t g = (t, subst (HooksFault (faults.Unexpected n)) same (hooks_faulty ls (faults.Unexpected n) g))
-  fault (Err (faults.BadTag n)) t g = absurd (hooks_faulty ls (faults.BadTag n) g)
-  fault (Err (faults.CellCount n)) t g = (t, subst (HooksFault (faults.CellCount n)) same (hooks_faulty ls (faults.CellCount n) g))
-  fault (Err (faults.UnclosedText n)) t g = (t, subst (HooksFault (faults.UnclosedText n)) same (hooks_faulty ls (faults.UnclosedText n) g))
-  fault (Err (faults.TagsAtEnd n)) t g = absurd (hooks_faulty ls (faults.TagsAtEnd n) g)
-  fault (Err (faults.Language n)) t g = absurd (hooks_faulty ls (faults.Language n) g)
-  fault (Err (faults.BadRow n)) t g = (t, subst (HooksFault (faults.BadRow n)) same (hooks_faulty ls (faults.BadRow n) g))
-  fault (Err (faults.BadHook n)) t g = (t, subst (HooksFault (faults.BadHook n)) same (hooks_faulty ls (faults.BadHook n) g))
+  pub fault : (r : Result HookFile ReadFault) → IsText bytes → Gives hooks_value r (reading ls) → IfErr r (λ e. e ≡ faults.Memory → NeedSome (At NoHook) ls) → IfErr r (λ e. FaultSays HooksFault e bytes)
+  fault (Ok x) t g m = tt
+  fault (Err faults.Memory) t g m = (t, subst HooksNeedMemory same (hooks_need_memory ls (m refl)))
+  fault (Err faults.TooLong) t g m = absurd (hooks_faulty ls faults.TooLong g)
+  fault (Err (faults.NotUtf8 n)) t g m = absurd (hooks_faulty ls (faults.NotUtf8 n) g)
+  fault (Err (faults.Unexpected n)) t g m = (t, subst (HooksFault (faults.Unexpected n)) same (hooks_faulty ls (faults.Unexpected n) g))
+  fault (Err (faults.BadTag n)) t g m = absurd (hooks_faulty ls (faults.BadTag n) g)
+  fault (Err (faults.CellCount n)) t g m = (t, subst (HooksFault (faults.CellCount n)) same (hooks_faulty ls (faults.CellCount n) g))
+  fault (Err (faults.UnclosedText n)) t g m = (t, subst (HooksFault (faults.UnclosedText n)) same (hooks_faulty ls (faults.UnclosedText n) g))
+  fault (Err (faults.TagsAtEnd n)) t g m = absurd (hooks_faulty ls (faults.TagsAtEnd n) g)
+  fault (Err (faults.Language n)) t g m = absurd (hooks_faulty ls (faults.Language n) g)
+  fault (Err (faults.BadRow n)) t g m = (t, subst (HooksFault (faults.BadRow n)) same (hooks_faulty ls (faults.BadRow n) g))
+  fault (Err (faults.BadHook n)) t g m = (t, subst (HooksFault (faults.BadHook n)) same (hooks_faulty ls (faults.BadHook n) g))

@@ -31,7 +31,7 @@ use Rattle.gk_gherkin.proofs.HooksSound.{Same, PlaceBuilt, Built-run, hooks_soun
 use Rattle.gk_gherkin.proofs.HooksComplete.{hooks_run}
 
 -- after a line that halts, nothing is readable
-halted : (before : Lines) (l : LineValue) (s : HooksState) (e : ReadFault) → run (At NoHook) before ≡ Ok s → step s l ≡ Err e → BeginsNone AreHooksReadable hooks_class (before ++ l ∷ [])
+pub halted : (before : Lines) (l : LineValue) (s : HooksState) (e : ReadFault) → run (At NoHook) before ≡ Ok s → step s l ≡ Err e → BeginsNone AreHooksReadable hooks_class (before ++ l ∷ [])
 halted before l s e r h rest readable =
     let k = hooks_run ((before ++ l ∷ []) ++ rest) readable.0 readable.1 in
     no_err (sym k.1 ∙ halted_run step (At NoHook) s before l e rest r h)
@@ -41,7 +41,7 @@ reads_at : (ls : Lines) (place : HooksPlace) → run (At NoHook) ls ≡ Ok (At p
 unfolding reading finish
 reads_at ls place r = hooks_sound ls (hooks_of place) (ap (λ (r : HooksRead). r >>= finish) r)
 
-readable_at : (ls : Lines) (place : HooksPlace) → run (At NoHook) ls ≡ Ok (At place) → AreHooksReadable ls
+pub readable_at : (ls : Lines) (place : HooksPlace) → run (At NoHook) ls ≡ Ok (At place) → AreHooksReadable ls
 readable_at ls place r = (hooks_of place, reads_at ls place r)
 
 readable_more : (ls : Lines) (s : HooksState) (next : HooksPlace) (l : LineValue) → run (At NoHook) ls ≡ Ok s → step s l ≡ Ok (At next) → AreHooksReadable (ls ++ l ∷ [])
@@ -213,6 +213,9 @@ record IsInText (done : Lines) (fence : Fence) (n : ℕ) : Type 0 where
   inside : AllByRecursion (λ line. closes fence line ≡ false) content
   place : HooksPlace
   reached : run (At NoHook) before ≡ Ok (At place)
+  quote : HookQuoteValue
+  column : ℕ
+  opened : run (At NoHook) (before ++ opening ∷ []) ≡ Ok (Quoted quote fence column n None)
 
 abbrev Marks : HooksState → Lines → Type 0
 Marks (At place) done = Unit {0}
@@ -225,20 +228,20 @@ placed_marks : (r : Result HooksPlace ReadFault) (t : HooksState) (done : Lines)
 placed_marks (Ok p) t done e = to done e tt
 placed_marks (Err x) t done e = no_ok e
 
-fence_marks : (place : HooksPlace) (q : Option HookQuoteValue) (l : LineValue) (fence : Fence) (t : HooksState) (done : Lines) → run (At NoHook) done ≡ Ok (At place) → class l ≡ FenceLine fence → on_fence q place l fence ≡ Ok t → Marks t (done ++ l ∷ [])
-fence_marks place (Some quote) l fence t done r is e = to (done ++ l ∷ []) e (record { before = done; opening = l; content = []; whole = refl; number = refl; is = is; inside = tt; place = place; reached = r })
-fence_marks place None l fence t done r is e = placed_marks (on_hooks_place place l (FenceLine fence)) t (done ++ l ∷ []) e
+fence_marks : (place : HooksPlace) (q : Option HookQuoteValue) (l : LineValue) (fence : Fence) (t : HooksState) (done : Lines) → run (At NoHook) done ≡ Ok (At place) → class l ≡ FenceLine fence → step (At place) l ≡ on_fence q place l fence → on_fence q place l fence ≡ Ok t → Marks t (done ++ l ∷ [])
+fence_marks place (Some quote) l fence t done r is s e = to (done ++ l ∷ []) e (record { before = done; opening = l; content = []; whole = refl; number = refl; is = is; inside = tt; place = place; reached = r; quote = quote; column = l.column; opened = one_more_line step (At NoHook) done (At place) (Quoted quote fence l.column l.line None) l r s })
+fence_marks place None l fence t done r is s e = placed_marks (on_hooks_place place l (FenceLine fence)) t (done ++ l ∷ []) e
 
 quote_marks : (b : Bool) (quote : HookQuoteValue) (fence : Fence) (column n : ℕ) (texts : Option (List ℕ)) (l : LineValue) (done : Lines) → closes fence l ≡ b → IsInText done fence n → Marks (in_quote b quote fence column n texts l) (done ++ l ∷ [])
 quote_marks true quote fence column n texts l done c m = tt
-quote_marks false quote fence column n texts l done c m = record { before = m.before; opening = m.opening; content = m.content ++ l ∷ []; whole = ap (λ (ls : Lines). ls ++ l ∷ []) m.whole ∙ append_assoc m.before (m.opening ∷ m.content) (l ∷ []); number = m.number; is = m.is; inside = All-push (λ line. closes fence line ≡ false) m.content l m.inside c; place = m.place; reached = m.reached }
+quote_marks false quote fence column n texts l done c m = record { before = m.before; opening = m.opening; content = m.content ++ l ∷ []; whole = ap (λ (ls : Lines). ls ++ l ∷ []) m.whole ∙ append_assoc m.before (m.opening ∷ m.content) (l ∷ []); number = m.number; is = m.is; inside = All-push (λ line. closes fence line ≡ false) m.content l m.inside c; place = m.place; reached = m.reached; quote = m.quote; column = m.column; opened = m.opened }
 
 marks_on : (s : HooksState) (l : LineValue) (c : HooksClass) (t : HooksState) (done : Lines) → run (At NoHook) done ≡ Ok s → hooks_class l ≡ c → Marks s done → on s l c ≡ Ok t → Marks t (done ++ l ∷ [])
-unfolding on
+unfolding on step
 marks_on (At place) l HookLine t done r is m e = placed_marks (on_hook place l) t (done ++ l ∷ []) e
 marks_on (At place) l (Plain Blank) t done r is m e = to (done ++ l ∷ []) e tt
 marks_on (At place) l (Plain Comment) t done r is m e = to (done ++ l ∷ []) e tt
-marks_on (At place) l (Plain (FenceLine fence)) t done r is m e = fence_marks place (quote_of place) l fence t done r (plain_class l (FenceLine fence) is) e
+marks_on (At place) l (Plain (FenceLine fence)) t done r is m e = fence_marks place (quote_of place) l fence t done r (plain_class l (FenceLine fence) is) (ap (on (At place) l) is) e
 marks_on (At place) l (Plain k) t done r is m e = placed_marks (on_hooks_place place l k) t (done ++ l ∷ []) e
 marks_on (Quoted quote fence column n texts) l k t done r is m e = to (done ++ l ∷ []) e (quote_marks (closes fence l) quote fence column n texts l done refl m)
 
@@ -261,7 +264,7 @@ run_nil : (s : HooksState) → run s [] ≡ Ok s
 unfolding run_by
 run_nil s = refl
 
-not_quoted : {p : HooksPlace} {P : Type 0} (quote : HookQuoteValue) (fence : Fence) (column n : ℕ) (texts : Option (List ℕ)) → ◌≡◌ {A = HooksRead} (Ok (At p)) (Ok (Quoted quote fence column n texts)) → P
+pub not_quoted : {p : HooksPlace} {P : Type 0} (quote : HookQuoteValue) (fence : Fence) (column n : ℕ) (texts : Option (List ℕ)) → ◌≡◌ {A = HooksRead} (Ok (At p)) (Ok (Quoted quote fence column n texts)) → P
 not_quoted quote fence column n texts e = cc
 
 closing_step : (quote : HookQuoteValue) (fence : Fence) (column n : ℕ) (texts : Option (List ℕ)) (l : LineValue) → closes fence l ≡ true → step (Quoted quote fence column n texts) l ≡ Ok (At (after_quote quote texts))
@@ -275,7 +278,7 @@ end_fault ls (Quoted quote fence column n texts) e r h =
     let b = marks (At NoHook) ls (Quoted quote fence column n texts) [] (run_nil (At NoHook)) tt r in
     let closed : (closing : LineValue) → closes fence closing ≡ true → AreHooksReadable (ls ++ closing ∷ []) =
     λ closing c. readable_more ls (Quoted quote fence column n texts) (after_quote quote texts) closing r (closing_step quote fence column n texts closing c) in
-    let ends : EndsInDocString AreHooksReadable hooks_class ls n = record { before = b.before; fence = fence; opening = b.opening; content = b.content; whole = b.whole; number = b.number; is = b.is; inside = b.inside; fits = readable_at b.before b.place b.reached; unread = λ readable. not_quoted quote fence column n texts (sym (hooks_run ls readable.0 readable.1).1 ∙ r); closed = closed } in
+    let ends : EndsInDocString AreHooksReadable hooks_class ls n = record { before = b.before; fence = fence; opening = b.opening; content = b.content; whole = b.whole; number = b.number; is = b.is; inside = b.inside; fits = readable_at b.before b.place b.reached; opens = λ readable. not_quoted b.quote fence b.column n None (sym (hooks_run (b.before ++ b.opening ∷ []) readable.0 readable.1).1 ∙ b.opened); unread = λ readable. not_quoted quote fence column n texts (sym (hooks_run ls readable.0 readable.1).1 ∙ r); closed = closed } in
     let same : UnclosedText n ≡ e = err_same h in
     subst (λ e. HooksFault e ls) same ends
 

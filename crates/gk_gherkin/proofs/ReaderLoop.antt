@@ -10,7 +10,7 @@ use Rattle.gk_gherkin.specs.Machine.{run_by, ◌>>=◌}
 
 -- step: what a line makes of a state; all: the texts of the lines; i: how many are read; n: the next line's number
 module _ {S : Type 0} (step : S → LineValue → Result S ReadFault) (s : S) (all : List (List ℕ)) (i n : ℕ) (text : List ℕ) (total : Result S ReadFault) (within : i < length all) (is : text ≡ get_or all i text) where
-  next : numbered_from n (drop i all) ≡ line_at n text ∷ numbered_from (n + 1) (drop (i + 1) all)
+  pub next : numbered_from n (drop i all) ≡ line_at n text ∷ numbered_from (n + 1) (drop (i + 1) all)
   next =
       let here : drop i all ≡ get_or all i text ∷ drop (suc i) all = drop-cons all i text within in
       let one : i + 1 ≡ suc i = add-one i in

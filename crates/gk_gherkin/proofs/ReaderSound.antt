@@ -439,7 +439,7 @@ blank_english : (l : LineValue) → class l ≡ Blank → IsEnglishOrNone (langu
 unfolding class language_of
 blank_english l c = no_hash (trim l.text) (begins (trim l.text) (codes "#")) refl c
 
-blank_at : (place : Place) (l : LineValue) → class l ≡ Blank → IgnoredAt place l
+pub blank_at : (place : Place) (l : LineValue) → class l ≡ Blank → IgnoredAt place l
 blank_at Above l c = (subst IsIgnoredClass (sym c) tt, blank_english l c)
 blank_at (Inside top part) l c = subst IsIgnoredClass (sym c) tt
 

@@ -26,13 +26,13 @@ use Rattle.gk_gherkin.proofs.ReaderRuns.{no_err, err_same, bind_err, Halts, halt
 use Rattle.gk_gherkin.proofs.RowStops.{line_of, Refuses, RowStop, Stopped, stopped_then, row_takes, first_row, first_of, stepped_stops, other_width, row_stops, RowSays, row_says}
 
 -- after a line that halts, nothing is readable
-halted : (before : Lines) (l : LineValue) (s : State) (e : ReadFault) → run (At Above) before ≡ Ok s → step s l ≡ Err e → BeginsNone IsReadable class (before ++ l ∷ [])
+pub halted : (before : Lines) (l : LineValue) (s : State) (e : ReadFault) → run (At Above) before ≡ Ok s → step s l ≡ Err e → BeginsNone IsReadable class (before ++ l ∷ [])
 halted before l s e r h rest readable =
     let k = runs ((before ++ l ∷ []) ++ rest) readable.0 readable.1 in
     no_err (sym k.1 ∙ halted_run step (At Above) s before l e rest r h)
 
 -- what is reached at a place is readable
-readable_at : (ls : Lines) (place : Place) → run (At Above) ls ≡ Ok (At place) → IsReadable ls
+pub readable_at : (ls : Lines) (place : Place) → run (At Above) ls ≡ Ok (At place) → IsReadable ls
 unfolding reading finish
 readable_at ls place r = (answer place, sound ls (answer place) (ap (λ (r : Read). r >>= finish) r))
 
@@ -63,7 +63,7 @@ unfolding tags_of
 good_tag_tags = refl
 
 -- the heading that may follow tags at a place
-abbrev heading_for : Place → LineValue
+abbrev pub heading_for : Place → LineValue
 heading_for Above = feature_heading
 heading_for (Inside top part) = scenario_heading
 
@@ -76,7 +76,7 @@ unfolding step on on_heading
 heading_step Above tags n = ap (on (Tagged Above tags n) feature_heading) feature_heading_class
 heading_step (Inside top part) tags n = ap (on (Tagged (Inside top part) tags n) scenario_heading) scenario_heading_class
 
-readable_after_tags : (ls : Lines) (place : Place) (tags : List (List ℕ)) (n : ℕ) → run (At Above) ls ≡ Ok (Tagged place tags n) → IsReadable (ls ++ heading_for place ∷ [])
+pub readable_after_tags : (ls : Lines) (place : Place) (tags : List (List ℕ)) (n : ℕ) → run (At Above) ls ≡ Ok (Tagged place tags n) → IsReadable (ls ++ heading_for place ∷ [])
 readable_after_tags ls place tags n r = readable_at (ls ++ heading_for place ∷ []) (after_heading place tags) (one_more_line step (At Above) ls (Tagged place tags n) (At (after_heading place tags)) (heading_for place) r (heading_step place tags n))
 
 heading_takes_tags : (place : Place) → TakesTags (class (heading_for place))
@@ -332,6 +332,8 @@ record IsInText (done : Lines) (quote : QuoteValue) (fence : Fence) (n : ℕ) : 
   inside : AllByRecursion (λ line. closes fence line ≡ false) content
   place : Place
   reached : run (At Above) before ≡ Ok (At place)
+  column : ℕ
+  opened : run (At Above) (before ++ opening ∷ []) ≡ Ok (Quoted quote fence column n None)
 
 abbrev Marks : State → Lines → Type 0
 Marks (At place) done = Unit {0}
@@ -356,16 +358,16 @@ tag_marks : (r : Option (List (List ℕ))) (place : Place) (tags : List (List �
 tag_marks (Some others) place tags l t done is e = to (done ++ l ∷ []) e (record { before = done; line = l; ignored = []; whole = refl; number = refl; is = is; skipped = skip_none })
 tag_marks None place tags l t done is e = no_ok e
 
-fence_marks : (place : Place) (q : Option QuoteValue) (l : LineValue) (fence : Fence) (t : State) (done : Lines) → run (At Above) done ≡ Ok (At place) → class l ≡ FenceLine fence → on_fence q place l fence ≡ Ok t → Marks t (done ++ l ∷ [])
-fence_marks place (Some quote) l fence t done r is e = to (done ++ l ∷ []) e (record { before = done; opening = l; content = []; whole = refl; number = refl; is = is; inside = tt; place = place; reached = r })
-fence_marks place None l fence t done r is e = placed_marks (on_place place l (FenceLine fence)) t _ e
+fence_marks : (place : Place) (q : Option QuoteValue) (l : LineValue) (fence : Fence) (t : State) (done : Lines) → run (At Above) done ≡ Ok (At place) → class l ≡ FenceLine fence → step (At place) l ≡ on_fence q place l fence → on_fence q place l fence ≡ Ok t → Marks t (done ++ l ∷ [])
+fence_marks place (Some quote) l fence t done r is s e = to (done ++ l ∷ []) e (record { before = done; opening = l; content = []; whole = refl; number = refl; is = is; inside = tt; place = place; reached = r; column = l.column; opened = one_more_line step (At Above) done (At place) (Quoted quote fence l.column l.line None) l r s })
+fence_marks place None l fence t done r is s e = placed_marks (on_place place l (FenceLine fence)) t _ e
 
 quote_marks : (b : Bool) (quote : QuoteValue) (fence : Fence) (column n : ℕ) (texts : Option (List ℕ)) (l : LineValue) (done : Lines) → closes fence l ≡ b → IsInText done quote fence n → Marks (in_quote b quote fence column n texts l) (done ++ l ∷ [])
 quote_marks true quote fence column n texts l done c m = tt
-quote_marks false quote fence column n texts l done c m = record { before = m.before; opening = m.opening; content = m.content ++ l ∷ []; whole = ap (λ (ls : Lines). ls ++ l ∷ []) m.whole ∙ append_assoc m.before (m.opening ∷ m.content) (l ∷ []); number = m.number; is = m.is; inside = All-push (λ line. closes fence line ≡ false) m.content l m.inside c; place = m.place; reached = m.reached }
+quote_marks false quote fence column n texts l done c m = record { before = m.before; opening = m.opening; content = m.content ++ l ∷ []; whole = ap (λ (ls : Lines). ls ++ l ∷ []) m.whole ∙ append_assoc m.before (m.opening ∷ m.content) (l ∷ []); number = m.number; is = m.is; inside = All-push (λ line. closes fence line ≡ false) m.content l m.inside c; place = m.place; reached = m.reached; column = m.column; opened = m.opened }
 
 marks_on : (s : State) (l : LineValue) (c : Class) (t : State) (done : Lines) → run (At Above) done ≡ Ok s → class l ≡ c → Marks s done → on s l c ≡ Ok t → Marks t (done ++ l ∷ [])
-unfolding on
+unfolding on step
 marks_on (At place) l Blank t done r is m e = to _ e tt
 marks_on (At place) l Comment t done r is m e = subst (λ t. Marks t (done ++ l ∷ [])) (comment_ok place (At place) t l is e).1 tt
 marks_on (At place) l TagLine t done r is m e = tag_marks (tags_of l) place [] l t done is e
@@ -373,7 +375,7 @@ marks_on (At place) l FeatureHeading t done r is m e = placed_marks (on_heading 
 marks_on (At place) l RuleHeading t done r is m e = placed_marks (on_heading place [] l RuleHeading) t _ e
 marks_on (At place) l ScenarioHeading t done r is m e = placed_marks (on_heading place [] l ScenarioHeading) t _ e
 marks_on (At place) l ExamplesHeading t done r is m e = placed_marks (on_heading place [] l ExamplesHeading) t _ e
-marks_on (At place) l (FenceLine fence) t done r is m e = fence_marks place (quote_of place) l fence t done r is e
+marks_on (At place) l (FenceLine fence) t done r is m e = fence_marks place (quote_of place) l fence t done r is (ap (on (At place) l) is) e
 marks_on (At place) l k t done r is m e = placed_marks (on_place place l k) t _ e
 marks_on (Tagged place tags n) l Blank t done r is m e = to _ e (after_ignored done n l (subst IsIgnoredClass (sym is) tt) m)
 marks_on (Tagged place tags n) l Comment t done r is m e = subst (λ t. Marks t (done ++ l ∷ [])) (comment_ok place (Tagged place tags n) t l is e).1 (after_ignored done n l (subst IsIgnoredClass (sym is) tt) m)
@@ -403,10 +405,10 @@ run_nil s = refl
 not_at : {p : Place} {P : Type 0} (place : Place) (tags : List (List ℕ)) (n : ℕ) → ◌≡◌ {A = Read} (Ok (At p)) (Ok (Tagged place tags n)) → P
 not_at place tags n e = cc
 
-not_quoted : {p : Place} {P : Type 0} (quote : QuoteValue) (fence : Fence) (column n : ℕ) (texts : Option (List ℕ)) → ◌≡◌ {A = Read} (Ok (At p)) (Ok (Quoted quote fence column n texts)) → P
+pub not_quoted : {p : Place} {P : Type 0} (quote : QuoteValue) (fence : Fence) (column n : ℕ) (texts : Option (List ℕ)) → ◌≡◌ {A = Read} (Ok (At p)) (Ok (Quoted quote fence column n texts)) → P
 not_quoted quote fence column n texts e = cc
 
-closing_step : (quote : QuoteValue) (fence : Fence) (column n : ℕ) (texts : Option (List ℕ)) (l : LineValue) → closes fence l ≡ true → step (Quoted quote fence column n texts) l ≡ Ok (At (after_quote quote texts))
+pub closing_step : (quote : QuoteValue) (fence : Fence) (column n : ℕ) (texts : Option (List ℕ)) (l : LineValue) → closes fence l ≡ true → step (Quoted quote fence column n texts) l ≡ Ok (At (after_quote quote texts))
 unfolding step on
 closing_step quote fence column n texts l c = ap (λ (b : Bool). let r : Read = Ok (in_quote b quote fence column n texts l) in r) c
 
@@ -422,7 +424,7 @@ end_fault ls (Quoted quote fence column n texts) e r h =
     let b = marks (At Above) ls (Quoted quote fence column n texts) [] (run_nil (At Above)) tt r in
     let closed : (closing : LineValue) → closes fence closing ≡ true → IsReadable (ls ++ closing ∷ []) =
     λ closing c. readable_at (ls ++ closing ∷ []) (after_quote quote texts) (one_more_line step (At Above) ls (Quoted quote fence column n texts) (At (after_quote quote texts)) closing r (closing_step quote fence column n texts closing c)) in
-    let ends : EndsInDocString IsReadable class ls n = record { before = b.before; fence = fence; opening = b.opening; content = b.content; whole = b.whole; number = b.number; is = b.is; inside = b.inside; fits = readable_at b.before b.place b.reached; unread = λ readable. not_quoted quote fence column n texts (sym (runs ls readable.0 readable.1).1 ∙ r); closed = closed } in
+    let ends : EndsInDocString IsReadable class ls n = record { before = b.before; fence = fence; opening = b.opening; content = b.content; whole = b.whole; number = b.number; is = b.is; inside = b.inside; fits = readable_at b.before b.place b.reached; opens = λ readable. not_quoted quote fence b.column n None (sym (runs (b.before ++ b.opening ∷ []) readable.0 readable.1).1 ∙ b.opened); unread = λ readable. not_quoted quote fence column n texts (sym (runs ls readable.0 readable.1).1 ∙ r); closed = closed } in
     let same : UnclosedText n ≡ e = err_same h in
     subst (λ e. FeatureFault e ls) same ends
 

@@ -79,7 +79,7 @@ first_word t n some start e =
     ]
 
 -- The tags among words.
-abbrev tag_words : List (List ℕ) → List (List ℕ)
+abbrev pub tag_words : List (List ℕ) → List (List ℕ)
 tag_words words = take_while (λ word. not (begins word (codes "#"))) words
 
 abbrev all_tags : Bool → List (List ℕ) → Option (List (List ℕ))
@@ -92,7 +92,7 @@ pub comment_word : (word : List ℕ) (words : List (List ℕ)) → begins word (
 comment_word word words e =
     ap (λ (ws : List (List ℕ)). all_tags (list_all is_tag ws) ws) (take_while-cons (λ word. not (begins word (codes "#"))) word words ∙ ap (λ (t : Bool). cond (not t) (word ∷ tag_words words) []) e)
 
-word_kept : (word : List ℕ) (words : List (List ℕ)) → begins word (codes "#") ≡ false → tag_words (word ∷ words) ≡ word ∷ tag_words words
+pub word_kept : (word : List ℕ) (words : List (List ℕ)) → begins word (codes "#") ≡ false → tag_words (word ∷ words) ≡ word ∷ tag_words words
 word_kept word words e = take_while-cons (λ word. not (begins word (codes "#"))) word words ∙ ap (λ (t : Bool). cond (not t) (word ∷ tag_words words) []) e
 
 pub no_tag : (word : List ℕ) (words : List (List ℕ)) → begins word (codes "#") ≡ false → is_tag word ≡ false → tags_by (word ∷ words) ≡ None

@@ -15,6 +15,7 @@ use Rattle.gk_gherkin.specs.ReadFault.{FeatureFault}
 use Rattle.gk_gherkin.specs.Machine.{on_heading, on_row, on_block, on_grid, on_body, on_open, on_place, on, step, run_by, finish, reading}
 use Rattle.gk_gherkin.proofs.ReaderSound.{sound}
 use Rattle.gk_gherkin.proofs.ReaderStops.{faulty}
+use Rattle.gk_gherkin.proofs.OneFeatureFault.{one_feature_fault}
 
 -- An empty file, and one of comments alone, hold no feature.
 abbrev empty : Lines
@@ -269,6 +270,16 @@ german_after_tags = faulty (lines_of (codes "@x\n# language: de\nFeature: a")) (
 open_text : FeatureFault (UnclosedText 4) (lines_of (codes "Feature: a\nExample: e\n* x\n  \"\"\"\n```\n\n"))
 unfolding class class_of class_of_words heading_keyword heading_name step_keyword step_text tags_of cells_of parts_of unescaped closes content_of language_of type_after on_heading on_row on_block on_grid on_body on_open on_place on step run_by finish reading
 open_text = faulty (lines_of (codes "Feature: a\nExample: e\n* x\n  \"\"\"\n```\n\n")) (UnclosedText 4) refl
+
+-- A fence in a description opens nothing: the doc string is opened on line 5, and not on line 2.
+text_after_description : FeatureFault (UnclosedText 5) (lines_of (codes "Feature: f\n\"\"\"\nScenario: s\nGiven x\n\"\"\"json\ntext"))
+unfolding class class_of class_of_words heading_keyword heading_name step_keyword step_text tags_of cells_of parts_of unescaped closes content_of language_of type_after on_heading on_row on_block on_grid on_body on_open on_place on step run_by finish reading
+text_after_description = faulty (lines_of (codes "Feature: f\n\"\"\"\nScenario: s\nGiven x\n\"\"\"json\ntext")) (UnclosedText 5) refl
+
+not_by_description : FeatureFault (UnclosedText 2) (lines_of (codes "Feature: f\n\"\"\"\nScenario: s\nGiven x\n\"\"\"json\ntext")) → ⊥
+not_by_description other =
+    let same = one_feature_fault (lines_of (codes "Feature: f\n\"\"\"\nScenario: s\nGiven x\n\"\"\"json\ntext")) (UnclosedText 5) (UnclosedText 2) (λ e. cc) (λ e. cc) text_after_description other in
+    let no : ⊥ = cc in no
 
 tags_at_end : FeatureFault (TagsAtEnd 3) (lines_of (codes "Feature: a\n@x\n@y\n# c\n"))
 unfolding class class_of class_of_words heading_keyword heading_name step_keyword step_text tags_of cells_of parts_of unescaped closes content_of language_of type_after on_heading on_row on_block on_grid on_body on_open on_place on step run_by finish reading

@@ -15,3 +15,6 @@ pub mod HooksGrammar
 pub mod ReadFault
 pub mod Machine
 pub mod HooksMachine
+-- Proof machinery: which lines need memory.
+pub mod MemoryNeeds
+pub mod HooksMemoryNeeds

@@ -8,13 +8,13 @@ use Rattle.gk_gherkin.specs.declared.class.Class.{Class}
 use Rattle.gk_gherkin.specs.declared.class.Class.TheVariants.{Comment, TagLine, FeatureHeading, RuleHeading, ScenarioHeading, ExamplesHeading, RowLine, FenceLine}
 use Rattle.gk_gherkin.specs.declared.class.Fence.{Fence}
 use Rattle.gk_gherkin.specs.Class.{class}
-use Rattle.gk_gherkin.specs.Tags.{tags_of}
+use Rattle.gk_gherkin.specs.Tags.{is_tag, words_before_comment, tags_of}
 use Rattle.gk_gherkin.specs.Rows.{cells_of}
 use Rattle.gk_gherkin.specs.DocStrings.{closes}
 use Rattle.gk_gherkin.specs.Language.{NamesOtherLanguage}
 use Rattle.gk_gherkin.specs.declared.feature.Feature.{Feature}
 use Rattle.gk_gherkin.specs.Feature.{FeatureValue, feature_value}
-use Rattle.gk_gherkin.specs.Grammar.{IsIgnored, Skips, IsReadable}
+use Rattle.gk_gherkin.specs.Grammar.{IsIgnored, IsIgnoredAbove, Skips, Next, IsReadable}
 use Rattle.gk_gherkin.specs.declared.hooks.HookFile.{HookFile}
 use Rattle.gk_gherkin.specs.declared.hook_headings.HooksClass.TheVariants.{HookLine}
 use Rattle.gk_gherkin.specs.Hooks.{HookValue, hooks_value}
@@ -66,7 +66,7 @@ module _ (Readable : Lines → Type 0) {C : Type 0} (kind : LineValue → C) whe
     pub wanted : (other : LineValue) → class other ≡ RowLine → BeginsSome (before ++ other ∷ []) → IfSome (cells_of other) (λ wanted. length wanted ≡ width)
     pub differs : length cells ≢ width
 
-  -- The lines end in a doc string that line n opened: any line that closes it would make them readable, and none stands there. (this project's profile)
+  -- The lines end in a doc string that line n opened: those before it are readable, with it they aren't, and any line that closes it would make them all readable, but none stands there. (this project's profile)
   pub record EndsInDocString (ls : Lines) (n : ℕ) : Type 0 where
     pub before : Lines
     pub fence : Fence
@@ -77,6 +77,7 @@ module _ (Readable : Lines → Type 0) {C : Type 0} (kind : LineValue → C) whe
     pub is : class opening ≡ FenceLine fence
     pub inside : AllByRecursion (λ line. closes fence line ≡ false) content
     pub fits : Readable before
+    pub opens : Readable (before ++ opening ∷ []) → ⊥
     pub unread : Readable ls → ⊥
     pub closed : (closing : LineValue) → closes fence closing ≡ true → Readable (ls ++ closing ∷ [])
 
@@ -112,7 +113,18 @@ pub record EndsInTags (ls : Lines) (n : ℕ) : Type 0 where
   pub unread : IsReadable ls → ⊥
   pub fits : (heading : LineValue) × TakesTags (class heading) × IsReadable (ls ++ heading ∷ [])
 
--- What a fault says of the lines of a feature file. (this project's profile)
+-- The first word of a line, but for a comment, is a tag. (this project's profile)
+abbrev pub BeginsWithTag : LineValue → Type 0
+BeginsWithTag line = (word : List ℕ) (others : List (List ℕ)) → words_before_comment line.text ≡ word ∷ others → is_tag word ≡ true
+
+-- The first line that isn't ignored is a feature's heading, or a tag line that begins with a tag. No line before it needs memory, and no other line that stands first. (this project's profile)
+pub record NeedsMemory (ls : Lines) : Type 0 where
+  pub line : LineValue
+  pub rest : Lines
+  pub next : Next IsIgnoredAbove ls line rest
+  pub needs : (class line ≡ FeatureHeading) ⊎ ((class line ≡ TagLine) × BeginsWithTag line)
+
+-- What a fault says of the lines of a feature file; refused memory, that they need some. (this project's profile)
 abbrev pub FeatureFault : ReadFault → Lines → Type 0
 FeatureFault (Unexpected n) ls = StopsAt IsReadable class ls n (NoneLikeIt IsReadable class)
 FeatureFault (BadTag n) ls = StopsAt IsReadable class ls n IsBadTag
@@ -121,6 +133,7 @@ FeatureFault (CellCount n) ls = StopsAt IsReadable class ls n (IsOtherWidth IsRe
 FeatureFault (Language n) ls = StopsAt IsReadable class ls n IsOtherLanguage
 FeatureFault (UnclosedText n) ls = EndsInDocString IsReadable class ls n
 FeatureFault (TagsAtEnd n) ls = EndsInTags ls n
+FeatureFault Memory ls = NeedsMemory ls
 FeatureFault _ ls = ⊥
 
 -- A heading that stood before, with its tag. (this project's profile)
@@ -139,24 +152,37 @@ pub record IsBadHook (before : Lines) (line : LineValue) : Type 0 where
   pub fits : SomeLikeIt AreHooksReadable hooks_class before line
   pub bad : (hook_heading line ≡ None) ⊎ StoodBefore before line
 
--- What a fault says of the lines of a hooks file. (this project's profile)
+-- The first line that isn't ignored is a hook's heading. No line before it needs memory, and no other line that stands first. (this project's profile)
+pub record HooksNeedMemory (ls : Lines) : Type 0 where
+  pub line : LineValue
+  pub rest : Lines
+  pub next : Next IsIgnored ls line rest
+  pub is : hooks_class line ≡ HookLine
+  pub heading : hook_heading line ≢ None
+
+-- What a fault says of the lines of a hooks file; refused memory, that they need some. (this project's profile)
 abbrev pub HooksFault : ReadFault → Lines → Type 0
 HooksFault (Unexpected n) ls = StopsAt AreHooksReadable hooks_class ls n (NoneLikeIt AreHooksReadable hooks_class)
 HooksFault (BadHook n) ls = StopsAt AreHooksReadable hooks_class ls n IsBadHook
 HooksFault (BadRow n) ls = StopsAt AreHooksReadable hooks_class ls n (IsBadRow AreHooksReadable hooks_class)
 HooksFault (CellCount n) ls = StopsAt AreHooksReadable hooks_class ls n (IsOtherWidth AreHooksReadable hooks_class)
 HooksFault (UnclosedText n) ls = EndsInDocString AreHooksReadable hooks_class ls n
+HooksFault Memory ls = HooksNeedMemory ls
 HooksFault _ ls = ⊥
 
 -- What a fault says of the bytes: too many before no UTF-8, and both before any fault of the lines. (this project's profile)
 abbrev pub FaultSays : (ReadFault → Lines → Type 0) → ReadFault → List ℕ → Type 0
-FaultSays OfLines Memory bytes = IsText bytes
 FaultSays OfLines TooLong bytes = IsTooLong bytes
 FaultSays OfLines (NotUtf8 n) bytes = IsNotUtf8At bytes n
 FaultSays OfLines fault bytes = IsText bytes × OfLines fault (lines_of bytes)
 
+-- No bytes have two faults, neither of two classes nor on two lines; refused memory aside, which is no fault of theirs. (this project's profile)
+abbrev pub HaveOneFault : (ReadFault → Lines → Type 0) → Type 0
+HaveOneFault OfLines = (bytes : List ℕ) (one other : ReadFault) → one ≢ Memory → other ≢ Memory → FaultSays OfLines one bytes → FaultSays OfLines other bytes → one ≡ other
+
 -- What a fault says where the lines alone are read. (this project's profile)
 abbrev pub LinesFaultSays : ReadFault → List ℕ → Type 0
+LinesFaultSays Memory bytes = IsText bytes
 LinesFaultSays fault bytes = FaultSays (λ other ls. ⊥) fault bytes
 
 -- What was answered has this reading, or memory ran out. (this project's profile)

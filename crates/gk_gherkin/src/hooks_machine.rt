@@ -1,11 +1,15 @@
 //! What was read of a hooks file so far, and how a line goes on from there.
-ghost use Rattle.std.specs.Prelude.{Option, option_map, map, Ok, ◌≡◌, ℕ, List};
+ghost use Rattle.std.specs.Prelude.{Option, option_map, map, Ok, IfErr, ◌≡◌, ℕ, List};
 ghost use Rattle.std.specs.List.{list_any};
 ghost use Rattle.std.specs.String.{string_bytes};
 ghost use Rattle.gk_gherkin.specs.Lines.{borrowed_value};
 ghost use Rattle.gk_gherkin.specs.Feature.{step_value};
 ghost use Rattle.gk_gherkin.specs.Hooks.{hook_value};
 ghost use Rattle.gk_gherkin.specs.HookHeadings.{heading_value};
+ghost use Rattle.gk_gherkin.specs.HookHeadings as headings;
+ghost use Rattle.gk_gherkin.specs.HooksMemoryNeeds.{Needs, NeedsIn, NeedsAtEnd};
+ghost use Rattle.gk_gherkin.specs.declared.class.Class.TheVariants.{FenceLine};
+ghost use Rattle.gk_gherkin.specs.declared.hook_headings.HooksClass.TheVariants.{HookLine, Plain};
 ghost use Rattle.gk_gherkin.specs.HooksGrammar.{heading_of};
 ghost use Rattle.gk_gherkin.specs.Machine.{Gives};
 ghost use Rattle.gk_gherkin.specs.Machine.Views.{body_value};
@@ -14,7 +18,7 @@ ghost use Rattle.gk_gherkin.specs.HooksMachine.Views.{place_value, quote_value, 
 ghost use Rattle.gk_gherkin.specs.HooksMachine.Views.{IsQuote, EndsDocString};
 ghost use Rattle.gk_gherkin.specs.HooksMachine.Views as views;
 ghost use Rattle.gk_gherkin.specs.declared.class.Fence as classes;
-ghost use Rattle.gk_gherkin.specs.declared.read_fault.ReadFault.TheVariants.{BadHook};
+ghost use Rattle.gk_gherkin.specs.declared.read_fault.ReadFault.TheVariants.{BadHook, Memory};
 
 use crate::class::{Class, Fence};
 use crate::doc_strings::{closes, whole_text};
@@ -70,7 +74,9 @@ pub enum HooksState {
 
 /// The hooks up to a place, of which the open one is the last.
 pub fn hooks_of(alloc: Global, place: HooksPlace) -> Result<Vec<Hook>, ReadFault>
-    ensures { Gives (λ v. map hook_value v.items) result (Ok (spec.hooks_of (place_value place))) }
+    ensures says { let hooks = spec.hooks_of (place_value place) in
+        Gives (λ v. map hook_value v.items) result (Ok hooks) }
+    ensures memory { IfErr result (λ e. NeedsAtEnd (spec.At (place_value place))) }
 {
     match place {
         HooksPlace::NoHook => Ok(Vec::new(alloc)),
@@ -146,8 +152,10 @@ fn bad_hook(line: &BorrowedLine<'_>) -> ReadFault
 #[inline(never)]
 #[tactic(auto, unfolding(crate::specs::HooksMachine::on_hook))]
 fn on_hook(alloc: Global, place: &mut HooksPlace, line: &BorrowedLine<'_>) -> Result<(), ReadFault>
-    ensures { Gives (λ _. place_value place.new) result
+    ensures says { Gives (λ _. place_value place.new) result
         (spec.on_hook (place_value place.old) (borrowed_value line.now)) }
+    ensures memory { IfErr result (λ e. e ≡ Memory →
+        Needs (place_value place.old) (borrowed_value line.now) HookLine) }
 {
     match hook_heading(line) {
         None => Err(bad_hook(line)),
@@ -200,8 +208,10 @@ fn on_hooks_place(
     line: &BorrowedLine<'_>,
     class: Class,
 ) -> Result<(), ReadFault>
-    ensures { Gives (λ _. place_value place.new) result
+    ensures says { Gives (λ _. place_value place.new) result
         (spec.on_hooks_place (place_value place.old) (borrowed_value line.now) class) }
+    ensures memory { IfErr result (λ e. e ≡ Memory →
+        Needs (place_value place.old) (borrowed_value line.now) (Plain class)) }
 {
     match place {
         HooksPlace::NoHook => Err(unexpected(line)),
@@ -239,9 +249,11 @@ fn on_fence(
     line: &BorrowedLine<'_>,
     fence: Fence,
 ) -> Result<HooksState, ReadFault>
-    ensures { let old = place_value place.old in
+    ensures says { let old = place_value place.old in
         Gives state_value result
         (spec.on_fence (spec.quote_of old) old (borrowed_value line.now) fence) }
+    ensures memory { IfErr result (λ e. e ≡ Memory →
+        Needs (place_value place.old) (borrowed_value line.now) (Plain (FenceLine fence))) }
 {
     match quote_of(mem::replace(place, HooksPlace::NoHook)) {
         Ok(quote) => Ok(HooksState::Quoted {
@@ -306,8 +318,10 @@ fn change(
     class: HooksClass,
 ) -> Result<(), ReadFault>
     requires { spec.Changes (state_value state.old) (borrowed_value line.now) class }
-    ensures { Gives (λ _. state_value state.new) result
+    ensures says { Gives (λ _. state_value state.new) result
         (spec.on (state_value state.old) (borrowed_value line.now) class) }
+    ensures memory { IfErr result (λ e. e ≡ Memory →
+        NeedsIn (state_value state.old) (borrowed_value line.now) class) }
 {
     match state {
         HooksState::At { place } => {
@@ -328,8 +342,11 @@ pub fn next_hooks_state(
     state: &mut HooksState,
     line: &BorrowedLine<'_>,
 ) -> Result<(), ReadFault>
-    ensures { Gives (λ _. state_value state.new) result
+    ensures says { Gives (λ _. state_value state.new) result
         (spec.step (state_value state.old) (borrowed_value line.now)) }
+    ensures memory { let said = borrowed_value line.now in
+        IfErr result (λ e. e ≡ Memory →
+        NeedsIn (state_value state.old) said (headings.hooks_class said)) }
 {
     let class = hooks_class(line);
     match state {

@@ -8,6 +8,8 @@ ghost use Rattle.gk_gherkin.specs.ReadFault.{FaultSays, HooksFault, AnswersHooks
 ghost use Rattle.gk_gherkin.specs.Machine.{Gives};
 ghost use Rattle.gk_gherkin.specs.HooksMachine as spec;
 ghost use Rattle.gk_gherkin.specs.HooksMachine.Views.{state_value};
+ghost use Rattle.gk_gherkin.specs.HooksMemoryNeeds.{NeedsAtEnd, NeedSome};
+ghost use Rattle.gk_gherkin.specs.declared.read_fault.ReadFault.TheVariants.{Memory};
 
 use crate::hooks::HookFile;
 use crate::hooks_machine::{HooksPlace, HooksState, hooks_of, next_hooks_state};
@@ -19,8 +21,12 @@ use std::mem;
 // The state after the lines of a text, in place of the state before them.
 fn run(alloc: Global, state: &mut HooksState, text: &str) -> Result<(), ReadFault>
     requires { length text.now ≤ LIMIT }
-    ensures { Gives (λ _. state_value state.new) result
+    ensures says { Gives (λ _. state_value state.new) result
         (spec.run (state_value state.old) (numbered_from 1 (lines text.now))) }
+    ensures memory { IfErr result (λ e. e ≡ Memory →
+        NeedSome (state_value state.old) (numbered_from 1 (lines text.now))) }
+    ensures end { IfOk result (λ _. NeedsAtEnd (state_value state.new) →
+        NeedSome (state_value state.old) (numbered_from 1 (lines text.now))) }
 {
     let mut number: u32 = 1;
     for part in text.lines() {
@@ -32,7 +38,8 @@ fn run(alloc: Global, state: &mut HooksState, text: &str) -> Result<(), ReadFaul
 
 #[tactic(auto, unfolding(crate::specs::HooksMachine::finish))]
 fn finish(alloc: Global, state: &mut HooksState) -> Result<HookFile, ReadFault>
-    ensures { Gives hooks_value result (spec.finish (state_value state.old)) }
+    ensures says { Gives hooks_value result (spec.finish (state_value state.old)) }
+    ensures memory { IfErr result (λ e. e ≡ Memory → NeedsAtEnd (state_value state.old)) }
 {
     match state {
         HooksState::At { place } => Ok(HookFile {
@@ -46,7 +53,9 @@ fn finish(alloc: Global, state: &mut HooksState) -> Result<HookFile, ReadFault>
 fn read_from(alloc: Global, state: &mut HooksState, text: &str) -> Result<HookFile, ReadFault>
     requires first { state_value state.old ≡ spec.At spec.NoHook }
     requires within { length text.now ≤ LIMIT }
-    ensures { Gives hooks_value result (spec.reading (numbered_from 1 (lines text.now))) }
+    ensures says { Gives hooks_value result (spec.reading (numbered_from 1 (lines text.now))) }
+    ensures memory { IfErr result (λ e. e ≡ Memory →
+        NeedSome (spec.At spec.NoHook) (numbered_from 1 (lines text.now))) }
 {
     run(alloc, state, text)?;
     finish(alloc, state)
@@ -54,7 +63,9 @@ fn read_from(alloc: Global, state: &mut HooksState, text: &str) -> Result<HookFi
 
 fn read(alloc: Global, text: &str) -> Result<HookFile, ReadFault>
     requires { length text.now ≤ LIMIT }
-    ensures { Gives hooks_value result (spec.reading (numbered_from 1 (lines text.now))) }
+    ensures says { Gives hooks_value result (spec.reading (numbered_from 1 (lines text.now))) }
+    ensures memory { IfErr result (λ e. e ≡ Memory →
+        NeedSome (spec.At spec.NoHook) (numbered_from 1 (lines text.now))) }
 {
     let mut state = HooksState::At {
         place: HooksPlace::NoHook,
@@ -82,8 +93,8 @@ fn read(alloc: Global, text: &str) -> Result<HookFile, ReadFault>
 /// - `CellCount`: a row with another number of cells than the first of its table.
 /// - `UnclosedText`, at the line of its opening fence: the file ends in a doc string.
 ///
-/// `Memory` comes only where a growth was refused. A refusal answers nothing of what was read before
-/// it.
+/// `Memory` comes only where a growth was refused, and none is asked for before the first heading. A
+/// refusal answers nothing of what was read before it.
 pub fn read_hooks(alloc: Global, bytes: &[u8]) -> Result<HookFile, ReadFault>
     // What is answered is what the lines say.
     ensures found { IfOk result (λ file.

@@ -1,5 +1,5 @@
 //! The lines of a text.
-ghost use Rattle.std.specs.Prelude.{◌≡◌, ◌≤◌, ◌==◌, map, length, count_by, IfOk, IfErr};
+ghost use Rattle.std.specs.Prelude.{◌≡◌, ◌≢◌, ◌≤◌, ◌==◌, map, length, count_by, IfOk, IfErr};
 ghost use Rattle.std.specs.List.{prefix_len};
 ghost use Rattle.std.specs.Str.Lines.{lines};
 ghost use Rattle.gk_gherkin.specs.Lines as spec;
@@ -109,6 +109,7 @@ pub fn text_of(bytes: &[u8]) -> Result<&str, ReadFault>
     ensures ok { IfOk result (λ t. IsText bytes.now × (t.now ≡ spec.without_mark bytes.now)) }
     ensures within { IfOk result (λ t. length t.now ≤ LIMIT) }
     ensures fault { IfErr result (λ e. LinesFaultSays e bytes.now) }
+    ensures free { IfErr result (λ e. e ≢ Memory) }
 {
     if bytes.len() > LIMIT {
         return Err(ReadFault::TooLong);

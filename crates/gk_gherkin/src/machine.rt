@@ -9,6 +9,7 @@ ghost use Rattle.gk_gherkin.specs.Grammar.{Reads};
 ghost use Rattle.gk_gherkin.specs.ReadFault.{FaultSays, FeatureFault, AnswersOrLacksMemory};
 ghost use Rattle.gk_gherkin.specs.Machine as spec;
 ghost use Rattle.gk_gherkin.specs.Machine.{Gives};
+ghost use Rattle.gk_gherkin.specs.MemoryNeeds.{Needs, NeedsAtEnd};
 ghost use Rattle.gk_gherkin.specs.Machine.Views.{answer_value, begun_after, bodied_value};
 ghost use Rattle.gk_gherkin.specs.Machine.Views.{body_value, grid_value, head_value, open_value};
 ghost use Rattle.gk_gherkin.specs.Machine.Views.{outline_value, owner_value, place_value, section_value};
@@ -22,7 +23,7 @@ ghost use Rattle.std.specs.List.{list_all};
 ghost use Rattle.std.specs.Prelude.{◌-◌, ◌≤◌, ◌++◌, length};
 ghost use Rattle.std.specs.Str.Lines.{lines};
 ghost use Rattle.gk_gherkin.specs.Class as words;
-ghost use Rattle.gk_gherkin.specs.declared.read_fault.ReadFault.TheVariants.{Unexpected};
+ghost use Rattle.gk_gherkin.specs.declared.read_fault.ReadFault.TheVariants.{Unexpected, Memory};
 ghost use Rattle.gk_gherkin.specs.declared.class.Class.TheVariants.{RuleHeading};
 
 use crate::class::{Class, Fence, heading_keyword, heading_name, step_parts};
@@ -361,7 +362,8 @@ fn feature_of(alloc: Global, top: Top, section: Section) -> Result<Feature, Read
 
 /// The feature that a place closes, or none above its heading.
 pub fn feature_at(alloc: Global, place: Place) -> Result<Option<Feature>, ReadFault>
-    ensures { Gives answer_value result (Ok (spec.answer (place_value place))) }
+    ensures says { Gives answer_value result (Ok (spec.answer (place_value place))) }
+    ensures memory { IfErr result (λ e. NeedsAtEnd (spec.At (place_value place))) }
 {
     match place {
         Place::Above => Ok(None),
@@ -543,7 +545,9 @@ pub fn on_heading(
     line: &BorrowedLine<'_>,
     class: Class,
 ) -> Result<(), ReadFault>
-    ensures { TakesHeading place.old tags.items line.now class result place.new }
+    ensures says { TakesHeading place.old tags.items line.now class result place.new }
+    ensures memory { IfErr result (λ e. e ≡ Memory →
+        Needs (place_value place.old) (borrowed_value line.now) class) }
 {
     match place {
         Place::Above => match class {
@@ -735,8 +739,10 @@ pub fn on_place(
     line: &BorrowedLine<'_>,
     class: Class,
 ) -> Result<(), ReadFault>
-    ensures { Gives (λ _. place_value place.new) result
+    ensures says { Gives (λ _. place_value place.new) result
         (spec.on_place (place_value place.old) (borrowed_value line.now) class) }
+    ensures memory { IfErr result (λ e. e ≡ Memory →
+        Needs (place_value place.old) (borrowed_value line.now) class) }
 {
     match place {
         Place::Above => Err(unexpected(line)),

@@ -7,6 +7,7 @@ ghost use Rattle.gk_gherkin.specs.Grammar.{Reads};
 ghost use Rattle.gk_gherkin.specs.ReadFault.{FaultSays, FeatureFault, AnswersOrLacksMemory};
 ghost use Rattle.gk_gherkin.specs.Machine as spec;
 ghost use Rattle.gk_gherkin.specs.Machine.{Gives};
+ghost use Rattle.gk_gherkin.specs.MemoryNeeds.{NeedsAtEnd, NeedSome};
 ghost use Rattle.gk_gherkin.specs.Machine.Views.{answer_value, state_value};
 ghost use Rattle.gk_gherkin.specs.StepTypes as types;
 ghost use Rattle.gk_gherkin.specs.Tags as tagging;
@@ -17,7 +18,7 @@ ghost use Rattle.std.specs.List.{list_all};
 ghost use Rattle.std.specs.Prelude.{◌-◌, ◌≤◌, ◌++◌, length};
 ghost use Rattle.std.specs.Str.Lines.{lines};
 ghost use Rattle.gk_gherkin.specs.Class as words;
-ghost use Rattle.gk_gherkin.specs.declared.read_fault.ReadFault.TheVariants.{Unexpected};
+ghost use Rattle.gk_gherkin.specs.declared.read_fault.ReadFault.TheVariants.{Unexpected, Memory};
 
 use crate::feature::Feature;
 use crate::lines::{LIMIT, borrowed_line, text_of};
@@ -30,8 +31,12 @@ use std::mem;
 // The state after the lines of a text, in place of the state before them.
 fn run(alloc: Global, state: &mut State, text: &str) -> Result<(), ReadFault>
     requires { length text.now ≤ LIMIT }
-    ensures { Gives (λ _. state_value state.new) result
+    ensures says { Gives (λ _. state_value state.new) result
         (spec.run (state_value state.old) (numbered_from 1 (lines text.now))) }
+    ensures memory { IfErr result (λ e. e ≡ Memory →
+        NeedSome (state_value state.old) (numbered_from 1 (lines text.now))) }
+    ensures end { IfOk result (λ _. NeedsAtEnd (state_value state.new) →
+        NeedSome (state_value state.old) (numbered_from 1 (lines text.now))) }
 {
     let mut number: u32 = 1;
     for part in text.lines() {
@@ -43,7 +48,8 @@ fn run(alloc: Global, state: &mut State, text: &str) -> Result<(), ReadFault>
 
 #[tactic(auto, unfolding(crate::specs::Machine::finish))]
 fn finish(alloc: Global, state: &mut State) -> Result<Option<Feature>, ReadFault>
-    ensures { Gives answer_value result (spec.finish (state_value state.old)) }
+    ensures says { Gives answer_value result (spec.finish (state_value state.old)) }
+    ensures memory { IfErr result (λ e. e ≡ Memory → NeedsAtEnd (state_value state.old)) }
 {
     match state {
         State::At { place } => feature_at(alloc, mem::replace(place, Place::Above)),
@@ -56,7 +62,9 @@ fn finish(alloc: Global, state: &mut State) -> Result<Option<Feature>, ReadFault
 fn read_from(alloc: Global, state: &mut State, text: &str) -> Result<Option<Feature>, ReadFault>
     requires first { state_value state.old ≡ spec.At spec.Above }
     requires within { length text.now ≤ LIMIT }
-    ensures { Gives answer_value result (spec.reading (numbered_from 1 (lines text.now))) }
+    ensures says { Gives answer_value result (spec.reading (numbered_from 1 (lines text.now))) }
+    ensures memory { IfErr result (λ e. e ≡ Memory →
+        NeedSome (spec.At spec.Above) (numbered_from 1 (lines text.now))) }
 {
     run(alloc, state, text)?;
     finish(alloc, state)
@@ -64,7 +72,9 @@ fn read_from(alloc: Global, state: &mut State, text: &str) -> Result<Option<Feat
 
 fn read(alloc: Global, text: &str) -> Result<Option<Feature>, ReadFault>
     requires { length text.now ≤ LIMIT }
-    ensures { Gives answer_value result (spec.reading (numbered_from 1 (lines text.now))) }
+    ensures says { Gives answer_value result (spec.reading (numbered_from 1 (lines text.now))) }
+    ensures memory { IfErr result (λ e. e ≡ Memory →
+        NeedSome (spec.At spec.Above) (numbered_from 1 (lines text.now))) }
 {
     let mut state = State::At {
         place: Place::Above,
@@ -93,8 +103,8 @@ fn read(alloc: Global, text: &str) -> Result<Option<Feature>, ReadFault>
 /// - `UnclosedText`, at the line of its opening fence: the file ends in a doc string.
 /// - `TagsAtEnd`, at the last tag line: the file ends after tags.
 ///
-/// `Memory` comes only where a growth was refused. A refusal answers nothing of what was read before
-/// it.
+/// `Memory` comes only where a growth was refused, and none is asked for before the first tag or the
+/// feature's heading. A refusal answers nothing of what was read before it.
 pub fn read_feature(alloc: Global, bytes: &[u8]) -> Result<Option<Feature>, ReadFault>
     // What is answered is what the lines say.
     ensures found { IfOk result (λ f.

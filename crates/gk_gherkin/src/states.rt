@@ -1,17 +1,21 @@
 //! How a line goes on from a state: in place, but for first tags, fences and headings after tags.
-ghost use Rattle.std.specs.Prelude.{Option, option_map, Ok, ◌≡◌, ℕ, List, []};
+ghost use Rattle.std.specs.Prelude.{Option, option_map, Ok, IfErr, ◌≡◌, ◌≢◌, ℕ, List, []};
 ghost use Rattle.gk_gherkin.specs.Lines.{borrowed_value};
 ghost use Rattle.gk_gherkin.specs.Feature.{texts};
 ghost use Rattle.std.specs.String.{string_bytes};
 ghost use Rattle.gk_gherkin.specs.Machine as spec;
 ghost use Rattle.gk_gherkin.specs.Machine.{Gives};
+ghost use Rattle.gk_gherkin.specs.Class as words;
+ghost use Rattle.gk_gherkin.specs.ReadFault.{BeginsWithTag};
+ghost use Rattle.gk_gherkin.specs.MemoryNeeds.{Needs, NeedsIn};
+ghost use Rattle.gk_gherkin.specs.declared.read_fault.ReadFault.TheVariants.{Memory};
 ghost use Rattle.gk_gherkin.specs.Machine.Views.{top_value, bodied_value, place_value, quote_value};
 ghost use Rattle.gk_gherkin.specs.Machine.Views.{state_value, content_value, IsQuote};
 ghost use Rattle.gk_gherkin.specs.Machine.Views.{AddsTags, EndsDocString};
 ghost use Rattle.gk_gherkin.specs.Tags as tagging;
 ghost use Rattle.gk_gherkin.specs.DocStrings as quoting;
 ghost use Rattle.std.specs.Str.Lines.{lines};
-ghost use Rattle.gk_gherkin.specs.declared.class.Class.TheVariants.{RuleHeading};
+ghost use Rattle.gk_gherkin.specs.declared.class.Class.TheVariants.{RuleHeading, FenceLine};
 ghost use Rattle.gk_gherkin.specs.declared.class.Fence as classes;
 
 use crate::class::{Class, Fence, class_of_line};
@@ -27,8 +31,9 @@ use std::alloc::Global;
 use std::mem;
 
 fn check_comment(place: &Place, line: &BorrowedLine<'_>) -> Result<(), ReadFault>
-    ensures { (state : spec.State) → Gives (λ _. state) result
+    ensures says { (state : spec.State) → Gives (λ _. state) result
         (spec.on_comment (place_value place.now) state (borrowed_value line.now)) }
+    ensures free { IfErr result (λ e. e ≢ Memory) }
 {
     match place {
         Place::Above => match language_of(line) {
@@ -48,8 +53,10 @@ fn check_comment(place: &Place, line: &BorrowedLine<'_>) -> Result<(), ReadFault
 }
 
 // The tags of a line after those before it.
+#[tactic(auto, using(crate::proofs::FirstTags::good_found))]
 fn tag_line(alloc: Global, tags: &mut Vec<String>, line: &BorrowedLine<'_>) -> Result<(), ReadFault>
-    ensures { AddsTags tags.old.items line.now result tags.new.items line.now.place.line }
+    ensures says { AddsTags tags.old.items line.now result tags.new.items line.now.place.line }
+    ensures memory { IfErr result (λ e. e ≡ Memory → BeginsWithTag (borrowed_value line.now)) }
 {
     match tags_of(alloc, line)? {
         Some(more) => {
@@ -111,9 +118,11 @@ fn on_fence(
     line: &BorrowedLine<'_>,
     fence: Fence,
 ) -> Result<State, ReadFault>
-    ensures { let old = place_value place.old in
+    ensures says { let old = place_value place.old in
         Gives state_value result
         (spec.on_fence (spec.quote_of old) old (borrowed_value line.now) fence) }
+    ensures memory { IfErr result (λ e. e ≡ Memory →
+        Needs (place_value place.old) (borrowed_value line.now) (FenceLine fence)) }
 {
     match quote_of(mem::replace(place, Place::Above)) {
         Ok(quote) => Ok(State::Quoted {
@@ -174,8 +183,9 @@ pub fn add_line(
 
 // The first tags at a place.
 fn first_tags(alloc: Global, place: &mut Place, line: &BorrowedLine<'_>) -> Result<State, ReadFault>
-    ensures { Gives state_value result
+    ensures says { Gives state_value result
         (spec.on_tags (place_value place.old) [] (borrowed_value line.now)) }
+    ensures memory { IfErr result (λ e. e ≡ Memory → BeginsWithTag (borrowed_value line.now)) }
 {
     let mut tags = Vec::new(alloc);
     tag_line(alloc, &mut tags, line)?;
@@ -195,8 +205,10 @@ fn tags_or_fence(
     class: Class,
 ) -> Result<State, ReadFault>
     requires { spec.Changes (spec.At (place_value place.old)) (borrowed_value line.now) class }
-    ensures { Gives state_value result
+    ensures says { Gives state_value result
         (spec.on (spec.At (place_value place.old)) (borrowed_value line.now) class) }
+    ensures memory { IfErr result (λ e. e ≡ Memory →
+        Needs (place_value place.old) (borrowed_value line.now) class) }
 {
     match class {
         Class::TagLine => first_tags(alloc, place, line),
@@ -264,8 +276,10 @@ fn change(
     class: Class,
 ) -> Result<(), ReadFault>
     requires { spec.Changes (state_value state.old) (borrowed_value line.now) class }
-    ensures { Gives (λ _. state_value state.new) result
+    ensures says { Gives (λ _. state_value state.new) result
         (spec.on (state_value state.old) (borrowed_value line.now) class) }
+    ensures memory { IfErr result (λ e. e ≡ Memory →
+        NeedsIn (state_value state.old) (borrowed_value line.now) class) }
 {
     match state {
         State::At { place } => {
@@ -296,8 +310,10 @@ pub fn next_state(
     state: &mut State,
     line: &BorrowedLine<'_>,
 ) -> Result<(), ReadFault>
-    ensures { Gives (λ _. state_value state.new) result
+    ensures says { Gives (λ _. state_value state.new) result
         (spec.step (state_value state.old) (borrowed_value line.now)) }
+    ensures memory { let said = borrowed_value line.now in
+        IfErr result (λ e. e ≡ Memory → NeedsIn (state_value state.old) said (words.class said)) }
 {
     let class = class_of_line(line);
     match state {

@@ -7,31 +7,51 @@ use Rattle.std.specs.Str.Lines.{lines}
 use Rattle.gk_gherkin.specs.Lines.{numbered_from}
 use Rattle.gk_gherkin.specs.Machine.Views.{state_value}
 use Rattle.gk_gherkin.specs.Machine as spec
+use Rattle.gk_gherkin.specs.Lines.{LineValue}
+use Rattle.gk_gherkin.specs.Class.{class}
+use Rattle.gk_gherkin.specs.MemoryNeeds.{NeedsIn, NeedsAtEnd, NeedSome}
+use Rattle.gk_gherkin.proofs.NeedsLoop.{needed_here, needed_later, needed_at_end}
 use Rattle.gk_gherkin.proofs.ReaderLoop.{goes_on, ends, is_done}
 use Rattle.gk_gherkin.proofs.reader.run.Goals as goal
 
-pub returns-in_err-next_state : goal.returns-in_err-next_state
-returns-in_err-next_state c =
+pub returns-in_err-next_state-clause-says : goal.returns-in_err-next_state-clause-says
+returns-in_err-next_state-clause-says c =
     let p = err_from_is_err_and c.from_residual.result c.from_residual.ensures.1 in
     let all = lines c.args.text.now in
     let turn = YieldsList-turn (YieldsList-from_lines c.args.text.now cc) c.loop-part.yielded _ c.loop-part.yielded_by _ _ _ c.in-Some.is c.next.ensures.steps in
-    let fails = subst (λ l. spec.Fails c.in_err-next_state.field-0.0 (spec.step (state_value c.loop-part.state) l)) c.borrowed_line.ensures c.in_err-next_state.ensures in
+    let fails = subst (λ l. spec.Fails c.in_err-next_state.field-0.0 (spec.step (state_value c.loop-part.state) l)) c.borrowed_line.ensures c.in_err-next_state.ensures.says in
     rw (p.1, p.2) (ends spec.step (state_value c.loop-part.state) all (length c.loop-part.yielded) c.loop-part.number c.in-Some.part.now (spec.run (state_value c.args.state.now) (numbered_from 1 all)) turn.0 turn.1 c.in_err-next_state.field-0.0 fails c.loop-part.invariant.so_far)
 
 pub loop-part-preserved : goal.loop-part-preserved
 loop-part-preserved c =
     let all = lines c.args.text.now in
     let turn = YieldsList-turn (YieldsList-from_lines c.args.text.now cc) c.loop-part.yielded _ c.loop-part.yielded_by _ _ _ c.in-Some.is c.next.ensures.steps in
-    let taken = ap (spec.step (state_value c.loop-part.state)) (sym c.borrowed_line.ensures) ∙ c.in_ok-next_state.ensures in
+    let taken = ap (spec.step (state_value c.loop-part.state)) (sym c.borrowed_line.ensures) ∙ c.in_ok-next_state.ensures.says in
     let goes = goes_on spec.step (state_value c.loop-part.state) all (length c.loop-part.yielded) c.loop-part.number c.in-Some.part.now (spec.run (state_value c.args.state.now) (numbered_from 1 all)) turn.0 turn.1 (state_value c.next_state.new.state) taken c.loop-part.invariant.so_far in
     let longer = length_push c.loop-part.yielded c.in-Some.part in
     record {
       so_far = subst (λ (i : ℕ). spec.run (state_value c.next_state.new.state) (numbered_from (c.loop-part.number + 1) (drop i all)) ≡ spec.run (state_value c.args.state.now) (numbered_from 1 all)) (sym longer) goes;
       counted = omega (arith, longer);
+      needs = λ h. c.loop-part.invariant.needs (needed_later spec.step (λ s l. NeedsIn s l (class l)) NeedsAtEnd (state_value c.loop-part.state) all (length c.loop-part.yielded) c.loop-part.number c.in-Some.part.now (spec.run (state_value c.args.state.now) (numbered_from 1 all)) turn.0 turn.1 (state_value c.next_state.new.state) taken
+          (subst (λ (i : ℕ). NeedSome (state_value c.next_state.new.state) (numbered_from (c.loop-part.number + 1) (drop i all))) longer h));
     }
 
-pub returns : goal.returns
-returns c =
+pub returns-clause-says : goal.returns-clause-says
+returns-clause-says c =
     let all = lines c.args.text.now in
     let t = YieldsList-end (YieldsList-from_lines c.args.text.now cc) c.loop-part.yielded _ c.loop-part.yielded_by _ _ c.in-None.is c.next.ensures.steps in
     is_done spec.step (state_value c.loop-part.state) all (length c.loop-part.yielded) c.loop-part.number (spec.run (state_value c.args.state.now) (numbered_from 1 all)) (omega (arith, t.1)) c.loop-part.invariant.so_far
+
+pub returns-in_err-next_state-clause-memory : goal.returns-in_err-next_state-clause-memory
+returns-in_err-next_state-clause-memory c =
+    let p = err_from_is_err_and c.from_residual.result c.from_residual.ensures.1 in
+    let all = lines c.args.text.now in
+    let turn = YieldsList-turn (YieldsList-from_lines c.args.text.now cc) c.loop-part.yielded _ c.loop-part.yielded_by _ _ _ c.in-Some.is c.next.ensures.steps in
+    rw (p.1, p.2) (λ memory. c.loop-part.invariant.needs (needed_here spec.step (λ s l. NeedsIn s l (class l)) NeedsAtEnd (state_value c.loop-part.state) all (length c.loop-part.yielded) c.loop-part.number c.in-Some.part.now (spec.run (state_value c.args.state.now) (numbered_from 1 all)) turn.0 turn.1
+    (subst (λ (l : LineValue). NeedsIn (state_value c.loop-part.state) l (class l)) c.borrowed_line.ensures (c.in_err-next_state.ensures.memory memory))))
+
+pub returns-clause-end : goal.returns-clause-end
+returns-clause-end c = λ h.
+    let all = lines c.args.text.now in
+    let t = YieldsList-end (YieldsList-from_lines c.args.text.now cc) c.loop-part.yielded _ c.loop-part.yielded_by _ _ c.in-None.is c.next.ensures.steps in
+    c.loop-part.invariant.needs (needed_at_end spec.step (λ s l. NeedsIn s l (class l)) NeedsAtEnd (state_value c.loop-part.state) all (length c.loop-part.yielded) c.loop-part.number (omega (arith, t.1)) h)

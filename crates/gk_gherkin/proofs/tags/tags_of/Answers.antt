@@ -1,10 +1,12 @@
-use Rattle.std.proofs.Common.{◌≡◌, ◌≤◌, ◌<◌, ◌-◌, ◌∙◌, ◌++◌, ◌∷◌, [], ℕ, List, length, take, drop, ap, sym, Ok, arith}
+use Rattle.std.proofs.Common.{inl, inr, ◌≡◌, ◌≤◌, ◌<◌, ◌-◌, ◌∙◌, ◌++◌, ◌∷◌, [], ℕ, List, length, take, drop, ap, sym, Ok, arith}
 use Rattle.std.specs.List.{position_or_len, prefix_len}
 use Rattle.gk_gherkin.specs.Lines.{borrowed_value}
 use Rattle.gk_gherkin.specs.Text.{is_blank, trim_front}
 use Rattle.gk_gherkin.specs.Feature.{texts}
+use Rattle.gk_gherkin.specs.ReadFault.{BeginsWithTag}
 use Rattle.gk_gherkin.specs.Tags.{tags_of, words_of, is_tag}
 use Rattle.gk_gherkin.proofs.LineCuts.{before_first_blank}
+use Rattle.gk_gherkin.proofs.FirstTags.{first_tag, whatever}
 use Rattle.gk_gherkin.proofs.TagWords.{onto_tags, tags_by, starts, no_blank_left, takes_tag, refuses_word, some_left}
 use Rattle.gk_gherkin.proofs.tags.tags_of.Goals as goal
 
@@ -13,6 +15,7 @@ words-init c = (
   c.trim_front-rest.utf8,
   starts (borrowed_value c.args.line.now) c.trim_front-rest.result.now (texts c.new-tags.result.items) c.trim_front-rest.ensures (ap texts c.new-tags.ensures.items),
   ap (prefix_len is_blank) c.trim_front-rest.ensures ∙ no_blank_left c.args.line.now.text.now,
+  inr c.trim_front-rest.ensures,
 )
 
 pub range-word-requires-clause-end_boundary : goal.range-word-requires-clause-end_boundary
@@ -27,8 +30,8 @@ range_from-requires c =
     let within : c.first_blank-end.result ≤ length c.words.rest.now = omega (arith, ap length c.as_bytes.ensures.value) in
     λ _. (within, λ below. (before_first_blank c.words.rest.now c.first_blank-end.result place below).1 below)
 
-pub returns-then-not-is_tag : goal.returns-then-not-is_tag
-returns-then-not-is_tag c =
+pub returns-then-not-is_tag-clause-says : goal.returns-then-not-is_tag-clause-says
+returns-then-not-is_tag-clause-says c =
     let t = c.words.rest.now in
     let n = c.first_blank-end.result in
     let place = c.first_blank-end.ensures.value ∙ ap (position_or_len is_blank) c.as_bytes.ensures.value in
@@ -54,4 +57,21 @@ words-preserved c =
           ∙ ap (λ (xs : List (List ℕ)). onto_tags xs (tags_by (words_of (trim_front (drop n t))))) (sym pushed)
           ∙ ap (λ (r : List ℕ). onto_tags (texts c.push_tag.new.tags.items) (tags_by (words_of r))) (sym next),
       ap (prefix_len is_blank) next ∙ no_blank_left (drop n t),
+      elim c.words.invariant.3 [
+        | inl begun ↦ inl begun
+        | inr start ↦ inl (first_tag (borrowed_value c.args.line.now) t n start some c.words.invariant.2 place (sym c.begins.ensures ∙ c.if-not-begins.true) (ap is_tag (sym word) ∙ sym c.is_tag.ensures ∙ c.if-not-is_tag.false))
+      ],
     )
+
+pub returns-in_err-push_tag-clause-memory : goal.returns-in_err-push_tag-clause-memory
+returns-in_err-push_tag-clause-memory c =
+    let t = c.words.rest.now in
+    let n = c.first_blank-end.result in
+    let place = c.first_blank-end.ensures.value ∙ ap (position_or_len is_blank) c.as_bytes.ensures.value in
+    let some : 0 < length t = some_left (length t) c.is_empty.result c.is_empty.ensures c.words-test.true in
+    let whole : n - 0 ≡ n = omega arith in
+    let word : c.range-word.result.now ≡ take n t = c.range-word.ensures.value ∙ ap (λ (k : ℕ). take k t) whole in
+    whatever c.from_residual.result (BeginsWithTag (borrowed_value c.args.line.now)) (elim c.words.invariant.3 [
+      | inl begun ↦ begun
+      | inr start ↦ first_tag (borrowed_value c.args.line.now) t n start some c.words.invariant.2 place (sym c.begins.ensures ∙ c.if-not-begins.true) (ap is_tag (sym word) ∙ sym c.is_tag.ensures ∙ c.if-not-is_tag.false)
+    ])
