@@ -323,7 +323,7 @@ def escapes_in_a_doc_string(size):
 
 @row()
 def digits_of_a_number(size):
-    """Zeros in front change nothing. Where there is no digit the step is undefined."""
+    """Leading zeros change nothing. Where there is no digit the step is undefined."""
     number = "0" * (size - 1) + "7" if size else "+"
     steps = [Step(f'the number "n" is set to {number}', "passed" if size else "undefined"),
              Step('the value "n" should be "7"', "passed" if size else "skipped")]
@@ -419,7 +419,7 @@ def bytes_of_a_tag(size):
 
 @row()
 def bytes_of_a_path(size):
-    """The file's name, with as many slashes in front as are needed."""
+    """The file's name, after as many slashes as are needed."""
     path = "." + "/" * (size - 10) + "a.feature" if size > 10 else "a"[:size]
     made = Made(source=path).scenario("it passes")
     is_known = 0 < size <= PATH_LIMIT
