@@ -5,8 +5,9 @@
 # one row of the table in tests/sizes.py. Each is tried at 0, 1, 127 to 129, 255 to 257, 4,095 to
 # 4,097, 65,535 to 65,537 and at two random sizes, and the whole report is compared with what the row
 # says: up to 4,097 in all three formats, above in one of them in turn. With `all` each size is tried
-# in all three, in some two minutes; ./test leaves that out. A row whose cost grows with the square of
-# its size, as the entries of a library, ends earlier. PROGRAM is the built program; without it, or
+# in all three, in some two minutes; ./test leaves that out. The entries of a library, the
+# fields of a pattern and the hooks of a file end at 4,097, since their cost grows with the square of their
+# number; the alternatives of tags at 60,000, as the system takes no longer argument. PROGRAM is the built program; without it, or
 # where it is empty, the one that ./run runs. Closes with one line 'N passed, M failed'; a run is one
 # test.
 set -eu
