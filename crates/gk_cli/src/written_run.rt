@@ -3,7 +3,7 @@ ghost use Rattle.std.specs.Prelude.{◌≡◌, ◌<◌, suc, map, IfOk, IfErr, O
 ghost use Rattle.std.specs.List.{AllByRecursion};
 ghost use Rattle.gk_world.specs.Sandbox.{depth, layers};
 ghost use Rattle.gk_steps.specs.Finding.{library_value};
-ghost use Rattle.gk_run.specs.Alone.{run_of};
+ghost use Rattle.gk_run.specs.Run.{run_of};
 ghost use Rattle.gk_run.specs.Chosen.{chosen_value, IsPaired};
 ghost use Rattle.gk_run.specs.Running.{IsSame};
 ghost use Rattle.gk_run.specs.OpenRun.{IsKept};

@@ -29,7 +29,7 @@ use std::alloc::{AllocError, Global};
 use value_actions::{delete_value, set_value, value_absent, value_is};
 use variable_actions::{env_absent, env_is, remove_env, set_env};
 
-/// Where an action is carried out. (this project's profile)
+/// Where an action is carried out.
 #[derive(Clone, Copy, Debug, PartialEq, Eq)]
 pub enum Site {
     /// A step of a scenario.
@@ -308,7 +308,7 @@ fn at_cleanup(
 /// registered; every other action, and a refusal, leaves these as they are. An action that fails
 /// midway keeps what it did before: rows of `write_files` before the refused one stay. At `Memory`
 /// nothing is said of what the sandbox holds now; the end of the layer gives back what was there as
-/// it began. (behave's documentation: cleanups; this project's profile)
+/// it began. (behave's documentation: cleanups)
 pub fn act(
     alloc: Global,
     sandbox: &mut Sandbox,

@@ -8,10 +8,11 @@ ghost use Rattle.gk_run.specs.Cleanups.{cleanups_value};
 ghost use Rattle.gk_run.specs.Results.{feature_row};
 ghost use Rattle.gk_run.specs.Ending as endings;
 ghost use Rattle.gk_run.specs.SectionHooks.{begun};
-ghost use Rattle.gk_run.specs.Alone.{run_of};
+ghost use Rattle.gk_run.specs.Run.{run_of};
 ghost use Rattle.gk_run.specs.Chosen.{chosen_value, IsPaired};
-ghost use Rattle.gk_run.specs.Features.{stays_open_by};
-ghost use Rattle.gk_run.specs.Running.{IsSame, IsWalked, IsSectionEnd, IsFeatureResult};
+ghost use Rattle.gk_run.specs.Features.{stays_open_by, IsSectionEnd, IsFeatureResult};
+ghost use Rattle.gk_run.specs.Running.{IsSame};
+ghost use Rattle.gk_run.specs.Walk.{IsWalked};
 ghost use Rattle.gk_run.specs.OpenRun.{IsStarted, IsKept, FinishedRunsAreJudged, UnfinishedRunsAreJudged};
 
 use crate::chosen::Chosen;
@@ -20,8 +21,8 @@ use crate::ending::{Ending, has_passed};
 use crate::features::{both, close_section, feature_in, stays_open};
 use crate::results::{FeatureResult, NoRoom, Status};
 use crate::run::Run;
-use crate::section_hooks::{Level, Section};
-use crate::walk::walk_before;
+use crate::section::{Level, Section};
+use crate::section_hooks::walk_before;
 use gk_gherkin::HookFile;
 use gk_steps::Library;
 use gk_world::{Layer, Sandbox, layers_enter};
@@ -79,8 +80,7 @@ impl Suite {
 
     /// Runs a feature of the run, as `run_feature` does, where the before hook of all passed whole and
     /// the run hasn't stopped; else its selected cases are untested. The sandbox is as it was, whatever
-    /// is answered, and after `NoRoom` the run is still open. (behave's documentation: context layers;
-    /// this project's profile)
+    /// is answered, and after `NoRoom` the run is still open. (behave's documentation: context layers)
     pub fn feature(
         &mut self,
         alloc: Global,
@@ -154,13 +154,13 @@ impl Suite {
 }
 
 /// A run that was begun, whose features were run, and that was finished has judged results: the
-/// features' results and what `Suite::finish` answers. (this project's profile)
+/// features' results and what `Suite::finish` answers.
 pub fn finished_runs_are_judged()
     ensures { FinishedRunsAreJudged }
 {}
 
 /// A run that was begun and isn't finished has results that begin judged results: those of the features
-/// that were run, whatever features come after them. (this project's profile)
+/// that were run, whatever features come after them.
 pub fn unfinished_runs_are_judged()
     ensures { UnfinishedRunsAreJudged }
 {}

@@ -3,7 +3,7 @@ use Rattle.std.specs.List.{AllByRecursion}
 use Rattle.std.specs.Vec.Iter.{into_iter_items}
 use Rattle.gk_world.specs.State.{state_of}
 use Rattle.gk_world.specs.Sandbox.{layers}
-use Rattle.gk_run.specs.Alone.{run_of}
+use Rattle.gk_run.specs.Run.{run_of}
 use Rattle.gk_run.specs.Chosen.{ChosenValue, chosen_value, IsPaired}
 use Rattle.gk_run.specs.Features.{stays_open_by}
 use Rattle.gk_run.specs.OpenRun.{AreFeatures}
