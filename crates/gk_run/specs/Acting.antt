@@ -1,5 +1,5 @@
 -- What an action does to the plain state, what it registers, and its outcome.
-use Rattle.std.specs.Prelude.{◌≡◌, Result, Ok, Err, option_copied, ℕ, ℤ, pos, ◌+ℤ◌, Bool, true, false, cond, not, ◌&&◌, ◌==◌, List, [], ◌∷◌, ◌++◌, length, Option, Some, None, codes, bytes_eq, is_some, is_none, unwrap_or, drop}
+use Rattle.std.specs.Prelude.{◌≡◌, ◌⊎◌, map, Result, Ok, Err, option_copied, ℕ, ℤ, pos, ◌+ℤ◌, Bool, true, false, cond, not, ◌&&◌, ◌==◌, List, [], ◌∷◌, ◌++◌, length, Option, Some, None, codes, bytes_eq, is_some, is_none, unwrap_or, drop}
 use Rattle.std.specs.Ordering.{int_eq}
 use Rattle.std.specs.Fmt.{signed_decimal}
 use Rattle.std.specs.List.{list_all}
@@ -15,7 +15,7 @@ use Rattle.gk_world.specs.declared.world_fault.WorldFault.{WorldFault}
 use Rattle.gk_world.specs.declared.world_fault.WorldFault.TheVariants as faults
 use Rattle.gk_world.specs.State.{State, with_text, without, see, state_of}
 use Rattle.gk_world.specs.Refusals.{first_true, is_bad_name, is_too_long, joined}
-use Rattle.gk_world.specs.Sandbox.{SandboxValue}
+use Rattle.gk_world.specs.Sandbox.{SandboxValue, PutsFile}
 use Rattle.gk_run.specs.declared.acting.Arguments.{Arguments}
 use Rattle.gk_run.specs.declared.acting.Site.{Site}
 use Rattle.gk_run.specs.declared.acting.Site.TheVariants as sites
@@ -348,7 +348,7 @@ is_fail _ = false
 abbrev pub is_refused : Done → Bool
 is_refused done = not done.begun && is_fail done.outcome
 
--- An action was carried out, or memory was refused in it, which can't be where the action itself is refused; then nothing is said of the state.
+-- An action was carried out, or memory was refused in it, which can't be where the action itself is refused.
 abbrev pub IsDone : Done → Outcome → State → Type 0
 IsDone done outcomes.Memory new = is_refused done ≡ false
 IsDone done outcome new = IsExactly done outcome new
@@ -376,6 +376,34 @@ CleanupNeedsCandidate library found block outcome =
     let l = library_value library in
     let g = given l (found_value found) (block_value block) in
     action_of l (found_value found) ≡ actions.AtCleanup → NeedsCandidate l g.step outcome
+
+-- A row of a table of files: a name and a text.
+abbrev pub row_file : List (List ℕ) → List ℕ × List ℕ
+row_file (name ∷ text ∷ []) = (name, text)
+row_file _ = ([], [])
+
+-- The files of a table of files, in order.
+abbrev pub table_files : BlockValue → List (List ℕ × List ℕ)
+table_files (Table rows) = map row_file (drop 1 rows)
+table_files _ = []
+
+-- The files that an action of more than one change writes, in order: the rows of a table, or the file of the new name before the old one is removed. An action of one change has none.
+abbrev pub files_of : Action → Given → State → List (List ℕ × List ℕ)
+files_of actions.RenameFile g s = (g.to, unwrap_or (s.files g.name) []) ∷ []
+files_of actions.WriteFiles g s = table_files g.block
+files_of _ g s = []
+
+-- The first of some files, some number of them, were written one after another, and nothing else has changed.
+abbrev pub WritesFirst : List (List ℕ × List ℕ) → SandboxValue → SandboxValue → Type 0
+WritesFirst [] old new = new ≡ old
+WritesFirst (file ∷ files) old new = (new ≡ old) ⊎ ((mid : SandboxValue) × PutsFile old file.0 file.1 mid × WritesFirst files mid new)
+
+-- Where memory was refused, some first changes of an action were made and no others; an action of one change has changed nothing.
+abbrev pub KeepsAtMemory : Library → Found → Block → SandboxValue → Outcome → SandboxValue → Type 0
+KeepsAtMemory library found block old outcome new =
+    let l = library_value library in
+    let f = found_value found in
+    outcome ≡ outcomes.Memory → WritesFirst (files_of (action_of l f) (given l f (block_value block)) (state_of old.now)) old new
 
 -- The open layers stay as they are: what the end of each gives back, and how many changes were recorded when each began. (behave's documentation: context layers)
 pub record KeepsLayers (old new : SandboxValue) : Type 0 where
@@ -406,10 +434,19 @@ outcome_of (Ok x) = outcomes.Passed
 outcome_of (Err faults.Memory) = outcomes.Memory
 outcome_of (Err fault) = outcomes.Failed (reason_of fault)
 
--- An action was carried out in a sandbox, or memory was refused in it; the open layers stay as they are.
-pub record IsActed (done : Done) (old : SandboxValue) (outcome : Outcome) (new : SandboxValue) : Type 0 where
+-- An action was carried out in a sandbox, or memory was refused in it, after some first of these files were written; the open layers stay as they are.
+pub record IsActedWith (files : List (List ℕ × List ℕ)) (done : Done) (old : SandboxValue) (outcome : Outcome) (new : SandboxValue) : Type 0 where
   pub carried_out : IsDone done outcome (state_of new.now)
   pub layers : KeepsLayers old new
+  pub kept : outcome ≡ outcomes.Memory → WritesFirst files old new
+
+-- The same of an action of one change.
+abbrev pub IsActed : Done → SandboxValue → Outcome → SandboxValue → Type 0
+IsActed = IsActedWith []
+
+-- A file was written, if this passed.
+abbrev pub WritesFile : List ℕ × List ℕ → SandboxValue → Outcome → SandboxValue → Type 0
+WritesFile file old outcome new = outcome ≡ outcomes.Passed → PutsFile old file.0 file.1 new
 
 -- What the row of an action leaves, as the program holds the library, what was found and the block.
 abbrev pub carried_out_of : Library → Found → Block → State → Done
@@ -417,7 +454,9 @@ carried_out_of library found block s = carried_out (library_value library) (foun
 
 -- An action was carried out as its row of the table says, or memory was refused in it.
 abbrev pub Performs : Action → Arguments → SandboxValue → Outcome → SandboxValue → Type 0
-Performs action arguments old outcome new = IsActed (table action (given_value arguments) (state_of old.now)) old outcome new
+Performs action arguments old outcome new =
+    let g = given_value arguments in
+    IsActedWith (files_of action g (state_of old.now)) (table action g (state_of old.now)) old outcome new
 
 -- An action that changes nothing was carried out as its row of the table says.
 abbrev pub Checks : Action → Arguments → SandboxValue → Outcome → Type 0
