@@ -7,7 +7,7 @@ use Rattle.gk_world.specs.Contents.{Contents}
 use Rattle.gk_world.specs.State.{State, state_of}
 use Rattle.gk_world.specs.Sandbox.{SandboxValue}
 use Rattle.gk_run.specs.declared.ending.Ending.{Ending}
-use Rattle.gk_run.specs.declared.open_run.Suite.{Suite}
+use Rattle.gk_run.specs.declared.open_run.state.Suite.{Suite}
 use Rattle.gk_run.specs.declared.results.Status.{Status}
 use Rattle.gk_run.specs.declared.section.Level.TheVariants as levels
 use Rattle.gk_run.specs.Acting.{CleanupValue}

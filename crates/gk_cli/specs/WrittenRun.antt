@@ -8,7 +8,7 @@ use Rattle.gk_world.specs.Contents.{Contents}
 use Rattle.gk_world.specs.State.{State, state_of}
 use Rattle.gk_world.specs.Sandbox.{SandboxValue}
 use Rattle.gk_run.specs.declared.chosen.Chosen.{Chosen}
-use Rattle.gk_run.specs.declared.open_run.Suite.{Suite}
+use Rattle.gk_run.specs.declared.open_run.state.Suite.{Suite}
 use Rattle.gk_run.specs.Results.{FeatureRow, Results}
 use Rattle.gk_run.specs.Run.{Run, run_of}
 use Rattle.gk_run.specs.Chosen.{ChosenValue, chosen_value}

@@ -3,7 +3,7 @@ use Rattle.std.specs.Prelude.{◌≡◌, ◌∷◌, [], ◌++◌, true, false, B
 use Rattle.gk_world.specs.State.{State, state_of}
 use Rattle.gk_world.specs.Sandbox.{SandboxValue, depth}
 use Rattle.gk_run.specs.declared.section.Level.TheVariants as levels
-use Rattle.gk_run.specs.declared.open_run.Suite.{Suite}
+use Rattle.gk_run.specs.declared.open_run.state.Suite.{Suite}
 use Rattle.gk_run.specs.declared.results.Status.{Status}
 use Rattle.gk_run.specs.Results.{FeatureRow}
 use Rattle.gk_run.specs.Ending.{has_passed}
@@ -21,11 +21,12 @@ pub record IsStarted (run : Run) (old new : SandboxValue) (suite : Suite) : Type
   pub walked : IsWalked (begun run.library run.hooks levels.Run [] (state_of old.now)) suite.before (state_of new.now) (cleanups_value suite.cleanups)
   pub opened : suite.is_open ≡ has_passed suite.before
   pub stops : suite.stop ≡ run.stop
+  pub unfailed : suite.has_failed ≡ false
   pub layer : suite.layer ≡ depth new
   pub saved : new.saved ≡ old.now ∷ old.saved
   pub marks : new.marks ≡ length old.entries ∷ old.marks
 
--- All of an open run is as it was, but whether further features are begun.
+-- All of an open run is as it was, but whether a feature failed, and whether further features are begun.
 pub record IsKept (old new : Suite) : Type 0 where
   pub layer : new.layer ≡ old.layer
   pub before : new.before ≡ old.before

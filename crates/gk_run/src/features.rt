@@ -60,13 +60,15 @@ pub fn both(a: bool, b: bool) -> bool
     a && b
 }
 
-fn either(a: bool, b: bool) -> bool
+/// Whether one of two holds.
+pub fn either(a: bool, b: bool) -> bool
     ensures { result ≡ (a || b) }
 {
     a || b
 }
 
-fn is_bad(status: Status) -> bool
+/// Whether a status is failed or memory.
+pub fn is_bad(status: Status) -> bool
     ensures { result ≡ spec.is_bad status }
 {
     matches!(status, Status::Failed | Status::Memory)
