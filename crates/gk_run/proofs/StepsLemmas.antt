@@ -109,7 +109,7 @@ spoils library s cs step steps more e last ls rows m =
     (0, at.0, ap (λ rs. row_of_step step (Acted outcomes.Memory) ∷ rs) rows ∙ ap (rows_of_steps (step ∷ steps)) (sym at.1)) in
     subst (λ z. AreStepsRun x endings.Passed (step ∷ steps) (row_of_step step (Acted outcomes.Memory) ∷ more) z last ls) (sym m) there
 
--- the same step by step where the case stands still
+-- the same step by step where the case doesn't go further
 still : (library : LibraryValue) (stood : Ending) (s new : State) (cs left : List CleanupValue) (m : Mark) (step : StepValue) (steps : List StepValue) (ms : List Mark) →
     new ≡ s → left ≡ cs → ((xs : List Mark) → ended_after stood xs ≡ stood) →
     (more : List StepRow) (e : Ending) (last : State) (ls : List CleanupValue) → AreStepsRun (record { marks = ms; state = new; cleanups = left }) stood steps more e last ls →

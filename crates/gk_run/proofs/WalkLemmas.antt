@@ -82,13 +82,13 @@ joined_first : (b : Bool) (ms : List Mark) (ls : List StepValue) (s : State) (cs
 joined_first true ms ls s cs next ys = refl
 joined_first false ms ls s cs next ys = refl
 
-goes_on_joined : (o : Option Outcome) (s : State) (cs : List CleanupValue) (xs ys : List StepValue) (w : Walked) (f : State → List CleanupValue → Walked) →
+followed_by_joined : (o : Option Outcome) (s : State) (cs : List CleanupValue) (xs ys : List StepValue) (w : Walked) (f : State → List CleanupValue → Walked) →
     followed_by o s cs (xs ++ ys) (joined w ys (f w.state w.cleanups)) ≡ (let g = followed_by o s cs xs w in joined g ys (f g.state g.cleanups))
-goes_on_joined None s cs xs ys w f = refl
-goes_on_joined (Some outcomes.Passed) s cs xs ys w f = joined_first (has_passed (ended_of w.marks)) w.marks w.left w.state w.cleanups (f w.state w.cleanups) ys
-goes_on_joined (Some (outcomes.Failed why)) s cs xs ys w f = refl
-goes_on_joined (Some outcomes.Skip) s cs xs ys w f = refl
-goes_on_joined (Some outcomes.Memory) s cs xs ys w f = refl
+followed_by_joined None s cs xs ys w f = refl
+followed_by_joined (Some outcomes.Passed) s cs xs ys w f = joined_first (has_passed (ended_of w.marks)) w.marks w.left w.state w.cleanups (f w.state w.cleanups) ys
+followed_by_joined (Some (outcomes.Failed why)) s cs xs ys w f = refl
+followed_by_joined (Some outcomes.Skip) s cs xs ys w f = refl
+followed_by_joined (Some outcomes.Memory) s cs xs ys w f = refl
 
 pub walk_append : (library : LibraryValue) (site : Site) (s : State) (cs : List CleanupValue) (xs ys : List StepValue) →
     walk library site s cs (xs ++ ys) ≡ (let w = walk library site s cs xs in joined w ys (walk library site w.state w.cleanups ys))
@@ -97,7 +97,7 @@ walk_append library site s cs (x ∷ xs) ys =
     let this = one_step library site s x in
     let left = cs ++ this.registered in
     ap (followed_by this.outcome this.state left (xs ++ ys)) (walk_append library site this.state left xs ys)
-    ∙ goes_on_joined this.outcome this.state left xs ys (walk library site this.state left xs) (λ t ls. walk library site t ls ys)
+    ∙ followed_by_joined this.outcome this.state left xs ys (walk library site this.state left xs) (λ t ls. walk library site t ls ys)
 
 -- after a list that passed
 more_all : (ms : List Mark) (w : Walked) (e : Ending) (s : State) (cs : List CleanupValue) → endings.Passed ≡ ended_of ms → IsWalked w e s cs → IsWalked (record w { marks = ms ++ w.marks }) e s cs

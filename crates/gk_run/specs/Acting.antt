@@ -79,7 +79,7 @@ abbrev pub with_T : State → Option (List ℕ) → (List ℕ → Done) → Done
 with_T s None action = fails s reasons.NoText
 with_T s (Some text) action = action text
 
--- An outcome after which an action goes on.
+-- An outcome after which an action continues.
 abbrev pub is_pass : Outcome → Bool
 is_pass outcomes.Passed = true
 is_pass _ = false
