@@ -6,20 +6,21 @@ use Rattle.std.proofs.lemmas.List.Folds.{list_any-append}
 use Rattle.gk_world.specs.State.{Contents, State, state_of}
 use Rattle.gk_world.specs.Sandbox.{SandboxValue}
 use Rattle.gk_run.specs.declared.ending.Ending.{Ending}
-use Rattle.gk_run.specs.declared.open_run.Suite.{Suite}
+use Rattle.gk_run.specs.declared.open_run.state.Suite.{Suite}
 use Rattle.gk_run.specs.declared.results.Status.{Status}
-use Rattle.gk_run.specs.declared.section_hooks.Level.TheVariants as levels
+use Rattle.gk_run.specs.declared.section.Level.TheVariants as levels
 use Rattle.gk_run.specs.Acting.{CleanupValue}
 use Rattle.gk_run.specs.Cleanups.{cleanups_value}
 use Rattle.gk_run.specs.Results.{CaseRow, FeatureRow, Results, is_memory, is_failed, is_undefined, is_untested, is_passed}
 use Rattle.gk_run.specs.Ending.{has_passed}
 use Rattle.gk_run.specs.SectionHooks.{begun}
 use Rattle.gk_run.specs.Section.{happened, before_passed}
-use Rattle.gk_run.specs.Alone.{Run}
+use Rattle.gk_run.specs.Run.{Run}
 use Rattle.gk_run.specs.Chosen.{ChosenValue}
-use Rattle.gk_run.specs.Features.{FeatureCuts, uncut_feature, first_or, later, stays_open, verdict_by, feature_verdict, feature_of, features_of, section_state, section_events}
+use Rattle.gk_run.specs.Features.{FeatureCuts, uncut_feature, first_or, later, stays_open, verdict_by, feature_verdict, feature_of, features_of, section_state, section_events, IsSectionEnd}
 use Rattle.gk_run.specs.Judged.{Cuts, dry_results, results_from, Judged, plain_results, is_memory_case, is_memory_feature, has_memory, OneList}
-use Rattle.gk_run.specs.Running.{IsSame, IsWalked, IsSectionEnd}
+use Rattle.gk_run.specs.Running.{IsSame}
+use Rattle.gk_run.specs.Walk.{IsWalked}
 use Rattle.gk_run.specs.OpenRun.{IsStarted, IsKept, AreFeatures, FinishedRunsAreJudged}
 use Rattle.gk_run.specs.DryRun.{dry_features_of}
 use Rattle.gk_steps.specs.Finding.{LibraryValue}

@@ -14,11 +14,12 @@ use Rattle.gk_world.specs.State.{nothing_yet, State}
 use Rattle.gk_run.specs.declared.results.Status.{Status}
 use Rattle.gk_run.specs.declared.results.Status.TheVariants as statuses
 use Rattle.gk_run.specs.declared.results.Reason.TheVariants as reasons
-use Rattle.gk_run.specs.declared.section_hooks.Level.TheVariants as levels
+use Rattle.gk_run.specs.declared.section.Level.TheVariants as levels
 use Rattle.gk_run.specs.Acting.{act}
 use Rattle.gk_run.specs.Results.{StepRow, CaseRow, Results}
 use Rattle.gk_run.specs.Section.{Cut, nowhere, in_before, in_steps, in_after, in_cleanups}
-use Rattle.gk_run.specs.Alone.{Run, reached_row}
+use Rattle.gk_run.specs.Run.{Run}
+use Rattle.gk_run.specs.Running.{reached_row}
 use Rattle.gk_run.specs.Chosen.{MemberValue, ChosenValue}
 use Rattle.gk_run.specs.Features.{FeatureCuts, uncut_feature, first_or, later, section_state, feature_verdict}
 use Rattle.gk_run.specs.Judged.{Cuts, Judged}

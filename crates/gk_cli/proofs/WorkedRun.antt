@@ -31,7 +31,7 @@ use Rattle.gk_run.specs.declared.results.Status.TheVariants as statuses
 use Rattle.gk_run.specs.declared.results.Reason.TheVariants as reasons
 use Rattle.gk_run.specs.Acting.{act}
 use Rattle.gk_run.specs.Results.{FeatureRow, Results}
-use Rattle.gk_run.specs.Alone.{Run}
+use Rattle.gk_run.specs.Run.{Run}
 use Rattle.gk_run.specs.Chosen.{ChosenValue}
 use Rattle.gk_run.specs.Judged.{Cuts, uncut, dry_results, results_from, results_of, plain_results}
 use Rattle.gk_report.specs.ReportTexts.{status_text, reason_text, one_line}

@@ -7,13 +7,12 @@ use Rattle.gk_steps.specs.Finding.{LibraryValue, library_value}
 use Rattle.gk_world.specs.State.{Contents, State, state_of}
 use Rattle.gk_world.specs.Sandbox.{SandboxValue}
 use Rattle.gk_run.specs.declared.chosen.Chosen.{Chosen}
-use Rattle.gk_run.specs.declared.open_run.Suite.{Suite}
+use Rattle.gk_run.specs.declared.open_run.state.Suite.{Suite}
 use Rattle.gk_run.specs.Results.{FeatureRow, Results}
-use Rattle.gk_run.specs.Alone.{Run, run_of}
+use Rattle.gk_run.specs.Run.{Run, run_of}
 use Rattle.gk_run.specs.Chosen.{ChosenValue, chosen_value}
-use Rattle.gk_run.specs.Features.{FeatureCuts, stays_open}
+use Rattle.gk_run.specs.Features.{FeatureCuts, stays_open, IsFeatureResult}
 use Rattle.gk_run.specs.Judged.{Judged}
-use Rattle.gk_run.specs.Running.{IsFeatureResult}
 use Rattle.gk_run.specs.OpenRun.{AreFeatures}
 use Rattle.gk_run.specs.DryRun.{dry_feature_of}
 use Rattle.gk_report.specs.declared.report.Style.{Style}

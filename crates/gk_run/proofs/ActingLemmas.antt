@@ -4,7 +4,7 @@ use Rattle.std.specs.FinMap as finite
 use Rattle.std.specs.FinMap.{get-insert, get-remove}
 use Rattle.std.specs.Str.Parse.{signed_digits_value}
 use Rattle.std.specs.Fmt.{signed_decimal}
-use Rattle.std.proofs.Common.{◌≢◌, ◌≤◌, Vec, Global, vec_len, get_or, drop-cons, add-one, w64, ◌≡◌, ℕ, suc, ◌+◌, ◌<◌, Bool, true, false, List, [], ◌∷◌, length, drop, refl, sym, ap, subst, ◌∙◌, arith}
+use Rattle.std.proofs.Common.{inl, inr, ◌≢◌, ◌≤◌, Vec, Global, vec_len, get_or, drop-cons, add-one, w64, ◌≡◌, ℕ, suc, ◌+◌, ◌<◌, Bool, true, false, List, [], ◌∷◌, length, drop, refl, sym, ap, subst, ◌∙◌, arith}
 use Rattle.std.proofs.lemmas.Bool.{eqb-true}
 use Rattle.std.proofs.lemmas.Bool.Decides.{Decides-ltb}
 use Rattle.std.proofs.lemmas.List.{append-nil, length-map, drop_all}
@@ -29,7 +29,7 @@ use Rattle.gk_steps.specs.declared.action.Action.TheVariants as actions
 use Rattle.gk_steps.specs.Finding.{found_any, LibraryValue, FoundValue, action_of}
 use Rattle.gk_run.specs.Numbers.{is_number, number_of, is_in_range}
 use Rattle.gk_gherkin.specs.Feature.{BlockValue, texts}
-use Rattle.gk_run.specs.Acting.{Given, given, table, carried_out, act, at_site, done_of, without_cleanups, registers, registers_at, may_register, skips, CleanupValue, HasRegistered, changes_nothing, write_row, write_rows, have_two_cells, Done, add_number, is_pass, is_fail, is_refused, and_then, set_own, passes, fails, unless, unless_for, with_T, absent, differs, reason_of, outcome_of, IsExactly, IsDone, IsActed, IsText, HasText, IsNumber, lacks, not_number, differs_from, with_file, without_file, with_env, without_env, with_own, without_own}
+use Rattle.gk_run.specs.Acting.{IsActedWith, WritesFirst, WritesFile, row_file, files_of, Given, given, table, carried_out, act, at_site, done_of, without_cleanups, registers, registers_at, may_register, skips, CleanupValue, HasRegistered, changes_nothing, write_row, write_rows, have_two_cells, Done, add_number, is_pass, is_fail, is_refused, and_then, set_own, passes, fails, unless, unless_for, with_T, absent, differs, reason_of, outcome_of, IsExactly, IsDone, IsActed, IsText, HasText, IsNumber, lacks, not_number, differs_from, with_file, without_file, with_env, without_env, with_own, without_own}
 
 -- a map with a text put in
 inserted : (m : Texts) (name text : List ℕ) → finite.get (finite.insert m name text) ≡ with_text (finite.get m) name text
@@ -92,10 +92,14 @@ refused s ws after faults.OtherLayer why = failed s ws after faults.OtherLayer w
 acted_so : (ws : List (Bool × WorldFault)) (r : Result ⊤ WorldFault) (old new : SandboxValue) (changed : Contents) (after : State)
     → OnOk r (Becomes changed old new) → IsAnswer (first_true ws) r → OnErr r (new ≡ old) → state_of changed ≡ after
     → IsActed (unless (state_of old.now) (reasons_of ws) after) old (outcome_of r) new
-acted_so ws (Ok x) old new changed after ok answer err e = record { carried_out = carried (state_of old.now) ws after (state_of new.now) answer (ap state_of ok.contents ∙ e); layers = record { saved = ok.layers; marks = ok.marks } }
+acted_so ws (Ok x) old new changed after ok answer err e = record {
+  carried_out = carried (state_of old.now) ws after (state_of new.now) answer (ap state_of ok.contents ∙ e);
+  layers = record { saved = ok.layers; marks = ok.marks };
+  kept = λ m. let no : ⊥ = cc in absurd no;
+}
 acted_so ws (Err fault) old new changed after ok answer err e =
     let P : SandboxValue → Type 0 = λ v. IsActed (unless (state_of old.now) (reasons_of ws) after) old (outcome_of {A = ⊤} (Err fault)) v in
-    subst P (sym err) (record { carried_out = refused (state_of old.now) ws after fault answer; layers = record { saved = refl; marks = refl } })
+    subst P (sym err) (record { carried_out = refused (state_of old.now) ws after fault answer; layers = record { saved = refl; marks = refl }; kept = λ m. refl })
 
 -- a change of the world by one call
 pub acted : (ws : List (Bool × WorldFault)) (r : Result ⊤ WorldFault) (o : Outcome) (old new : SandboxValue) (changed : Contents) (after : State) → o ≡ outcome_of r
@@ -104,6 +108,18 @@ pub acted : (ws : List (Bool × WorldFault)) (r : Result ⊤ WorldFault) (o : Ou
 acted ws r o old new changed after is ok answer err e =
     let P : Outcome → Type 0 = λ p. IsActed (unless (state_of old.now) (reasons_of ws) after) old p new in
     subst P (sym is) (acted_so ws r old new changed after ok answer err e)
+
+-- a file that was written
+written_so : (r : Result ⊤ WorldFault) (file : List ℕ × List ℕ) (old new : SandboxValue) → OnOk r (changes.PutsFile old file.0 file.1 new) → WritesFile file old (outcome_of r) new
+written_so (Ok x) file old new put m = put
+written_so (Err faults.Memory) file old new put m = let no : ⊥ = cc in absurd no
+written_so (Err faults.Absent) file old new put m = let no : ⊥ = cc in absurd no
+written_so (Err faults.TextTooLong) file old new put m = let no : ⊥ = cc in absurd no
+written_so (Err faults.BadName) file old new put m = let no : ⊥ = cc in absurd no
+written_so (Err faults.OtherLayer) file old new put m = let no : ⊥ = cc in absurd no
+
+pub file_written : (r : Result ⊤ WorldFault) (o : Outcome) (file : List ℕ × List ℕ) (old new : SandboxValue) → o ≡ outcome_of r → OnOk r (changes.PutsFile old file.0 file.1 new) → WritesFile file old o new
+file_written r o file old new is put = subst (λ (x : Outcome). WritesFile file old x new) (sym is) (written_so r file old new put)
 
 -- a text at the end of a file's
 pub file_extended : (c : Contents) (name more : List ℕ) → state_of (changes.with_more c name more) ≡ with_file (state_of c) name (joined (finite.get c.files) name more)
@@ -134,7 +150,7 @@ exact_done done (outcomes.Failed why) s h = h
 exact_done done outcomes.Memory s h = ap (λ o. not done.begun && is_fail o) (sym h.0) ∙ and_false (not done.begun)
 
 pub unchanged : (done : Done) (old : SandboxValue) (o : Outcome) → IsExactly done o (state_of old.now) → IsActed done old o old
-unchanged done old o h = record { carried_out = exact_done done o (state_of old.now) h; layers = record { saved = refl; marks = refl } }
+unchanged done old o h = record { carried_out = exact_done done o (state_of old.now) h; layers = record { saved = refl; marks = refl }; kept = λ m. refl }
 
 -- the text that is held, by its look-up
 pub text_checked : (held looked : Option (List ℕ)) (text : Option (List ℕ)) (o : Outcome) (s : State) → held ≡ looked → IsText held text o
@@ -161,30 +177,40 @@ may_end : (b : Bool) (this next : Done) → is_refused this ≡ false → is_ref
 may_end true this next h = refl
 may_end false this next h = h
 
--- an action in two parts, of which the first passed
-pub part_passes : (this : Done) (next : State → Done) (old mid new : SandboxValue) (written o : Outcome) → written ≡ outcomes.Passed → IsActed this old written mid → IsActed (next (state_of mid.now)) mid o new
-    → IsActed (and_then this (next this.state)) old o new
-part_passes this next old mid new written o is h k =
+-- none of some files was written
+pub none_written : (files : List (List ℕ × List ℕ)) (old new : SandboxValue) → new ≡ old → WritesFirst files old new
+none_written [] old new same = same
+none_written (file ∷ files) old new same = inl same
+
+-- an action in two parts, of which the first wrote a file and passed
+pub part_passes : (file : List ℕ × List ℕ) (files : List (List ℕ × List ℕ)) (this : Done) (next : State → Done) (old mid new : SandboxValue) (written o : Outcome) → written ≡ outcomes.Passed
+    → IsActed this old written mid → WritesFile file old written mid → IsActedWith files (next (state_of mid.now)) mid o new
+    → IsActedWith (file ∷ files) (and_then this (next this.state)) old o new
+part_passes file files this next old mid new written o is h puts k =
     let W : Outcome → Type 0 = λ w. IsActed this old w mid in
     let first : IsActed this old outcomes.Passed mid = subst W is h in
-    let P : State → Type 0 = λ s. IsActed (next s) mid o new in
-    let second : IsActed (next this.state) mid o new = subst P first.carried_out.1 k in
+    let P : State → Type 0 = λ s. IsActedWith files (next s) mid o new in
+    let second : IsActedWith files (next this.state) mid o new = subst P first.carried_out.1 k in
     let Q : Done → Type 0 = λ d. IsDone d o (state_of new.now) in
     let e : record (next this.state) { begun = true } ≡ and_then this (next this.state) = ap (λ p. cond (is_pass p) (record (next this.state) { begun = true }) this) first.carried_out.0 in
-    record { carried_out = subst Q e (went_on (next this.state) o (state_of new.now) second.carried_out); layers = record { saved = second.layers.saved ∙ first.layers.saved; marks = second.layers.marks ∙ first.layers.marks } }
+    record {
+      carried_out = subst Q e (went_on (next this.state) o (state_of new.now) second.carried_out);
+      layers = record { saved = second.layers.saved ∙ first.layers.saved; marks = second.layers.marks ∙ first.layers.marks };
+      kept = λ m. inr (mid, puts is, k.kept m);
+    }
 
 -- an action in two parts, which ended with the first
-pub part_ends : (this next : Done) (old new : SandboxValue) (o : Outcome) → (o ≡ outcomes.Passed → ⊥) → IsActed this old o new → IsActed (and_then this next) old o new
-part_ends this next old new outcomes.Passed never h = absurd (never refl)
-part_ends this next old new outcomes.Skip never h =
+pub part_ends : (files : List (List ℕ × List ℕ)) (this next : Done) (old new : SandboxValue) (o : Outcome) → (o ≡ outcomes.Passed → ⊥) → IsActed this old o new → IsActedWith files (and_then this next) old o new
+part_ends files this next old new outcomes.Passed never h = absurd (never refl)
+part_ends files this next old new outcomes.Skip never h =
     let Q : Done → Type 0 = λ d. IsDone d outcomes.Skip (state_of new.now) in
     let e : this ≡ and_then this next = ap (λ p. cond (is_pass p) (record next { begun = true }) this) h.carried_out.0 in
-    record { carried_out = subst Q e h.carried_out; layers = h.layers }
-part_ends this next old new outcomes.Memory never h = record { carried_out = may_end (is_pass this.outcome) this next h.carried_out; layers = h.layers }
-part_ends this next old new (outcomes.Failed why) never h =
+    record { carried_out = subst Q e h.carried_out; layers = h.layers; kept = λ m. none_written files old new (h.kept m) }
+part_ends files this next old new outcomes.Memory never h = record { carried_out = may_end (is_pass this.outcome) this next h.carried_out; layers = h.layers; kept = λ m. none_written files old new (h.kept m) }
+part_ends files this next old new (outcomes.Failed why) never h =
     let Q : Done → Type 0 = λ d. IsDone d (outcomes.Failed why) (state_of new.now) in
     let e : this ≡ and_then this next = ap (λ p. cond (is_pass p) (record next { begun = true }) this) h.carried_out.0 in
-    record { carried_out = subst Q e h.carried_out; layers = h.layers }
+    record { carried_out = subst Q e h.carried_out; layers = h.layers; kept = λ m. none_written files old new (h.kept m) }
 
 -- a number's text is short
 short_number : (z : ℤ) (text : List ℕ) → FitsSigned w64 z → text ≡ signed_decimal z → is_too_long text ≡ false
@@ -219,32 +245,33 @@ rows_left rows i row some is =
     let c = ap (λ n. row ∷ drop n rows) (sym (add-one i)) in
     a ∙ b ∙ c
 
+-- rows in turn, as files that are written
+abbrev pub RowsActed : List RowInMemory → SandboxValue → Outcome → SandboxValue → Type 0
+RowsActed rows old o new = let rs = map (λ (row : RowInMemory). texts row.items) rows in IsActedWith (map row_file rs) (write_rows (state_of old.now) rs) old o new
+
 -- a row that was written, before the others
 pub row_passed : (rows : List RowInMemory) (i : ℕ) (row : RowInMemory) (held : List (String Global)) (old mid new : SandboxValue) (written o : Outcome) → i < length rows → row ≡ get_or rows i row → held ≡ row.items
-    → written ≡ outcomes.Passed → IsActed (write_row (state_of old.now) (texts held)) old written mid
-    → IsActed (write_rows (state_of mid.now) (map (λ row. texts row.items) (drop (i + 1) rows))) mid o new
-    → IsActed (write_rows (state_of old.now) (map (λ row. texts row.items) (drop i rows))) old o new
-row_passed rows i row held old mid new written o some is items passed h k =
+    → written ≡ outcomes.Passed → IsActed (write_row (state_of old.now) (texts held)) old written mid → WritesFile (row_file (texts held)) old written mid
+    → RowsActed (drop (i + 1) rows) mid o new → RowsActed (drop i rows) old o new
+row_passed rows i row held old mid new written o some is items passed h puts k =
     let P : List (String Global) → Type 0 = λ cs. IsActed (write_row (state_of old.now) (texts cs)) old written mid in
-    let Q : List RowInMemory → Type 0 = λ rs. IsActed (write_rows (state_of old.now) (map (λ row. texts row.items) rs)) old o new in
-    subst Q (sym (rows_left rows i row some is))
-    (part_passes (write_row (state_of old.now) (cells row)) (λ s. write_rows s (map (λ row. texts row.items) (drop (i + 1) rows))) old mid new written o passed (subst P items h) k)
+    let W : List (String Global) → Type 0 = λ cs. WritesFile (row_file (texts cs)) old written mid in
+    let left = map (λ (row : RowInMemory). texts row.items) (drop (i + 1) rows) in
+    subst (λ (rs : List RowInMemory). RowsActed rs old o new) (sym (rows_left rows i row some is))
+    (part_passes (row_file (cells row)) (map row_file left) (write_row (state_of old.now) (cells row)) (λ s. write_rows s left) old mid new written o passed (subst P items h) (subst W items puts) k)
 
 -- a row that ended the writing
 pub row_ended : (rows : List RowInMemory) (i : ℕ) (row : RowInMemory) (held : List (String Global)) (old new : SandboxValue) (o : Outcome) → i < length rows → row ≡ get_or rows i row → held ≡ row.items
-    → (o ≡ outcomes.Passed → ⊥) → IsActed (write_row (state_of old.now) (texts held)) old o new
-    → IsActed (write_rows (state_of old.now) (map (λ row. texts row.items) (drop i rows))) old o new
+    → (o ≡ outcomes.Passed → ⊥) → IsActed (write_row (state_of old.now) (texts held)) old o new → RowsActed (drop i rows) old o new
 row_ended rows i row held old new o some is items never h =
     let P : List (String Global) → Type 0 = λ cs. IsActed (write_row (state_of old.now) (texts cs)) old o new in
-    let Q : List RowInMemory → Type 0 = λ rs. IsActed (write_rows (state_of old.now) (map (λ row. texts row.items) rs)) old o new in
-    subst Q (sym (rows_left rows i row some is))
-    (part_ends (write_row (state_of old.now) (cells row)) (write_rows ((write_row (state_of old.now) (cells row)).state) (map (λ row. texts row.items) (drop (i + 1) rows))) old new o never (subst P items h))
+    subst (λ (rs : List RowInMemory). RowsActed rs old o new) (sym (rows_left rows i row some is))
+    (part_ends (map row_file (cells row ∷ map (λ (row : RowInMemory). texts row.items) (drop (i + 1) rows))) (write_row (state_of old.now) (cells row)) (write_rows ((write_row (state_of old.now) (cells row)).state) (map (λ row. texts row.items) (drop (i + 1) rows))) old new o never (subst P items h))
 
 -- no row is left
-pub rows_end : (rows : List RowInMemory) (i : ℕ) (s : SandboxValue) → length rows ≤ i → IsActed (write_rows (state_of s.now) (map (λ row. texts row.items) (drop i rows))) s outcomes.Passed s
+pub rows_end : (rows : List RowInMemory) (i : ℕ) (s : SandboxValue) → length rows ≤ i → RowsActed (drop i rows) s outcomes.Passed s
 rows_end rows i s none =
-    let Q : List RowInMemory → Type 0 = λ rs. IsActed (write_rows (state_of s.now) (map (λ row. texts row.items) rs)) s outcomes.Passed s in
-    subst Q (sym (drop_all i rows none)) (record { carried_out = (refl, refl); layers = record { saved = refl; marks = refl } })
+    subst (λ (rs : List RowInMemory). RowsActed rs s outcomes.Passed s) (sym (drop_all i rows none)) (record { carried_out = (refl, refl); layers = record { saved = refl; marks = refl }; kept = λ m. refl })
 
 -- a row of two cells, before the others
 pub two_more : (rows : List RowInMemory) (i : ℕ) (row : RowInMemory) → i < length rows → row ≡ get_or rows i row → vec_len row ≡ 2
@@ -284,15 +311,15 @@ out_of_range_row s name text n m good number far =
     let c = ap (λ b. unless_for s (first_true ((not b, reasons.OutOfRange) ∷ [])) (with_own s name (signed_decimal (m +ℤ n)))) far in
     a ∙ b ∙ c
 
-pub failed_acted : (old : SandboxValue) (why : Reason) → IsActed (fails (state_of old.now) why) old (outcomes.Failed why) old
-failed_acted old why = record { carried_out = (refl, refl); layers = record { saved = refl; marks = refl } }
+pub failed_acted : (files : List (List ℕ × List ℕ)) (old : SandboxValue) (why : Reason) → IsActedWith files (fails (state_of old.now) why) old (outcomes.Failed why) old
+failed_acted files old why = record { carried_out = (refl, refl); layers = record { saved = refl; marks = refl }; kept = λ m. none_written files old old refl }
 
 pub out_of_range_acted : (old : SandboxValue) (name text : List ℕ) (looked : Option (List ℕ)) (n m : ℤ) → is_bad_name name ≡ false → Some text ≡ looked → number_of text ≡ Some m → is_in_range (m +ℤ n) ≡ false
     → IsActed (add_number (state_of old.now) name looked n) old (outcomes.Failed reasons.OutOfRange) old
 out_of_range_acted old name text looked n m good is number far =
     let P : Option (List ℕ) → Type 0 = λ x. IsActed (add_number (state_of old.now) name x n) old (outcomes.Failed reasons.OutOfRange) old in
     let Q : Done → Type 0 = λ d. IsActed d old (outcomes.Failed reasons.OutOfRange) old in
-    subst P is (subst Q (sym (out_of_range_row (state_of old.now) name text n m good number far)) (failed_acted old reasons.OutOfRange))
+    subst P is (subst Q (sym (out_of_range_row (state_of old.now) name text n m good number far)) (failed_acted [] old reasons.OutOfRange))
 
 in_range_row : (s : State) (name text : List ℕ) (n m : ℤ) → is_bad_name name ≡ false → number_of text ≡ Some m → is_in_range (m +ℤ n) ≡ true
     → sum_row s name n (is_bad_name name) (number_of text) ≡ passes (with_own s name (signed_decimal (m +ℤ n)))
@@ -330,9 +357,16 @@ unfolding carried_out
 act_row library f block s action g e h = ap (λ a. table a g s) e ∙ ap (λ g. table (action_of library f) g s) h
 
 pub act_done : (library : LibraryValue) (f : FoundValue) (block : BlockValue) (old new : SandboxValue) (action : Action) (g : Given) (o : Outcome) → action ≡ action_of library f → g ≡ given library f block
-    → IsActed (table action g (state_of old.now)) old o new → IsDone (carried_out library f block (state_of old.now)) o (state_of new.now)
+    → IsActedWith (files_of action g (state_of old.now)) (table action g (state_of old.now)) old o new → IsDone (carried_out library f block (state_of old.now)) o (state_of new.now)
 act_done library f block old new action g o e h k =
     let P : Done → Type 0 = λ d. IsDone d o (state_of new.now) in subst P (act_row library f block (state_of old.now) action g e h) k.carried_out
+
+pub act_kept : (library : LibraryValue) (f : FoundValue) (block : BlockValue) (old new : SandboxValue) (action : Action) (g : Given) (o : Outcome) → action ≡ action_of library f → g ≡ given library f block
+    → IsActedWith (files_of action g (state_of old.now)) (table action g (state_of old.now)) old o new
+    → o ≡ outcomes.Memory → WritesFirst (files_of (action_of library f) (given library f block) (state_of old.now)) old new
+act_kept library f block old new action g o e h k m =
+    subst (λ (a : Action). WritesFirst (files_of a (given library f block) (state_of old.now)) old new) e
+    (subst (λ (x : Given). WritesFirst (files_of action x (state_of old.now)) old new) h (k.kept m))
 
 pub act_exact : (library : LibraryValue) (f : FoundValue) (block : BlockValue) (old new : SandboxValue) (action : Action) (g : Given) (o : Outcome) → action ≡ action_of library f → g ≡ given library f block
     → (changes_nothing action ≡ true → IsExactly (table action g (state_of old.now)) o (state_of new.now)) → changes_nothing (action_of library f) ≡ true → IsExactly (carried_out library f block (state_of old.now)) o (state_of new.now)

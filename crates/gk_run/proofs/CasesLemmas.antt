@@ -12,15 +12,16 @@ use Rattle.gk_run.specs.declared.results.Mark.{Mark}
 use Rattle.gk_run.specs.declared.results.Mark.TheVariants.{Skipped, Untested}
 use Rattle.gk_run.specs.declared.results.Status.{Status}
 use Rattle.gk_run.specs.declared.results.Status.TheVariants as statuses
-use Rattle.gk_run.specs.declared.section_hooks.Level.{Level}
-use Rattle.gk_run.specs.declared.section_hooks.Level.TheVariants as levels
+use Rattle.gk_run.specs.declared.section.Level.{Level}
+use Rattle.gk_run.specs.declared.section.Level.TheVariants as levels
 use Rattle.gk_run.specs.Acting.{CleanupValue, passes}
-use Rattle.gk_run.specs.Alone.{Run, reached_row, row_of_step, rows_of_steps, told_row, unreached_row, unselected_row}
+use Rattle.gk_run.specs.Run.{Run}
+use Rattle.gk_run.specs.Running.{reached_row, unrun_row, unreached_row, unselected_row, IsReached, marks_of}
+use Rattle.gk_run.specs.Walk.{row_of_step, rows_of_steps, IsWalked}
 use Rattle.gk_run.specs.Chosen.{ChosenValue, MemberValue, has_selected, members_of}
 use Rattle.gk_run.specs.Ending.{has_passed}
-use Rattle.gk_run.specs.Features.{case_of, case_statuses, cases_of, feature_row_of, feature_verdict, happened_in, section_state, stays_open}
+use Rattle.gk_run.specs.Features.{case_of, case_statuses, cases_of, feature_row_of, feature_verdict, happened_in, section_state, stays_open, AreCases, IsFeatureEnd, IsFeatureResult, IsSectionEnd}
 use Rattle.gk_run.specs.Results.{CaseRow, FeatureRow, StepRow, case_row}
-use Rattle.gk_run.specs.Running.{AreCases, IsFeatureEnd, IsFeatureResult, IsReached, IsSectionEnd, IsWalked, marks_of}
 use Rattle.gk_run.specs.Section.{Cut, around_of, nowhere}
 use Rattle.gk_run.specs.SectionHooks.{begun}
 use Rattle.gk_run.proofs.Nothing.{nothing_in}
@@ -70,14 +71,18 @@ pub members_end : (cases : List Case) (choices : List Bool) → (length cases �
 members_end cases choices (inl e) = ap (λ cs. members_of cs choices) (nothing_in cases e)
 members_end cases choices (inr e) = ap (members_of cases) (nothing_in choices e) ∙ members_nil cases
 
--- the same mark for each step
-pub all_told : (mark : Mark) (steps : List StepValue) → rows_of_steps steps (map (λ (step : StepValue). mark) steps) ≡ map (λ (step : StepValue). row_of_step step mark) steps
-all_told mark [] = refl
-all_told mark (step ∷ steps) = ap (λ rs. row_of_step step mark ∷ rs) (all_told mark steps)
+-- members of the same cases and choices
+pub members_are : (these cases : List Case) (those choices : List Bool) → these ≡ cases → those ≡ choices → members_of these those ≡ members_of cases choices
+members_are these cases those choices e h = ap (λ cs. members_of cs those) e ∙ ap (members_of cases) h
 
-none_told : (steps : List StepValue) → rows_of_steps steps [] ≡ rows_of_steps steps (map (λ (step : StepValue). Untested) steps)
-none_told [] = refl
-none_told (step ∷ steps) = ap (λ rs. row_of_step step Untested ∷ rs) (none_told steps)
+-- the same mark for each step
+pub all_unrun : (mark : Mark) (steps : List StepValue) → rows_of_steps steps (map (λ (step : StepValue). mark) steps) ≡ map (λ (step : StepValue). row_of_step step mark) steps
+all_unrun mark [] = refl
+all_unrun mark (step ∷ steps) = ap (λ rs. row_of_step step mark ∷ rs) (all_unrun mark steps)
+
+without_marks : (steps : List StepValue) → rows_of_steps steps [] ≡ rows_of_steps steps (map (λ (step : StepValue). Untested) steps)
+without_marks [] = refl
+without_marks (step ∷ steps) = ap (λ rs. row_of_step step Untested ∷ rs) (without_marks steps)
 
 -- however what is left is cut, the whole has cuts with these rows before the others
 abbrev pub GoesCases : Run → State → Bool → List MemberValue → List CaseRow → Bool → List MemberValue → Type 0
@@ -109,16 +114,16 @@ cases_last run first first_open all rows is_open (m ∷ left) none goes section 
 
 -- ---- a case in which nothing happens
 
-pub unselected_is : (run : Run) (section : State) (is_open : Bool) (m : MemberValue) (row : CaseRow) → m.selected ≡ false → row ≡ told_row m.scenario statuses.Skipped (marks_of Skipped m.scenario) → row ≡ case_of run section is_open nowhere m
+pub unselected_is : (run : Run) (section : State) (is_open : Bool) (m : MemberValue) (row : CaseRow) → m.selected ≡ false → row ≡ unrun_row m.scenario statuses.Skipped (marks_of Skipped m.scenario) → row ≡ case_of run section is_open nowhere m
 unselected_is run section is_open m row h e =
     let c = m.scenario in
     e ∙ ap (λ (b : Bool). cond b (cond is_open (reached_row run section nowhere c) (unreached_row c)) (unselected_row c)) (sym h)
 
-pub unreached_is : (run : Run) (section : State) (is_open : Bool) (m : MemberValue) (row : CaseRow) → m.selected ≡ true → is_open ≡ false → row ≡ told_row m.scenario statuses.Untested (marks_of Untested m.scenario) → row ≡ case_of run section is_open nowhere m
+pub unreached_is : (run : Run) (section : State) (is_open : Bool) (m : MemberValue) (row : CaseRow) → m.selected ≡ true → is_open ≡ false → row ≡ unrun_row m.scenario statuses.Untested (marks_of Untested m.scenario) → row ≡ case_of run section is_open nowhere m
 unreached_is run section is_open m row h o e =
     let c = m.scenario in
-    let told : List StepRow → CaseRow = λ rows. record { keyword = c.keyword; name = c.name; line = c.line; status = statuses.Untested; around = statuses.Passed; cleanups = []; steps = rows } in
-    e ∙ ap told (sym (none_told c.steps)) ∙ ap (λ (b : Bool). cond b (reached_row run section nowhere c) (unreached_row c)) (sym o)
+    let with_rows : List StepRow → CaseRow = λ rows. record { keyword = c.keyword; name = c.name; line = c.line; status = statuses.Untested; around = statuses.Passed; cleanups = []; steps = rows } in
+    e ∙ ap with_rows (sym (without_marks c.steps)) ∙ ap (λ (b : Bool). cond b (reached_row run section nowhere c) (unreached_row c)) (sym o)
     ∙ ap (λ (b : Bool). cond b (cond is_open (reached_row run section nowhere c) (unreached_row c)) (unselected_row c)) (sym h)
 
 pub reached_is : (run : Run) (section : State) (is_open : Bool) (m : MemberValue) (row : CaseRow) → m.selected ≡ true → is_open ≡ true → IsReached run section m.scenario row → (cut : Cut) × (row ≡ case_of run section is_open cut m)
@@ -138,19 +143,19 @@ pub feature_ends : (run : Run) (level : Level) (outside : State) (tags : List (L
     IsFeatureEnd run level outside true tags members around rows
 feature_ends run level outside tags members b s cs p around rows walked passes cases end =
     let section = section_state run level tags outside in
-    let told = cases section (λ o. passed_state (begun run.library run.hooks level tags outside) b s cs walked (sym passes ∙ o)) in
+    let known = cases section (λ o. passed_state (begun run.library run.hooks level tags outside) b s cs walked (sym passes ∙ o)) in
     record {
-      cuts = record { own = end.cut; cases = told.0 };
+      cuts = record { own = end.cut; cases = known.0 };
       hooks = end.hooks;
-      cases = told.1 ∙ ap (λ (x : Bool). cases_of run section x told.0 members) (passes ∙ end.ready);
+      cases = known.1 ∙ ap (λ (x : Bool). cases_of run section x known.0 members) (passes ∙ end.ready);
     }
 
 pub not_begun : (run : Run) (level : Level) (outside now : State) (tags : List (List ℕ)) (members : List MemberValue) (is_begun : Bool) (rows : List CaseRow) → is_begun ≡ false →
     AreCases run now false members rows → IsFeatureEnd run level outside is_begun tags members statuses.Passed rows
 not_begun run level outside now tags members true rows h cases = let no : ⊥ = cc in absurd no
 not_begun run level outside now tags members false rows h cases =
-    let told = cases (section_state run level tags outside) (λ o. let no : ⊥ = cc in absurd no) in
-    record { cuts = record { own = nowhere; cases = told.0 }; hooks = refl; cases = told.1 }
+    let known = cases (section_state run level tags outside) (λ o. let no : ⊥ = cc in absurd no) in
+    record { cuts = record { own = nowhere; cases = known.0 }; hooks = refl; cases = known.1 }
 
 pub begun_end : (run : Run) (level : Level) (outside : State) (tags : List (List ℕ)) (members : List MemberValue) (is_begun : Bool) (around : Status) (rows : List CaseRow) → is_begun ≡ true →
     IsFeatureEnd run level outside true tags members around rows → IsFeatureEnd run level outside is_begun tags members around rows

@@ -10,13 +10,13 @@ use Rattle.gk_run.specs.declared.results.Mark.TheVariants.{Acted, Skipped, Undef
 use Rattle.gk_run.specs.declared.results.Outcome.TheVariants as outcomes
 use Rattle.gk_run.specs.declared.results.Status.{Status}
 use Rattle.gk_run.specs.declared.results.Status.TheVariants as statuses
-use Rattle.gk_run.specs.Alone.{row_of_case, row_of_step, told_row, unselected_row}
+use Rattle.gk_run.specs.Running.{row_of_case, unrun_row, unselected_row, marks_of}
+use Rattle.gk_run.specs.Walk.{row_of_step}
 use Rattle.gk_run.specs.Chosen.{ChosenValue, MemberValue}
 use Rattle.gk_run.specs.DryRun.{AreDrySteps, IsDryStep, dry_case_of, dry_cases_of, dry_events, dry_feature_of, dry_mark, dry_row, dry_verdict}
 use Rattle.gk_run.specs.Ending.{is_memory_mark}
 use Rattle.gk_run.specs.Features.{FeatureCuts, case_statuses, feature_verdict}
 use Rattle.gk_run.specs.Results.{CaseRow, FeatureRow, StepRow}
-use Rattle.gk_run.specs.Running.{marks_of}
 use Rattle.gk_run.specs.Section.{Cut, Events, cut_marks, happened, in_steps, nowhere}
 use Rattle.gk_run.proofs.EndingLemmas.{cut_is_memory}
 
@@ -91,7 +91,7 @@ dry_is library c rows true status s h =
           ∙ ap (λ (x : Events). row_of_case c (dry_verdict x) x) is,
     )
 
-pub dry_unselected : (library : LibraryValue) (m : MemberValue) (row : CaseRow) → m.selected ≡ false → row ≡ told_row m.scenario statuses.Skipped (marks_of Skipped m.scenario) → row ≡ dry_case_of library nowhere m
+pub dry_unselected : (library : LibraryValue) (m : MemberValue) (row : CaseRow) → m.selected ≡ false → row ≡ unrun_row m.scenario statuses.Skipped (marks_of Skipped m.scenario) → row ≡ dry_case_of library nowhere m
 dry_unselected library m row h e = let c = m.scenario in e ∙ ap (λ (b : Bool). cond b (dry_row library nowhere c) (unselected_row c)) (sym h)
 
 pub dry_selected : (library : LibraryValue) (m : MemberValue) (row : CaseRow) → m.selected ≡ true → (cut : Cut) × (row ≡ dry_row library cut m.scenario) → (cut : Cut) × (row ≡ dry_case_of library cut m)

@@ -69,7 +69,7 @@ worse_passed endings.Memory = refl
 worse_passed endings.Failed = refl
 worse_passed endings.Skipped = refl
 
--- an event of the later part, counted from the front
+-- an event of the later part, counted from the start
 abbrev pub past : {A : Type 0} → List A → ℕ → ℕ
 past [] n = n
 past (x ∷ xs) n = suc (past xs n)

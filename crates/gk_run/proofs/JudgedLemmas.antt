@@ -3,7 +3,7 @@ use Rattle.std.proofs.Common.{Bool, List, [], ap, cond, refl, sym, ◌++◌, ◌
 use Rattle.gk_steps.specs.Finding.{LibraryValue}
 use Rattle.gk_world.specs.State.{Contents, state_of}
 use Rattle.gk_run.specs.declared.results.Status.TheVariants as statuses
-use Rattle.gk_run.specs.Alone.{Run}
+use Rattle.gk_run.specs.Run.{Run}
 use Rattle.gk_run.specs.Chosen.{ChosenValue}
 use Rattle.gk_run.specs.DryRun.{dry_feature_of, dry_features_of}
 use Rattle.gk_run.specs.Features.{FeatureCuts, first_or, later, uncut_feature}

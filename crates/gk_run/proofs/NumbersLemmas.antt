@@ -87,7 +87,7 @@ no_bytes : (text : List ℕ) → [] ≡ text → nat_eq (length text) 0 ≡ true
 no_bytes [] e = refl
 no_bytes (b ∷ bs) e = cc
 
-no_bytes_after : (front text rest : List ℕ) → [] ≡ front ++ (text ++ rest) → nat_eq (length text) 0 ≡ true
+no_bytes_after : (before text rest : List ℕ) → [] ≡ before ++ (text ++ rest) → nat_eq (length text) 0 ≡ true
 no_bytes_after [] [] rest e = refl
 no_bytes_after [] (b ∷ bs) rest e = cc
 no_bytes_after (x ∷ xs) text rest e = cc
@@ -96,13 +96,13 @@ tail_same : (x y : ℕ) (xs ys : List ℕ) → x ∷ xs ≡ y ∷ ys → xs ≡ 
 tail_same x y xs ys e = ap (λ zs. drop 1 zs) e
 
 -- a text that stands in another is found by the definition
-pub stands_after : (whole text front rest : List ℕ) → whole ≡ front ++ (text ++ rest) → stands_in text whole ≡ true
-stands_after [] text front rest e = no_bytes_after front text rest e
+pub stands_after : (whole text before rest : List ℕ) → whole ≡ before ++ (text ++ rest) → stands_in text whole ≡ true
+stands_after [] text before rest e = no_bytes_after before text rest e
 stands_after (b ∷ bs) text [] rest e = either_first (starts_with nat_eq (b ∷ bs) text) (stands_in text bs) (begins (b ∷ bs) text rest e)
-stands_after (b ∷ bs) text (x ∷ front) rest e = either_second (starts_with nat_eq (b ∷ bs) text) (stands_in text bs) (stands_after bs text front rest (tail_same b x bs _ e))
+stands_after (b ∷ bs) text (x ∷ before) rest e = either_second (starts_with nat_eq (b ∷ bs) text) (stands_in text bs) (stands_after bs text before rest (tail_same b x bs _ e))
 
 pub stands_from : (whole text : List ℕ) → HasSubslice whole text → stands_in text whole ≡ true
-stands_from whole text (front, rest, e) = stands_after whole text front rest e
+stands_from whole text (before, rest, e) = stands_after whole text before rest e
 
 one_of : (a b : Bool) → (a || b) ≡ true → (a ≡ true) ⊎ (b ≡ true)
 one_of true b h = inl refl

@@ -10,9 +10,10 @@ use Rattle.gk_run.specs.declared.ending.Ending.TheVariants as endings
 use Rattle.gk_run.specs.declared.results.Mark.TheVariants.{Acted}
 use Rattle.gk_run.specs.declared.results.Status.{Status}
 use Rattle.gk_run.specs.declared.results.Status.TheVariants as statuses
-use Rattle.gk_run.specs.declared.section_hooks.Level.{Level}
-use Rattle.gk_run.specs.declared.section_hooks.Level.TheVariants as levels
-use Rattle.gk_run.specs.Alone.{Run, all_marks, alone, reached_row, row_of_case, unreached_row, unselected_row, verdict_of}
+use Rattle.gk_run.specs.declared.section.Level.{Level}
+use Rattle.gk_run.specs.declared.section.Level.TheVariants as levels
+use Rattle.gk_run.specs.Run.{Run}
+use Rattle.gk_run.specs.Running.{all_marks, alone, reached_row, row_of_case, unreached_row, unselected_row, verdict_of}
 use Rattle.gk_run.specs.Chosen.{ChosenValue, MemberValue, has_selected}
 use Rattle.gk_run.specs.DryRun.{dry_case_of, dry_cases_of, dry_events, dry_feature_of, dry_features_of, dry_mark, dry_row, dry_verdict}
 use Rattle.gk_run.specs.Ending.{around_status, ended_of, is_memory_mark, verdict_status}
@@ -21,7 +22,7 @@ use Rattle.gk_run.specs.Judged.{Cuts, OneList, dry_results, has_memory, is_memor
 use Rattle.gk_run.specs.Results.{CaseRow, FeatureRow, Results, is_memory}
 use Rattle.gk_run.specs.Section.{Cut, Events, around_of, before_passed, cut_marks, cut_outcomes, happened, in_after, in_before, in_cleanups, in_steps, is_place, marks_around, nowhere}
 use Rattle.gk_run.proofs.EndingLemmas.{cut_ends, cut_is_memory}
-use Rattle.gk_run.proofs.SectionLemmas.{in_back, in_front, outcomes_cut}
+use Rattle.gk_run.proofs.SectionLemmas.{memory_later, memory_first, outcomes_cut}
 
 or_left : (a b : Bool) → (a || b) ≡ false → a ≡ false
 or_left false b h = refl
@@ -47,32 +48,32 @@ section_ending e = ended_of (marks_around e)
 case_uncut : (cut : Cut) (e : Events) → (ended_of (all_marks (happened cut e)) ≡ endings.Memory → ⊥) → happened cut e ≡ e
 case_uncut nowhere e free = refl
 case_uncut (in_before n) e free =
-    uncut_by (is_place n e.before) (record { before = cut_marks n e.before; steps = []; after = []; cleanups = [] }) e (λ x. ended_of (all_marks x)) (λ h. in_front (cut_marks n e.before) [] (cut_ends e.before n h)) free
+    uncut_by (is_place n e.before) (record { before = cut_marks n e.before; steps = []; after = []; cleanups = [] }) e (λ x. ended_of (all_marks x)) (λ h. memory_first (cut_marks n e.before) [] (cut_ends e.before n h)) free
 case_uncut (in_steps n) e free =
     uncut_by (is_place n e.steps) (record e { steps = cut_marks n e.steps; after = []; cleanups = [] }) e (λ x. ended_of (all_marks x))
-    (λ h. in_back e.before (cut_marks n e.steps ++ []) (in_front (cut_marks n e.steps) [] (cut_ends e.steps n h))) free
+    (λ h. memory_later e.before (cut_marks n e.steps ++ []) (memory_first (cut_marks n e.steps) [] (cut_ends e.steps n h))) free
 case_uncut (in_after n) e free =
     uncut_by (is_place n e.after) (record e { after = cut_marks n e.after; cleanups = [] }) e (λ x. ended_of (all_marks x))
-    (λ h. in_back e.before (e.steps ++ (cut_marks n e.after ++ [])) (in_back e.steps (cut_marks n e.after ++ []) (in_front (cut_marks n e.after) [] (cut_ends e.after n h)))) free
+    (λ h. memory_later e.before (e.steps ++ (cut_marks n e.after ++ [])) (memory_later e.steps (cut_marks n e.after ++ []) (memory_first (cut_marks n e.after) [] (cut_ends e.after n h)))) free
 case_uncut (in_cleanups n) e free =
     uncut_by (is_place n e.cleanups) (record e { cleanups = cut_outcomes n e.cleanups }) e (λ x. ended_of (all_marks x))
-    (λ h. let tail = map Acted (cut_outcomes n e.cleanups) in in_back e.before (e.steps ++ (e.after ++ tail)) (in_back e.steps (e.after ++ tail) (in_back e.after tail (outcomes_cut e.cleanups n h)))) free
+    (λ h. let tail = map Acted (cut_outcomes n e.cleanups) in memory_later e.before (e.steps ++ (e.after ++ tail)) (memory_later e.steps (e.after ++ tail) (memory_later e.after tail (outcomes_cut e.cleanups n h)))) free
 
 section_uncut : (run : Run) (level : Level) (tags : List (List ℕ)) (outside : State) (cut : Cut) →
     (let es = section_events run level tags outside in ended_of (marks_around (happened cut es)) ≡ endings.Memory → ⊥) → (let es = section_events run level tags outside in happened cut es ≡ es)
 section_uncut run level tags outside nowhere free = refl
 section_uncut run level tags outside (in_before n) free =
     let e = section_events run level tags outside in
-    uncut_by (is_place n e.before) (record { before = cut_marks n e.before; steps = []; after = []; cleanups = [] }) e (λ x. ended_of (marks_around x)) (λ h. in_front (cut_marks n e.before) [] (cut_ends e.before n h)) free
+    uncut_by (is_place n e.before) (record { before = cut_marks n e.before; steps = []; after = []; cleanups = [] }) e (λ x. ended_of (marks_around x)) (λ h. memory_first (cut_marks n e.before) [] (cut_ends e.before n h)) free
 section_uncut run level tags outside (in_steps n) free = refl
 section_uncut run level tags outside (in_after n) free =
     let e = section_events run level tags outside in
     uncut_by (is_place n e.after) (record e { after = cut_marks n e.after; cleanups = [] }) e (λ x. ended_of (marks_around x))
-    (λ h. in_back e.before (cut_marks n e.after ++ []) (in_front (cut_marks n e.after) [] (cut_ends e.after n h))) free
+    (λ h. memory_later e.before (cut_marks n e.after ++ []) (memory_first (cut_marks n e.after) [] (cut_ends e.after n h))) free
 section_uncut run level tags outside (in_cleanups n) free =
     let e = section_events run level tags outside in
     uncut_by (is_place n e.cleanups) (record e { cleanups = cut_outcomes n e.cleanups }) e (λ x. ended_of (marks_around x))
-    (λ h. let tail = map Acted (cut_outcomes n e.cleanups) in in_back e.before (e.after ++ tail) (in_back e.after tail (outcomes_cut e.cleanups n h))) free
+    (λ h. let tail = map Acted (cut_outcomes n e.cleanups) in memory_later e.before (e.after ++ tail) (memory_later e.after tail (outcomes_cut e.cleanups n h))) free
 
 not_verdict : (e : Ending) → is_memory (verdict_status e) ≡ false → e ≡ endings.Memory → ⊥
 not_verdict e h m = true≢false (sym (ap (λ x. is_memory (verdict_status x)) m) ∙ h)

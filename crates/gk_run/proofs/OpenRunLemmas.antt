@@ -4,9 +4,9 @@ use Rattle.gk_world.specs.State.{State, state_of}
 use Rattle.gk_run.specs.declared.ending.Ending.{Ending}
 use Rattle.gk_run.specs.declared.ending.Ending.TheVariants as endings
 use Rattle.gk_run.specs.declared.results.Status.{Status}
-use Rattle.gk_run.specs.declared.section_hooks.Level.TheVariants as levels
+use Rattle.gk_run.specs.declared.section.Level.TheVariants as levels
 use Rattle.gk_run.specs.Acting.{CleanupValue}
-use Rattle.gk_run.specs.Alone.{Run}
+use Rattle.gk_run.specs.Run.{Run}
 use Rattle.gk_run.specs.Chosen.{ChosenValue}
 use Rattle.gk_run.specs.Cleanups.{cleanups_value}
 use Rattle.gk_run.specs.Ending.{has_passed}
@@ -14,7 +14,7 @@ use Rattle.gk_run.specs.Features.{FeatureCuts, feature_of, features_of, first_or
 use Rattle.gk_run.specs.Judged.{Cuts, results_of}
 use Rattle.gk_run.specs.OpenRun.{FinishedRunsAreJudged, UnfinishedRunsAreJudged}
 use Rattle.gk_run.specs.Results.{FeatureRow, Results}
-use Rattle.gk_run.specs.Running.{IsWalked}
+use Rattle.gk_run.specs.Walk.{IsWalked}
 use Rattle.gk_run.specs.Section.{Cut, before_passed, happened, nowhere}
 use Rattle.gk_run.specs.SectionHooks.{begun}
 use Rattle.gk_run.proofs.JudgedLemmas.{cuts_of_all, results_by}
@@ -22,10 +22,10 @@ use Rattle.gk_run.proofs.SectionLemmas.{passed_state, section_in_before}
 
 -- a run that was started, whose features were run, and that was finished
 pub judged_all : FinishedRunsAreJudged
-judged_all run old new suite features rows around started told end =
+judged_all run old new suite features rows around started known_by end =
     let start = state_of old.now in
     let outside = section_state run levels.Run [] start in
-    let known = told outside (λ o. passed_state (begun run.library run.hooks levels.Run [] start) suite.before (state_of new.now) (cleanups_value suite.cleanups) started.walked (sym started.opened ∙ o)) in
+    let known = known_by outside (λ o. passed_state (begun run.library run.hooks levels.Run [] start) suite.before (state_of new.now) (cleanups_value suite.cleanups) started.walked (sym started.opened ∙ o)) in
     let cuts : Cuts = record { own = end.cut; features = known.0 } in
     let with_features : List FeatureRow → Results = λ rs. record { features = rs; around = around } in
     let with_open : Bool → Results = λ x. record { features = features_of run outside x known.0 features; around = around } in

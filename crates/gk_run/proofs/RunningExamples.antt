@@ -25,7 +25,8 @@ use Rattle.gk_run.specs.declared.results.Outcome.TheVariants as outcomes
 use Rattle.gk_run.specs.Acting.{act}
 use Rattle.gk_run.specs.Results.{CaseRow, FeatureRow, Results}
 use Rattle.gk_run.specs.Section.{Cut, nowhere, in_before, in_steps, in_after, in_cleanups}
-use Rattle.gk_run.specs.Alone.{Run, reached_row}
+use Rattle.gk_run.specs.Run.{Run}
+use Rattle.gk_run.specs.Running.{reached_row}
 use Rattle.gk_run.specs.Chosen.{MemberValue, ChosenValue}
 use Rattle.gk_run.specs.Features.{FeatureCuts, uncut_feature}
 use Rattle.gk_run.specs.Judged.{uncut, results_from, results_of}
@@ -147,15 +148,15 @@ name_piece = FieldPiece (codes "name") Plain
 
 -- an entry with a name
 abbrev of_name : List ℕ → Action → EntryValue
-of_name front action = entry (Literal front ∷ name_piece ∷ []) action
+of_name literal action = entry (Literal literal ∷ name_piece ∷ []) action
 
 -- an entry with a name and a text
 abbrev of_text : List ℕ → Action → EntryValue
-of_text front action = entry (Literal front ∷ name_piece ∷ Literal (codes " ") ∷ FieldPiece (codes "text") Plain ∷ []) action
+of_text literal action = entry (Literal literal ∷ name_piece ∷ Literal (codes " ") ∷ FieldPiece (codes "text") Plain ∷ []) action
 
 -- an entry with a name and a number
 abbrev of_number : List ℕ → Action → EntryValue
-of_number front action = entry (Literal front ∷ name_piece ∷ Literal (codes " ") ∷ FieldPiece (codes "n") Decimal ∷ []) action
+of_number literal action = entry (Literal literal ∷ name_piece ∷ Literal (codes " ") ∷ FieldPiece (codes "n") Decimal ∷ []) action
 
 abbrev write : EntryValue
 write = of_text (codes "write ") actions.WriteFile

@@ -11,28 +11,28 @@ use Rattle.gk_run.specs.declared.results.Mark.TheVariants.{Acted}
 use Rattle.gk_run.specs.declared.results.Outcome.{Outcome}
 use Rattle.gk_run.specs.declared.results.Status.{Status}
 use Rattle.gk_run.specs.declared.results.Status.TheVariants as statuses
-use Rattle.gk_run.specs.declared.section_hooks.Level.{Level}
-use Rattle.gk_run.specs.declared.section_hooks.Level.TheVariants as levels
+use Rattle.gk_run.specs.declared.section.Level.{Level}
+use Rattle.gk_run.specs.declared.section.Level.TheVariants as levels
 use Rattle.gk_run.specs.Acting.{CleanupValue}
-use Rattle.gk_run.specs.Alone.{Run, Steps, alone, rows_of_steps, steps_after, verdict_of}
-use Rattle.gk_run.specs.Closing.{closing}
+use Rattle.gk_run.specs.Run.{Run}
+use Rattle.gk_run.specs.Walk.{Steps, rows_of_steps, steps_after, AreStepsRun, AreStepped, IsWalked, ended_after, Walked, stepped}
+use Rattle.gk_run.specs.Running.{alone, verdict_of, IsCaseEnd, IsReached, ran}
+use Rattle.gk_run.specs.Closing.{closing, IsClosed}
 use Rattle.gk_run.specs.Ending.{around_status, ended_of, has_passed, verdict_status, worse}
-use Rattle.gk_run.specs.Features.{section_events}
+use Rattle.gk_run.specs.Features.{section_events, IsSectionEnd}
 use Rattle.gk_run.specs.Results.{CaseRow, StepRow}
-use Rattle.gk_run.specs.Running.{AreLeft, AreStepped, IsCaseEnd, IsClosed, IsReached, IsSectionEnd, IsWalked, ended_after, ran}
 use Rattle.gk_run.specs.Section.{Events, around_of, before_passed, cut_marks, cut_outcomes, happened, in_after, in_before, in_cleanups, in_steps, is_place, nowhere}
 use Rattle.gk_run.specs.SectionHooks.{begun}
-use Rattle.gk_run.specs.Walk.{Walked, stepped}
 use Rattle.gk_run.proofs.EndingLemmas.{cut_acted, cut_ends, ended_append, place_acted, worse_assoc, worse_memory, worse_passed}
 use Rattle.gk_run.proofs.StepsLemmas.{after_ends}
 use Rattle.gk_run.proofs.WalkLemmas.{exact}
 
 -- where one part ends with memory, all do
-pub in_front : (xs ys : List Mark) → ended_of xs ≡ endings.Memory → ended_of (xs ++ ys) ≡ endings.Memory
-in_front xs ys h = ended_append xs ys ∙ ap (λ e. worse e (ended_of ys)) h
+pub memory_first : (xs ys : List Mark) → ended_of xs ≡ endings.Memory → ended_of (xs ++ ys) ≡ endings.Memory
+memory_first xs ys h = ended_append xs ys ∙ ap (λ e. worse e (ended_of ys)) h
 
-pub in_back : (xs ys : List Mark) → ended_of ys ≡ endings.Memory → ended_of (xs ++ ys) ≡ endings.Memory
-in_back xs ys h = ended_append xs ys ∙ ap (worse (ended_of xs)) h ∙ worse_memory (ended_of xs)
+pub memory_later : (xs ys : List Mark) → ended_of ys ≡ endings.Memory → ended_of (xs ++ ys) ≡ endings.Memory
+memory_later xs ys h = ended_append xs ys ∙ ap (worse (ended_of xs)) h ∙ worse_memory (ended_of xs)
 
 pub outcomes_cut : (os : List Outcome) (n : ℕ) → is_place n os ≡ true → ended_of (map Acted (cut_outcomes n os)) ≡ endings.Memory
 outcomes_cut os n h = ap ended_of (cut_acted os n) ∙ cut_ends (map Acted os) n (place_acted os n ∙ h)
@@ -50,14 +50,14 @@ after_worse library endings.Failed s cs steps m = sym (after_ends library ending
 after_worse library endings.Skipped s cs steps m = sym (after_ends library endings.Skipped steps)
 
 left_is : (library : LibraryValue) (b : Ending) (s : State) (cs : List CleanupValue) (steps : List StepValue) (rows : List StepRow) (e : Ending) (last : State) (ls : List CleanupValue) → (b ≡ endings.Memory → ⊥) →
-    AreStepped library b s cs steps rows e last ls → AreLeft (steps_after library b s cs steps) b steps rows e last ls
+    AreStepped library b s cs steps rows e last ls → AreStepsRun (steps_after library b s cs steps) b steps rows e last ls
 left_is library endings.Memory s cs steps rows e last ls m h = absurd (m refl)
 left_is library endings.Passed s cs steps rows e last ls m h = h
 left_is library endings.Failed s cs steps rows e last ls m h = h
 left_is library endings.Skipped s cs steps rows e last ls m h = h
 
 exact_left : (x : Steps) (b : Ending) (steps : List StepValue) (rows : List StepRow) (e : Ending) (last : State) (ls : List CleanupValue) → (e ≡ endings.Memory → ⊥) →
-    AreLeft x b steps rows e last ls → (rows ≡ rows_of_steps steps x.marks) × (e ≡ ended_after b x.marks) × (last ≡ x.state) × (ls ≡ x.cleanups)
+    AreStepsRun x b steps rows e last ls → (rows ≡ rows_of_steps steps x.marks) × (e ≡ ended_after b x.marks) × (last ≡ x.state) × (ls ≡ x.cleanups)
 exact_left x b steps rows endings.Memory last ls m h = absurd (m refl)
 exact_left x b steps rows endings.Passed last ls m h = h
 exact_left x b steps rows endings.Failed last ls m h = h
@@ -66,14 +66,14 @@ exact_left x b steps rows endings.Skipped last ls m h = h
 -- the steps of a case in its own terms
 steps_are : (run : Run) (outside : State) (c : CaseValue) (b : Ending) (s : State) (cs : List CleanupValue) (rows : List StepRow) (e : Ending) (last : State) (ls : List CleanupValue) → (b ≡ endings.Memory → ⊥) →
     IsWalked (begun run.library run.hooks levels.Scenario c.own_tags outside) b s cs → AreStepped run.library b s cs c.steps rows e last ls →
-    (let w = begun run.library run.hooks levels.Scenario c.own_tags outside in AreLeft (steps_after run.library (ended_of w.marks) w.state w.cleanups c.steps) (ended_of w.marks) c.steps rows e last ls)
+    (let w = begun run.library run.hooks levels.Scenario c.own_tags outside in AreStepsRun (steps_after run.library (ended_of w.marks) w.state w.cleanups c.steps) (ended_of w.marks) c.steps rows e last ls)
 steps_are run outside c b s cs rows e last ls m walked stepped =
     let w = begun run.library run.hooks levels.Scenario c.own_tags outside in
     let x = exact w b s cs m walked in
     let lib = run.library in
-    subst (λ l. AreLeft (steps_after lib (ended_of w.marks) w.state l c.steps) (ended_of w.marks) c.steps rows e last ls) x.2
-    (subst (λ t. AreLeft (steps_after lib (ended_of w.marks) t cs c.steps) (ended_of w.marks) c.steps rows e last ls) x.1
-    (subst (λ p. AreLeft (steps_after lib p s cs c.steps) p c.steps rows e last ls) x.0 (left_is lib b s cs c.steps rows e last ls m stepped)))
+    subst (λ l. AreStepsRun (steps_after lib (ended_of w.marks) w.state l c.steps) (ended_of w.marks) c.steps rows e last ls) x.2
+    (subst (λ t. AreStepsRun (steps_after lib (ended_of w.marks) t cs c.steps) (ended_of w.marks) c.steps rows e last ls) x.1
+    (subst (λ p. AreStepsRun (steps_after lib p s cs c.steps) p c.steps rows e last ls) x.0 (left_is lib b s cs c.steps rows e last ls m stepped)))
 
 -- ---- memory was refused in the before list or in the steps
 
@@ -86,7 +86,7 @@ case_in_before run outside c s cs rows e last ls walked stepped =
     let n = walked.0 in
     let now : Events = record { before = cut_marks n w.marks; steps = []; after = []; cleanups = [] } in
     let is : now ≡ happened (in_before n) es = cut_is (is_place n w.marks) now es walked.1 in
-    let ends = in_front (cut_marks n w.marks) [] (cut_ends w.marks n walked.1) in
+    let ends = memory_first (cut_marks n w.marks) [] (cut_ends w.marks n walked.1) in
     record {
       cut = in_before n;
       verdict = ap verdict_status (sym ends) ∙ ap verdict_of is;
@@ -106,7 +106,7 @@ case_in_steps run outside c b s cs rows last ls m walked stepped =
     let b_is = (exact w b s cs m walked).0 in
     let now : Events = record es { steps = cut_marks n es.steps; after = []; cleanups = [] } in
     let is : now ≡ happened (in_steps n) es = cut_is (is_place n es.steps) now es left.1 in
-    let ends = in_back w.marks (cut_marks n es.steps ++ []) (in_front (cut_marks n es.steps) [] (cut_ends es.steps n left.1)) in
+    let ends = memory_later w.marks (cut_marks n es.steps ++ []) (memory_first (cut_marks n es.steps) [] (cut_ends es.steps n left.1)) in
     let around : b ≡ ended_of (w.marks ++ []) = b_is ∙ sym (worse_passed (ended_of w.marks)) ∙ sym (ended_append w.marks []) in
     record {
       cut = in_steps n;
@@ -124,40 +124,40 @@ record Parts (run : Run) (outside : State) (c : CaseValue) (b e : Ending) (rows 
   ended : e ≡ (let es = alone run outside c in worse b (ended_of es.steps))
   stepped : rows ≡ (let es = alone run outside c in rows_of_steps c.steps es.steps)
 
-closed_after : (run : Run) (outside : State) (c : CaseValue) (b e : Ending) (rows : List StepRow) (told : List Outcome) (n : ℕ) → Parts run outside c b e rows →
-    (let es = alone run outside c in is_place n es.after ≡ true) → told ≡ [] → IsCaseEnd run outside c statuses.Memory statuses.Memory told rows
-closed_after run outside c b e rows told n p place none =
+closed_after : (run : Run) (outside : State) (c : CaseValue) (b e : Ending) (rows : List StepRow) (reported : List Outcome) (n : ℕ) → Parts run outside c b e rows →
+    (let es = alone run outside c in is_place n es.after ≡ true) → reported ≡ [] → IsCaseEnd run outside c statuses.Memory statuses.Memory reported rows
+closed_after run outside c b e rows reported n p place none =
     let es = alone run outside c in
     let now : Events = record es { after = cut_marks n es.after; cleanups = [] } in
     let is : now ≡ happened (in_after n) es = cut_is (is_place n es.after) now es place in
-    let ends = in_front (cut_marks n es.after) [] (cut_ends es.after n place) in
+    let ends = memory_first (cut_marks n es.after) [] (cut_ends es.after n place) in
     record {
       cut = in_after n;
-      verdict = ap verdict_status (sym (in_back es.before (es.steps ++ (cut_marks n es.after ++ [])) (in_back es.steps (cut_marks n es.after ++ []) ends))) ∙ ap verdict_of is;
-      hooks = ap around_status (sym (in_back es.before (cut_marks n es.after ++ []) ends)) ∙ ap around_of is;
+      verdict = ap verdict_status (sym (memory_later es.before (es.steps ++ (cut_marks n es.after ++ [])) (memory_later es.steps (cut_marks n es.after ++ []) ends))) ∙ ap verdict_of is;
+      hooks = ap around_status (sym (memory_later es.before (cut_marks n es.after ++ []) ends)) ∙ ap around_of is;
       cleaned = none ∙ ap (λ (x : Events). x.cleanups) is;
       stepped = p.stepped ∙ ap (λ (x : Events). rows_of_steps c.steps x.steps) is;
     }
 
-closed_cleanups : (run : Run) (outside : State) (c : CaseValue) (b e : Ending) (rows : List StepRow) (told : List Outcome) (n : ℕ) → Parts run outside c b e rows →
-    (let es = alone run outside c in (is_place n es.cleanups ≡ true) × (told ≡ cut_outcomes n es.cleanups)) → IsCaseEnd run outside c statuses.Memory statuses.Memory told rows
-closed_cleanups run outside c b e rows told n p h =
+closed_cleanups : (run : Run) (outside : State) (c : CaseValue) (b e : Ending) (rows : List StepRow) (reported : List Outcome) (n : ℕ) → Parts run outside c b e rows →
+    (let es = alone run outside c in (is_place n es.cleanups ≡ true) × (reported ≡ cut_outcomes n es.cleanups)) → IsCaseEnd run outside c statuses.Memory statuses.Memory reported rows
+closed_cleanups run outside c b e rows reported n p h =
     let es = alone run outside c in
     let now : Events = record es { cleanups = cut_outcomes n es.cleanups } in
     let is : now ≡ happened (in_cleanups n) es = cut_is (is_place n es.cleanups) now es h.0 in
-    let ends = in_back es.after (map Acted (cut_outcomes n es.cleanups)) (outcomes_cut es.cleanups n h.0) in
+    let ends = memory_later es.after (map Acted (cut_outcomes n es.cleanups)) (outcomes_cut es.cleanups n h.0) in
     let tail = es.after ++ map Acted (cut_outcomes n es.cleanups) in
     record {
       cut = in_cleanups n;
-      verdict = ap verdict_status (sym (in_back es.before (es.steps ++ tail) (in_back es.steps tail ends))) ∙ ap verdict_of is;
-      hooks = ap around_status (sym (in_back es.before tail ends)) ∙ ap around_of is;
+      verdict = ap verdict_status (sym (memory_later es.before (es.steps ++ tail) (memory_later es.steps tail ends))) ∙ ap verdict_of is;
+      hooks = ap around_status (sym (memory_later es.before tail ends)) ∙ ap around_of is;
       cleaned = h.1 ∙ ap (λ (x : Events). x.cleanups) is;
       stepped = p.stepped ∙ ap (λ (x : Events). rows_of_steps c.steps x.steps) is;
     }
 
-closed_whole : (run : Run) (outside : State) (c : CaseValue) (b e l : Ending) (rows : List StepRow) (told : List Outcome) → Parts run outside c b e rows →
-    (let es = alone run outside c in (l ≡ ended_of (es.after ++ map Acted es.cleanups)) × (told ≡ es.cleanups)) → IsCaseEnd run outside c (verdict_status (worse e l)) (around_status (worse b l)) told rows
-closed_whole run outside c b e l rows told p h =
+closed_whole : (run : Run) (outside : State) (c : CaseValue) (b e l : Ending) (rows : List StepRow) (reported : List Outcome) → Parts run outside c b e rows →
+    (let es = alone run outside c in (l ≡ ended_of (es.after ++ map Acted es.cleanups)) × (reported ≡ es.cleanups)) → IsCaseEnd run outside c (verdict_status (worse e l)) (around_status (worse b l)) reported rows
+closed_whole run outside c b e l rows reported p h =
     let es = alone run outside c in
     let tail = es.after ++ map Acted es.cleanups in
     let around : worse b l ≡ ended_of (es.before ++ tail) = ap (λ x. worse x l) p.before ∙ ap (worse (ended_of es.before)) h.0 ∙ sym (ended_append es.before tail) in
@@ -167,26 +167,26 @@ closed_whole run outside c b e l rows told p h =
     ∙ ap (worse (ended_of es.before)) (sym (ended_append es.steps tail)) ∙ sym (ended_append es.before (es.steps ++ tail)) in
     record { cut = nowhere; verdict = ap verdict_status all; hooks = ap around_status around; cleaned = h.1; stepped = p.stepped }
 
-closed_memory : (run : Run) (outside : State) (c : CaseValue) (b e : Ending) (rows : List StepRow) (told : List Outcome) → Parts run outside c b e rows →
-    (let es = alone run outside c in IsClosed (record { after = es.after; cleanups = es.cleanups }) endings.Memory told) → IsCaseEnd run outside c statuses.Memory statuses.Memory told rows
-closed_memory run outside c b e rows told p (inl h) = closed_after run outside c b e rows told h.0 p h.1 h.2
-closed_memory run outside c b e rows told p (inr h) = closed_cleanups run outside c b e rows told h.0 p (h.1, h.2)
+closed_memory : (run : Run) (outside : State) (c : CaseValue) (b e : Ending) (rows : List StepRow) (reported : List Outcome) → Parts run outside c b e rows →
+    (let es = alone run outside c in IsClosed (record { after = es.after; cleanups = es.cleanups }) endings.Memory reported) → IsCaseEnd run outside c statuses.Memory statuses.Memory reported rows
+closed_memory run outside c b e rows reported p (inl h) = closed_after run outside c b e rows reported h.0 p h.1 h.2
+closed_memory run outside c b e rows reported p (inr h) = closed_cleanups run outside c b e rows reported h.0 p (h.1, h.2)
 
-closed_by : (run : Run) (outside : State) (c : CaseValue) (b e l : Ending) (rows : List StepRow) (told : List Outcome) → Parts run outside c b e rows →
-    (let es = alone run outside c in IsClosed (record { after = es.after; cleanups = es.cleanups }) l told) → IsCaseEnd run outside c (verdict_status (worse e l)) (around_status (worse b l)) told rows
-closed_by run outside c b e endings.Passed rows told p h = closed_whole run outside c b e endings.Passed rows told p h
-closed_by run outside c b e endings.Failed rows told p h = closed_whole run outside c b e endings.Failed rows told p h
-closed_by run outside c b e endings.Skipped rows told p h = closed_whole run outside c b e endings.Skipped rows told p h
-closed_by run outside c b e endings.Memory rows told p h =
-    subst (λ x. IsCaseEnd run outside c (verdict_status x) (around_status (worse b endings.Memory)) told rows) (sym (worse_memory e))
-    (subst (λ x. IsCaseEnd run outside c statuses.Memory (around_status x) told rows) (sym (worse_memory b))
-    (closed_memory run outside c b e rows told p h))
+closed_by : (run : Run) (outside : State) (c : CaseValue) (b e l : Ending) (rows : List StepRow) (reported : List Outcome) → Parts run outside c b e rows →
+    (let es = alone run outside c in IsClosed (record { after = es.after; cleanups = es.cleanups }) l reported) → IsCaseEnd run outside c (verdict_status (worse e l)) (around_status (worse b l)) reported rows
+closed_by run outside c b e endings.Passed rows reported p h = closed_whole run outside c b e endings.Passed rows reported p h
+closed_by run outside c b e endings.Failed rows reported p h = closed_whole run outside c b e endings.Failed rows reported p h
+closed_by run outside c b e endings.Skipped rows reported p h = closed_whole run outside c b e endings.Skipped rows reported p h
+closed_by run outside c b e endings.Memory rows reported p h =
+    subst (λ x. IsCaseEnd run outside c (verdict_status x) (around_status (worse b endings.Memory)) reported rows) (sym (worse_memory e))
+    (subst (λ x. IsCaseEnd run outside c statuses.Memory (around_status x) reported rows) (sym (worse_memory b))
+    (closed_memory run outside c b e rows reported p h))
 
-pub case_closed : (run : Run) (outside : State) (c : CaseValue) (b : Ending) (s : State) (cs : List CleanupValue) (rows : List StepRow) (e : Ending) (last : State) (ls : List CleanupValue) (l : Ending) (told : List Outcome) →
+pub case_closed : (run : Run) (outside : State) (c : CaseValue) (b : Ending) (s : State) (cs : List CleanupValue) (rows : List StepRow) (e : Ending) (last : State) (ls : List CleanupValue) (l : Ending) (reported : List Outcome) →
     (b ≡ endings.Memory → ⊥) → (e ≡ endings.Memory → ⊥) →
-    IsWalked (begun run.library run.hooks levels.Scenario c.own_tags outside) b s cs → AreStepped run.library b s cs c.steps rows e last ls → IsClosed (closing run.library run.hooks levels.Scenario c.own_tags last ls) l told →
-    IsCaseEnd run outside c (verdict_status (worse e l)) (around_status (worse b l)) told rows
-case_closed run outside c b s cs rows e last ls l told bm em walked stepped closed =
+    IsWalked (begun run.library run.hooks levels.Scenario c.own_tags outside) b s cs → AreStepped run.library b s cs c.steps rows e last ls → IsClosed (closing run.library run.hooks levels.Scenario c.own_tags last ls) l reported →
+    IsCaseEnd run outside c (verdict_status (worse e l)) (around_status (worse b l)) reported rows
+case_closed run outside c b s cs rows e last ls l reported bm em walked stepped closed =
     let w = begun run.library run.hooks levels.Scenario c.own_tags outside in
     let es = alone run outside c in
     let b_is = (exact w b s cs bm walked).0 in
@@ -194,9 +194,9 @@ case_closed run outside c b s cs rows e last ls l told bm em walked stepped clos
     let x = steps_after run.library (ended_of w.marks) w.state w.cleanups c.steps in
     let known = exact_left x (ended_of w.marks) c.steps rows e last ls em left in
     let not : ended_of w.marks ≡ endings.Memory → ⊥ = λ m. bm (b_is ∙ m) in
-    let here : IsClosed (closing run.library run.hooks levels.Scenario c.own_tags x.state x.cleanups) l told =
-    subst (λ k. IsClosed (closing run.library run.hooks levels.Scenario c.own_tags x.state k) l told) known.3 (subst (λ t. IsClosed (closing run.library run.hooks levels.Scenario c.own_tags t ls) l told) known.2 closed) in
-    closed_by run outside c b e l rows told (record {
+    let here : IsClosed (closing run.library run.hooks levels.Scenario c.own_tags x.state x.cleanups) l reported =
+    subst (λ k. IsClosed (closing run.library run.hooks levels.Scenario c.own_tags x.state k) l reported) known.3 (subst (λ t. IsClosed (closing run.library run.hooks levels.Scenario c.own_tags t ls) l reported) known.2 closed) in
+    closed_by run outside c b e l rows reported (record {
       before = b_is;
       ended = known.1 ∙ after_worse run.library (ended_of w.marks) w.state w.cleanups c.steps not ∙ ap (λ y. worse y (ended_of x.marks)) (sym b_is);
       stepped = known.0;
@@ -233,7 +233,7 @@ section_in_before run level tags outside s cs walked =
     let ends = cut_ends w.marks n walked.1 in
     record {
       cut = in_before n;
-      hooks = ap around_status (sym (in_front (cut_marks n w.marks) [] ends)) ∙ ap around_of is;
+      hooks = ap around_status (sym (memory_first (cut_marks n w.marks) [] ends)) ∙ ap around_of is;
       ready = ap has_passed (sym ends) ∙ ap before_passed is;
     }
 
@@ -243,7 +243,7 @@ section_after run level tags outside b n h =
     let es = section_events run level tags outside in
     let now : Events = record es { after = cut_marks n es.after; cleanups = [] } in
     let is : now ≡ happened (in_after n) es = cut_is (is_place n es.after) now es h.1 in
-    let ends = in_back es.before (cut_marks n es.after ++ []) (in_front (cut_marks n es.after) [] (cut_ends es.after n h.1)) in
+    let ends = memory_later es.before (cut_marks n es.after ++ []) (memory_first (cut_marks n es.after) [] (cut_ends es.after n h.1)) in
     record { cut = in_after n; hooks = ap around_status (sym ends) ∙ ap around_of is; ready = ap has_passed h.0 ∙ ap before_passed is }
 
 section_cleanups : (run : Run) (level : Level) (tags : List (List ℕ)) (outside : State) (b : Ending) (n : ℕ) → (let es = section_events run level tags outside in (b ≡ ended_of es.before) × (is_place n es.cleanups ≡ true)) →
@@ -253,7 +253,7 @@ section_cleanups run level tags outside b n h =
     let now : Events = record es { cleanups = cut_outcomes n es.cleanups } in
     let is : now ≡ happened (in_cleanups n) es = cut_is (is_place n es.cleanups) now es h.1 in
     let tail = es.after ++ map Acted (cut_outcomes n es.cleanups) in
-    let ends = in_back es.before tail (in_back es.after (map Acted (cut_outcomes n es.cleanups)) (outcomes_cut es.cleanups n h.1)) in
+    let ends = memory_later es.before tail (memory_later es.after (map Acted (cut_outcomes n es.cleanups)) (outcomes_cut es.cleanups n h.1)) in
     record { cut = in_cleanups n; hooks = ap around_status (sym ends) ∙ ap around_of is; ready = ap has_passed h.0 ∙ ap before_passed is }
 
 section_whole : (run : Run) (level : Level) (tags : List (List ℕ)) (outside : State) (b l : Ending) → (let es = section_events run level tags outside in (b ≡ ended_of es.before) × (l ≡ ended_of (es.after ++ map Acted es.cleanups))) →
@@ -264,25 +264,25 @@ section_whole run level tags outside b l h =
     let around : worse b l ≡ ended_of (es.before ++ tail) = ap (λ x. worse x l) h.0 ∙ ap (worse (ended_of es.before)) h.1 ∙ sym (ended_append es.before tail) in
     record { cut = nowhere; hooks = ap around_status around; ready = ap has_passed h.0 }
 
-section_memory : (run : Run) (level : Level) (tags : List (List ℕ)) (outside : State) (b : Ending) (told : List Outcome) → (let es = section_events run level tags outside in b ≡ ended_of es.before) →
-    (let es = section_events run level tags outside in IsClosed (record { after = es.after; cleanups = es.cleanups }) endings.Memory told) → IsSectionEnd run level tags outside statuses.Memory (has_passed b)
-section_memory run level tags outside b told p (inl h) = section_after run level tags outside b h.0 (p, h.1)
-section_memory run level tags outside b told p (inr h) = section_cleanups run level tags outside b h.0 (p, h.1)
+section_memory : (run : Run) (level : Level) (tags : List (List ℕ)) (outside : State) (b : Ending) (reported : List Outcome) → (let es = section_events run level tags outside in b ≡ ended_of es.before) →
+    (let es = section_events run level tags outside in IsClosed (record { after = es.after; cleanups = es.cleanups }) endings.Memory reported) → IsSectionEnd run level tags outside statuses.Memory (has_passed b)
+section_memory run level tags outside b reported p (inl h) = section_after run level tags outside b h.0 (p, h.1)
+section_memory run level tags outside b reported p (inr h) = section_cleanups run level tags outside b h.0 (p, h.1)
 
-section_by : (run : Run) (level : Level) (tags : List (List ℕ)) (outside : State) (b l : Ending) (told : List Outcome) → (let es = section_events run level tags outside in b ≡ ended_of es.before) →
-    (let es = section_events run level tags outside in IsClosed (record { after = es.after; cleanups = es.cleanups }) l told) → IsSectionEnd run level tags outside (around_status (worse b l)) (has_passed b)
-section_by run level tags outside b endings.Passed told p h = section_whole run level tags outside b endings.Passed (p, h.0)
-section_by run level tags outside b endings.Failed told p h = section_whole run level tags outside b endings.Failed (p, h.0)
-section_by run level tags outside b endings.Skipped told p h = section_whole run level tags outside b endings.Skipped (p, h.0)
-section_by run level tags outside b endings.Memory told p h = subst (λ x. IsSectionEnd run level tags outside (around_status x) (has_passed b)) (sym (worse_memory b)) (section_memory run level tags outside b told p h)
+section_by : (run : Run) (level : Level) (tags : List (List ℕ)) (outside : State) (b l : Ending) (reported : List Outcome) → (let es = section_events run level tags outside in b ≡ ended_of es.before) →
+    (let es = section_events run level tags outside in IsClosed (record { after = es.after; cleanups = es.cleanups }) l reported) → IsSectionEnd run level tags outside (around_status (worse b l)) (has_passed b)
+section_by run level tags outside b endings.Passed reported p h = section_whole run level tags outside b endings.Passed (p, h.0)
+section_by run level tags outside b endings.Failed reported p h = section_whole run level tags outside b endings.Failed (p, h.0)
+section_by run level tags outside b endings.Skipped reported p h = section_whole run level tags outside b endings.Skipped (p, h.0)
+section_by run level tags outside b endings.Memory reported p h = subst (λ x. IsSectionEnd run level tags outside (around_status x) (has_passed b)) (sym (worse_memory b)) (section_memory run level tags outside b reported p h)
 
-pub section_closed : (run : Run) (level : Level) (tags : List (List ℕ)) (outside : State) (b : Ending) (s : State) (cs : List CleanupValue) (l : Ending) (told : List Outcome) → (b ≡ endings.Memory → ⊥) →
-    IsWalked (begun run.library run.hooks level tags outside) b s cs → IsClosed (closing run.library run.hooks level tags s cs) l told → IsSectionEnd run level tags outside (around_status (worse b l)) (has_passed b)
-section_closed run level tags outside b s cs l told m walked closed =
+pub section_closed : (run : Run) (level : Level) (tags : List (List ℕ)) (outside : State) (b : Ending) (s : State) (cs : List CleanupValue) (l : Ending) (reported : List Outcome) → (b ≡ endings.Memory → ⊥) →
+    IsWalked (begun run.library run.hooks level tags outside) b s cs → IsClosed (closing run.library run.hooks level tags s cs) l reported → IsSectionEnd run level tags outside (around_status (worse b l)) (has_passed b)
+section_closed run level tags outside b s cs l reported m walked closed =
     let w = begun run.library run.hooks level tags outside in
     let x = exact w b s cs m walked in
-    section_by run level tags outside b l told x.0
-    (subst (λ k. IsClosed (closing run.library run.hooks level tags w.state k) l told) x.2 (subst (λ t. IsClosed (closing run.library run.hooks level tags t cs) l told) x.1 closed))
+    section_by run level tags outside b l reported x.0
+    (subst (λ k. IsClosed (closing run.library run.hooks level tags w.state k) l reported) x.2 (subst (λ t. IsClosed (closing run.library run.hooks level tags t cs) l reported) x.1 closed))
 
 -- a section whose before list passed whole has its state
 pub passed_state : (w : Walked) (b : Ending) (s : State) (cs : List CleanupValue) → IsWalked w b s cs → has_passed b ≡ true → s ≡ w.state
@@ -292,9 +292,9 @@ passed_state w endings.Skipped s cs h p = let no : ⊥ = cc in absurd no
 passed_state w endings.Memory s cs h p = let no : ⊥ = cc in absurd no
 
 -- the row of a case, from what it came to
-pub row_is : (run : Run) (section : State) (c : CaseValue) (status around : Status) (told : List Outcome) (rows : List StepRow) →
-    IsCaseEnd run section (ran c.own_tags c.steps) status around told rows → IsReached run section c (record { keyword = c.keyword; name = c.name; line = c.line; status = status; around = around; cleanups = told; steps = rows })
-row_is run section c status around told rows end =
+pub row_is : (run : Run) (section : State) (c : CaseValue) (status around : Status) (reported : List Outcome) (rows : List StepRow) →
+    IsCaseEnd run section (ran c.own_tags c.steps) status around reported rows → IsReached run section c (record { keyword = c.keyword; name = c.name; line = c.line; status = status; around = around; cleanups = reported; steps = rows })
+row_is run section c status around reported rows end =
     let e = happened end.cut (alone run section c) in
     let row : Status → Status → List Outcome → List StepRow → CaseRow = λ v a os rs. record { keyword = c.keyword; name = c.name; line = c.line; status = v; around = a; cleanups = os; steps = rs } in
-    (end.cut, ap (λ v. row v around told rows) end.verdict ∙ ap (λ a. row (verdict_of e) a told rows) end.hooks ∙ ap (λ os. row (verdict_of e) (around_of e) os rows) end.cleaned ∙ ap (λ rs. row (verdict_of e) (around_of e) e.cleanups rs) end.stepped)
+    (end.cut, ap (λ v. row v around reported rows) end.verdict ∙ ap (λ a. row (verdict_of e) a reported rows) end.hooks ∙ ap (λ os. row (verdict_of e) (around_of e) os rows) end.cleaned ∙ ap (λ rs. row (verdict_of e) (around_of e) e.cleanups rs) end.stepped)

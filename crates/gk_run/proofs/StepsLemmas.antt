@@ -1,4 +1,4 @@
--- What the code's turns make of a case's steps.
+-- What the code's steps make of a case's steps.
 use Rattle.std.specs.List.{list_any}
 use Rattle.std.proofs.Common.{Bool, List, None, Option, Some, [], ap, append_assoc, cond, false, is_some, map, refl, subst, suc, sym, true, ◌++◌, ◌||◌, ◌∙◌, ◌∷◌, ◌≡◌}
 use Rattle.std.proofs.lemmas.List.{append-nil}
@@ -13,12 +13,10 @@ use Rattle.gk_run.specs.declared.results.Mark.TheVariants.{Acted, Skipped, Undef
 use Rattle.gk_run.specs.declared.results.Outcome.{Outcome}
 use Rattle.gk_run.specs.declared.results.Outcome.TheVariants as outcomes
 use Rattle.gk_run.specs.Acting.{CleanupValue}
-use Rattle.gk_run.specs.Alone.{Steps, row_of_step, rows_of_steps, steps_after}
-use Rattle.gk_run.specs.Ending.{ended_of, ending_of_turn, is_bad_mark, is_memory_mark, is_skip_mark, worse}
+use Rattle.gk_run.specs.Walk.{Steps, row_of_step, rows_of_steps, steps_after, AreStepsRun, AreStepped, IsNext, IsStepRun, ended_after, Walked, followed_by, looked_up, mark_of, marks_after, one_step, walk}
+use Rattle.gk_run.specs.Ending.{ended_of, ending_of_step, is_bad_mark, is_memory_mark, is_skip_mark, worse}
 use Rattle.gk_run.specs.Results.{StepRow}
-use Rattle.gk_run.specs.Running.{AreLeft, AreStepped, IsNext, IsTurn, ended_after}
 use Rattle.gk_run.specs.Section.{cut_marks, is_place}
-use Rattle.gk_run.specs.Walk.{Walked, goes_on, looked_up, mark_of, marks_after, one_step, walk}
 use Rattle.gk_run.proofs.EndingLemmas.{ended_append}
 use Rattle.gk_run.proofs.WalkLemmas.{first_is, from_first}
 
@@ -58,8 +56,8 @@ by_walk library w = record { marks = w.marks ++ marks_after library (ended_of w.
 
 -- one mark more before the others, of a step that ended the walk so
 halted_left : (x : Steps) (halted : Ending) (m : Mark) (step : StepValue) (steps : List StepValue) → ((ms : List Mark) → ended_after halted ms ≡ halted) → halted ≡ ended_of (m ∷ x.marks) →
-    (more : List StepRow) (e : Ending) (last : State) (ls : List CleanupValue) → AreLeft x halted steps more e last ls →
-    AreLeft (record x { marks = m ∷ x.marks }) endings.Passed (step ∷ steps) (row_of_step step m ∷ more) e last ls
+    (more : List StepRow) (e : Ending) (last : State) (ls : List CleanupValue) → AreStepsRun x halted steps more e last ls →
+    AreStepsRun (record x { marks = m ∷ x.marks }) endings.Passed (step ∷ steps) (row_of_step step m ∷ more) e last ls
 halted_left x halted m step steps stays ends more endings.Memory last ls h = (suc h.0, h.1, ap (λ rs. row_of_step step m ∷ rs) h.2)
 halted_left x halted m step steps stays ends more endings.Passed last ls h = (ap (λ rs. row_of_step step m ∷ rs) h.0, h.1 ∙ stays x.marks ∙ ends, h.2, h.3)
 halted_left x halted m step steps stays ends more endings.Failed last ls h = (ap (λ rs. row_of_step step m ∷ rs) h.0, h.1 ∙ stays x.marks ∙ ends, h.2, h.3)
@@ -69,16 +67,16 @@ halted_left x halted m step steps stays ends more endings.Skipped last ls h = (a
 stops : (library : LibraryValue) (s new : State) (cs left : List CleanupValue) (step : StepValue) (steps : List StepValue) (m : Mark) (halted : Ending) →
     ended_of (m ∷ []) ≡ halted → ((ms : List Mark) → ended_after halted ms ≡ halted) →
     record { marks = m ∷ marks_after library halted steps; state = new; cleanups = left } ≡ steps_after library endings.Passed s cs (step ∷ steps) →
-    (more : List StepRow) (e : Ending) (last : State) (ls : List CleanupValue) → AreLeft (record { marks = marks_after library halted steps; state = new; cleanups = left }) halted steps more e last ls →
-    AreLeft (steps_after library endings.Passed s cs (step ∷ steps)) endings.Passed (step ∷ steps) (row_of_step step m ∷ more) e last ls
+    (more : List StepRow) (e : Ending) (last : State) (ls : List CleanupValue) → AreStepsRun (record { marks = marks_after library halted steps; state = new; cleanups = left }) halted steps more e last ls →
+    AreStepsRun (steps_after library endings.Passed s cs (step ∷ steps)) endings.Passed (step ∷ steps) (row_of_step step m ∷ more) e last ls
 stops library s new cs left step steps m halted one stays is more e last ls h =
     let x : Steps = record { marks = marks_after library halted steps; state = new; cleanups = left } in
     let ends : halted ≡ ended_of (m ∷ x.marks) = sym (after_ends library halted steps) ∙ ap (λ z. worse z (ended_of x.marks)) (sym one) ∙ sym (ended_append (m ∷ []) x.marks) in
-    subst (λ z. AreLeft z endings.Passed (step ∷ steps) (row_of_step step m ∷ more) e last ls) is (halted_left x halted m step steps stays ends more e last ls h)
+    subst (λ z. AreStepsRun z endings.Passed (step ∷ steps) (row_of_step step m ∷ more) e last ls) is (halted_left x halted m step steps stays ends more e last ls h)
 
 -- one mark more before the others, of a step that passed
-passed_left : (x : Steps) (step : StepValue) (steps : List StepValue) (more : List StepRow) (e : Ending) (last : State) (ls : List CleanupValue) → AreLeft x endings.Passed steps more e last ls →
-    AreLeft (record x { marks = Acted outcomes.Passed ∷ x.marks }) endings.Passed (step ∷ steps) (row_of_step step (Acted outcomes.Passed) ∷ more) e last ls
+passed_left : (x : Steps) (step : StepValue) (steps : List StepValue) (more : List StepRow) (e : Ending) (last : State) (ls : List CleanupValue) → AreStepsRun x endings.Passed steps more e last ls →
+    AreStepsRun (record x { marks = Acted outcomes.Passed ∷ x.marks }) endings.Passed (step ∷ steps) (row_of_step step (Acted outcomes.Passed) ∷ more) e last ls
 passed_left x step steps more endings.Memory last ls h = (suc h.0, h.1, ap (λ rs. row_of_step step (Acted outcomes.Passed) ∷ rs) h.2)
 passed_left x step steps more endings.Passed last ls h = (ap (λ rs. row_of_step step (Acted outcomes.Passed) ∷ rs) h.0, h.1, h.2, h.3)
 passed_left x step steps more endings.Failed last ls h = (ap (λ rs. row_of_step step (Acted outcomes.Passed) ∷ rs) h.0, h.1, h.2, h.3)
@@ -87,14 +85,14 @@ passed_left x step steps more endings.Skipped last ls h = (ap (λ rs. row_of_ste
 -- a step that passed
 goes : (library : LibraryValue) (s new : State) (cs left : List CleanupValue) (step : StepValue) (steps : List StepValue) →
     by_walk library (from_first library sites.Step (Some outcomes.Passed) new left steps) ≡ steps_after library endings.Passed s cs (step ∷ steps) →
-    (more : List StepRow) (e : Ending) (last : State) (ls : List CleanupValue) → AreLeft (steps_after library endings.Passed new left steps) endings.Passed steps more e last ls →
-    AreLeft (steps_after library endings.Passed s cs (step ∷ steps)) endings.Passed (step ∷ steps) (row_of_step step (Acted outcomes.Passed) ∷ more) e last ls
+    (more : List StepRow) (e : Ending) (last : State) (ls : List CleanupValue) → AreStepsRun (steps_after library endings.Passed new left steps) endings.Passed steps more e last ls →
+    AreStepsRun (steps_after library endings.Passed s cs (step ∷ steps)) endings.Passed (step ∷ steps) (row_of_step step (Acted outcomes.Passed) ∷ more) e last ls
 goes library s new cs left step steps is more e last ls h =
-    subst (λ z. AreLeft z endings.Passed (step ∷ steps) (row_of_step step (Acted outcomes.Passed) ∷ more) e last ls) is (passed_left (steps_after library endings.Passed new left steps) step steps more e last ls h)
+    subst (λ z. AreStepsRun z endings.Passed (step ∷ steps) (row_of_step step (Acted outcomes.Passed) ∷ more) e last ls) is (passed_left (steps_after library endings.Passed new left steps) step steps more e last ls h)
 
 -- a step in which memory was refused
 spoilt_marks : (library : LibraryValue) (o : Option Outcome) (s : State) (cs : List CleanupValue) (steps : List StepValue) (next : Walked) →
-    (let x = by_walk library (goes_on o s cs steps next) in (is_place 0 x.marks ≡ true) × (cut_marks 0 x.marks ≡ Acted outcomes.Memory ∷ []))
+    (let x = by_walk library (followed_by o s cs steps next) in (is_place 0 x.marks ≡ true) × (cut_marks 0 x.marks ≡ Acted outcomes.Memory ∷ []))
 spoilt_marks library None s cs steps next = (refl, refl)
 spoilt_marks library (Some outcomes.Passed) s cs steps next = (refl, refl)
 spoilt_marks library (Some (outcomes.Failed why)) s cs steps next = (refl, refl)
@@ -102,52 +100,52 @@ spoilt_marks library (Some outcomes.Skip) s cs steps next = (refl, refl)
 spoilt_marks library (Some outcomes.Memory) s cs steps next = (refl, refl)
 
 spoils : (library : LibraryValue) (s : State) (cs : List CleanupValue) (step : StepValue) (steps : List StepValue) (more : List StepRow) (e : Ending) (last : State) (ls : List CleanupValue) →
-    more ≡ rows_of_steps steps [] → e ≡ endings.Memory → AreLeft (steps_after library endings.Passed s cs (step ∷ steps)) endings.Passed (step ∷ steps) (row_of_step step (Acted outcomes.Memory) ∷ more) e last ls
+    more ≡ rows_of_steps steps [] → e ≡ endings.Memory → AreStepsRun (steps_after library endings.Passed s cs (step ∷ steps)) endings.Passed (step ∷ steps) (row_of_step step (Acted outcomes.Memory) ∷ more) e last ls
 spoils library s cs step steps more e last ls rows m =
     let this = one_step library sites.Step s step in
     let x = steps_after library endings.Passed s cs (step ∷ steps) in
     let at = spoilt_marks library this.outcome this.state (cs ++ this.registered) steps (walk library sites.Step this.state (cs ++ this.registered) steps) in
-    let there : AreLeft x endings.Passed (step ∷ steps) (row_of_step step (Acted outcomes.Memory) ∷ more) endings.Memory last ls =
+    let there : AreStepsRun x endings.Passed (step ∷ steps) (row_of_step step (Acted outcomes.Memory) ∷ more) endings.Memory last ls =
     (0, at.0, ap (λ rs. row_of_step step (Acted outcomes.Memory) ∷ rs) rows ∙ ap (rows_of_steps (step ∷ steps)) (sym at.1)) in
-    subst (λ z. AreLeft x endings.Passed (step ∷ steps) (row_of_step step (Acted outcomes.Memory) ∷ more) z last ls) (sym m) there
+    subst (λ z. AreStepsRun x endings.Passed (step ∷ steps) (row_of_step step (Acted outcomes.Memory) ∷ more) z last ls) (sym m) there
 
--- the same step by step where the case stands still
+-- the same step by step where the case doesn't go further
 still : (library : LibraryValue) (stood : Ending) (s new : State) (cs left : List CleanupValue) (m : Mark) (step : StepValue) (steps : List StepValue) (ms : List Mark) →
     new ≡ s → left ≡ cs → ((xs : List Mark) → ended_after stood xs ≡ stood) →
-    (more : List StepRow) (e : Ending) (last : State) (ls : List CleanupValue) → AreLeft (record { marks = ms; state = new; cleanups = left }) stood steps more e last ls →
-    AreLeft (record { marks = m ∷ ms; state = s; cleanups = cs }) stood (step ∷ steps) (row_of_step step m ∷ more) e last ls
+    (more : List StepRow) (e : Ending) (last : State) (ls : List CleanupValue) → AreStepsRun (record { marks = ms; state = new; cleanups = left }) stood steps more e last ls →
+    AreStepsRun (record { marks = m ∷ ms; state = s; cleanups = cs }) stood (step ∷ steps) (row_of_step step m ∷ more) e last ls
 still library stood s new cs left m step steps ms p q stays more endings.Memory last ls h = (suc h.0, h.1, ap (λ rs. row_of_step step m ∷ rs) h.2)
 still library stood s new cs left m step steps ms p q stays more endings.Passed last ls h = (ap (λ rs. row_of_step step m ∷ rs) h.0, h.1 ∙ stays ms ∙ sym (stays (m ∷ ms)), h.2 ∙ p, h.3 ∙ q)
 still library stood s new cs left m step steps ms p q stays more endings.Failed last ls h = (ap (λ rs. row_of_step step m ∷ rs) h.0, h.1 ∙ stays ms ∙ sym (stays (m ∷ ms)), h.2 ∙ p, h.3 ∙ q)
 still library stood s new cs left m step steps ms p q stays more endings.Skipped last ls h = (ap (λ rs. row_of_step step m ∷ rs) h.0, h.1 ∙ stays ms ∙ sym (stays (m ∷ ms)), h.2 ∙ p, h.3 ∙ q)
 
 -- one step more: from what the rest comes to, to what the whole comes to
-by_turn : (library : LibraryValue) (s new : State) (cs left : List CleanupValue) (step : StepValue) (steps : List StepValue) (o : Option Outcome) → IsTurn (one_step library sites.Step s step) cs o new left →
-    (more : List StepRow) (e : Ending) (last : State) (ls : List CleanupValue) → AreStepped library (ending_of_turn o) new left steps more e last ls →
+by_step : (library : LibraryValue) (s new : State) (cs left : List CleanupValue) (step : StepValue) (steps : List StepValue) (o : Option Outcome) → IsStepRun (one_step library sites.Step s step) cs o new left →
+    (more : List StepRow) (e : Ending) (last : State) (ls : List CleanupValue) → AreStepped library (ending_of_step o) new left steps more e last ls →
     AreStepped library endings.Passed s cs (step ∷ steps) (row_of_step step (mark_of o) ∷ more) e last ls
-by_turn library s new cs left step steps None t more e last ls h =
+by_step library s new cs left step steps None t more e last ls h =
     stops library s new cs left step steps Undefined endings.Failed refl (λ ms. refl) (ap (by_walk library) (first_is library sites.Step s new cs left step steps None t)) more e last ls h
-by_turn library s new cs left step steps (Some (outcomes.Failed why)) t more e last ls h =
+by_step library s new cs left step steps (Some (outcomes.Failed why)) t more e last ls h =
     stops library s new cs left step steps (Acted (outcomes.Failed why)) endings.Failed refl (λ ms. refl) (ap (by_walk library) (first_is library sites.Step s new cs left step steps (Some (outcomes.Failed why)) t)) more e last ls h
-by_turn library s new cs left step steps (Some outcomes.Skip) t more e last ls h =
+by_step library s new cs left step steps (Some outcomes.Skip) t more e last ls h =
     stops library s new cs left step steps (Acted outcomes.Skip) endings.Skipped refl (λ ms. refl) (ap (by_walk library) (first_is library sites.Step s new cs left step steps (Some outcomes.Skip) t)) more e last ls h
-by_turn library s new cs left step steps (Some outcomes.Passed) t more e last ls h =
+by_step library s new cs left step steps (Some outcomes.Passed) t more e last ls h =
     goes library s new cs left step steps (ap (by_walk library) (first_is library sites.Step s new cs left step steps (Some outcomes.Passed) t)) more e last ls h
-by_turn library s new cs left step steps (Some outcomes.Memory) t more e last ls h = spoils library s cs step steps more e last ls h.0 h.1
+by_step library s new cs left step steps (Some outcomes.Memory) t more e last ls h = spoils library s cs step steps more e last ls h.0 h.1
 
 pub one_on : (library : LibraryValue) (stood next : Ending) (s new : State) (cs left : List CleanupValue) (step : StepValue) (steps : List StepValue) (m : Mark) → IsNext library stood s cs step m next new left →
     (more : List StepRow) (e : Ending) (last : State) (ls : List CleanupValue) → AreStepped library next new left steps more e last ls → AreStepped library stood s cs (step ∷ steps) (row_of_step step m ∷ more) e last ls
 one_on library endings.Passed next s new cs left step steps m t more e last ls h =
     let here = subst (λ p. AreStepped library p new left steps more e last ls) t.3 h in
-    subst (λ x. AreStepped library endings.Passed s cs (step ∷ steps) (row_of_step step x ∷ more) e last ls) (sym t.2) (by_turn library s new cs left step steps t.0 t.1 more e last ls here)
+    subst (λ x. AreStepped library endings.Passed s cs (step ∷ steps) (row_of_step step x ∷ more) e last ls) (sym t.2) (by_step library s new cs left step steps t.0 t.1 more e last ls here)
 one_on library endings.Failed endings.Failed s new cs left step steps m t more e last ls h =
     subst (λ x. AreStepped library endings.Failed s cs (step ∷ steps) (row_of_step step x ∷ more) e last ls) (sym t.0.0)
     (still library endings.Failed s new cs left (looked_up library step) step steps (map (looked_up library) steps) t.1 t.2 (λ xs. refl) more e last ls h)
 one_on library endings.Failed endings.Memory s new cs left step steps m t more e last ls h =
-    let there : AreLeft (steps_after library endings.Failed s cs (step ∷ steps)) endings.Failed (step ∷ steps) (row_of_step step (Acted outcomes.Memory) ∷ more) endings.Memory last ls =
+    let there : AreStepsRun (steps_after library endings.Failed s cs (step ∷ steps)) endings.Failed (step ∷ steps) (row_of_step step (Acted outcomes.Memory) ∷ more) endings.Memory last ls =
     (0, refl, ap (λ rs. row_of_step step (Acted outcomes.Memory) ∷ rs) h.0) in
     subst (λ x. AreStepped library endings.Failed s cs (step ∷ steps) (row_of_step step x ∷ more) e last ls) (sym t.0)
-    (subst (λ x. AreLeft (steps_after library endings.Failed s cs (step ∷ steps)) endings.Failed (step ∷ steps) (row_of_step step (Acted outcomes.Memory) ∷ more) x last ls) (sym h.1) there)
+    (subst (λ x. AreStepsRun (steps_after library endings.Failed s cs (step ∷ steps)) endings.Failed (step ∷ steps) (row_of_step step (Acted outcomes.Memory) ∷ more) x last ls) (sym h.1) there)
 one_on library endings.Failed endings.Passed s new cs left step steps m t more e last ls h = let x = t.0.1 in let no : ⊥ = cc in absurd no
 one_on library endings.Failed endings.Skipped s new cs left step steps m t more e last ls h = let x = t.0.1 in let no : ⊥ = cc in absurd no
 one_on library endings.Skipped next s new cs left step steps m t more e last ls h =

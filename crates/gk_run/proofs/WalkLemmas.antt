@@ -1,4 +1,4 @@
--- What the code's turns make of a walk.
+-- What the code's steps make of a walk.
 use Rattle.std.proofs.Common.{Bool, List, None, Option, Some, [], ap, cond, drop, false, get_or, length, map, refl, subst, suc, sym, true, ℕ, ◌++◌, ◌+◌, ◌<◌, ◌∙◌, ◌∷◌, ◌≡◌, ◌≤◌}
 use Rattle.std.proofs.lemmas.List.{at_drop_all, at_drop_more}
 use Rattle.gk_gherkin.specs.declared.hooks.HookKind.TheVariants as kinds
@@ -14,18 +14,17 @@ use Rattle.gk_run.specs.declared.results.Mark.{Mark}
 use Rattle.gk_run.specs.declared.results.Mark.TheVariants.{Acted}
 use Rattle.gk_run.specs.declared.results.Outcome.{Outcome}
 use Rattle.gk_run.specs.declared.results.Outcome.TheVariants as outcomes
-use Rattle.gk_run.specs.declared.section_hooks.Level.{Level}
+use Rattle.gk_run.specs.declared.section.Level.{Level}
 use Rattle.gk_run.specs.Acting.{CleanupValue}
-use Rattle.gk_run.specs.Ending.{ended_of, ending_of_turn, has_passed, worse}
-use Rattle.gk_run.specs.Running.{IsTurn, IsWalked}
+use Rattle.gk_run.specs.Ending.{ended_of, ending_of_step, has_passed, worse}
+use Rattle.gk_run.specs.Walk.{IsStepRun, IsWalked, Walked, followed_by, one_step, walk}
 use Rattle.gk_run.specs.Section.{is_place}
 use Rattle.gk_run.specs.SectionHooks.{before_kind, before_list, hook_steps, tag_lists, walk_each}
-use Rattle.gk_run.specs.Walk.{Walked, goes_on, one_step, walk}
 use Rattle.gk_run.proofs.EndingLemmas.{ended_append, past, place_before, place_past, worse_assoc, worse_memory, worse_passed}
 
 -- the walk of a list whose first step had this outcome and left this state and these cleanups
 abbrev pub from_first : LibraryValue → Site → Option Outcome → State → List CleanupValue → List StepValue → Walked
-from_first library site o s cleanups steps = goes_on o s cleanups steps (walk library site s cleanups steps)
+from_first library site o s cleanups steps = followed_by o s cleanups steps (walk library site s cleanups steps)
 
 pub first_is : (library : LibraryValue) (site : Site) (s new : State) (cleanups left : List CleanupValue) (step : StepValue) (steps : List StepValue) (o : Option Outcome) →
     (let this = one_step library site s step in (o ≡ this.outcome) × (new ≡ this.state) × (left ≡ cleanups ++ this.registered)) →
@@ -44,12 +43,12 @@ more w endings.Failed s cs h = h
 more w endings.Skipped s cs h = h
 
 pub walk_on : (library : LibraryValue) (site : Site) (s new : State) (cleanups left : List CleanupValue) (step : StepValue) (steps : List StepValue) →
-    IsTurn (one_step library site s step) cleanups (Some outcomes.Passed) new left →
+    IsStepRun (one_step library site s step) cleanups (Some outcomes.Passed) new left →
     (e : Ending) (last : State) (cs : List CleanupValue) → IsWalked (walk library site new left steps) e last cs → IsWalked (walk library site s cleanups (step ∷ steps)) e last cs
 walk_on library site s new cleanups left step steps t e last cs h =
     subst (λ w. IsWalked w e last cs) (first_is library site s new cleanups left step steps (Some outcomes.Passed) t) (more (walk library site new left steps) e last cs h)
 
-a_place : (o : Option Outcome) (s : State) (cs : List CleanupValue) (steps : List StepValue) (next : Walked) → (let w = goes_on o s cs steps next in is_place 0 w.marks ≡ true)
+a_place : (o : Option Outcome) (s : State) (cs : List CleanupValue) (steps : List StepValue) (next : Walked) → (let w = followed_by o s cs steps next in is_place 0 w.marks ≡ true)
 a_place None s cs steps next = refl
 a_place (Some outcomes.Passed) s cs steps next = refl
 a_place (Some (outcomes.Failed why)) s cs steps next = refl
@@ -58,7 +57,7 @@ a_place (Some outcomes.Memory) s cs steps next = refl
 
 -- a step that ended the walk
 pub walk_off : (library : LibraryValue) (site : Site) (s new : State) (cleanups left : List CleanupValue) (step : StepValue) (steps : List StepValue) (o : Option Outcome) →
-    IsTurn (one_step library site s step) cleanups o new left → has_passed (ending_of_turn o) ≡ false → IsWalked (walk library site s cleanups (step ∷ steps)) (ending_of_turn o) new left
+    IsStepRun (one_step library site s step) cleanups o new left → has_passed (ending_of_step o) ≡ false → IsWalked (walk library site s cleanups (step ∷ steps)) (ending_of_step o) new left
 walk_off library site s new cleanups left step steps None t h =
     subst (λ w. IsWalked w endings.Failed new left) (first_is library site s new cleanups left step steps None t) (refl, refl, refl)
 walk_off library site s new cleanups left step steps (Some (outcomes.Failed why)) t h =
@@ -83,13 +82,13 @@ joined_first : (b : Bool) (ms : List Mark) (ls : List StepValue) (s : State) (cs
 joined_first true ms ls s cs next ys = refl
 joined_first false ms ls s cs next ys = refl
 
-goes_on_joined : (o : Option Outcome) (s : State) (cs : List CleanupValue) (xs ys : List StepValue) (w : Walked) (f : State → List CleanupValue → Walked) →
-    goes_on o s cs (xs ++ ys) (joined w ys (f w.state w.cleanups)) ≡ (let g = goes_on o s cs xs w in joined g ys (f g.state g.cleanups))
-goes_on_joined None s cs xs ys w f = refl
-goes_on_joined (Some outcomes.Passed) s cs xs ys w f = joined_first (has_passed (ended_of w.marks)) w.marks w.left w.state w.cleanups (f w.state w.cleanups) ys
-goes_on_joined (Some (outcomes.Failed why)) s cs xs ys w f = refl
-goes_on_joined (Some outcomes.Skip) s cs xs ys w f = refl
-goes_on_joined (Some outcomes.Memory) s cs xs ys w f = refl
+followed_by_joined : (o : Option Outcome) (s : State) (cs : List CleanupValue) (xs ys : List StepValue) (w : Walked) (f : State → List CleanupValue → Walked) →
+    followed_by o s cs (xs ++ ys) (joined w ys (f w.state w.cleanups)) ≡ (let g = followed_by o s cs xs w in joined g ys (f g.state g.cleanups))
+followed_by_joined None s cs xs ys w f = refl
+followed_by_joined (Some outcomes.Passed) s cs xs ys w f = joined_first (has_passed (ended_of w.marks)) w.marks w.left w.state w.cleanups (f w.state w.cleanups) ys
+followed_by_joined (Some (outcomes.Failed why)) s cs xs ys w f = refl
+followed_by_joined (Some outcomes.Skip) s cs xs ys w f = refl
+followed_by_joined (Some outcomes.Memory) s cs xs ys w f = refl
 
 pub walk_append : (library : LibraryValue) (site : Site) (s : State) (cs : List CleanupValue) (xs ys : List StepValue) →
     walk library site s cs (xs ++ ys) ≡ (let w = walk library site s cs xs in joined w ys (walk library site w.state w.cleanups ys))
@@ -97,8 +96,8 @@ walk_append library site s cs [] ys = refl
 walk_append library site s cs (x ∷ xs) ys =
     let this = one_step library site s x in
     let left = cs ++ this.registered in
-    ap (goes_on this.outcome this.state left (xs ++ ys)) (walk_append library site this.state left xs ys)
-    ∙ goes_on_joined this.outcome this.state left xs ys (walk library site this.state left xs) (λ t ls. walk library site t ls ys)
+    ap (followed_by this.outcome this.state left (xs ++ ys)) (walk_append library site this.state left xs ys)
+    ∙ followed_by_joined this.outcome this.state left xs ys (walk library site this.state left xs) (λ t ls. walk library site t ls ys)
 
 -- after a list that passed
 more_all : (ms : List Mark) (w : Walked) (e : Ending) (s : State) (cs : List CleanupValue) → endings.Passed ≡ ended_of ms → IsWalked w e s cs → IsWalked (record w { marks = ms ++ w.marks }) e s cs
@@ -197,7 +196,7 @@ Goes library site s cleanups left first cleanups_first all =
     (e : Ending) (last : State) (cs : List CleanupValue) → IsWalked (walk library site s cleanups left) e last cs → IsWalked (walk library site first cleanups_first all) e last cs
 
 pub hook_on : (library : LibraryValue) (site : Site) (first : State) (cs0 : List CleanupValue) (all rest steps : List StepValue) (step : StepValue) (s new : State) (cs left : List CleanupValue) (o : Option Outcome) →
-    rest ≡ step ∷ steps → IsTurn (one_step library site s step) cs o new left → has_passed (ending_of_turn o) ≡ true →
+    rest ≡ step ∷ steps → IsStepRun (one_step library site s step) cs o new left → has_passed (ending_of_step o) ≡ true →
     Goes library site s cs rest first cs0 all → Goes library site new left steps first cs0 all
 hook_on library site first cs0 all rest steps step s new cs left (Some outcomes.Passed) is t p goes e last ls h =
     goes e last ls (subst (λ xs. IsWalked (walk library site s cs xs) e last ls) (sym is) (walk_on library site s new cs left step steps t e last ls h))
@@ -207,10 +206,10 @@ hook_on library site first cs0 all rest steps step s new cs left (Some outcomes.
 hook_on library site first cs0 all rest steps step s new cs left (Some outcomes.Memory) is t p goes e last ls h = let no : ⊥ = cc in absurd no
 
 pub hook_off : (library : LibraryValue) (site : Site) (first : State) (cs0 : List CleanupValue) (all rest steps : List StepValue) (step : StepValue) (s new : State) (cs left : List CleanupValue) (o : Option Outcome) →
-    rest ≡ step ∷ steps → IsTurn (one_step library site s step) cs o new left → has_passed (ending_of_turn o) ≡ false →
-    Goes library site s cs rest first cs0 all → IsWalked (walk library site first cs0 all) (ending_of_turn o) new left
+    rest ≡ step ∷ steps → IsStepRun (one_step library site s step) cs o new left → has_passed (ending_of_step o) ≡ false →
+    Goes library site s cs rest first cs0 all → IsWalked (walk library site first cs0 all) (ending_of_step o) new left
 hook_off library site first cs0 all rest steps step s new cs left o is t p goes =
-    goes (ending_of_turn o) new left (subst (λ xs. IsWalked (walk library site s cs xs) (ending_of_turn o) new left) (sym is) (walk_off library site s new cs left step steps o t p))
+    goes (ending_of_step o) new left (subst (λ xs. IsWalked (walk library site s cs xs) (ending_of_step o) new left) (sym is) (walk_off library site s new cs left step steps o t p))
 
 pub hook_done : (library : LibraryValue) (site : Site) (first : State) (cs0 : List CleanupValue) (all rest : List StepValue) (s : State) (cs : List CleanupValue) →
     rest ≡ [] → Goes library site s cs rest first cs0 all → IsWalked (walk library site first cs0 all) endings.Passed s cs
@@ -218,6 +217,12 @@ hook_done library site first cs0 all rest s cs none goes =
     goes endings.Passed s cs (subst (λ xs. IsWalked (walk library site s cs xs) endings.Passed s cs) (sym none) (refl, refl, refl))
 
 -- ---- the loop over the tags of a before list
+
+-- the walk of a hook's steps, at the site and with the steps that the section has
+pub walked_at : (library : LibraryValue) (x site : Site) (s new : State) (cs left : List CleanupValue) (steps wanted : List StepValue) (this : Ending) → x ≡ site → steps ≡ wanted →
+    IsWalked (walk library x s cs steps) this new left → IsWalked (walk library site s cs wanted) this new left
+walked_at library x site s new cs left steps wanted this e h walked =
+    subst (λ (ys : List StepValue). IsWalked (walk library site s cs ys) this new left) h (subst (λ (y : Site). IsWalked (walk library y s cs steps) this new left) e walked)
 
 -- the walk of the before list of the tags that are left
 abbrev pub GoesBefore : LibraryValue → Site → List HookValue → Level → State → List CleanupValue → List (List ℕ) → State → List CleanupValue → List (List ℕ) → Type 0

@@ -1,5 +1,5 @@
 -- What an action does to the plain state, what it registers, and its outcome.
-use Rattle.std.specs.Prelude.{◌≡◌, Result, Ok, Err, option_copied, ℕ, ℤ, pos, ◌+ℤ◌, Bool, true, false, cond, not, ◌&&◌, ◌==◌, List, [], ◌∷◌, ◌++◌, length, Option, Some, None, codes, bytes_eq, is_some, is_none, unwrap_or, drop}
+use Rattle.std.specs.Prelude.{◌≡◌, ◌⊎◌, map, Result, Ok, Err, option_copied, ℕ, ℤ, pos, ◌+ℤ◌, Bool, true, false, cond, not, ◌&&◌, ◌==◌, List, [], ◌∷◌, ◌++◌, length, Option, Some, None, codes, bytes_eq, is_some, is_none, unwrap_or, drop}
 use Rattle.std.specs.Ordering.{int_eq}
 use Rattle.std.specs.Fmt.{signed_decimal}
 use Rattle.std.specs.List.{list_all}
@@ -15,7 +15,7 @@ use Rattle.gk_world.specs.declared.refusals.WorldFault.{WorldFault}
 use Rattle.gk_world.specs.declared.refusals.WorldFault.TheVariants as faults
 use Rattle.gk_world.specs.State.{State, with_text, without, see, state_of}
 use Rattle.gk_world.specs.Refusals.{first_true, is_bad_name, is_too_long, joined}
-use Rattle.gk_world.specs.Sandbox.{SandboxValue}
+use Rattle.gk_world.specs.Sandbox.{SandboxValue, PutsFile}
 use Rattle.gk_run.specs.declared.acting.Arguments.{Arguments}
 use Rattle.gk_run.specs.declared.acting.Site.{Site}
 use Rattle.gk_run.specs.declared.acting.Site.TheVariants as sites
@@ -46,7 +46,7 @@ doc_string (Text text) = Some text
 doc_string Empty = None
 doc_string (Table rows) = None
 
--- The arguments of a step. T is the field `text` where the pattern has it, else the step's doc string, else there is none. (this project's profile)
+-- The arguments of a step. T is the field `text` where the pattern has it, else the step's doc string, else there is none.
 abbrev pub given : LibraryValue → FoundValue → BlockValue → Given
 given library found block = record {
   name = unwrap_or (text_field library found (codes "name")) [];
@@ -70,37 +70,37 @@ abbrev pub unless_for : State → Option Reason → State → Done
 unless_for s None new = passes new
 unless_for s (Some why) new = fails s why
 
--- The same of reasons with their tests, of which the first that holds is answered. (this project's profile)
+-- The same of reasons with their tests, of which the first that holds is answered.
 abbrev pub unless : State → List (Bool × Reason) → State → Done
 unless s tests new = unless_for s (first_true tests) new
 
--- An action that works with T fails without one before anything else. (this project's profile)
+-- An action that works with T fails without one before anything else.
 abbrev pub with_T : State → Option (List ℕ) → (List ℕ → Done) → Done
 with_T s None action = fails s reasons.NoText
 with_T s (Some text) action = action text
 
--- An outcome after which an action goes on.
+-- An outcome after which an action continues.
 abbrev pub is_pass : Outcome → Bool
 is_pass outcomes.Passed = true
 is_pass _ = false
 
--- A second part of an action, which counts where the first passed. (this project's profile)
+-- A second part of an action, which counts where the first passed.
 abbrev pub and_then : Done → Done → Done
 and_then this next = cond (is_pass this.outcome) (record next { begun = true }) this
 
--- The reason of a name without a byte, or with too many. (this project's profile)
+-- The reason of a name without a byte, or with too many.
 abbrev pub bad_name : List ℕ → Bool × Reason
 bad_name name = (is_bad_name name, reasons.BadName)
 
--- The reason of a text with too many bytes. (this project's profile)
+-- The reason of a text with too many bytes.
 abbrev pub too_long : List ℕ → Bool × Reason
 too_long text = (is_too_long text, reasons.TextTooLong)
 
--- The reason where nothing is held. (this project's profile)
+-- The reason where nothing is held.
 abbrev pub absent : Option (List ℕ) → Bool × Reason
 absent held = (is_none held, reasons.Absent)
 
--- The reason where something is held. (this project's profile)
+-- The reason where something is held.
 abbrev pub present : Option (List ℕ) → Bool × Reason
 present held = (is_some held, reasons.Present)
 
@@ -109,7 +109,7 @@ abbrev pub is_other : Option (List ℕ) → List ℕ → Bool
 is_other None text = true
 is_other (Some held) text = not (bytes_eq held text)
 
--- The reason where the text that is held is another. (this project's profile)
+-- The reason where the text that is held is another.
 abbrev pub differs : Option (List ℕ) → List ℕ → Bool × Reason
 differs held text = (is_other held text, reasons.Differs)
 
@@ -118,23 +118,23 @@ abbrev pub is_without : Option (List ℕ) → List ℕ → Bool
 is_without None text = true
 is_without (Some held) text = not (stands_in text held)
 
--- The reason where this text doesn't stand in the one that is held. (this project's profile)
+-- The reason where this text doesn't stand in the one that is held.
 abbrev pub lacks : Option (List ℕ) → List ℕ → Bool × Reason
 lacks held text = (is_without held text, reasons.Differs)
 
--- The number that is held. (this project's profile)
+-- The number that is held.
 abbrev pub number_held : Option (List ℕ) → Option ℤ
 number_held held = number_of (unwrap_or held [])
 
--- The reason where what is held isn't a number. (this project's profile)
+-- The reason where what is held isn't a number.
 abbrev pub not_number : Option (List ℕ) → Bool × Reason
 not_number held = (is_none (number_held held), reasons.NotNumber)
 
--- The number that is held, plus another. (this project's profile)
+-- The number that is held, plus another.
 abbrev pub sum_held : Option (List ℕ) → ℤ → ℤ
 sum_held held n = unwrap_or (number_held held) (pos 0) +ℤ n
 
--- The reason where a sum isn't a signed number of 64 bits. (this project's profile)
+-- The reason where a sum isn't a signed number of 64 bits.
 abbrev pub out_of_range : ℤ → Bool × Reason
 out_of_range z = (not (is_in_range z), reasons.OutOfRange)
 
@@ -143,7 +143,7 @@ abbrev pub is_other_number : Option ℤ → ℤ → Bool
 is_other_number None n = true
 is_other_number (Some held) n = not (int_eq held n)
 
--- The reason where the number that is held is another. (this project's profile)
+-- The reason where the number that is held is another.
 abbrev pub differs_from : Option (List ℕ) → ℤ → Bool × Reason
 differs_from held n = (is_other_number (number_held held) n, reasons.Differs)
 
@@ -175,65 +175,65 @@ with_own s name text = record s { own = with_text s.own name text }
 abbrev pub without_own : State → List ℕ → State
 without_own s name = record s { own = without s.own name }
 
--- The innermost layer's value is a text, as `set_value` has it. (this project's profile)
+-- The innermost layer's value is a text, as `set_value` has it.
 abbrev pub set_own : State → List ℕ → List ℕ → Done
 set_own s name text = unless s (bad_name name ∷ too_long text ∷ []) (with_own s name text)
 
--- A file has a text, as `write_file` has it. (this project's profile)
+-- A file has a text, as `write_file` has it.
 abbrev pub write_file : State → List ℕ → List ℕ → Done
 write_file s name text = unless s (bad_name name ∷ too_long text ∷ []) (with_file s name text)
 
--- A file is gone, as `remove_file` has it. (this project's profile)
+-- A file is gone, as `remove_file` has it.
 abbrev pub remove_file : State → List ℕ → Done
 remove_file s name = unless s (bad_name name ∷ absent (s.files name) ∷ []) (without_file s name)
 
--- A text is written under a new name, and then the old name is removed. (this project's profile)
+-- A text is written under a new name, and then the old name is removed.
 abbrev pub put_and_remove : State → List ℕ → List ℕ → List ℕ → Done
 put_and_remove s name to text = let written = write_file s to text in and_then written (remove_file written.state name)
 
--- A file's text moves to a new name; under its own name it stays. (this project's profile)
+-- A file's text moves to a new name; under its own name it stays.
 abbrev pub moved : State → List ℕ → List ℕ → Done
 moved s name to = cond (bytes_eq name to) (passes s) (put_and_remove s name to (unwrap_or (s.files name) []))
 
--- A file under a new name. There has to be one, and the new name has to be a good one. (this project's profile)
+-- A file under a new name. There has to be one, and the new name has to be a good one.
 abbrev pub rename_file : State → List ℕ → List ℕ → Done
 rename_file s name to = and_then (unless s (absent (s.files name) ∷ bad_name to ∷ []) s) (moved s name to)
 
--- The first row of a table of files: its cells are `name` and `text`. (this project's profile)
+-- The first row of a table of files: its cells are `name` and `text`.
 abbrev pub is_head : List (List ℕ) → Bool
 is_head (name ∷ text ∷ []) = bytes_eq name (codes "name") && bytes_eq text (codes "text")
 is_head _ = false
 
--- Rows of a name and a text each. (this project's profile)
+-- Rows of a name and a text each.
 abbrev pub have_two_cells : List (List (List ℕ)) → Bool
 have_two_cells rows = list_all (λ row. length row == 2) rows
 
--- A table of files. (this project's profile)
+-- A table of files.
 abbrev pub is_files_table : List (List (List ℕ)) → Bool
 is_files_table [] = false
 is_files_table (head ∷ rows) = is_head head && have_two_cells rows
 
--- A row of a table of files, as a file that is written; a row of a table of files has two cells. (this project's profile)
+-- A row of a table of files, as a file that is written; a row of a table of files has two cells.
 abbrev pub write_row : State → List (List ℕ) → Done
 write_row s (name ∷ text ∷ []) = write_file s name text
 write_row s _ = fails s reasons.BadTable
 
--- Each row in turn; the first refused row ends it, and earlier rows stay. (this project's profile)
+-- Each row in turn; the first refused row ends it, and earlier rows stay.
 abbrev pub write_rows : State → List (List (List ℕ)) → Done
 write_rows s [] = passes s
 write_rows s (row ∷ rows) = let written = write_row s row in and_then written (write_rows written.state rows)
 
--- The rows after the first of a table of files; nothing is written where the block is no such table. (this project's profile)
+-- The rows after the first of a table of files; nothing is written where the block is no such table.
 abbrev pub write_table : State → BlockValue → Done
 write_table s Empty = fails s reasons.NoTable
 write_table s (Text text) = fails s reasons.NoTable
 write_table s (Table rows) = cond (is_files_table rows) (write_rows s (drop 1 rows)) (fails s reasons.BadTable)
 
--- The innermost layer's value is the number that is held plus another, in decimal. (this project's profile)
+-- The innermost layer's value is the number that is held plus another, in decimal.
 abbrev pub add_number : State → List ℕ → Option (List ℕ) → ℤ → Done
 add_number s name held n = let sum = sum_held held n in unless s (bad_name name ∷ absent held ∷ not_number held ∷ out_of_range sum ∷ []) (with_own s name (signed_decimal sum))
 
--- The table of the actions, row by row, but for what at_cleanup and skip_scenario do where they are allowed: T where the action works with it, the reasons for which it fails, in their order, and the state that it else leaves. (this project's profile)
+-- The table of the actions, row by row, but for what at_cleanup and skip_scenario do where they are allowed: T where the action works with it, the reasons for which it fails, in their order, and the state that it else leaves.
 abbrev pub table : Action → Given → State → Done
 table actions.WriteFile g s = with_T s g.text (λ text. write_file s g.name text)
 table actions.AppendFile g s = with_T s g.text (λ text. unless s (bad_name g.name ∷ absent (s.files g.name) ∷ too_long (joined s.files g.name text) ∷ []) (with_file s g.name (joined s.files g.name text)))
@@ -260,7 +260,7 @@ table actions.SkipScenario g s = fails s reasons.NotHere
 table actions.Pass g s = passes s
 table actions.Fail g s = fails s reasons.Asked
 
--- What the row of a step's action leaves. A failed action keeps the changes that it made before. (this project's profile)
+-- What the row of a step's action leaves. A failed action keeps the changes that it made before.
 unfoldable pub carried_out : LibraryValue → FoundValue → BlockValue → State → Done
 carried_out library found block s = table (action_of library found) (given library found block) s
 
@@ -282,14 +282,14 @@ done_of acted = acted.done
 abbrev pub without_cleanups : Done → Acted
 without_cleanups done = record { done = done; registered = [] }
 
--- A step, or a before hook of a scenario, may skip the scenario. (this project's profile)
+-- A step, or a before hook of a scenario, may skip the scenario.
 abbrev pub may_skip : Site → Bool
 may_skip sites.Step = true
 may_skip sites.CaseHook = true
 may_skip sites.Hook = false
 may_skip sites.Cleanup = false
 
--- Whatever isn't a cleanup may register one. (this project's profile)
+-- Whatever isn't a cleanup may register one.
 abbrev pub may_register : Site → Bool
 may_register sites.Step = true
 may_register sites.CaseHook = true
@@ -300,7 +300,7 @@ may_register sites.Cleanup = false
 abbrev pub skips : State → Done
 skips s = record { state = s; outcome = outcomes.Skip; begun = true }
 
--- What was looked up is registered with a block, or there is no such step; the look-up is a part that passed. (behave's documentation: cleanups; this project's profile)
+-- What was looked up is registered with a block, or there is no such step; the look-up is a part that passed. (behave's documentation: cleanups)
 abbrev pub registers : State → BlockValue → Option FoundValue → Acted
 registers s block None = without_cleanups (record (fails s reasons.NoStep) { begun = true })
 registers s block (Some f) = record { done = passes s; registered = record { found = f; block = block } ∷ [] }
@@ -309,17 +309,17 @@ registers s block (Some f) = record { done = passes s; registered = record { fou
 abbrev pub registers_at : Site → State → LibraryValue → Given → Acted
 registers_at site s library g = cond (may_register site) (registers s g.block (found_any library g.step)) (without_cleanups (fails s reasons.NotHere))
 
--- What an action does at a site: at_cleanup looks the field `step` up among the entries of type `step`, skip_scenario skips; where it isn't allowed it fails, as its row of the table says; the others are their rows. (this project's profile)
+-- What an action does at a site: at_cleanup looks the field `step` up among the entries of type `step`, skip_scenario skips; where it isn't allowed it fails, as its row of the table says; the others are their rows.
 abbrev pub at_site : Action → Site → LibraryValue → Given → State → Acted
 at_site actions.AtCleanup site library g s = registers_at site s library g
 at_site actions.SkipScenario site library g s = without_cleanups (cond (may_skip site) (skips s) (fails s reasons.NotHere))
 at_site action site library g s = without_cleanups (table action g s)
 
--- What the action of a found step leaves and registers. (this project's profile)
+-- What the action of a found step leaves and registers.
 unfoldable pub act : LibraryValue → Site → FoundValue → BlockValue → State → Acted
 act library site found block s = at_site (action_of library found) site library (given library found block) s
 
--- The actions that change nothing, the checks, `skip_scenario`, `pass` and `fail`: their rows leave the state as it is. They take no memory. (this project's profile)
+-- The actions that change nothing, the checks, `skip_scenario`, `pass` and `fail`: their rows leave the state as it is. They take no memory.
 abbrev pub changes_nothing : Action → Bool
 changes_nothing actions.FileExists = true
 changes_nothing actions.FileAbsent = true
@@ -335,7 +335,7 @@ changes_nothing actions.Pass = true
 changes_nothing actions.Fail = true
 changes_nothing _ = false
 
--- An action was carried out: this is its outcome, and this the state that it left. (this project's profile)
+-- An action was carried out: this is its outcome, and this the state that it left.
 abbrev pub IsExactly : Done → Outcome → State → Type 0
 IsExactly done outcome new = (outcome ≡ done.outcome) × (new ≡ done.state)
 
@@ -344,38 +344,66 @@ abbrev pub is_fail : Outcome → Bool
 is_fail (outcomes.Failed why) = true
 is_fail _ = false
 
--- An action fails before a part of it passed: it is refused, and takes no memory. (this project's profile)
+-- An action fails before a part of it passed: it is refused, and takes no memory.
 abbrev pub is_refused : Done → Bool
 is_refused done = not done.begun && is_fail done.outcome
 
--- An action was carried out, or memory was refused in it, which can't be where the action itself is refused; then nothing is said of the state. (this project's profile)
+-- An action was carried out, or memory was refused in it, which can't be where the action itself is refused.
 abbrev pub IsDone : Done → Outcome → State → Type 0
 IsDone done outcomes.Memory new = is_refused done ≡ false
 IsDone done outcome new = IsExactly done outcome new
 
--- What the action of a found step leaves and registers, as the program holds the library, what was found and the block. (this project's profile)
+-- What the action of a found step leaves and registers, as the program holds the library, what was found and the block.
 abbrev pub act_of : Library → Site → Found → Block → State → Acted
 act_of library site found block s = act (library_value library) site (found_value found) (block_value block) s
 
--- The cleanups after an action: those before it and what it registers, or where memory was refused those before it alone. (this project's profile)
+-- The cleanups after an action: those before it and what it registers, or where memory was refused those before it alone.
 abbrev pub HasRegistered : Acted → List CleanupValue → Outcome → List CleanupValue → Type 0
 HasRegistered acted before outcomes.Memory after = after ≡ before
 HasRegistered acted before outcome after = after ≡ before ++ acted.registered
 
--- An action that changes nothing was carried out: memory is not an outcome of it. (this project's profile)
+-- An action that changes nothing was carried out: memory is not an outcome of it.
 abbrev pub IsExact : Library → Found → Done → Outcome → State → Type 0
 IsExact library found done outcome new = changes_nothing (action_of (library_value library) (found_value found)) ≡ true → IsExactly done outcome new
 
--- Where no entry of type `step` matches a text, memory is refused only where the text has the ends of such an entry. (this project's profile)
+-- Where no entry of type `step` matches a text, memory is refused only where the text has the ends of such an entry.
 abbrev pub NeedsCandidate : LibraryValue → List ℕ → Outcome → Type 0
 NeedsCandidate library text outcome = found_any library text ≡ None → outcome ≡ outcomes.Memory → HasCandidate library None text
 
--- The same of the step that at_cleanup registers. (this project's profile)
+-- The same of the step that at_cleanup registers.
 abbrev pub CleanupNeedsCandidate : Library → Found → Block → Outcome → Type 0
 CleanupNeedsCandidate library found block outcome =
     let l = library_value library in
     let g = given l (found_value found) (block_value block) in
     action_of l (found_value found) ≡ actions.AtCleanup → NeedsCandidate l g.step outcome
+
+-- A row of a table of files: a name and a text.
+abbrev pub row_file : List (List ℕ) → List ℕ × List ℕ
+row_file (name ∷ text ∷ []) = (name, text)
+row_file _ = ([], [])
+
+-- The files of a table of files, in order.
+abbrev pub table_files : BlockValue → List (List ℕ × List ℕ)
+table_files (Table rows) = map row_file (drop 1 rows)
+table_files _ = []
+
+-- The files that an action of more than one change writes, in order: the rows of a table, or the file of the new name before the old one is removed. An action of one change has none.
+abbrev pub files_of : Action → Given → State → List (List ℕ × List ℕ)
+files_of actions.RenameFile g s = (g.to, unwrap_or (s.files g.name) []) ∷ []
+files_of actions.WriteFiles g s = table_files g.block
+files_of _ g s = []
+
+-- The first of some files, some number of them, were written one after another, and nothing else has changed.
+abbrev pub WritesFirst : List (List ℕ × List ℕ) → SandboxValue → SandboxValue → Type 0
+WritesFirst [] old new = new ≡ old
+WritesFirst (file ∷ files) old new = (new ≡ old) ⊎ ((mid : SandboxValue) × PutsFile old file.0 file.1 mid × WritesFirst files mid new)
+
+-- Where memory was refused, some first changes of an action were made and no others; an action of one change has changed nothing.
+abbrev pub KeepsAtMemory : Library → Found → Block → SandboxValue → Outcome → SandboxValue → Type 0
+KeepsAtMemory library found block old outcome new =
+    let l = library_value library in
+    let f = found_value found in
+    outcome ≡ outcomes.Memory → WritesFirst (files_of (action_of l f) (given l f (block_value block)) (state_of old.now)) old new
 
 -- The open layers stay as they are: what the end of each gives back, and how many changes were recorded when each began. (behave's documentation: context layers)
 pub record KeepsLayers (old new : SandboxValue) : Type 0 where
@@ -406,10 +434,19 @@ outcome_of (Ok x) = outcomes.Passed
 outcome_of (Err faults.Memory) = outcomes.Memory
 outcome_of (Err fault) = outcomes.Failed (reason_of fault)
 
--- An action was carried out in a sandbox, or memory was refused in it; the open layers stay as they are.
-pub record IsActed (done : Done) (old : SandboxValue) (outcome : Outcome) (new : SandboxValue) : Type 0 where
+-- An action was carried out in a sandbox, or memory was refused in it, after some first of these files were written; the open layers stay as they are.
+pub record IsActedWith (files : List (List ℕ × List ℕ)) (done : Done) (old : SandboxValue) (outcome : Outcome) (new : SandboxValue) : Type 0 where
   pub carried_out : IsDone done outcome (state_of new.now)
   pub layers : KeepsLayers old new
+  pub kept : outcome ≡ outcomes.Memory → WritesFirst files old new
+
+-- The same of an action of one change.
+abbrev pub IsActed : Done → SandboxValue → Outcome → SandboxValue → Type 0
+IsActed = IsActedWith []
+
+-- A file was written, if this passed.
+abbrev pub WritesFile : List ℕ × List ℕ → SandboxValue → Outcome → SandboxValue → Type 0
+WritesFile file old outcome new = outcome ≡ outcomes.Passed → PutsFile old file.0 file.1 new
 
 -- What the row of an action leaves, as the program holds the library, what was found and the block.
 abbrev pub carried_out_of : Library → Found → Block → State → Done
@@ -417,7 +454,9 @@ carried_out_of library found block s = carried_out (library_value library) (foun
 
 -- An action was carried out as its row of the table says, or memory was refused in it.
 abbrev pub Performs : Action → Arguments → SandboxValue → Outcome → SandboxValue → Type 0
-Performs action arguments old outcome new = IsActed (table action (given_value arguments) (state_of old.now)) old outcome new
+Performs action arguments old outcome new =
+    let g = given_value arguments in
+    IsActedWith (files_of action g (state_of old.now)) (table action g (state_of old.now)) old outcome new
 
 -- An action that changes nothing was carried out as its row of the table says.
 abbrev pub Checks : Action → Arguments → SandboxValue → Outcome → Type 0

@@ -35,6 +35,6 @@ chosen_value c = record { source = string_bytes c.source; name = string_bytes c.
 abbrev pub IsPaired : Chosen → Type 0
 IsPaired c = length c.selected.items ≡ length c.cases.items
 
--- A case is selected. (this project's profile)
+-- A case is selected.
 abbrev pub has_selected : List MemberValue → Bool
 has_selected members = list_any (λ (m : MemberValue). m.selected) members

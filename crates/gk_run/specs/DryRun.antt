@@ -12,11 +12,12 @@ use Rattle.gk_run.specs.declared.results.Mark.TheVariants.{Acted, Undefined, Unt
 use Rattle.gk_run.specs.Results.{StepRow, CaseRow, FeatureRow}
 use Rattle.gk_run.specs.Ending.{is_memory_mark}
 use Rattle.gk_run.specs.Section.{is_place, cut_marks, Events, Cut, nowhere, happened}
-use Rattle.gk_run.specs.Alone.{rows_of_steps, row_of_case, unselected_row}
+use Rattle.gk_run.specs.Walk.{rows_of_steps}
+use Rattle.gk_run.specs.Running.{row_of_case, unselected_row}
 use Rattle.gk_run.specs.Chosen.{MemberValue, ChosenValue}
 use Rattle.gk_run.specs.Features.{FeatureCuts, uncut_feature, first_or, later, feature_row_of}
 
--- What becomes of a step of a selected case: it is untested where the library matches it, and undefined where it doesn't. (behave's documentation: `--dry-run`; this project's profile)
+-- What becomes of a step of a selected case: it is untested where the library matches it, and undefined where it doesn't. (behave's documentation: `--dry-run`)
 abbrev pub dry_mark : LibraryValue → StepValue → Mark
 dry_mark library step = cond (is_some (found library step.step_type step.text)) Untested Undefined
 
@@ -24,15 +25,15 @@ dry_mark library step = cond (is_some (found library step.step_type step.text)) 
 abbrev pub dry_events : LibraryValue → CaseValue → Events
 dry_events library c = record { before = []; steps = map (dry_mark library) c.steps; after = []; cleanups = [] }
 
--- The verdict of a selected case in which this happened: memory where memory was refused at a step, else untested. (this project's profile)
+-- The verdict of a selected case in which this happened: memory where memory was refused at a step, else untested.
 abbrev pub dry_verdict : Events → Status
 dry_verdict e = cond (list_any is_memory_mark e.steps) statuses.Memory statuses.Untested
 
--- The result of a selected case, or that cut at one step: memory at this, and untested after it. (this project's profile)
+-- The result of a selected case, or that cut at one step: memory at this, and untested after it.
 abbrev pub dry_row : LibraryValue → Cut → CaseValue → CaseRow
 dry_row library cut c = let e = happened cut (dry_events library c) in row_of_case c (dry_verdict e) e
 
--- The result of a case. An unselected one is skipped, as in any run. (this project's profile)
+-- The result of a case. An unselected one is skipped, as in any run.
 abbrev pub dry_case_of : LibraryValue → Cut → MemberValue → CaseRow
 dry_case_of library cut m = cond m.selected (dry_row library cut m.scenario) (unselected_row m.scenario)
 
@@ -41,11 +42,11 @@ abbrev pub dry_cases_of : LibraryValue → List Cut → List MemberValue → Lis
 dry_cases_of library cuts [] = []
 dry_cases_of library cuts (m ∷ ms) = dry_case_of library (first_or nowhere cuts) m ∷ dry_cases_of library (later cuts) ms
 
--- The result of a feature. It isn't begun: its hooks don't run, so a cut in them is none. (this project's profile)
+-- The result of a feature. It isn't begun: its hooks don't run, so a cut in them is none.
 abbrev pub dry_feature_of : LibraryValue → FeatureCuts → ChosenValue → FeatureRow
 dry_feature_of library cuts f = feature_row_of f statuses.Passed (dry_cases_of library cuts.cases f.members)
 
--- The results of features in order, whatever the ones before them are. (this project's profile)
+-- The results of features in order, whatever the ones before them are.
 abbrev pub dry_features_of : LibraryValue → List FeatureCuts → List ChosenValue → List FeatureRow
 dry_features_of library cuts [] = []
 dry_features_of library cuts (f ∷ fs) = dry_feature_of library (first_or uncut_feature cuts) f ∷ dry_features_of library (later cuts) fs

@@ -42,7 +42,7 @@ abbrev pub is_memory_mark : Mark → Bool
 is_memory_mark (Acted outcomes.Memory) = true
 is_memory_mark _ = false
 
--- How steps end: memory where memory was refused in one, else failed where one failed or is undefined, else skipped where one skipped the scenario, else passed. (this project's profile)
+-- How steps end: memory where memory was refused in one, else failed where one failed or is undefined, else skipped where one skipped the scenario, else passed.
 abbrev pub ended_of : List Mark → Ending
 ended_of marks =
     cond (list_any is_memory_mark marks) endings.Memory
@@ -56,14 +56,14 @@ has_passed endings.Failed = false
 has_passed endings.Skipped = false
 has_passed endings.Memory = false
 
--- The verdict of a scenario whose hooks, steps and cleanups end so. (this project's profile)
+-- The verdict of a scenario whose hooks, steps and cleanups end so.
 abbrev pub verdict_status : Ending → Status
 verdict_status endings.Passed = statuses.Passed
 verdict_status endings.Failed = statuses.Failed
 verdict_status endings.Skipped = statuses.Skipped
 verdict_status endings.Memory = statuses.Memory
 
--- How hooks and cleanups are told that end so: a scenario may skip itself in its before hooks, and these passed then. (this project's profile)
+-- The status of hooks and cleanups that end so: a scenario may skip itself in its before hooks, and these passed then.
 abbrev pub around_status : Ending → Status
 around_status endings.Passed = statuses.Passed
 around_status endings.Failed = statuses.Failed
@@ -73,12 +73,12 @@ around_status endings.Memory = statuses.Memory
 -- Proof machinery, from here on: how what comes one after another ends.
 
 -- How one step ends that was carried out, or that no entry matches.
-abbrev pub ending_of_turn : Option Outcome → Ending
-ending_of_turn None = endings.Failed
-ending_of_turn (Some outcomes.Passed) = endings.Passed
-ending_of_turn (Some (outcomes.Failed why)) = endings.Failed
-ending_of_turn (Some outcomes.Skip) = endings.Skipped
-ending_of_turn (Some outcomes.Memory) = endings.Memory
+abbrev pub ending_of_step : Option Outcome → Ending
+ending_of_step None = endings.Failed
+ending_of_step (Some outcomes.Passed) = endings.Passed
+ending_of_step (Some (outcomes.Failed why)) = endings.Failed
+ending_of_step (Some outcomes.Skip) = endings.Skipped
+ending_of_step (Some outcomes.Memory) = endings.Memory
 
 -- Memory was refused.
 abbrev pub is_memory_ending : Ending → Bool

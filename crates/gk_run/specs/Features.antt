@@ -1,17 +1,33 @@
 -- The result of a feature and of its cases.
-use Rattle.std.specs.Prelude.{Bool, cond, not, ◌&&◌, ◌||◌, ℕ, List, [], ◌∷◌, map}
 use Rattle.std.specs.List.{list_any}
-use Rattle.gk_world.specs.State.{State}
+use Rattle.std.specs.Prelude.{Bool, true, cond, List, [], ◌∷◌, map, ◌≡◌, String, ◌&&◌, not, ◌||◌, ℕ}
+use Rattle.std.specs.declared.alloc.Global.{Global}
+use Rattle.gk_gherkin.specs.Feature.{texts}
+use Rattle.gk_gherkin.specs.Hooks.{hooks_value}
+use Rattle.gk_steps.specs.Finding.{library_value}
+use Rattle.gk_world.specs.Sandbox.{SandboxValue}
+use Rattle.gk_world.specs.State.{State, state_of}
+use Rattle.gk_run.specs.declared.cleanups.Cleanups.{Cleanups}
+use Rattle.gk_run.specs.declared.ending.Ending.{Ending}
+use Rattle.gk_run.specs.declared.features.FeatureEnd.{FeatureEnd}
+use Rattle.gk_run.specs.declared.reserved.ReservedCases.{ReservedCases}
+use Rattle.gk_run.specs.declared.results.CaseResult.{CaseResult}
 use Rattle.gk_run.specs.declared.results.Status.{Status}
 use Rattle.gk_run.specs.declared.results.Status.TheVariants as statuses
-use Rattle.gk_run.specs.declared.section_hooks.Level.{Level}
-use Rattle.gk_run.specs.declared.section_hooks.Level.TheVariants as levels
-use Rattle.gk_run.specs.Results.{CaseRow, FeatureRow, is_passed, is_failed, is_untested, is_memory}
+use Rattle.gk_run.specs.declared.run.Run as shared
+use Rattle.gk_run.specs.declared.section.Level.{Level}
+use Rattle.gk_run.specs.declared.section.Level.TheVariants as levels
+use Rattle.gk_run.specs.declared.section.Section.{Section}
 use Rattle.gk_run.specs.Chosen.{MemberValue, ChosenValue, has_selected}
-use Rattle.gk_run.specs.SectionHooks.{begun}
+use Rattle.gk_run.specs.Cleanups.{cleanups_value}
 use Rattle.gk_run.specs.Closing.{closing}
-use Rattle.gk_run.specs.Section.{Events, Cut, nowhere, happened, before_passed, around_of}
-use Rattle.gk_run.specs.Alone.{Run, reached_row, unselected_row, unreached_row}
+use Rattle.gk_run.specs.Reserved.{members_in}
+use Rattle.gk_run.specs.Results.{CaseRow, case_row, FeatureRow, is_passed, is_failed, is_untested, is_memory}
+use Rattle.gk_run.specs.Run.{run_value, Run}
+use Rattle.gk_run.specs.Running.{reached_row, unselected_row, unreached_row}
+use Rattle.gk_run.specs.Section.{Events, Cut, happened, around_of, before_passed, nowhere}
+use Rattle.gk_run.specs.SectionHooks.{begun}
+use Rattle.gk_run.specs.Walk.{IsWalked}
 
 -- The state of a section: that of the section outside it, entered, after its own before list. (behave's documentation: context layers)
 abbrev pub section_state : Run → Level → List (List ℕ) → State → State
@@ -28,7 +44,7 @@ section_events run level tags outside =
 abbrev pub no_events : Events
 no_events = record { before = []; steps = []; after = []; cleanups = [] }
 
--- What happens in a section beside its cases: nothing where it isn't begun; else its events, or these cut at one. (this project's profile)
+-- What happens in a section beside its cases: nothing where it isn't begun; else its events, or these cut at one.
 abbrev pub happened_in : Run → Level → List (List ℕ) → State → Bool → Cut → Events
 happened_in run level tags outside is_begun cut = cond is_begun (happened cut (section_events run level tags outside)) no_events
 
@@ -63,7 +79,7 @@ stays_open_by stop status = not (stop && is_bad status)
 abbrev pub stays_open : Run → Status → Bool
 stays_open run status = stays_open_by run.stop status
 
--- The result of a case. Unselected: skipped. Reached: it alone from its section's state, or cut at one event. Else untested. (this project's profile)
+-- The result of a case. Unselected: skipped. Reached: it alone from its section's state, or cut at one event. Else untested.
 abbrev pub case_of : Run → State → Bool → Cut → MemberValue → CaseRow
 case_of run section is_open cut m = cond m.selected (cond is_open (reached_row run section cut m.scenario) (unreached_row m.scenario)) (unselected_row m.scenario)
 
@@ -82,7 +98,7 @@ case_statuses rows = map (λ (row : CaseRow). row.status) rows
 abbrev pub verdict_by : Bool → Bool → Bool → Bool → Status
 verdict_by memory failed untested passed = cond memory statuses.Memory (cond failed statuses.Failed (cond untested statuses.Untested (cond passed statuses.Passed statuses.Skipped)))
 
--- The verdict of a feature: memory where its hooks and cleanups or a case are memory; else failed where these or one is failed; else untested where a case is untested; else passed where one passed; else skipped. (this project's profile)
+-- The verdict of a feature: memory where its hooks and cleanups or a case are memory; else failed where these or one is failed; else untested where a case is untested; else passed where one passed; else skipped.
 abbrev pub feature_verdict : Status → List Status → Status
 feature_verdict around cases = verdict_by (is_memory around || list_any is_memory cases) (is_failed around || list_any is_failed cases) (list_any is_untested cases) (list_any is_passed cases)
 
@@ -90,7 +106,7 @@ feature_verdict around cases = verdict_by (is_memory around || list_any is_memor
 abbrev pub feature_row_of : ChosenValue → Status → List CaseRow → FeatureRow
 feature_row_of f around cases = record { source = f.source; name = f.name; line = f.line; status = feature_verdict around (case_statuses cases); around = around; cases = cases }
 
--- The result of a feature in the run's state. It is begun where the run is open so far and it has a selected case; its cases are reached where it was begun and its before list passed whole. (behave's documentation: environment file functions; this project's profile)
+-- The result of a feature in the run's state. It is begun where the run is open so far and it has a selected case; its cases are reached where it was begun and its before list passed whole. (behave's documentation: environment file functions)
 abbrev pub feature_of : Run → State → Bool → FeatureCuts → ChosenValue → FeatureRow
 feature_of run outside is_open cuts f =
     let is_begun = is_open && has_selected f.members in
@@ -98,9 +114,46 @@ feature_of run outside is_open cuts f =
     let section = section_state run levels.Feature f.tags outside in
     feature_row_of f (around_of events) (cases_of run section (is_begun && before_passed events) cuts.cases f.members)
 
--- The results of features in order; one is begun where the run is open so far. (this project's profile)
+-- The results of features in order; one is begun where the run is open so far.
 abbrev pub features_of : Run → State → Bool → List FeatureCuts → List ChosenValue → List FeatureRow
 features_of run outside is_open cuts [] = []
 features_of run outside is_open cuts (f ∷ fs) =
     let row = feature_of run outside is_open (first_or uncut_feature cuts) f in
     row ∷ features_of run outside (is_open && stays_open run row.status) (later cuts) fs
+
+-- A feature's row is that of some cuts, from the run's state where the run is open.
+abbrev pub IsFeatureResult : Run → State → Bool → ChosenValue → FeatureRow → Type 0
+IsFeatureResult run now is_open f row = (outside : State) → (is_open ≡ true → now ≡ outside) → (cuts : FeatureCuts) × (row ≡ feature_of run outside is_open cuts f)
+
+-- Proof machinery, from here on: what the code's calls do.
+
+-- What a section beside its cases comes to is that of some cut.
+pub record IsSectionEnd (run : Run) (level : Level) (tags : List (List ℕ)) (outside : State) (around : Status) (passed : Bool) : Type 0 where
+  pub cut : Cut
+  pub hooks : around ≡ around_of (happened cut (section_events run level tags outside))
+  pub ready : passed ≡ before_passed (happened cut (section_events run level tags outside))
+
+-- The rows of cases are those of some cuts, from the section's state where they are reached.
+abbrev pub AreCases : Run → State → Bool → List MemberValue → List CaseRow → Type 0
+AreCases run now is_open members rows = (section : State) → (is_open ≡ true → now ≡ section) → (cuts : List Cut) × (rows ≡ cases_of run section is_open cuts members)
+
+-- What a feature comes to: its hooks and cleanups, and its cases.
+pub record IsFeatureEnd (run : Run) (level : Level) (outside : State) (is_begun : Bool) (tags : List (List ℕ)) (members : List MemberValue) (around : Status) (rows : List CaseRow) : Type 0 where
+  pub cuts : FeatureCuts
+  pub hooks : around ≡ around_of (happened_in run level tags outside is_begun cuts.own)
+  pub cases : rows ≡ cases_of run (section_state run level tags outside) (is_begun && before_passed (happened_in run level tags outside is_begun cuts.own)) cuts.cases members
+
+-- The result of a case is that of some cut, from its section's state where the section is open.
+abbrev pub IsCaseResult : shared.Run → SandboxValue → Bool → MemberValue → CaseResult → Type 0
+IsCaseResult run old is_open m r =
+    (section : State) → (is_open ≡ true → state_of old.now ≡ section) → (cut : Cut) × (case_row r ≡ case_of (run_value run) section is_open cut m)
+
+-- A section began: its before list was walked through from the state outside, and ended so.
+abbrev pub IsBegun : shared.Run → Section → State → Ending → SandboxValue → Cleanups → Type 0
+IsBegun run section outside before now registered =
+    IsWalked (begun (library_value run.library.now) (hooks_value run.hooks.now) section.level (texts section.tags.now) outside) before (state_of now.now) (cleanups_value registered)
+
+-- A feature ran from the state outside, and ended like this.
+abbrev pub EndsFeature : shared.Run → List (String Global) → ReservedCases → State → Bool → FeatureEnd → Type 0
+EndsFeature run tags cases outside is_begun end =
+    IsFeatureEnd (run_value run) levels.Feature outside is_begun (texts tags) (members_in cases) end.around (map case_row end.cases.items)

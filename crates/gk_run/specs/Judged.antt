@@ -3,11 +3,11 @@ use Rattle.std.specs.Prelude.{◌≡◌, Bool, true, false, cond, ◌||◌, List
 use Rattle.std.specs.List.{list_any}
 use Rattle.gk_world.specs.State.{Contents, State, state_of}
 use Rattle.gk_run.specs.declared.results.Status.TheVariants as statuses
-use Rattle.gk_run.specs.declared.section_hooks.Level.TheVariants as levels
+use Rattle.gk_run.specs.declared.section.Level.TheVariants as levels
 use Rattle.gk_run.specs.Results.{CaseRow, FeatureRow, Results, is_memory}
 use Rattle.gk_run.specs.Chosen.{ChosenValue}
 use Rattle.gk_run.specs.Section.{Cut, nowhere, happened, before_passed, around_of}
-use Rattle.gk_run.specs.Alone.{Run}
+use Rattle.gk_run.specs.Run.{Run}
 use Rattle.gk_run.specs.Features.{FeatureCuts, section_state, section_events, features_of}
 use Rattle.gk_run.specs.DryRun.{dry_features_of, AreDryFeatures}
 
@@ -20,7 +20,7 @@ pub record Cuts : Type 0 where
 abbrev pub uncut : Cuts
 uncut = record { own = nowhere; features = [] }
 
--- The results of a run that starts from a plain state. No feature is begun unless the before_all hook passed whole. (this project's profile)
+-- The results of a run that starts from a plain state. No feature is begun unless the before_all hook passed whole.
 abbrev pub results_from : Run → State → Cuts → List ChosenValue → Results
 results_from run start cuts features =
     let events = happened cuts.own (section_events run levels.Run [] start) in
@@ -29,7 +29,7 @@ results_from run start cuts features =
       around = around_of events;
     }
 
--- The results of a dry run: those of its features. No hook and no cleanup runs, so whether the run stops at a failure has no effect. (behave's documentation: `--dry-run`; this project's profile)
+-- The results of a dry run: those of its features. No hook and no cleanup runs, so whether the run stops at a failure has no effect. (behave's documentation: `--dry-run`)
 abbrev pub dry_results : Run → Cuts → List ChosenValue → Results
 dry_results run cuts features = record { features = dry_features_of run.library cuts.features features; around = statuses.Passed }
 
@@ -37,7 +37,7 @@ dry_results run cuts features = record { features = dry_features_of run.library 
 abbrev pub results_of : Run → Contents → Cuts → List ChosenValue → Results
 results_of run contents cuts features = cond run.dry_run (dry_results run cuts features) (results_from run (state_of contents) cuts features)
 
--- The results are judged: they are those of some cuts. (this project's profile)
+-- The results are judged: they are those of some cuts.
 abbrev pub Judged : Run → Contents → List ChosenValue → Results → Type 0
 Judged run contents features results = (cuts : Cuts) × (results ≡ results_of run contents cuts features)
 
@@ -62,16 +62,16 @@ abbrev pub OneList : Type 0
 OneList = (run : Run) (contents : Contents) (features : List ChosenValue) (results : Results) →
     Judged run contents features results → has_memory results ≡ false → results ≡ plain_results run contents features
 
--- Judged results begin with the results of these features. (this project's profile)
+-- Judged results begin with the results of these features.
 abbrev pub BeginsJudged : Run → Contents → List ChosenValue → List FeatureRow → Type 0
 BeginsJudged run contents features rows = (results : Results) × (more : List FeatureRow) × Judged run contents features results × (results.features ≡ rows ++ more)
 
--- The results of the features of a dry run are judged. (this project's profile)
+-- The results of the features of a dry run are judged.
 abbrev pub DryRunsAreJudged : Type 0
 DryRunsAreJudged = (run : Run) (contents : Contents) (features : List ChosenValue) (rows : List FeatureRow) →
     run.dry_run ≡ true → AreDryFeatures run.library features rows → Judged run contents features (record { features = rows; around = statuses.Passed })
 
--- The results of the first features of a dry run begin judged results. (this project's profile)
+-- The results of the first features of a dry run begin judged results.
 abbrev pub UnfinishedDryRunsAreJudged : Type 0
 UnfinishedDryRunsAreJudged = (run : Run) (contents : Contents) (features others : List ChosenValue) (rows : List FeatureRow) →
     run.dry_run ≡ true → AreDryFeatures run.library features rows → BeginsJudged run contents (features ++ others) rows

@@ -2,18 +2,18 @@
 use Rattle.std.specs.Prelude.{◌≡◌, ◌∷◌, [], ◌++◌, true, false, Bool, List, length}
 use Rattle.gk_world.specs.State.{State, state_of}
 use Rattle.gk_world.specs.Sandbox.{SandboxValue, depth}
-use Rattle.gk_run.specs.declared.section_hooks.Level.TheVariants as levels
-use Rattle.gk_run.specs.declared.open_run.Suite.{Suite}
+use Rattle.gk_run.specs.declared.section.Level.TheVariants as levels
+use Rattle.gk_run.specs.declared.open_run.state.Suite.{Suite}
 use Rattle.gk_run.specs.declared.results.Status.{Status}
 use Rattle.gk_run.specs.Results.{FeatureRow}
 use Rattle.gk_run.specs.Ending.{has_passed}
 use Rattle.gk_run.specs.Cleanups.{cleanups_value}
 use Rattle.gk_run.specs.SectionHooks.{begun}
-use Rattle.gk_run.specs.Alone.{Run}
+use Rattle.gk_run.specs.Run.{Run}
 use Rattle.gk_run.specs.Chosen.{ChosenValue}
-use Rattle.gk_run.specs.Features.{FeatureCuts, features_of}
+use Rattle.gk_run.specs.Features.{FeatureCuts, features_of, IsSectionEnd}
 use Rattle.gk_run.specs.Judged.{Judged, BeginsJudged}
-use Rattle.gk_run.specs.Running.{IsWalked, IsSectionEnd}
+use Rattle.gk_run.specs.Walk.{IsWalked}
 
 -- A run that isn't dry was begun in a layer of its own, and its before list walked through. (behave's documentation: context layers, environment file functions)
 pub record IsStarted (run : Run) (old new : SandboxValue) (suite : Suite) : Type 0 where
@@ -21,11 +21,12 @@ pub record IsStarted (run : Run) (old new : SandboxValue) (suite : Suite) : Type
   pub walked : IsWalked (begun run.library run.hooks levels.Run [] (state_of old.now)) suite.before (state_of new.now) (cleanups_value suite.cleanups)
   pub opened : suite.is_open ≡ has_passed suite.before
   pub stops : suite.stop ≡ run.stop
+  pub unfailed : suite.has_failed ≡ false
   pub layer : suite.layer ≡ depth new
   pub saved : new.saved ≡ old.now ∷ old.saved
   pub marks : new.marks ≡ length old.entries ∷ old.marks
 
--- All of an open run is as it was, but whether further features are begun.
+-- All of an open run is as it was, but whether a feature failed, and whether further features are begun.
 pub record IsKept (old new : Suite) : Type 0 where
   pub layer : new.layer ≡ old.layer
   pub before : new.before ≡ old.before
@@ -36,13 +37,13 @@ pub record IsKept (old new : Suite) : Type 0 where
 abbrev pub AreFeatures : Run → State → Bool → List ChosenValue → List FeatureRow → Type 0
 AreFeatures run now is_open features rows = (outside : State) → (is_open ≡ true → now ≡ outside) → (cuts : List FeatureCuts) × (rows ≡ features_of run outside is_open cuts features)
 
--- A run that was begun, whose features were run, and that was finished has judged results. (this project's profile)
+-- A run that was begun, whose features were run, and that was finished has judged results.
 abbrev pub FinishedRunsAreJudged : Type 0
 FinishedRunsAreJudged = (run : Run) (old new : SandboxValue) (suite : Suite) (features : List ChosenValue) (rows : List FeatureRow) (around : Status) →
     IsStarted run old new suite → AreFeatures run (state_of new.now) suite.is_open features rows → IsSectionEnd run levels.Run [] (state_of old.now) around (has_passed suite.before) →
     Judged run old.now features (record { features = rows; around = around })
 
--- A run that was begun, of which some features were run, and that isn't finished has results that begin judged results, whatever features come after them. (this project's profile)
+-- A run that was begun, of which some features were run, and that isn't finished has results that begin judged results, whatever features come after them.
 abbrev pub UnfinishedRunsAreJudged : Type 0
 UnfinishedRunsAreJudged = (run : Run) (old new : SandboxValue) (suite : Suite) (features others : List ChosenValue) (rows : List FeatureRow) →
     IsStarted run old new suite → AreFeatures run (state_of new.now) suite.is_open features rows → BeginsJudged run old.now (features ++ others) rows

@@ -8,7 +8,7 @@ use Rattle.gk_run.specs.declared.results.StepResult.{StepResult}
 use Rattle.gk_run.specs.declared.results.CaseResult.{CaseResult}
 use Rattle.gk_run.specs.declared.results.FeatureResult.{FeatureResult}
 
--- The result of a step: its status, and where it failed the reason. (this project's profile)
+-- The result of a step: its status, and where it failed the reason.
 pub record StepRow : Type 0 where
   pub keyword : List ℕ
   pub text : List ℕ
@@ -16,7 +16,7 @@ pub record StepRow : Type 0 where
   pub status : Status
   pub reason : Option Reason
 
--- The result of a case: its verdict, how its hooks and cleanups ended, the outcome of each cleanup in running order, and its steps. (this project's profile)
+-- The result of a case: its verdict, how its hooks and cleanups ended, the outcome of each cleanup in running order, and its steps.
 pub record CaseRow : Type 0 where
   pub keyword : List ℕ
   pub name : List ℕ
@@ -26,7 +26,7 @@ pub record CaseRow : Type 0 where
   pub cleanups : List Outcome
   pub steps : List StepRow
 
--- The result of a feature: its verdict, how its own hooks and cleanups ended, and its cases in file order. (this project's profile)
+-- The result of a feature: its verdict, how its own hooks and cleanups ended, and its cases in file order.
 pub record FeatureRow : Type 0 where
   pub source : List ℕ
   pub name : List ℕ
@@ -35,7 +35,7 @@ pub record FeatureRow : Type 0 where
   pub around : Status
   pub cases : List CaseRow
 
--- The results of a run: its features in order, and how its own hooks and cleanups ended. (this project's profile)
+-- The results of a run: its features in order, and how its own hooks and cleanups ended.
 pub record Results : Type 0 where
   pub features : List FeatureRow
   pub around : Status

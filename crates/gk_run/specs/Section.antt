@@ -1,10 +1,10 @@
 -- What happens in a section, and where a refused growth cuts it.
-use Rattle.std.specs.Prelude.{ℕ, zero, suc, Bool, true, false, cond, List, [], ◌∷◌, ◌++◌, map}
-use Rattle.gk_run.specs.declared.results.Status.{Status}
-use Rattle.gk_run.specs.declared.results.Outcome.{Outcome}
-use Rattle.gk_run.specs.declared.results.Outcome.TheVariants as outcomes
+use Rattle.std.specs.Prelude.{zero, suc, Bool, true, false, cond, List, [], ◌∷◌, ◌++◌, map, ℕ}
 use Rattle.gk_run.specs.declared.results.Mark.{Mark}
 use Rattle.gk_run.specs.declared.results.Mark.TheVariants.{Acted}
+use Rattle.gk_run.specs.declared.results.Outcome.{Outcome}
+use Rattle.gk_run.specs.declared.results.Outcome.TheVariants as outcomes
+use Rattle.gk_run.specs.declared.results.Status.{Status}
 use Rattle.gk_run.specs.Ending.{ended_of, has_passed, around_status}
 
 -- The events of a section, in four parts, one after another: the steps of its before list; the steps of the scenario, where it is a scenario's; the steps of its after lists; its cleanups.
@@ -14,7 +14,7 @@ pub record Events : Type 0 where
   pub after : List Mark
   pub cleanups : List Outcome
 
--- Where a refused growth cuts a section: at none of its events, or at the event of a number, counted from 0, in one of its parts. (this project's profile)
+-- Where a refused growth cuts a section: at none of its events, or at the event of a number, counted from 0, in one of its parts.
 pub data Cut : Type 0 where
   nowhere : Cut
   in_before : ℕ → Cut
@@ -28,7 +28,7 @@ is_place n [] = false
 is_place zero (x ∷ xs) = true
 is_place (suc n) (x ∷ xs) = is_place n xs
 
--- Events of one part, cut at the event of a number: those before it stay, it is memory, and those after it didn't happen. (this project's profile)
+-- Events of one part, cut at the event of a number: those before it stay, it is memory, and those after it didn't happen.
 abbrev pub cut_at : {A : Type 0} → A → ℕ → List A → List A
 cut_at memory n [] = []
 cut_at memory zero (x ∷ xs) = memory ∷ []
@@ -42,7 +42,7 @@ cut_marks n marks = cut_at (Acted outcomes.Memory) n marks
 abbrev pub cut_outcomes : ℕ → List Outcome → List Outcome
 cut_outcomes n cleanups = cut_at outcomes.Memory n cleanups
 
--- What happens of a section that is cut: the parts before the cut stay, and those after it didn't happen; a cut at an event that there isn't is none. (this project's profile)
+-- What happens of a section that is cut: the parts before the cut stay, and those after it didn't happen; a cut at an event that there isn't is none.
 abbrev pub happened : Cut → Events → Events
 happened nowhere e = e
 happened (in_before n) e = cond (is_place n e.before) (record { before = cut_marks n e.before; steps = []; after = []; cleanups = [] }) e
@@ -54,7 +54,7 @@ happened (in_cleanups n) e = cond (is_place n e.cleanups) (record e { cleanups =
 abbrev pub marks_around : Events → List Mark
 marks_around e = e.before ++ (e.after ++ map Acted e.cleanups)
 
--- How a section's hooks and cleanups ended: memory where memory was refused in one of them, else failed where one failed or is undefined, else passed. (this project's profile)
+-- How a section's hooks and cleanups ended: memory where memory was refused in one of them, else failed where one failed or is undefined, else passed.
 abbrev pub around_of : Events → Status
 around_of e = around_status (ended_of (marks_around e))
 

@@ -6,7 +6,7 @@ ghost use Rattle.gk_world.specs.State.{State, state_of};
 ghost use Rattle.gk_world.specs.Sandbox.{depth};
 ghost use Rattle.gk_run.specs.Cleanups.{cleanups_value};
 ghost use Rattle.gk_run.specs.Acting as words;
-ghost use Rattle.gk_run.specs.Acting.{given, given_value, table, carried_out_of, registers, act_of, Performs, changes_nothing, may_skip, may_register, IsDone, IsExactly, IsExact, HasRegistered, KeepsLayers, IsHeld, IsNotHeld, IsText, HasText, NeedsCandidate, CleanupNeedsCandidate};
+ghost use Rattle.gk_run.specs.Acting.{given, given_value, table, carried_out_of, registers, act_of, Performs, changes_nothing, may_skip, may_register, IsDone, IsExactly, IsExact, HasRegistered, KeepsAtMemory, KeepsLayers, IsHeld, IsNotHeld, IsText, HasText, NeedsCandidate, CleanupNeedsCandidate};
 
 mod file_actions;
 mod number_actions;
@@ -28,7 +28,7 @@ use std::alloc::{AllocError, Global};
 use value_actions::{delete_value, set_value, value_absent, value_is};
 use variable_actions::{env_absent, env_is, remove_env, set_env};
 
-/// Where an action is carried out. (this project's profile)
+/// Where an action is carried out.
 #[derive(Clone, Copy, Debug, PartialEq, Eq)]
 pub enum Site {
     /// A step of a scenario.
@@ -215,6 +215,8 @@ pub(crate) fn carry_out(
     ensures exact { IsExact library.now found.now
         (carried_out_of library.now found.now block.now (state_of sandbox.old.now))
         result (state_of sandbox.new.now) }
+    ensures kept { KeepsAtMemory library.now found.now block.now
+        sandbox.old result sandbox.new }
     ensures layers { KeepsLayers sandbox.old sandbox.new }
 {
     let arguments = arguments_of(library, found, block);
@@ -298,9 +300,9 @@ fn at_cleanup(
 /// nothing, nor for one that is refused before a part of it passed, nor for `at_cleanup` with a step
 /// that has the ends of no entry of type `step`. `at_cleanup` adds a cleanup to those that are
 /// registered; every other action, and a refusal, leaves these as they are. An action that fails
-/// midway keeps what it did before: rows of `write_files` before the refused one stay. At `Memory`
-/// nothing is said of what the sandbox holds now; the end of the layer gives back what was there as
-/// it began. (behave's documentation: cleanups; this project's profile)
+/// midway keeps what it did before: rows of `write_files` before the refused one stay. At `Memory` the
+/// sandbox and the cleanups are as they were, but for what `write_files` and `rename_file` changed
+/// before; the end of the layer gives back what was there as it began. (behave's documentation: cleanups)
 pub fn act(
     alloc: Global,
     sandbox: &mut Sandbox,
@@ -321,6 +323,8 @@ pub fn act(
         (act_of library.now site found.now block.now (state_of sandbox.old.now))
         (cleanups_value cleanups.old) result (cleanups_value cleanups.new) }
     ensures memory { CleanupNeedsCandidate library.now found.now block.now result }
+    ensures kept { KeepsAtMemory library.now found.now block.now
+        sandbox.old result sandbox.new }
     ensures layers { KeepsLayers sandbox.old sandbox.new }
 {
     match library.action(found) {

@@ -1,6 +1,8 @@
 //! Cleanups that steps register.
 ghost use Rattle.std.specs.Prelude.{◌≡◌, ◌≤◌, [], length, vec_capacity};
 
+mod registering;
+
 use crate::results::Outcome;
 use gk_gherkin::Block;
 use gk_steps::Found;

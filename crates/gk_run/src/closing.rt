@@ -3,15 +3,15 @@ ghost use Rattle.std.specs.Prelude.{◌≡◌, ◌≤◌, ◌<◌, [], map, leng
 ghost use Rattle.gk_world.specs.Sandbox.{depth};
 ghost use Rattle.gk_run.specs.Acting.{KeepsLayers};
 ghost use Rattle.gk_run.specs.Cleanups.{cleanup_value, cleanups_value};
-ghost use Rattle.gk_run.specs.Calls.{CleansOne, Cleans, Closes};
+ghost use Rattle.gk_run.specs.Closing.{CleansOne, Cleans, Closes};
 
 use crate::acting::carry_out;
 use crate::cleanups::{Cleanup, Cleanups};
 use crate::ending::{Ending, ending_of, is_memory, worse};
 use crate::results::Outcome;
 use crate::run::Run;
-use crate::section_hooks::Section;
-use crate::walk::walk_after;
+use crate::section::Section;
+use crate::section_hooks::walk_after;
 use gk_world::Sandbox;
 
 /// How the end of a section ended, and the outcomes of its cleanups in running order.

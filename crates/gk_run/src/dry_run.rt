@@ -13,10 +13,9 @@ ghost use Rattle.gk_run.specs.Reserved.{members_in};
 
 use crate::chosen::Chosen;
 use crate::features::feature_status;
-use crate::reserved::{ReservedCase, ReservedCases, ReservedSteps};
-use crate::reserving::{reserve_case, reserve_cases};
+use crate::reserved::{ReservedCase, ReservedCases, ReservedSteps, reserve_case, reserve_cases};
 use crate::results::{CaseResult, FeatureResult, Mark, NoRoom, Outcome, Status, StepResult};
-use crate::running::{CaseEnd, case_result, told_case};
+use crate::running::{CaseEnd, case_result, unrun_case};
 use crate::walk::row_of;
 use gk_gherkin::Step;
 use gk_select::Case;
@@ -123,7 +122,7 @@ fn dry_member(
         ≡ dry_case_of (library_value library.now) cut (member_of case selected))) }
 {
     if !selected {
-        return told_case(alloc, case, Status::Skipped, Mark::Skipped);
+        return unrun_case(alloc, case, Status::Skipped, Mark::Skipped);
     }
     dry_case(alloc, library, case)
 }
@@ -152,8 +151,7 @@ fn dry_cases(
 /// case is untested where the library matches it and undefined where it doesn't, and the case is
 /// untested. Where memory is refused while a step is looked up, that step and the case are `Memory`,
 /// and the steps after it are untested. The other cases and their steps are skipped. A dry run needs no
-/// `Suite`. `NoRoom` comes where results couldn't be reserved. (behave's documentation: `--dry-run`; this
-/// project's profile)
+/// `Suite`. `NoRoom` comes where results couldn't be reserved. (behave's documentation: `--dry-run`)
 pub fn dry_feature(
     alloc: Global,
     library: &Library,

@@ -50,10 +50,10 @@ pub fn has_passed(ending: Ending) -> bool
 }
 
 /// How a step ends that was carried out, or that no entry matches.
-pub fn ending_of(turn: Option<Outcome>) -> Ending
-    ensures { result ≡ spec.ending_of_turn turn }
+pub fn ending_of(outcome: Option<Outcome>) -> Ending
+    ensures { result ≡ spec.ending_of_step outcome }
 {
-    match turn {
+    match outcome {
         None => Ending::Failed,
         Some(Outcome::Passed) => Ending::Passed,
         Some(Outcome::Failed(_)) => Ending::Failed,
@@ -99,7 +99,7 @@ pub fn verdict_status(ending: Ending) -> Status
     }
 }
 
-/// How hooks and cleanups are told that end so.
+/// The status of hooks and cleanups that end so.
 pub fn around_status(ending: Ending) -> Status
     ensures { result ≡ spec.around_status ending }
 {

@@ -8,25 +8,23 @@ ghost use Rattle.gk_run.specs.Acting.{KeepsLayers};
 ghost use Rattle.gk_run.specs.Ending as endings;
 ghost use Rattle.gk_run.specs.Results as rows;
 ghost use Rattle.gk_run.specs.Results.{case_row, feature_row};
-ghost use Rattle.gk_run.specs.Alone.{run_of};
+ghost use Rattle.gk_run.specs.Run.{run_of, run_value};
 ghost use Rattle.gk_run.specs.Chosen.{member_of, chosen_value, IsPaired};
 ghost use Rattle.gk_run.specs.Features as spec;
-ghost use Rattle.gk_run.specs.Features.{FeatureCuts, feature_of, case_statuses, feature_verdict};
-ghost use Rattle.gk_run.specs.Running.{IsSame, run_value, AreCases, IsSectionEnd, IsFeatureResult};
+ghost use Rattle.gk_run.specs.Features.{FeatureCuts, feature_of, case_statuses, feature_verdict, AreCases, IsSectionEnd, IsFeatureResult, IsCaseResult, IsBegun, EndsFeature};
+ghost use Rattle.gk_run.specs.Running.{IsSame};
 ghost use Rattle.gk_run.specs.Reserved.{members_in};
-ghost use Rattle.gk_run.specs.Calls.{IsCaseResult, IsBegun, EndsFeature};
 
 use crate::chosen::Chosen;
 use crate::cleanups::Cleanups;
 use crate::closing::close;
 use crate::ending::{Ending, around_status, has_passed, is_memory, worse};
-use crate::reserved::ReservedCases;
-use crate::reserving::reserve_cases;
+use crate::reserved::{ReservedCases, reserve_cases};
 use crate::results::{CaseResult, FeatureResult, Mark, NoRoom, Status};
 use crate::run::Run;
-use crate::running::{case_in, told_case};
-use crate::section_hooks::{Level, Section};
-use crate::walk::walk_before;
+use crate::running::{case_in, unrun_case};
+use crate::section::{Level, Section};
+use crate::section_hooks::walk_before;
 use gk_gherkin::HookFile;
 use gk_select::Case;
 use gk_steps::Library;
@@ -47,10 +45,10 @@ fn run_member(
     ensures same { IsSame sandbox.old sandbox.new }
 {
     if !selected {
-        return told_case(run.alloc, case, Status::Skipped, Mark::Skipped);
+        return unrun_case(run.alloc, case, Status::Skipped, Mark::Skipped);
     }
     if !is_open {
-        return told_case(run.alloc, case, Status::Untested, Mark::Untested);
+        return unrun_case(run.alloc, case, Status::Untested, Mark::Untested);
     }
     case_in(run, sandbox, case)
 }
@@ -62,13 +60,15 @@ pub fn both(a: bool, b: bool) -> bool
     a && b
 }
 
-fn either(a: bool, b: bool) -> bool
+/// Whether one of two holds.
+pub fn either(a: bool, b: bool) -> bool
     ensures { result ≡ (a || b) }
 {
     a || b
 }
 
-fn is_bad(status: Status) -> bool
+/// Whether a status is failed or memory.
+pub fn is_bad(status: Status) -> bool
     ensures { result ≡ spec.is_bad status }
 {
     matches!(status, Status::Failed | Status::Memory)
@@ -247,7 +247,7 @@ fn begin_feature(
     end
 }
 
-// Runs a feature that is begun, or tells the cases of one that isn't.
+// Runs a feature that is begun, or gives the results of the cases of one that isn't.
 fn feature_end(
     run: &Run<'_>,
     sandbox: &mut Sandbox,
@@ -310,8 +310,7 @@ pub(crate) fn feature_in(
 /// before hooks don't pass its selected cases are untested; with `stop`, so are those after one that is
 /// failed or memory. A feature without a selected case isn't begun. The sandbox is as it was,
 /// whatever is answered. `NoRoom` comes where results couldn't be reserved; the layers that were begun
-/// are ended. (behave's documentation: context layers, environment file functions, cleanups; this
-/// project's profile)
+/// are ended. (behave's documentation: context layers, environment file functions, cleanups)
 pub fn run_feature(
     alloc: Global,
     sandbox: &mut Sandbox,

@@ -14,12 +14,11 @@ mod features;
 mod judged;
 mod numbers;
 mod open_run;
-mod registering;
 mod reserved;
-mod reserving;
 mod results;
 mod run;
 mod running;
+mod section;
 mod section_hooks;
 mod walk;
 

@@ -3,7 +3,6 @@ ghost use Rattle.std.specs.Prelude.{◌≡◌};
 ghost use Rattle.gk_run.specs.Numbers as numbers;
 
 /// The number that a text is: all of it is an optional sign and ASCII digits, with a value in `i64`.
-/// (this project's profile)
 pub fn number_of(text: &str) -> Option<i64>
     ensures { result ≡ numbers.number_of text.now }
 {

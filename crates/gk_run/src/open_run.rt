@@ -1,5 +1,5 @@
 //! A run that was begun and isn't finished.
-ghost use Rattle.std.specs.Prelude.{◌≡◌, ◌<◌, ◌&&◌, Bool, suc, [], IfOk, OnErr};
+ghost use Rattle.std.specs.Prelude.{◌≡◌, ◌<◌, ◌&&◌, ◌||◌, Bool, suc, [], IfOk, OnErr};
 ghost use Rattle.gk_world.specs.State.{State, state_of, layers};
 ghost use Rattle.gk_world.specs.Sandbox.{depth, Ends};
 ghost use Rattle.gk_gherkin.specs.Hooks.{hooks_value};
@@ -8,36 +8,28 @@ ghost use Rattle.gk_run.specs.Cleanups.{cleanups_value};
 ghost use Rattle.gk_run.specs.Results.{feature_row};
 ghost use Rattle.gk_run.specs.Ending as endings;
 ghost use Rattle.gk_run.specs.SectionHooks.{begun};
-ghost use Rattle.gk_run.specs.Alone.{run_of};
+ghost use Rattle.gk_run.specs.Run.{run_of};
 ghost use Rattle.gk_run.specs.Chosen.{chosen_value, IsPaired};
-ghost use Rattle.gk_run.specs.Features.{stays_open_by};
-ghost use Rattle.gk_run.specs.Running.{IsSame, IsWalked, IsSectionEnd, IsFeatureResult};
+ghost use Rattle.gk_run.specs.Features.{is_bad, stays_open_by, IsSectionEnd, IsFeatureResult};
+ghost use Rattle.gk_run.specs.Running.{IsSame};
+ghost use Rattle.gk_run.specs.Walk.{IsWalked};
 ghost use Rattle.gk_run.specs.OpenRun.{IsStarted, IsKept, FinishedRunsAreJudged, UnfinishedRunsAreJudged};
+
+mod state;
 
 use crate::chosen::Chosen;
 use crate::cleanups::Cleanups;
-use crate::ending::{Ending, has_passed};
-use crate::features::{both, close_section, feature_in, stays_open};
+use crate::ending::has_passed;
+use crate::features::{both, close_section, either, feature_in, is_bad, stays_open};
 use crate::results::{FeatureResult, NoRoom, Status};
 use crate::run::Run;
-use crate::section_hooks::{Level, Section};
-use crate::walk::walk_before;
+use crate::section::{Level, Section};
+use crate::section_hooks::walk_before;
 use gk_gherkin::HookFile;
 use gk_steps::Library;
-use gk_world::{Layer, Sandbox, layers_enter};
+use gk_world::{Sandbox, layers_enter};
+pub use state::Suite;
 use std::alloc::Global;
-
-/// A run that was begun: its layer is open, and its before hook was run. It has to be finished.
-/// (behave's documentation: context layers, environment file functions)
-pub struct Suite {
-    layer: Layer,
-    // How the run's before list ended.
-    before: Ending,
-    cleanups: Cleanups,
-    stop: bool,
-    // Further features are begun.
-    is_open: bool,
-}
 
 impl Suite {
     /// Begins a run: its layer, and the before hook of all. Takes no memory but what the hook's steps
@@ -50,7 +42,7 @@ impl Suite {
         hooks: &HookFile,
         stop: bool,
     ) -> Suite
-        requires { depth sandbox.old < layers }
+        requires { suc (suc (depth sandbox.old)) < layers }
         ensures { IsStarted (run_of library.now hooks.now stop) sandbox.old sandbox.new result }
     {
         let run = Run {
@@ -73,14 +65,14 @@ impl Suite {
             before,
             cleanups,
             stop,
+            has_failed: false,
             is_open: has_passed(before),
         }
     }
 
     /// Runs a feature of the run, as `run_feature` does, where the before hook of all passed whole and
     /// the run hasn't stopped; else its selected cases are untested. The sandbox is as it was, whatever
-    /// is answered, and after `NoRoom` the run is still open. (behave's documentation: context layers;
-    /// this project's profile)
+    /// is answered, and after `NoRoom` the run is still open. (behave's documentation: context layers)
     pub fn feature(
         &mut self,
         alloc: Global,
@@ -89,15 +81,18 @@ impl Suite {
         hooks: &HookFile,
         chosen: Chosen,
     ) -> Result<FeatureResult, NoRoom>
-        requires layer { suc (depth sandbox.old) < layers }
+        requires innermost { self.old.layer ≡ depth sandbox.old }
         requires paired { IsPaired chosen }
         ensures row { IfOk result (λ r. IsFeatureResult
             (run_of library.now hooks.now self.old.stop) (state_of sandbox.old.now)
             self.old.is_open (chosen_value chosen) (feature_row r)) }
         ensures next { IfOk result (λ r. self.new.is_open
             ≡ (self.old.is_open && stays_open_by self.old.stop r.status)) }
+        ensures failed { IfOk result (λ r. self.new.has_failed
+            ≡ (self.old.has_failed || is_bad r.status)) }
         ensures kept { IsKept self.old self.new }
         ensures err { OnErr result (self.new.is_open ≡ self.old.is_open) }
+        ensures no_room { OnErr result (self.new.has_failed ≡ self.old.has_failed) }
         ensures same { IsSame sandbox.old sandbox.new }
     {
         let run = Run {
@@ -107,6 +102,7 @@ impl Suite {
             stop: self.stop,
         };
         let result = feature_in(&run, sandbox, self.is_open, chosen)?;
+        self.has_failed = either(self.has_failed, is_bad(result.status));
         self.is_open = both(self.is_open, stays_open(self.stop, result.status));
         Ok(result)
     }
@@ -135,6 +131,7 @@ impl Suite {
             before,
             cleanups,
             stop,
+            has_failed: _,
             is_open: _,
         } = self;
         let run = Run {
@@ -154,13 +151,13 @@ impl Suite {
 }
 
 /// A run that was begun, whose features were run, and that was finished has judged results: the
-/// features' results and what `Suite::finish` answers. (this project's profile)
+/// features' results and what `Suite::finish` answers.
 pub fn finished_runs_are_judged()
     ensures { FinishedRunsAreJudged }
 {}
 
 /// A run that was begun and isn't finished has results that begin judged results: those of the features
-/// that were run, whatever features come after them. (this project's profile)
+/// that were run, whatever features come after them.
 pub fn unfinished_runs_are_judged()
     ensures { UnfinishedRunsAreJudged }
 {}

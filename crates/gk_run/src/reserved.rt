@@ -1,9 +1,12 @@
 //! Cases and steps, with room reserved for their results.
 ghost use Rattle.std.specs.Prelude.{◌≡◌, ◌≤◌, [], length, vec_capacity};
 
+mod reserving;
+
 use crate::results::{CaseResult, StepResult};
 use gk_gherkin::Step;
 use gk_select::Case;
+pub use reserving::{reserve_case, reserve_cases};
 
 /// The heading of a case.
 #[derive(Drop)]

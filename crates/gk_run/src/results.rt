@@ -23,7 +23,7 @@ pub enum Status {
     Memory,
 }
 
-/// Why an action fails. (this project's profile)
+/// Why an action fails.
 #[derive(Clone, Copy, Debug, PartialEq, Eq)]
 pub enum Reason {
     /// There is no such file, variable or value.

@@ -6,19 +6,19 @@ ghost use Rattle.gk_world.specs.State.{State, state_of, enter, layers};
 ghost use Rattle.gk_world.specs.Sandbox.{depth};
 ghost use Rattle.gk_run.specs.Acting.{KeepsLayers};
 ghost use Rattle.gk_run.specs.Results.{step_row, case_row};
-ghost use Rattle.gk_run.specs.Alone.{run_of, told_row, row_of_step};
-ghost use Rattle.gk_run.specs.Running.{IsSame, IsReached, marks_of, run_value};
-ghost use Rattle.gk_run.specs.Calls.{EndsCase, row_with};
+ghost use Rattle.gk_run.specs.Run.{run_of, run_value};
+ghost use Rattle.gk_run.specs.Running.{unrun_row, IsSame, IsReached, marks_of, EndsCase, row_with};
+ghost use Rattle.gk_run.specs.Walk.{row_of_step};
 
 use crate::cleanups::Cleanups;
 use crate::closing::close;
 use crate::ending::{around_status, is_memory, verdict_status, worse};
-use crate::reserved::{Heading, ReservedCase, ReservedSteps};
-use crate::reserving::reserve_case;
+use crate::reserved::{Heading, ReservedCase, ReservedSteps, reserve_case};
 use crate::results::{CaseResult, Mark, NoRoom, Outcome, Status, StepResult};
 use crate::run::Run;
-use crate::section_hooks::{Level, Section};
-use crate::walk::{StepsEnd, row_of, run_steps, walk_before};
+use crate::section::{Level, Section};
+use crate::section_hooks::walk_before;
+use crate::walk::{StepsEnd, row_of, run_steps};
 use gk_gherkin::HookFile;
 use gk_select::Case;
 use gk_steps::Library;
@@ -121,7 +121,7 @@ pub(crate) fn case_in(
 /// refused in one of these, that event is `Memory`, those before it stay, and those after it don't
 /// happen. The sandbox is as it was, whatever is answered. `NoRoom` comes where memory is refused
 /// before the first of them. (behave's documentation: context layers, environment file functions,
-/// cleanups; this project's profile)
+/// cleanups)
 pub fn run_case(
     alloc: Global,
     sandbox: &mut Sandbox,
@@ -144,7 +144,7 @@ pub fn run_case(
 }
 
 // The results of steps that aren't run: each has this mark.
-fn told_steps(steps: ReservedSteps, mark: Mark) -> Vec<StepResult>
+fn unrun_steps(steps: ReservedSteps, mark: Mark) -> Vec<StepResult>
     ensures { map step_row result.items
         ≡ map (λ step. row_of_step step mark) (map step_value steps.steps.items) }
 {
@@ -156,14 +156,14 @@ fn told_steps(steps: ReservedSteps, mark: Mark) -> Vec<StepResult>
 }
 
 /// The result of a case in which nothing happens: it has this verdict, and each of its steps this mark.
-pub fn told_case(
+pub fn unrun_case(
     alloc: Global,
     case: Case,
     status: Status,
     mark: Mark,
 ) -> Result<CaseResult, NoRoom>
     ensures { IfOk result (λ r. case_row r
-        ≡ told_row (case_value case) status (marks_of mark (case_value case))) }
+        ≡ unrun_row (case_value case) status (marks_of mark (case_value case))) }
 {
     let reserved = reserve_case(alloc, case)?;
     let ReservedCase {
@@ -175,7 +175,7 @@ pub fn told_case(
         status,
         around: Status::Passed,
         cleanups: Vec::new(alloc),
-        steps: told_steps(steps, mark),
+        steps: unrun_steps(steps, mark),
     };
     Ok(case_result(heading, end))
 }

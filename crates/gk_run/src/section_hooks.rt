@@ -1,26 +1,20 @@
-//! The hooks of a section: of the run, of a feature, of a scenario.
-ghost use Rattle.std.specs.Prelude.{◌≡◌, None, Some, Option, option_copied, map};
+//! The hooks of a section, and the walks through them.
+ghost use Rattle.std.specs.Prelude.{◌≡◌, ◌<◌, None, Some, Option, option_copied, map};
 ghost use Rattle.gk_gherkin.specs.Feature.{step_value};
 ghost use Rattle.gk_gherkin.specs.Hooks.{hook_value, hooks_value};
+ghost use Rattle.gk_world.specs.Sandbox.{depth};
+ghost use Rattle.gk_run.specs.Acting.{KeepsLayers};
 ghost use Rattle.gk_run.specs.SectionHooks as spec;
+ghost use Rattle.gk_run.specs.SectionHooks.{WalksBefore, WalksTags, WalksAfter};
 
 use crate::acting::Site;
+use crate::cleanups::Cleanups;
+use crate::ending::{Ending, has_passed, is_memory, worse};
+use crate::run::Run;
+use crate::section::{Level, Section};
+use crate::walk::walk_hook;
 use gk_gherkin::{Hook, HookFile, HookKind, Step};
-
-/// What a section of a run is, which has a layer of its own. (behave's documentation: context layers)
-#[derive(Clone, Copy, Debug, PartialEq, Eq)]
-pub enum Level {
-    Run,
-    Feature,
-    Scenario,
-}
-
-/// A section of a run: its level, and the tags at its heading.
-#[derive(Clone, Copy)]
-pub struct Section<'a> {
-    pub level: Level,
-    pub tags: &'a [String],
-}
+use gk_world::Sandbox;
 
 /// The hook before a section.
 pub fn before_kind(level: Level) -> HookKind
@@ -112,4 +106,73 @@ pub fn hook_steps<'a>(hooks: &'a HookFile, kind: HookKind, tag: Option<&str>) ->
         }
     }
     &[]
+}
+
+/// Walks through a section's before list.
+pub fn walk_before(
+    run: &Run<'_>,
+    sandbox: &mut Sandbox,
+    cleanups: &mut Cleanups,
+    section: &Section<'_>,
+) -> Ending
+    requires begun { 0 < depth sandbox.old }
+    ensures walked { WalksBefore run.now section.now
+        sandbox.old cleanups.old result sandbox.new cleanups.new }
+    ensures layers { KeepsLayers sandbox.old sandbox.new }
+{
+    let site = before_site(section.level);
+    for tag in section.tags {
+        let steps = hook_steps(run.hooks, HookKind::BeforeTag, Some(tag.as_str()));
+        let ending = walk_hook(run, sandbox, cleanups, site, steps);
+        if !has_passed(ending) {
+            return ending;
+        }
+    }
+    let steps = hook_steps(run.hooks, before_kind(section.level), None);
+    walk_hook(run, sandbox, cleanups, site, steps)
+}
+
+// Walks through each after_tag hook by itself.
+fn walk_tags(
+    run: &Run<'_>,
+    sandbox: &mut Sandbox,
+    cleanups: &mut Cleanups,
+    tags: &[String],
+) -> Ending
+    requires begun { 0 < depth sandbox.old }
+    ensures walked { WalksTags run.now tags.now
+        sandbox.old cleanups.old result sandbox.new cleanups.new }
+    ensures layers { KeepsLayers sandbox.old sandbox.new }
+{
+    let mut ending = Ending::Passed;
+    for tag in tags {
+        let steps = hook_steps(run.hooks, HookKind::AfterTag, Some(tag.as_str()));
+        let this = walk_hook(run, sandbox, cleanups, Site::Hook, steps);
+        if is_memory(this) {
+            return this;
+        }
+        ending = worse(ending, this);
+    }
+    ending
+}
+
+/// Walks through each of a section's after lists by itself.
+pub fn walk_after(
+    run: &Run<'_>,
+    sandbox: &mut Sandbox,
+    cleanups: &mut Cleanups,
+    section: &Section<'_>,
+) -> Ending
+    requires begun { 0 < depth sandbox.old }
+    ensures layers { KeepsLayers sandbox.old sandbox.new }
+    ensures walked { WalksAfter run.now section.now
+        sandbox.old cleanups.old result sandbox.new cleanups.new }
+{
+    let steps = hook_steps(run.hooks, after_kind(section.level), None);
+    let first = walk_hook(run, sandbox, cleanups, Site::Hook, steps);
+    if is_memory(first) {
+        return first;
+    }
+    let others = walk_tags(run, sandbox, cleanups, section.tags);
+    worse(first, others)
 }

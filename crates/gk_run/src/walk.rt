@@ -5,22 +5,20 @@ ghost use Rattle.gk_world.specs.Sandbox.{depth};
 ghost use Rattle.gk_run.specs.Acting.{KeepsLayers};
 ghost use Rattle.gk_run.specs.Results.{step_row};
 ghost use Rattle.gk_run.specs.Walk as spec;
-ghost use Rattle.gk_run.specs.Alone.{row_of_step};
-ghost use Rattle.gk_run.specs.Calls.{Turns, WalksHook, WalksBefore, WalksTags, WalksAfter, LooksUp, TakesNext, RunsSteps};
+ghost use Rattle.gk_run.specs.Walk.{row_of_step, RunsStep, WalksHook, LooksUp, TakesNext, RunsSteps};
 
 use crate::acting::{Site, act};
 use crate::cleanups::Cleanups;
-use crate::ending::{Ending, ending_of, has_passed, is_memory, reason_of, status_of, worse};
+use crate::ending::{Ending, ending_of, has_passed, reason_of, status_of};
 use crate::reserved::ReservedSteps;
 use crate::results::{Mark, Outcome, StepResult};
 use crate::run::Run;
-use crate::section_hooks::{Section, after_kind, before_kind, before_site, hook_steps};
-use gk_gherkin::{HookKind, Step};
+use gk_gherkin::Step;
 use gk_world::Sandbox;
 use std::alloc::AllocError;
 
 // Carries a step out; none where no entry matches it.
-fn turn(
+fn run_step(
     run: &Run<'_>,
     sandbox: &mut Sandbox,
     cleanups: &mut Cleanups,
@@ -28,7 +26,7 @@ fn turn(
     step: &Step,
 ) -> Option<Outcome>
     requires begun { 0 < depth sandbox.old }
-    ensures turn { Turns run.now site step.now
+    ensures ran { RunsStep run.now site step.now
         sandbox.old cleanups.old result sandbox.new cleanups.new }
     ensures layers { KeepsLayers sandbox.old sandbox.new }
 {
@@ -50,8 +48,8 @@ fn turn(
     }
 }
 
-// Walks through the steps of a hook.
-fn walk_hook(
+/// Walks through the steps of a hook.
+pub fn walk_hook(
     run: &Run<'_>,
     sandbox: &mut Sandbox,
     cleanups: &mut Cleanups,
@@ -64,81 +62,12 @@ fn walk_hook(
     ensures layers { KeepsLayers sandbox.old sandbox.new }
 {
     for step in steps {
-        let ending = ending_of(turn(run, sandbox, cleanups, site, step));
+        let ending = ending_of(run_step(run, sandbox, cleanups, site, step));
         if !has_passed(ending) {
             return ending;
         }
     }
     Ending::Passed
-}
-
-/// Walks through a section's before list.
-pub fn walk_before(
-    run: &Run<'_>,
-    sandbox: &mut Sandbox,
-    cleanups: &mut Cleanups,
-    section: &Section<'_>,
-) -> Ending
-    requires begun { 0 < depth sandbox.old }
-    ensures walked { WalksBefore run.now section.now
-        sandbox.old cleanups.old result sandbox.new cleanups.new }
-    ensures layers { KeepsLayers sandbox.old sandbox.new }
-{
-    let site = before_site(section.level);
-    for tag in section.tags {
-        let steps = hook_steps(run.hooks, HookKind::BeforeTag, Some(tag.as_str()));
-        let ending = walk_hook(run, sandbox, cleanups, site, steps);
-        if !has_passed(ending) {
-            return ending;
-        }
-    }
-    let steps = hook_steps(run.hooks, before_kind(section.level), None);
-    walk_hook(run, sandbox, cleanups, site, steps)
-}
-
-// Walks through each after_tag hook by itself.
-fn walk_tags(
-    run: &Run<'_>,
-    sandbox: &mut Sandbox,
-    cleanups: &mut Cleanups,
-    tags: &[String],
-) -> Ending
-    requires begun { 0 < depth sandbox.old }
-    ensures walked { WalksTags run.now tags.now
-        sandbox.old cleanups.old result sandbox.new cleanups.new }
-    ensures layers { KeepsLayers sandbox.old sandbox.new }
-{
-    let mut ending = Ending::Passed;
-    for tag in tags {
-        let steps = hook_steps(run.hooks, HookKind::AfterTag, Some(tag.as_str()));
-        let this = walk_hook(run, sandbox, cleanups, Site::Hook, steps);
-        if is_memory(this) {
-            return this;
-        }
-        ending = worse(ending, this);
-    }
-    ending
-}
-
-/// Walks through each of a section's after lists by itself.
-pub fn walk_after(
-    run: &Run<'_>,
-    sandbox: &mut Sandbox,
-    cleanups: &mut Cleanups,
-    section: &Section<'_>,
-) -> Ending
-    requires begun { 0 < depth sandbox.old }
-    ensures walked { WalksAfter run.now section.now
-        sandbox.old cleanups.old result sandbox.new cleanups.new }
-    ensures layers { KeepsLayers sandbox.old sandbox.new }
-{
-    let steps = hook_steps(run.hooks, after_kind(section.level), None);
-    let first = walk_hook(run, sandbox, cleanups, Site::Hook, steps);
-    if is_memory(first) {
-        return first;
-    }
-    let others = walk_tags(run, sandbox, cleanups, section.tags);
-    worse(first, others)
 }
 
 /// What becomes of a step, and how the case stands after it.
@@ -148,10 +77,10 @@ struct Next {
     ending: Ending,
 }
 
-fn mark_of(turn: Option<Outcome>) -> Mark
-    ensures { result ≡ spec.mark_of turn }
+fn mark_of(outcome: Option<Outcome>) -> Mark
+    ensures { result ≡ spec.mark_of outcome }
 {
-    match turn {
+    match outcome {
         None => Mark::Undefined,
         Some(outcome) => Mark::Acted(outcome),
     }
@@ -193,10 +122,10 @@ fn next_step(
 {
     match ending {
         Ending::Passed => {
-            let turn = turn(run, sandbox, cleanups, Site::Step, step);
+            let outcome = run_step(run, sandbox, cleanups, Site::Step, step);
             Next {
-                mark: mark_of(turn),
-                ending: ending_of(turn),
+                mark: mark_of(outcome),
+                ending: ending_of(outcome),
             }
         }
         Ending::Failed => look_up(run, step),

@@ -1,11 +1,11 @@
 //! Actions on files.
-ghost use Rattle.std.specs.Prelude.{◌≡◌, bytes_eq, map};
+ghost use Rattle.std.specs.Prelude.{◌≡◌, [], ◌∷◌, bytes_eq, map};
 ghost use Rattle.std.specs.String.{string_bytes};
 ghost use Rattle.gk_gherkin.specs.Feature.{texts};
 ghost use Rattle.gk_steps.specs.declared.action.Action.TheVariants as actions;
 ghost use Rattle.gk_world.specs.State.{state_of};
 ghost use Rattle.gk_run.specs.Acting as words;
-ghost use Rattle.gk_run.specs.Acting.{IsActed, Performs, Checks};
+ghost use Rattle.gk_run.specs.Acting.{IsActed, IsActedWith, WritesFile, Performs, Checks};
 
 use crate::acting::{Arguments, exists, has_text, is_absent, is_text, outcome_of};
 use crate::results::{Outcome, Reason};
@@ -15,8 +15,9 @@ use std::alloc::{AllocError, Global};
 
 // A file has a text.
 fn put(sandbox: &mut Sandbox, name: &str, text: &str) -> Outcome
-    ensures { IsActed (words.write_file (state_of sandbox.old.now) name.now text.now)
+    ensures acted { IsActed (words.write_file (state_of sandbox.old.now) name.now text.now)
         sandbox.old result sandbox.new }
+    ensures written { WritesFile (name.now, text.now) sandbox.old result sandbox.new }
 {
     outcome_of(sandbox.put_file(name, text))
 }
@@ -55,7 +56,8 @@ pub fn remove_file(sandbox: &mut Sandbox, arguments: &Arguments<'_>) -> Outcome
 
 // A text is written under the new name, and then the old name is removed.
 fn put_and_remove(sandbox: &mut Sandbox, name: &str, to: &str, text: &str) -> Outcome
-    ensures { IsActed (words.put_and_remove (state_of sandbox.old.now) name.now to.now text.now)
+    ensures { IsActedWith ((to.now, text.now) ∷ [])
+        (words.put_and_remove (state_of sandbox.old.now) name.now to.now text.now)
         sandbox.old result sandbox.new }
 {
     let written = put(sandbox, to, text);
@@ -114,8 +116,9 @@ fn have_two_cells(rows: &[Vec<String>]) -> bool
 
 // A row as a file that is written.
 fn write_row(sandbox: &mut Sandbox, row: &[String]) -> Outcome
-    ensures { IsActed (words.write_row (state_of sandbox.old.now) (texts row.now))
+    ensures acted { IsActed (words.write_row (state_of sandbox.old.now) (texts row.now))
         sandbox.old result sandbox.new }
+    ensures written { WritesFile (words.row_file (texts row.now)) sandbox.old result sandbox.new }
 {
     match row {
         [name, text] => put(sandbox, name.as_str(), text.as_str()),
@@ -125,7 +128,7 @@ fn write_row(sandbox: &mut Sandbox, row: &[String]) -> Outcome
 
 // Each row in turn as a file that is written.
 fn write_rows(sandbox: &mut Sandbox, rows: &[Vec<String>]) -> Outcome
-    ensures { IsActed
+    ensures { IsActedWith (map words.row_file (map (λ row. texts row.items) rows.now))
         (words.write_rows (state_of sandbox.old.now) (map (λ row. texts row.items) rows.now))
         sandbox.old result sandbox.new }
 {

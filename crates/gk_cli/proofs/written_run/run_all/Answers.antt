@@ -1,6 +1,6 @@
 use Rattle.std.proofs.Common.{Bool, List, map, refl, subst, sym}
 use Rattle.gk_world.specs.State.{state_of}
-use Rattle.gk_run.specs.Alone.{run_of}
+use Rattle.gk_run.specs.Run.{run_of}
 use Rattle.gk_run.specs.Results.{FeatureRow}
 use Rattle.gk_run.specs.Chosen.{ChosenValue, chosen_value}
 use Rattle.gk_run.specs.OpenRun.{AreFeatures}

@@ -1,8 +1,8 @@
-use Rattle.std.proofs.Common.{◌≡◌, ◌<◌, ◌∷◌, [], ◌∙◌, Bool, List, suc, length, map, arith, ap, sym, subst, refl}
+use Rattle.std.proofs.Common.{◌≡◌, ◌∷◌, [], ◌∙◌, Bool, List, length, map, arith, ap, sym, subst, refl}
 use Rattle.std.specs.List.{AllByRecursion}
 use Rattle.std.specs.Vec.Iter.{into_iter_items}
-use Rattle.gk_world.specs.State.{state_of, layers}
-use Rattle.gk_run.specs.Alone.{run_of}
+use Rattle.gk_world.specs.State.{state_of}
+use Rattle.gk_run.specs.Run.{run_of}
 use Rattle.gk_run.specs.Chosen.{ChosenValue, chosen_value, IsPaired}
 use Rattle.gk_run.specs.Features.{stays_open_by}
 use Rattle.gk_run.specs.OpenRun.{AreFeatures}
@@ -32,8 +32,8 @@ loop-feature-init g c =
       counted = let l = c.into_iter-feature-iterator.ensures.into_iter_gives.1 in let v = c.args.features.ok.0 in let f = ap length here in omega arith;
     }
 
-pub run_next-requires-clause-layer : goal.run_next-requires-clause-layer
-run_next-requires-clause-layer g c = subst (λ saved. suc (length saved) < layers) (sym c.loop-feature.invariant.same.saved) c.requires.layer
+pub run_next-requires-clause-innermost : goal.run_next-requires-clause-innermost
+run_next-requires-clause-innermost g c = c.loop-feature.invariant.kept.layer ∙ c.requires.innermost ∙ ap length (sym c.loop-feature.invariant.same.saved)
 
 pub run_next-requires-clause-paired : goal.run_next-requires-clause-paired
 run_next-requires-clause-paired g c =

@@ -2,7 +2,7 @@ use Rattle.std.proofs.Common.{◌≡◌, true, map, length}
 use Rattle.std.specs.List.{AllByRecursion}
 use Rattle.std.specs.Vec.Iter.{into_iter_items, into_iter_len}
 use Rattle.gk_world.specs.State.{state_of}
-use Rattle.gk_run.specs.Alone.{run_of}
+use Rattle.gk_run.specs.Run.{run_of}
 use Rattle.gk_run.specs.Chosen.{chosen_value, IsPaired}
 use Rattle.gk_run.specs.Running.{IsSame}
 use Rattle.gk_run.specs.OpenRun.{IsKept}

@@ -1,5 +1,5 @@
 use Rattle.std.proofs.Common.{◌≡◌, Bool, map, ap, sym, subst}
-use Rattle.gk_run.specs.Alone.{Run, run_of}
+use Rattle.gk_run.specs.Run.{Run, run_of}
 use Rattle.gk_run.specs.Chosen.{chosen_value}
 use Rattle.gk_cli.specs.Inputs.{inputs_value}
 use Rattle.gk_cli.specs.Suite.{device_of, run_by}

@@ -1,4 +1,4 @@
-use Rattle.std.proofs.Common.{ap, cond, ◌∙◌, sym, subst}
+use Rattle.std.proofs.Common.{ap, cond, ◌∙◌, sym, subst, refl}
 use Rattle.gk_gherkin.specs.Feature.{block_value}
 use Rattle.gk_steps.specs.declared.action.Action.TheVariants as actions
 use Rattle.gk_steps.specs.Finding.{library_value, found_value, action_of}
@@ -6,7 +6,7 @@ use Rattle.gk_world.specs.State.{state_of}
 use Rattle.gk_run.specs.declared.results.Reason.TheVariants as reasons
 use Rattle.gk_run.specs.Acting.{Acted, Given, registers_at, NeedsCandidate, skips, fails, done_of, may_skip, carried_out, IsDone, IsExactly, HasRegistered}
 use Rattle.gk_run.specs.Cleanups.{cleanups_value}
-use Rattle.gk_run.proofs.ActingLemmas.{act_is, act_row_is, row_by, none_registered, skip_exact, exact_done}
+use Rattle.gk_run.proofs.ActingLemmas.{act_is, act_row_is, row_by, none_registered, skip_exact, exact_done, none_written}
 use Rattle.gk_run.proofs.acting.act.Goals as goal
 
 pub returns-in-AtCleanup-clause-done : goal.returns-in-AtCleanup-clause-done
@@ -28,6 +28,12 @@ returns-in-AtCleanup-clause-registered c =
 pub returns-in-AtCleanup-clause-memory : goal.returns-in-AtCleanup-clause-memory
 returns-in-AtCleanup-clause-memory c _ =
     subst (λ (g : Given). NeedsCandidate (library_value c.args.library.now) g.step c.at_cleanup.result) c.arguments_of-arguments.ensures c.at_cleanup.ensures.memory
+
+pub returns-in-AtCleanup-clause-kept : goal.returns-in-AtCleanup-clause-kept
+returns-in-AtCleanup-clause-kept c _ = none_written _ _ _ refl
+
+pub returns-in-SkipScenario-clause-kept : goal.returns-in-SkipScenario-clause-kept
+returns-in-SkipScenario-clause-kept c _ = none_written _ _ _ refl
 
 pub returns-in-SkipScenario-clause-done : goal.returns-in-SkipScenario-clause-done
 returns-in-SkipScenario-clause-done c =
@@ -66,5 +72,6 @@ returns-in_default c =
       exact = λ nothing. subst (λ (acted : Acted). IsExactly (done_of acted) o new) is (c.carry_out.ensures.exact nothing);
       registered = subst (λ (acted : Acted). HasRegistered acted (cleanups_value c.args.cleanups.now) o (cleanups_value c.args.cleanups.now)) is (none_registered (carried_out library f block s) (cleanups_value c.args.cleanups.now) o);
       memory = λ is. absurd (c.in_default.not-AtCleanup (c.action.ensures ∙ is));
+      kept = c.carry_out.ensures.kept;
       layers = c.carry_out.ensures.layers;
     }

@@ -5,9 +5,8 @@ use Rattle.gk_world.specs.State.{state_of}
 use Rattle.gk_run.specs.declared.ending.Ending.{Ending}
 use Rattle.gk_run.specs.declared.cleanups.Cleanup.{Cleanup}
 use Rattle.gk_run.specs.Cleanups.{cleanup_value}
-use Rattle.gk_run.specs.Closing.{cleaned}
+use Rattle.gk_run.specs.Closing.{cleaned, IsCleaned}
 use Rattle.gk_run.specs.Ending.{worse}
-use Rattle.gk_run.specs.Running.{IsCleaned}
 use Rattle.gk_run.proofs.Nothing.{nothing_in}
 use Rattle.gk_run.proofs.CleanLemmas.{GoesClean, clean_on, clean_off, clean_done}
 use Rattle.gk_run.proofs.closing.clean_all.Goals as goal

@@ -9,10 +9,10 @@ use Rattle.gk_run.specs.declared.results.Mark.TheVariants.{Acted}
 use Rattle.gk_run.specs.declared.results.Outcome.{Outcome}
 use Rattle.gk_run.specs.Acting.{CleanupValue}
 use Rattle.gk_run.specs.Cleanups.{cleanups_value}
-use Rattle.gk_run.specs.Closing.{Closing, cleaned, closing}
+use Rattle.gk_run.specs.Closing.{Closing, cleaned, closing, IsCleaned, IsClosed}
 use Rattle.gk_run.specs.Ending.{ended_of, worse}
 use Rattle.gk_run.specs.SectionHooks.{after_lists, walk_each}
-use Rattle.gk_run.specs.Running.{IsCleaned, IsClosed, IsWalked}
+use Rattle.gk_run.specs.Walk.{IsWalked}
 use Rattle.gk_run.proofs.EndingLemmas.{ended_append, is_memory, not_memory}
 use Rattle.gk_run.proofs.WalkLemmas.{exact}
 use Rattle.gk_run.proofs.closing.close.Goals as goal

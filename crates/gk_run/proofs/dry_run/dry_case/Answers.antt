@@ -6,7 +6,7 @@ use Rattle.gk_run.specs.declared.reserved.Heading.{Heading}
 use Rattle.gk_run.specs.declared.results.Outcome.{Outcome}
 use Rattle.gk_run.specs.declared.results.Status.TheVariants as statuses
 use Rattle.gk_run.specs.Results.{CaseRow, step_row}
-use Rattle.gk_run.specs.Calls.{row_with}
+use Rattle.gk_run.specs.Running.{row_with}
 use Rattle.gk_run.specs.DryRun.{AreDrySteps}
 use Rattle.gk_run.proofs.DryRunLemmas.{dry_is}
 use Rattle.gk_run.proofs.dry_run.dry_case.Goals as goal

@@ -4,7 +4,7 @@ use Rattle.std.proofs.lemmas.List.{map_push}
 use Rattle.gk_gherkin.specs.Feature.{StepValue, step_value}
 use Rattle.gk_steps.specs.Finding.{library_value}
 use Rattle.gk_run.specs.Results.{StepRow, step_row}
-use Rattle.gk_run.specs.Alone.{row_of_step}
+use Rattle.gk_run.specs.Walk.{row_of_step}
 use Rattle.gk_run.proofs.DryRunLemmas.{GoesDrySteps, dry_steps_first, dry_steps_on, dry_steps_last}
 use Rattle.gk_run.proofs.Nothing.{nothing_in}
 use Rattle.gk_run.proofs.dry_run.dry_steps.Goals as goal

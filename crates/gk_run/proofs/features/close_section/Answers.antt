@@ -7,8 +7,9 @@ use Rattle.gk_run.specs.declared.results.Status.TheVariants as statuses
 use Rattle.gk_run.specs.Cleanups.{cleanups_value}
 use Rattle.gk_run.specs.Ending.{has_passed, around_status}
 use Rattle.gk_run.specs.SectionHooks.{begun}
-use Rattle.gk_run.specs.Alone.{run_of}
-use Rattle.gk_run.specs.Running.{IsWalked, IsSectionEnd}
+use Rattle.gk_run.specs.Run.{run_of}
+use Rattle.gk_run.specs.Walk.{IsWalked}
+use Rattle.gk_run.specs.Features.{IsSectionEnd}
 use Rattle.gk_run.proofs.EndingLemmas.{not_memory, is_memory}
 use Rattle.gk_run.proofs.SectionLemmas.{section_in_before, section_closed}
 use Rattle.gk_run.proofs.features.close_section.Goals as goal

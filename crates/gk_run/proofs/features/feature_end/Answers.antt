@@ -1,9 +1,9 @@
 use Rattle.std.proofs.Common.{map}
 use Rattle.gk_gherkin.specs.Feature.{texts}
 use Rattle.gk_world.specs.State.{state_of}
-use Rattle.gk_run.specs.declared.section_hooks.Level.TheVariants as levels
+use Rattle.gk_run.specs.declared.section.Level.TheVariants as levels
 use Rattle.gk_run.specs.Results.{case_row}
-use Rattle.gk_run.specs.Alone.{run_of}
+use Rattle.gk_run.specs.Run.{run_of}
 use Rattle.gk_run.specs.Reserved.{members_in}
 use Rattle.gk_run.proofs.CasesLemmas.{not_begun}
 use Rattle.gk_run.proofs.features.feature_end.Goals as goal

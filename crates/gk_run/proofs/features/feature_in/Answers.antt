@@ -4,12 +4,12 @@ use Rattle.gk_gherkin.specs.Feature.{texts}
 use Rattle.gk_select.specs.declared.case.Case.{Case}
 use Rattle.gk_world.specs.State.{state_of}
 use Rattle.gk_run.specs.declared.results.CaseResult.{CaseResult}
-use Rattle.gk_run.specs.declared.section_hooks.Level.TheVariants as levels
+use Rattle.gk_run.specs.declared.section.Level.TheVariants as levels
 use Rattle.gk_run.specs.Results.{case_row}
 use Rattle.gk_run.specs.Chosen.{MemberValue, members_of, chosen_value, has_selected}
-use Rattle.gk_run.specs.Features.{feature_verdict, case_statuses}
+use Rattle.gk_run.specs.Features.{feature_verdict, case_statuses, IsFeatureEnd}
 use Rattle.gk_run.specs.Reserved.{members_in}
-use Rattle.gk_run.specs.Running.{IsFeatureEnd, run_value}
+use Rattle.gk_run.specs.Run.{run_value}
 use Rattle.gk_run.proofs.CasesLemmas.{feature_is, selected_any}
 use Rattle.gk_run.proofs.features.feature_in.Goals as goal
 

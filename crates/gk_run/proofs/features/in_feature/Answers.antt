@@ -1,15 +1,14 @@
 use Rattle.std.proofs.Common.{List, map, sym, ap, subst}
 use Rattle.gk_gherkin.specs.Feature.{texts}
 use Rattle.gk_world.specs.State.{State, state_of, enter}
-use Rattle.gk_run.specs.declared.section_hooks.Level.TheVariants as levels
+use Rattle.gk_run.specs.declared.section.Level.TheVariants as levels
 use Rattle.gk_run.specs.Results.{case_row}
 use Rattle.gk_run.specs.Acting.{CleanupValue}
 use Rattle.gk_run.specs.Cleanups.{cleanups_value}
-use Rattle.gk_run.specs.Walk.{walk}
+use Rattle.gk_run.specs.Walk.{walk, IsWalked}
 use Rattle.gk_run.specs.SectionHooks.{begun, before_site, before_list}
-use Rattle.gk_run.specs.Alone.{run_of}
+use Rattle.gk_run.specs.Run.{run_of}
 use Rattle.gk_run.specs.Reserved.{members_in}
-use Rattle.gk_run.specs.Running.{IsWalked}
 use Rattle.gk_run.proofs.CasesLemmas.{feature_ends}
 use Rattle.gk_run.proofs.features.in_feature.Goals as goal
 

@@ -2,10 +2,9 @@ use Rattle.std.proofs.Common.{◌≡◌, true, refl}
 use Rattle.gk_world.specs.State.{state_of}
 use Rattle.gk_run.specs.declared.results.FeatureResult.{FeatureResult}
 use Rattle.gk_run.specs.Results.{feature_row}
-use Rattle.gk_run.specs.Alone.{run_of}
+use Rattle.gk_run.specs.Run.{run_of}
 use Rattle.gk_run.specs.Chosen.{chosen_value}
-use Rattle.gk_run.specs.Features.{FeatureCuts, feature_of}
-use Rattle.gk_run.specs.Running.{IsFeatureResult}
+use Rattle.gk_run.specs.Features.{FeatureCuts, feature_of, IsFeatureResult}
 use Rattle.gk_run.proofs.CasesLemmas.{if_ok}
 use Rattle.gk_run.proofs.features.run_feature.Goals as goal
 

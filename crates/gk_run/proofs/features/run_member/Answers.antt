@@ -5,10 +5,10 @@ use Rattle.gk_run.specs.declared.results.Mark.TheVariants as marks
 use Rattle.gk_run.specs.declared.results.Status.TheVariants as statuses
 use Rattle.gk_run.specs.Results.{case_row}
 use Rattle.gk_run.specs.Section.{Cut, nowhere}
-use Rattle.gk_run.specs.Alone.{run_of, told_row}
+use Rattle.gk_run.specs.Run.{run_of}
+use Rattle.gk_run.specs.Running.{unrun_row, IsReached, marks_of}
 use Rattle.gk_run.specs.Chosen.{member_of}
 use Rattle.gk_run.specs.Features.{case_of}
-use Rattle.gk_run.specs.Running.{IsReached, marks_of}
 use Rattle.gk_run.proofs.CasesLemmas.{if_ok, reached_is, unselected_is, unreached_is}
 use Rattle.gk_run.proofs.features.run_member.Goals as goal
 
@@ -16,17 +16,17 @@ pub returns-then-not-selected-clause-row : goal.returns-then-not-selected-clause
 returns-then-not-selected-clause-row c =
     let run = run_of c.args.run.now.library.now c.args.run.now.hooks.now c.args.run.now.stop in
     let m = member_of c.args.case c.args.selected in
-    if_ok (λ (r : CaseResult). case_row r ≡ told_row m.scenario statuses.Skipped (marks_of marks.Skipped m.scenario))
+    if_ok (λ (r : CaseResult). case_row r ≡ unrun_row m.scenario statuses.Skipped (marks_of marks.Skipped m.scenario))
     (λ (r : CaseResult). (section : State) → (c.args.is_open ≡ true → state_of c.args.sandbox.now.now ≡ section) → (x : Cut) × (case_row r ≡ case_of run section c.args.is_open x m))
-    c.told_case.result (λ r e section opens. (nowhere, unselected_is run section c.args.is_open m (case_row r) c.if-not-selected.true e)) c.told_case.ensures
+    c.unrun_case.result (λ r e section opens. (nowhere, unselected_is run section c.args.is_open m (case_row r) c.if-not-selected.true e)) c.unrun_case.ensures
 
 pub returns-then-not-is_open-clause-row : goal.returns-then-not-is_open-clause-row
 returns-then-not-is_open-clause-row c =
     let run = run_of c.args.run.now.library.now c.args.run.now.hooks.now c.args.run.now.stop in
     let m = member_of c.args.case c.args.selected in
-    if_ok (λ (r : CaseResult). case_row r ≡ told_row m.scenario statuses.Untested (marks_of marks.Untested m.scenario))
+    if_ok (λ (r : CaseResult). case_row r ≡ unrun_row m.scenario statuses.Untested (marks_of marks.Untested m.scenario))
     (λ (r : CaseResult). (section : State) → (c.args.is_open ≡ true → state_of c.args.sandbox.now.now ≡ section) → (x : Cut) × (case_row r ≡ case_of run section c.args.is_open x m))
-    c.told_case-then-not-is_open.result (λ r e section opens. (nowhere, unreached_is run section c.args.is_open m (case_row r) c.if-not-selected.false c.if-not-is_open.true e)) c.told_case-then-not-is_open.ensures
+    c.unrun_case-then-not-is_open.result (λ r e section opens. (nowhere, unreached_is run section c.args.is_open m (case_row r) c.if-not-selected.false c.if-not-is_open.true e)) c.unrun_case-then-not-is_open.ensures
 
 pub returns-clause-row : goal.returns-clause-row
 returns-clause-row c =

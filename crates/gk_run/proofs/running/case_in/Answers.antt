@@ -4,8 +4,8 @@ use Rattle.gk_select.specs.Case.{case_value}
 use Rattle.gk_world.specs.State.{state_of, enter}
 use Rattle.gk_run.specs.declared.reserved.Heading.{Heading}
 use Rattle.gk_run.specs.Results.{CaseRow, step_row}
-use Rattle.gk_run.specs.Calls.{row_with}
-use Rattle.gk_run.specs.Running.{IsCaseEnd, IsReached, ran, run_value}
+use Rattle.gk_run.specs.Running.{row_with, IsCaseEnd, IsReached, ran}
+use Rattle.gk_run.specs.Run.{run_value}
 use Rattle.gk_run.proofs.SectionLemmas.{row_is}
 use Rattle.gk_run.proofs.running.case_in.Goals as goal
 

@@ -6,7 +6,7 @@ use Rattle.gk_steps.specs.Finding.{library_value}
 use Rattle.gk_world.specs.State.{state_of}
 use Rattle.gk_run.specs.Cleanups.{cleanups_value}
 use Rattle.gk_run.specs.Results.{StepRow, step_row}
-use Rattle.gk_run.specs.Alone.{row_of_step}
+use Rattle.gk_run.specs.Walk.{row_of_step}
 use Rattle.gk_run.proofs.StepsLemmas.{GoesSteps, steps_first, steps_on, steps_last}
 use Rattle.gk_run.proofs.Nothing.{nothing_in}
 use Rattle.gk_run.proofs.walk.run_steps.Goals as goal

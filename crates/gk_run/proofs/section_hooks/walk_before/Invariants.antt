@@ -7,7 +7,7 @@ use Rattle.gk_run.specs.Acting.{KeepsLayers}
 use Rattle.gk_run.specs.Cleanups.{cleanups_value}
 use Rattle.gk_run.specs.SectionHooks.{before_site}
 use Rattle.gk_run.proofs.WalkLemmas.{GoesBefore}
-use Rattle.gk_run.proofs.walk.walk_before.Given as goal
+use Rattle.gk_run.proofs.section_hooks.walk_before.Given as goal
 
 -- whatever the before list of the tags that are left comes to, that of all comes to
 abbrev pub invariant-loop-tag : goal.invariant-loop-tag

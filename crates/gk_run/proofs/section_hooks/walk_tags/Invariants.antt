@@ -6,7 +6,7 @@ use Rattle.gk_world.specs.State.{state_of}
 use Rattle.gk_run.specs.Acting.{KeepsLayers}
 use Rattle.gk_run.specs.Cleanups.{cleanups_value}
 use Rattle.gk_run.proofs.WalkLemmas.{GoesEach}
-use Rattle.gk_run.proofs.walk.walk_tags.Given as goal
+use Rattle.gk_run.proofs.section_hooks.walk_tags.Given as goal
 
 -- whatever the lists of the tags that are left come to, those of all come to
 abbrev pub invariant-loop-tag : goal.invariant-loop-tag

@@ -2,8 +2,8 @@ use Rattle.std.proofs.Common.{◌≡◌, ◌+◌, ◌≤◌, ◌++◌, map, leng
 use Rattle.std.specs.Vec.Iter.{into_iter_items, into_iter_len}
 use Rattle.gk_gherkin.specs.Feature.{StepValue, step_value}
 use Rattle.gk_run.specs.Results.{step_row}
-use Rattle.gk_run.specs.Alone.{row_of_step}
-use Rattle.gk_run.proofs.running.told_steps.Given as goal
+use Rattle.gk_run.specs.Walk.{row_of_step}
+use Rattle.gk_run.proofs.running.unrun_steps.Given as goal
 
 -- the rows so far and those of the steps that are left are those of all
 abbrev pub invariant-loop-step : goal.invariant-loop-step

@@ -1,5 +1,5 @@
 use Rattle.std.proofs.Common.{rules}
-use Rattle.gk_run.proofs.open_run.Suite.start.Goals as goal
+use Rattle.gk_run.proofs.open_run.state.Suite.start.Goals as goal
 
 pub returns : goal.returns
 returns c = record {
@@ -7,6 +7,7 @@ returns c = record {
   walked = search rules;
   opened = search rules;
   stops = search rules;
+  unfailed = search rules;
   layer = search rules;
   saved = search rules;
   marks = search rules;

@@ -2,7 +2,7 @@ use Rattle.std.proofs.Common.{◌≡◌, ◌∙◌, ◌∷◌, [], List, Vec, St
 use Rattle.std.specs.List.{AllZip}
 use Rattle.std.specs.String.{string_bytes}
 use Rattle.gk_gherkin.specs.Feature.{Table, block_value, texts}
-use Rattle.gk_run.proofs.registering.copy_block.Goals as goal
+use Rattle.gk_run.proofs.cleanups.registering.copy_block.Goals as goal
 
 -- what is cloned says the same
 texts_cloned : (xs ys : List (String Global)) → AllZip (λ x y. string_bytes y ≡ string_bytes x) xs ys → texts ys ≡ texts xs

@@ -6,50 +6,35 @@ use Rattle.gk_steps.specs.Finding.{library_value}
 use Rattle.gk_world.specs.State.{state_of}
 use Rattle.gk_run.specs.declared.acting.Site.{Site}
 use Rattle.gk_run.specs.Cleanups.{cleanups_value}
-use Rattle.gk_run.specs.Walk.{walk}
+use Rattle.gk_run.specs.Walk.{walk, IsWalked}
 use Rattle.gk_run.specs.SectionHooks.{before_site, before_kind, hook_steps}
-use Rattle.gk_run.specs.Running.{IsWalked}
-use Rattle.gk_run.proofs.WalkLemmas.{before_on, before_off, before_done, drop_next, drop_none}
-use Rattle.gk_run.proofs.walk.walk_before.Goals as goal
+use Rattle.gk_run.proofs.WalkLemmas.{before_on, before_off, before_done, drop_next, drop_none, walked_at}
+use Rattle.gk_run.proofs.section_hooks.walk_before.Goals as goal
 
 pub returns-then-not-has_passed-clause-walked : goal.returns-then-not-has_passed-clause-walked
 returns-then-not-has_passed-clause-walked c =
-    let library = library_value c.args.run.now.library.now in
     let hooks = hooks_value c.args.run.now.hooks.now in
+    let level = c.args.section.now.level in
     let tags = c.args.section.now.tags.now in
     let i = c.loop-tag.tag-index in
     let tag = c.tag-item.result in
-    let s = state_of c.loop-tag.sandbox.now in
-    let cs = cleanups_value c.loop-tag.cleanups in
-    let this = c.walk_hook-ending.result in
-    let new = state_of c.walk_hook-ending.new.sandbox.now in
-    let left = cleanups_value c.walk_hook-ending.new.cleanups in
-    let site = before_site c.args.section.now.level in
     let steps = c.hook_steps-steps.ensures ∙ ap (λ (t : List ℕ). hook_steps hooks kinds.BeforeTag (Some t)) c.as_str.ensures.value in
-    let walked = subst (λ (xs : List StepValue). IsWalked (walk library site s cs xs) this new left) steps
-    (subst (λ (x : Site). IsWalked (walk library x s cs (map step_value c.hook_steps-steps.result.now)) this new left) c.before_site-site.ensures c.walk_hook-ending.ensures.walked) in
-    before_off library site hooks c.args.section.now.level (state_of c.args.sandbox.now.now) (cleanups_value c.args.cleanups.now) (texts tags) (texts (drop i tags)) (texts (drop (i + 1) tags)) (string_bytes tag) s new cs left this
-    (drop_next string_bytes tags i tag c.loop-tag-test.true c.tag-item.is) walked (sym c.has_passed.ensures ∙ c.if-not-has_passed.true) c.loop-tag.invariant.goes
+    before_off _ _ hooks level _ _ (texts tags) (texts (drop i tags)) (texts (drop (i + 1) tags)) (string_bytes tag) _ _ _ _ _
+    (drop_next string_bytes tags i tag c.loop-tag-test.true c.tag-item.is) (walked_at _ _ _ _ _ _ _ _ _ _ c.before_site-site.ensures steps c.walk_hook-ending.ensures.walked)
+    (sym c.has_passed.ensures ∙ c.if-not-has_passed.true) c.loop-tag.invariant.goes
 
 pub loop-tag-preserved : goal.loop-tag-preserved
 loop-tag-preserved c =
-    let library = library_value c.args.run.now.library.now in
     let hooks = hooks_value c.args.run.now.hooks.now in
+    let level = c.args.section.now.level in
     let tags = c.args.section.now.tags.now in
     let i = c.loop-tag.tag-index in
     let tag = c.tag-item.result in
-    let s = state_of c.loop-tag.sandbox.now in
-    let cs = cleanups_value c.loop-tag.cleanups in
-    let this = c.walk_hook-ending.result in
-    let new = state_of c.walk_hook-ending.new.sandbox.now in
-    let left = cleanups_value c.walk_hook-ending.new.cleanups in
-    let site = before_site c.args.section.now.level in
     let steps = c.hook_steps-steps.ensures ∙ ap (λ (t : List ℕ). hook_steps hooks kinds.BeforeTag (Some t)) c.as_str.ensures.value in
-    let walked = subst (λ (xs : List StepValue). IsWalked (walk library site s cs xs) this new left) steps
-    (subst (λ (x : Site). IsWalked (walk library x s cs (map step_value c.hook_steps-steps.result.now)) this new left) c.before_site-site.ensures c.walk_hook-ending.ensures.walked) in
     record {
-      goes = before_on library site hooks c.args.section.now.level (state_of c.args.sandbox.now.now) (cleanups_value c.args.cleanups.now) (texts tags) (texts (drop i tags)) (texts (drop (i + 1) tags)) (string_bytes tag) s new cs left this
-          (drop_next string_bytes tags i tag c.loop-tag-test.true c.tag-item.is) walked (sym c.has_passed.ensures ∙ c.if-not-has_passed.false) c.loop-tag.invariant.goes;
+      goes = before_on _ _ hooks level _ _ (texts tags) (texts (drop i tags)) (texts (drop (i + 1) tags)) (string_bytes tag) _ _ _ _ _
+          (drop_next string_bytes tags i tag c.loop-tag-test.true c.tag-item.is) (walked_at _ _ _ _ _ _ _ _ _ _ c.before_site-site.ensures steps c.walk_hook-ending.ensures.walked)
+          (sym c.has_passed.ensures ∙ c.if-not-has_passed.false) c.loop-tag.invariant.goes;
       layers = record { saved = c.walk_hook-ending.ensures.layers.saved ∙ c.loop-tag.invariant.layers.saved; marks = c.walk_hook-ending.ensures.layers.marks ∙ c.loop-tag.invariant.layers.marks };
     }
 

@@ -6,12 +6,11 @@ use Rattle.gk_world.specs.State.{state_of}
 use Rattle.gk_run.specs.declared.acting.Site.TheVariants as sites
 use Rattle.gk_run.specs.declared.ending.Ending.{Ending}
 use Rattle.gk_run.specs.Cleanups.{cleanups_value}
-use Rattle.gk_run.specs.Walk.{walk}
+use Rattle.gk_run.specs.Walk.{walk, IsWalked}
 use Rattle.gk_run.specs.SectionHooks.{hook_steps, after_kind, tag_lists, after_lists, walk_each}
-use Rattle.gk_run.specs.Running.{IsWalked}
 use Rattle.gk_run.proofs.EndingLemmas.{not_memory, is_memory}
 use Rattle.gk_run.proofs.WalkLemmas.{each_on, each_off}
-use Rattle.gk_run.proofs.walk.walk_after.Goals as goal
+use Rattle.gk_run.proofs.section_hooks.walk_after.Goals as goal
 
 pub returns-then-is_memory-clause-walked : goal.returns-then-is_memory-clause-walked
 returns-then-is_memory-clause-walked c =

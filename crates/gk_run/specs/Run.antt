@@ -1,0 +1,24 @@
+-- What stays the same during a run.
+use Rattle.std.specs.Prelude.{Bool, false, List}
+use Rattle.gk_gherkin.specs.Hooks.{HookValue, hooks_value}
+use Rattle.gk_gherkin.specs.declared.hooks.HookFile.{HookFile}
+use Rattle.gk_steps.specs.Finding.{LibraryValue, library_value}
+use Rattle.gk_steps.specs.declared.library.Library.{Library}
+use Rattle.gk_run.specs.declared.run.Run as shared
+
+-- What stays the same during a run: the step library, the hooks, whether it is a dry run, in which nothing is carried out, and whether the first scenario or feature that is failed or memory stops it. (behave's documentation: `--dry-run`, `--stop`)
+pub record Run : Type 0 where
+  pub library : LibraryValue
+  pub hooks : List HookValue
+  pub dry_run : Bool
+  pub stop : Bool
+
+-- The run with a `Library` and a `HookFile`, which isn't dry.
+abbrev pub run_of : Library → HookFile → Bool → Run
+run_of library hooks stop = record { library = library_value library; hooks = hooks_value hooks; dry_run = false; stop = stop }
+
+-- Proof machinery, from here on: what the code's calls do.
+
+-- What the code's `Run` says.
+abbrev pub run_value : shared.Run → Run
+run_value r = run_of r.library.now r.hooks.now r.stop
