@@ -25,12 +25,12 @@ status_data status = string (status_text status)
 abbrev pub array_data : List Data → Data
 array_data values = array (items_of values)
 
--- The members of a step after its line: a failed one has its reason. (this project's profile)
+-- The members of a step after its line: a failed one has its reason.
 abbrev pub reason_and : Option Reason → Members → Members
 reason_and None members = members
 reason_and (Some why) members = member (codes "reason") (string (reason_text why)) members
 
--- A step's object. (this project's profile)
+-- A step's object.
 abbrev pub step_data : StepRow → Data
 step_data s = object (
     member (codes "keyword") (string s.keyword) (
@@ -39,7 +39,7 @@ step_data s = object (
     member (codes "status") (status_data s.status) (
     member (codes "text") (string s.text) no_members)))))
 
--- A scenario's object. (this project's profile)
+-- A scenario's object.
 abbrev pub case_data : CaseRow → Data
 case_data c = object (
     member (codes "around") (status_data c.around) (
@@ -49,7 +49,7 @@ case_data c = object (
     member (codes "status") (status_data c.status) (
     member (codes "steps") (array_data (map step_data c.steps)) no_members))))))
 
--- A feature's object, with its printed scenarios. (this project's profile)
+-- A feature's object, with its printed scenarios.
 abbrev pub feature_data : Bool → FeatureRow → Data
 feature_data no_skipped f = object (
     member (codes "around") (status_data f.around) (
@@ -59,7 +59,7 @@ feature_data no_skipped f = object (
     member (codes "source") (string f.source) (
     member (codes "status") (status_data f.status) no_members))))))
 
--- The object of counts without undefined ones, of which features and scenarios have none. (this project's profile)
+-- The object of counts without undefined ones, of which features and scenarios have none.
 abbrev pub counts_data : Counts → Data
 counts_data c = object (
     member (codes "failed") (number_data c.failed) (
@@ -68,7 +68,7 @@ counts_data c = object (
     member (codes "skipped") (number_data c.skipped) (
     member (codes "untested") (number_data c.untested) no_members)))))
 
--- The object of the steps' counts. (this project's profile)
+-- The object of the steps' counts.
 abbrev pub step_counts_data : Counts → Data
 step_counts_data c = object (
     member (codes "failed") (number_data c.failed) (
@@ -78,7 +78,7 @@ step_counts_data c = object (
     member (codes "undefined") (number_data c.undefined) (
     member (codes "untested") (number_data c.untested) no_members))))))
 
--- The object of all counts. (this project's profile)
+-- The object of all counts.
 abbrev pub summary_data : Summary → Data
 summary_data s = object (
     member (codes "features") (counts_data s.features) (
@@ -89,7 +89,7 @@ summary_data s = object (
 abbrev pub printed_features : Bool → List FeatureRow → List FeatureRow
 printed_features no_skipped rows = filter (λ f. not (is_hidden no_skipped f.status)) rows
 
--- The report as one document: its printed features, how the run's own hooks and cleanups ended, the status that the run ends with, the counts. (this project's profile)
+-- The report as one document: its printed features, how the run's own hooks and cleanups ended, the status that the run ends with, the counts.
 abbrev pub document : Bool → List FeatureRow → Status → ℕ → Summary → Data
 document no_skipped rows around status summary = object (
     member (codes "features") (array_data (map (feature_data no_skipped) (printed_features no_skipped rows))) (
@@ -101,15 +101,15 @@ document no_skipped rows around status summary = object (
 unfoldable pub json_head : List ℕ
 json_head = codes "{\"features\":["
 
--- The object of a feature, after a comma where it isn't the first that is printed. (this project's profile)
+-- The object of a feature, after a comma where it isn't the first that is printed.
 abbrev pub feature_object : Bool → Bool → FeatureRow → List ℕ
 feature_object no_skipped first f = cond first [] (codes ",") ++ compact_text (feature_data no_skipped f)
 
--- The part of a feature: its object, or nothing where it is hidden. (this project's profile)
+-- The part of a feature: its object, or nothing where it is hidden.
 unfoldable pub json_part : Bool → Bool → FeatureRow → List ℕ
 json_part no_skipped first f = cond (is_hidden no_skipped f.status) [] (feature_object no_skipped first f)
 
--- What stands after the features. (this project's profile)
+-- What stands after the features.
 unfoldable pub json_tail : Status → ℕ → Summary → List ℕ
 json_tail around status summary =
     codes "],\"run\":" ++ compact_text (status_data around) ++ codes ",\"status\":" ++ compact_text (number_data status)

@@ -17,31 +17,31 @@ abbrev pub step_verdict : Status → Option Reason → List ℕ
 step_verdict status None = status_text status
 step_verdict status (Some why) = status_text status ++ codes ": " ++ reason_text why
 
--- The line of a step. (this project's profile)
+-- The line of a step.
 unfoldable pub step_line : StepRow → List ℕ
 step_line s = status_line (codes "    " ++ s.keyword ++ codes " " ++ one_line s.text) (step_verdict s.status s.reason)
 
--- The line of a scenario's heading. (this project's profile)
+-- The line of a scenario's heading.
 unfoldable pub case_line : CaseRow → List ℕ
 case_line c = status_line (codes "  " ++ c.keyword ++ codes ": " ++ one_line c.name) (status_text c.status)
 
--- The line of hooks and cleanups after an indent; where they passed there is none. (this project's profile)
+-- The line of hooks and cleanups after an indent; where they passed there is none.
 unfoldable pub around_line : List ℕ → Status → List ℕ
 around_line indent around = cond (is_passed around) [] (status_line (indent ++ codes "(hooks and cleanups)") (status_text around))
 
--- The lines of a scenario: its heading's, those of its steps, that of its hooks and cleanups. (this project's profile)
+-- The lines of a scenario: its heading's, those of its steps, that of its hooks and cleanups.
 abbrev pub case_lines : CaseRow → List ℕ
 case_lines c = case_line c ++ flat_map step_line c.steps ++ around_line (codes "    ") c.around
 
--- The line of a feature's heading. (this project's profile)
+-- The line of a feature's heading.
 unfoldable pub feature_line : FeatureRow → List ℕ
 feature_line f = status_line (codes "Feature: " ++ one_line f.name) (status_text f.status)
 
--- The lines of a feature: its line, its printed scenarios, its own hooks and cleanups, an empty line. (this project's profile)
+-- The lines of a feature: its line, its printed scenarios, its own hooks and cleanups, an empty line.
 abbrev pub feature_lines : Bool → FeatureRow → List ℕ
 feature_lines no_skipped f = feature_line f ++ flat_map case_lines (printed_cases no_skipped f.cases) ++ around_line (codes "  ") f.around ++ line_feed
 
--- The part of a feature: its lines, none where it is hidden. (this project's profile)
+-- The part of a feature: its lines, none where it is hidden.
 unfoldable pub plain_part : Bool → FeatureRow → List ℕ
 plain_part no_skipped f = cond (is_hidden no_skipped f.status) [] (feature_lines no_skipped f)
 
@@ -61,17 +61,17 @@ counted_if_any n word = cond (n == 0) [] (counted n word)
 abbrev pub passed_part : List ℕ → ℕ → List ℕ
 passed_part noun n = decimal n ++ codes " " ++ noun ++ plural n ++ codes " passed"
 
--- A line of counts. (behave's documentation: summary; this project's profile: untested and memory)
+-- A line of counts. (behave's documentation: summary, all but untested and memory)
 unfoldable pub count_line : List ℕ → Counts → List ℕ → List ℕ
 count_line noun c undefined =
     passed_part noun c.passed ++ counted c.failed (codes "failed") ++ counted c.skipped (codes "skipped")
     ++ undefined ++ counted_if_any c.untested (codes "untested") ++ counted_if_any c.memory (codes "memory") ++ line_feed
 
--- The part of a line of counts that tells the undefined ones; of steps alone. (behave's documentation: summary)
+-- The part of a line of counts with the undefined ones; of steps alone. (behave's documentation: summary)
 abbrev pub undefined_part : Bool → Counts → List ℕ
 undefined_part of_steps c = cond of_steps (counted c.undefined (codes "undefined")) []
 
--- The closing lines: the run's own hooks and cleanups, and the counts. (behave's documentation: summary; this project's profile)
+-- The closing lines: the run's own hooks and cleanups, and the counts. (behave's documentation: summary)
 unfoldable pub closing_lines : Summary → Status → List ℕ
 closing_lines s around =
     around_line [] around

@@ -13,19 +13,19 @@ use Rattle.gk_report.specs.PlainReport.{plain_part, closing_lines}
 use Rattle.gk_report.specs.ProgressReport.{progress_part}
 use Rattle.gk_report.specs.JsonReport.{json_head, json_part, json_tail, document}
 
--- The head in a format. (this project's profile)
+-- The head in a format.
 abbrev pub head_in : Format → List ℕ
 head_in formats.Plain = []
 head_in formats.Progress = []
 head_in formats.Json = json_head
 
--- The part of a feature in a format; first is true as long as each earlier part was empty. (this project's profile)
+-- The part of a feature in a format; first is true as long as each earlier part was empty.
 abbrev pub part_in : Format → Bool → Bool → FeatureRow → List ℕ
 part_in formats.Plain no_skipped first f = plain_part no_skipped f
 part_in formats.Progress no_skipped first f = progress_part no_skipped f
 part_in formats.Json no_skipped first f = json_part no_skipped first f
 
--- The tail in a format: counts, how the run's own hooks and cleanups ended, and the status that the run ends with. (this project's profile)
+-- The tail in a format: counts, how the run's own hooks and cleanups ended, and the status that the run ends with.
 abbrev pub tail_in : Format → Summary → Status → ℕ → List ℕ
 tail_in formats.Plain summary around number = closing_lines summary around
 tail_in formats.Progress summary around number = closing_lines summary around
@@ -65,7 +65,7 @@ tail_by style summary around = tail_in style.format summary around (status_by su
 abbrev pub IsTailOf : Style → Summary → Status → List ℕ → Type 0
 IsTailOf style summary around text = (rows : List FeatureRow) → summary ≡ summary_of rows → text ≡ tail style rows around
 
--- The report of a run's results. (this project's profile)
+-- The report of a run's results.
 abbrev pub report : Style → Results → List ℕ
 report style results = head style ++ (parts style results.features ++ tail style results.features results.around)
 

@@ -6,7 +6,7 @@ use Rattle.gk_run.specs.declared.results.Reason.{Reason}
 use Rattle.gk_run.specs.declared.results.Reason.TheVariants as reasons
 use Rattle.gk_run.specs.Results.{CaseRow, is_skipped}
 
--- A status as it is printed. (behave's documentation: the statuses of steps; this project's profile: memory)
+-- A status as it is printed. (behave's documentation: the statuses of steps, all but memory)
 unfoldable pub status_text : Status → List ℕ
 status_text statuses.Passed = codes "passed"
 status_text statuses.Failed = codes "failed"
@@ -15,7 +15,7 @@ status_text statuses.Undefined = codes "undefined"
 status_text statuses.Untested = codes "untested"
 status_text statuses.Memory = codes "memory"
 
--- A reason as it is printed. (this project's profile)
+-- A reason as it is printed.
 unfoldable pub reason_text : Reason → List ℕ
 reason_text reasons.Absent = codes "absent"
 reason_text reasons.Present = codes "present"
@@ -32,11 +32,11 @@ reason_text reasons.NoStep = codes "no such step"
 reason_text reasons.NotHere = codes "not allowed here"
 reason_text reasons.Asked = codes "fail step"
 
--- A byte of a name or a text as it is printed: a line feed as a backslash and `n`. (this project's profile)
+-- A byte of a name or a text as it is printed: a line feed as a backslash and `n`.
 abbrev pub byte_text : ℕ → List ℕ
 byte_text byte = cond (byte == 10) (92 ∷ 110 ∷ []) (byte ∷ [])
 
--- A name or a text on one line. (this project's profile)
+-- A name or a text on one line.
 unfoldable pub one_line : List ℕ → List ℕ
 one_line text = flat_map byte_text text
 
@@ -52,10 +52,10 @@ is_hidden no_skipped status = no_skipped && is_skipped status
 abbrev pub printed_cases : Bool → List CaseRow → List CaseRow
 printed_cases no_skipped cases = filter (λ c. not (is_hidden no_skipped c.status)) cases
 
--- Where a call succeeds, this text stands at the end of what was there. (this project's profile)
+-- Where a call succeeds, this text stands at the end of what was there.
 abbrev pub Pushes : {T E Y Z : Type 0} → String Y → List ℕ → Result T E → String Z → Type 0
 Pushes old part result new = OnOk result (string_bytes new ≡ string_bytes old ++ part)
 
--- Where a call succeeds, this is the text that it answers. (this project's profile)
+-- Where a call succeeds, this is the text that it answers.
 abbrev pub AnswersText : {E Y : Type 0} → Result (String Y) E → List ℕ → Type 0
 AnswersText result expected = IfOk result (λ text. string_bytes text ≡ expected)

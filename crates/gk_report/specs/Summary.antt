@@ -11,7 +11,7 @@ use Rattle.gk_run.specs.Results.{CaseRow, FeatureRow, Results, is_passed, is_fai
 abbrev pub greatest : ℕ
 greatest = 2 ^ 64 - 1
 
--- How many statuses of a list pass a test; the count stops rising at the greatest number. (this project's profile)
+-- How many statuses of a list pass a test; the count stops rising at the greatest number.
 abbrev pub count_of : (Status → Bool) → List Status → ℕ
 count_of test statuses = min greatest (count_by test statuses)
 
@@ -58,13 +58,13 @@ summary_of rows = record { features = counts_of (feature_statuses rows); scenari
 abbrev pub verdicts : List FeatureRow → Status → List Status
 verdicts rows around = around ∷ feature_statuses rows ++ scenario_statuses rows
 
--- The status of a run: 4 where one of these is memory; else 1 where one is failed or a step is undefined; else 0. A scenario's or a feature's own hooks and cleanups count by its verdict. (this project's profile)
+-- The status of a run: 4 where one of these is memory; else 1 where one is failed or a step is undefined; else 0. A scenario's or a feature's own hooks and cleanups count by its verdict.
 abbrev pub status_of : List FeatureRow → Status → ℕ
 status_of rows around =
     cond (list_any is_memory (verdicts rows around)) 4
     (cond (list_any is_failed (verdicts rows around) || list_any is_undefined (step_statuses rows)) 1 0)
 
--- The status that a run with these results ends with. (this project's profile)
+-- The status that a run with these results ends with.
 abbrev pub status : Results → ℕ
 status results = status_of results.features results.around
 
@@ -72,7 +72,7 @@ status results = status_of results.features results.around
 abbrev pub IsStatusOf : Summary → Status → ℕ → Type 0
 IsStatusOf summary around number = (rows : List FeatureRow) → summary ≡ summary_of rows → number ≡ status_of rows around
 
--- Of whatever results the old summary was, the new one is that of these and one more. (this project's profile)
+-- Of whatever results the old summary was, the new one is that of these and one more.
 abbrev pub CountsOneMore : Summary → FeatureRow → Summary → Type 0
 CountsOneMore old row new = (rows : List FeatureRow) → old ≡ summary_of rows → new ≡ summary_of (rows ++ row ∷ [])
 

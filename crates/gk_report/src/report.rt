@@ -17,12 +17,12 @@ use std::alloc::{AllocError, Global};
 #[derive(Clone, Copy, Debug, PartialEq, Eq)]
 pub enum Format {
     /// A line for each feature, scenario and step, and lines of counts. (behave's documentation: the plain
-    /// formatter; this project's profile)
+    /// formatter)
     Plain,
     /// A line for each feature with a character for each scenario, and lines of counts. (behave's
-    /// documentation: the progress formatter; this project's profile)
+    /// documentation: the progress formatter)
     Progress,
-    /// One JSON document on one line. (this project's profile)
+    /// One JSON document on one line.
     Json,
 }
 
@@ -36,7 +36,6 @@ pub struct Style {
 }
 
 /// What a report begins with: nothing in plain and progress. An error comes only where a growth was refused.
-/// (this project's profile)
 pub fn head(alloc: Global, style: Style) -> Result<String, AllocError>
     ensures { AnswersText result (spec.head style) }
 {
@@ -48,7 +47,7 @@ pub fn head(alloc: Global, style: Style) -> Result<String, AllocError>
 
 /// The part of a feature, `first` being true as long as each earlier part of the report was empty. The text
 /// is empty where the style hides the feature. An error comes only where a growth was refused. (behave's
-/// documentation: `--no-skipped`; this project's profile)
+/// documentation: `--no-skipped`)
 #[tactic(auto, unfolding(crate::specs::PlainReport::plain_part, crate::specs::ProgressReport::progress_part, crate::specs::JsonReport::json_part))]
 pub fn part(
     alloc: Global,
@@ -70,7 +69,7 @@ pub fn part(
 
 /// What a report ends with: the counts of a summary, `around` being how the run's own hooks and cleanups
 /// ended. For the report of a run the summary is that of all its features, hidden ones too. An error comes
-/// only where a growth was refused. (behave's documentation: summary; this project's profile)
+/// only where a growth was refused. (behave's documentation: summary)
 pub fn tail(
     alloc: Global,
     style: Style,
@@ -86,13 +85,13 @@ pub fn tail(
     }
 }
 
-/// Each JSON report is the compact text of one document, and a line feed. (this project's profile)
+/// Each JSON report is the compact text of one document, and a line feed.
 pub fn json_reports_are_documents()
     ensures { IsOneDocument }
 {}
 
 /// The head, the parts in order and the tail make up the report, and what is written after some features
-/// begins the report of whatever results begin with them. (this project's profile)
+/// begins the report of whatever results begin with them.
 pub fn reports_grow_by_parts()
     ensures { ReportsGrowByParts }
 {}

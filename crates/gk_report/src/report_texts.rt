@@ -1,4 +1,6 @@
 //! The texts that the formats share, and what each of them leaves out.
+#![tactic(auto, unfolding(crate::specs::ReportTexts::status_text, crate::specs::ReportTexts::reason_text))]
+
 ghost use Rattle.std.specs.Prelude.{◌≡◌};
 ghost use Rattle.gk_report.specs.ReportTexts as spec;
 ghost use Rattle.gk_report.specs.ReportTexts.{is_hidden, one_line, Pushes};
@@ -14,7 +16,6 @@ pub fn hides(no_skipped: bool, status: Status) -> bool
 }
 
 /// A status as it is printed.
-#[tactic(auto, unfolding(crate::specs::ReportTexts::status_text))]
 pub fn status_text(status: Status) -> &'static str
     ensures { result.now ≡ spec.status_text status }
 {
@@ -29,7 +30,6 @@ pub fn status_text(status: Status) -> &'static str
 }
 
 /// A reason as it is printed.
-#[tactic(auto, unfolding(crate::specs::ReportTexts::reason_text))]
 pub fn reason_text(reason: Reason) -> &'static str
     ensures { result.now ≡ spec.reason_text reason }
 {

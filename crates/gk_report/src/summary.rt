@@ -82,7 +82,7 @@ impl Summary {
 
     /// The status that the run ends with, `around` being how its own hooks and cleanups ended: 4 where
     /// that or a verdict is memory, else 1 where one of them is failed or a step is undefined, else 0.
-    /// Takes no memory. (this project's profile)
+    /// Takes no memory.
     pub fn status(&self, around: Status) -> u8
         ensures counts { result ≡ status_by self.now around }
         ensures status { IsStatusOf self.now around result }

@@ -1,6 +1,6 @@
 pub mod FilledPieces
 pub mod OneCut
-pub mod FillingTurns
+pub mod FillingLoops
 pub mod Rooms
 pub mod Unfilled
 pub mod TagAlternatives

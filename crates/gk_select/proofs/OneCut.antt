@@ -57,8 +57,8 @@ rest_is h b bs e = let one : length h + 1 + 1 ≡ suc (length h + 1) = omega ari
 at_byte : (headers cells : List (List ℕ)) (b : ℕ) (bs : List ℕ) (h : Option (List ℕ)) → Means headers (b ∷ bs) h
     → ((skip : ℕ) → Cuts headers cells skip bs)
     → (parts : List Part) × IsCut headers (b ∷ bs) parts × (filled_at (cell_under headers cells) h (λ skip. filled_from headers cells skip bs) b ≡ flat_map (filled_part headers cells) parts)
-at_byte headers cells b bs None m go_on = let r = go_on 0 in (Byte b ∷ r.parts, (m, (bs, refl, r.cut)), ap (λ (bs : List ℕ). b ∷ bs) r.says)
-at_byte headers cells b bs (Some h) m go_on = let r = go_on (length h + 1) in (Placeholder h ∷ r.parts, (m.0, (drop (length h + 1) bs, rest_is h b bs m.1, r.cut)), ap (λ (bs : List ℕ). cell_under headers cells h ++ bs) r.says)
+at_byte headers cells b bs None m rest = let r = rest 0 in (Byte b ∷ r.parts, (m, (bs, refl, r.cut)), ap (λ (bs : List ℕ). b ∷ bs) r.says)
+at_byte headers cells b bs (Some h) m rest = let r = rest (length h + 1) in (Placeholder h ∷ r.parts, (m.0, (drop (length h + 1) bs, rest_is h b bs m.1, r.cut)), ap (λ (bs : List ℕ). cell_under headers cells h ++ bs) r.says)
 
 cuts : (headers cells : List (List ℕ)) (text : List ℕ) (skip : ℕ) → Cuts headers cells skip text
 unfolding filled_from

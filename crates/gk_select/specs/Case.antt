@@ -3,7 +3,7 @@ use Rattle.std.specs.Prelude.{ℕ, List, map, string_bytes}
 use Rattle.gk_gherkin.specs.Feature.{texts, StepValue, step_value}
 use Rattle.gk_select.specs.declared.case.Case.{Case}
 
--- A case: a plain scenario, or an outline filled from one row. (this project's profile)
+-- A case: a plain scenario, or an outline filled from one row.
 pub record CaseValue : Type 0 where
   pub name : List ℕ
   pub keyword : List ℕ
@@ -12,6 +12,6 @@ pub record CaseValue : Type 0 where
   pub own_tags : List (List ℕ)
   pub steps : List StepValue
 
--- What a `Case` says. (this project's profile)
+-- What a `Case` says.
 abbrev pub case_value : Case → CaseValue
 case_value c = record { name = string_bytes c.name; keyword = string_bytes c.keyword; line = c.line; tags = texts c.tags.items; own_tags = texts c.own_tags.items; steps = map step_value c.steps.items }

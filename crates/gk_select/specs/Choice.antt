@@ -9,14 +9,14 @@ use Rattle.gk_select.specs.TagRules.{AlternativeValue, tag_rule_value, holds}
 abbrev pub all_hold : List (List AlternativeValue) → List (List ℕ) → Bool
 all_hold rules tags = list_all (λ rule. holds rule tags) rules
 
--- Whether a line is among the lines, or there are none. (this project's profile)
+-- Whether a line is among the lines, or there are none.
 abbrev pub is_at_lines : List ℕ → ℕ → Bool
 is_at_lines lines line = (length lines == 0) || list_any (λ other. other == line) lines
 
--- A case is chosen where every rule holds of its tags, and its line is among the lines or there are none. (behave's documentation: tag expressions; this project's profile)
+-- A case is chosen where every rule holds of its tags, and its line is among the lines or there are none. (behave's documentation: tag expressions)
 unfoldable pub is_chosen : List (List AlternativeValue) → List ℕ → CaseValue → Bool
 is_chosen rules lines case = all_hold rules case.tags && is_at_lines lines case.line
 
--- Whether a `Choice` chooses a case. (this project's profile)
+-- Whether a `Choice` chooses a case.
 abbrev pub chosen_by : Choice → CaseValue → Bool
 chosen_by choice = is_chosen (map tag_rule_value choice.rules.items) choice.lines.items

@@ -3,7 +3,7 @@ use Rattle.std.specs.Prelude.{◌≡◌, ℕ, List, ◌++◌, map, Result, IfOk,
 use Rattle.gk_gherkin.specs.Feature.{texts}
 use Rattle.gk_select.specs.Filling.{filled}
 
--- Where a call succeeds, these values stand at the end of a list that is otherwise as before. (this project's profile)
+-- Where a call succeeds, these values stand at the end of a list that is otherwise as before.
 abbrev pub Appends : {T E X V : Type 0} → (X → V) → Result T E → List X → List X → List V → Type 0
 Appends v result old new part = IfOk result (λ _. map v new ≡ map v old ++ part)
 

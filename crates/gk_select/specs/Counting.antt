@@ -13,20 +13,20 @@ abbrev pub left_of : Option ℕ → ℕ → Option ℕ
 left_of None n = None
 left_of (Some room) n = left room n
 
--- How many steps the cases of Examples have, with so many steps each. (this project's profile)
+-- How many steps the cases of Examples have, with so many steps each.
 abbrev pub examples_steps : ℕ → ExamplesValue → ℕ
 examples_steps steps e = length e.rows * steps
 
--- How many steps the cases of a scenario have, with so many background steps each. (this project's profile)
+-- How many steps the cases of a scenario have, with so many background steps each.
 abbrev pub scenario_steps : ℕ → ScenarioValue → ℕ
 scenario_steps inherited s = let steps = inherited + length s.steps in
     if is_outline s then sum_by (examples_steps steps) s.examples else steps
 
--- How many steps the cases of a rule have. (this project's profile)
+-- How many steps the cases of a rule have.
 abbrev pub rule_steps : ℕ → RuleValue → ℕ
 rule_steps inherited r = sum_by (scenario_steps (inherited + length (background_steps r.background))) r.scenarios
 
--- How many steps the cases of a feature have. (this project's profile)
+-- How many steps the cases of a feature have.
 abbrev pub feature_steps : FeatureValue → ℕ
 feature_steps f = let inherited = length (background_steps f.background) in
     sum_by (scenario_steps inherited) f.scenarios + sum_by (rule_steps inherited) f.rules

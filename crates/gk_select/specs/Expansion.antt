@@ -26,7 +26,7 @@ row_case inherited s e examples r row = let fill = filled examples.header row.ce
   steps = inherited.steps ++ map (filled_step fill) s.steps;
 }
 
--- The case of a plain scenario; its line is its heading's. (Cucumber's Gherkin reference: example; this project's profile)
+-- The case of a plain scenario; its line is its heading's. (Cucumber's Gherkin reference: example)
 abbrev pub plain_case : InheritedValue → ScenarioValue → CaseValue
 plain_case inherited s = record {
   name = s.name;
@@ -37,7 +37,7 @@ plain_case inherited s = record {
   steps = inherited.steps ++ s.steps;
 }
 
--- The cases of rows, counted from n. (this project's profile)
+-- The cases of rows, counted from n.
 abbrev pub rows_cases : InheritedValue → ScenarioValue → ℕ → ExamplesValue → ℕ → List RowValue → List CaseValue
 rows_cases inherited s e examples n rows = map (λ (r : ℕ × RowValue). row_case inherited s e examples r.0 r.1) (enumerate_from n rows)
 
@@ -57,23 +57,23 @@ rule_cases f r = flat_map (scenario_cases (inherited_in_rule f r)) r.scenarios
 unfoldable pub cases : FeatureValue → List CaseValue
 cases f = flat_map (scenario_cases (inherited_in_feature f)) f.scenarios ++ flat_map (rule_cases f) f.rules
 
--- How many steps the cases have. (this project's profile)
+-- How many steps the cases have.
 abbrev pub step_count : FeatureValue → ℕ
 step_count f = sum_by (λ (c : CaseValue). length c.steps) (cases f)
 
--- How many steps a feature may have after expansion. (this project's profile)
+-- How many steps a feature may have after expansion.
 abbrev pub step_limit : ℕ
 step_limit = 1000000
 
--- More steps than the limit. (this project's profile)
+-- More steps than the limit.
 abbrev pub HasTooManySteps : FeatureValue → Type 0
 HasTooManySteps f = step_limit < step_count f
 
--- In these scenarios each row of Examples has as many cells as its header. (this project's profile)
+-- In these scenarios each row of Examples has as many cells as its header.
 abbrev pub RowsFit : List ScenarioValue → Type 0
 RowsFit scenarios = AllByRecursion (λ (s : ScenarioValue). AllByRecursion AllFit s.examples) scenarios
 
--- Each row of Examples in the feature has as many cells as its header. (this project's profile)
+-- Each row of Examples in the feature has as many cells as its header.
 abbrev pub IsExpandable : FeatureValue → Type 0
 IsExpandable f = RowsFit f.scenarios × AllByRecursion (λ (r : RuleValue). RowsFit r.scenarios) f.rules
 
@@ -97,30 +97,30 @@ case_count_of s = if is_outline s then sum_by (λ (e : ExamplesValue). length e.
 abbrev pub case_count : FeatureValue → ℕ
 case_count f = sum_by case_count_of f.scenarios + sum_by (λ (r : RuleValue). sum_by case_count_of r.scenarios) f.rules
 
--- What the code says of its own values, from here on: the name of a row's case. (this project's profile)
+-- What the code says of its own values, from here on: the name of a row's case.
 abbrev pub name_of_row : OutlinePart → ℕ → Row → List ℕ
 name_of_row part n row = outline_name (filled_by part.examples.now.header.items row.cells.items (scenario_value part.scenario.now).name) part.number n (examples_value part.examples.now).name
 
--- The case of a row. (this project's profile)
+-- The case of a row.
 abbrev pub case_of_row : Inherited → OutlinePart → ℕ → Row → CaseValue
 case_of_row i part n row = row_case (inherited_value i) (scenario_value part.scenario.now) part.number (examples_value part.examples.now) n (row_value row)
 
--- The cases of rows, counted from n. (this project's profile)
+-- The cases of rows, counted from n.
 abbrev pub cases_of_rows : Inherited → OutlinePart → ℕ → List Row → List CaseValue
 cases_of_rows i part n rows = rows_cases (inherited_value i) (scenario_value part.scenario.now) part.number (examples_value part.examples.now) n (map row_value rows)
 
--- Each of these rows has as many cells as the part's header. (this project's profile)
+-- Each of these rows has as many cells as the part's header.
 abbrev pub FitPart : OutlinePart → List Row → Type 0
 FitPart part rows = AllByRecursion (FitsHeader (examples_value part.examples.now)) (map row_value rows)
 
--- The cases of parts of Examples, counted from 1. (this project's profile)
+-- The cases of parts of Examples, counted from 1.
 abbrev pub cases_of_parts : Inherited → Scenario → List Examples → List CaseValue
 cases_of_parts i s parts = flat_map (examples_cases (inherited_value i) (scenario_value s)) (enumerate_from 1 (map examples_value parts))
 
--- The cases of scenarios. (this project's profile)
+-- The cases of scenarios.
 abbrev pub cases_of_scenarios : Inherited → List Scenario → List CaseValue
 cases_of_scenarios i scenarios = flat_map (scenario_cases (inherited_value i)) (map scenario_value scenarios)
 
--- The cases of rules. (this project's profile)
+-- The cases of rules.
 abbrev pub cases_of_rules : Feature → List Rule → List CaseValue
 cases_of_rules f rules = flat_map (rule_cases (feature_value f)) (map rule_value rules)

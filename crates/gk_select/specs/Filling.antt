@@ -8,60 +8,60 @@ use Rattle.gk_gherkin.specs.Feature.{BlockValue, Empty, Text, Table, StepValue}
 abbrev pub placeholder : List ℕ → List ℕ
 placeholder header = codes "<" ++ header ++ codes ">"
 
--- Whether a header has no `>`, so that its placeholder can stand in a text. (this project's profile)
+-- Whether a header has no `>`, so that its placeholder can stand in a text.
 abbrev pub can_stand : List ℕ → Bool
 can_stand header = list_all (λ b. not (b == 62)) header
 
--- The header whose placeholder begins a text; there is one at most, as no header that counts has a `>`. (this project's profile)
+-- The header whose placeholder begins a text; there is one at most, as no header that counts has a `>`.
 abbrev pub header_at : List (List ℕ) → List ℕ → Option (List ℕ)
 header_at headers text = find (λ header. can_stand header && starts_with nat_eq text (placeholder header)) headers
 
--- The cell of a row that stands under a header: of equal headers the first counts. (this project's profile)
+-- The cell of a row that stands under a header: of equal headers the first counts.
 unfoldable pub cell_under : List (List ℕ) → List (List ℕ) → List ℕ → List ℕ
 cell_under (h ∷ headers) (cell ∷ cells) header = if bytes_eq h header then cell else cell_under headers cells header
 cell_under _ _ header = []
 
--- What a text is filled with at its beginning, and how it goes on: after a placeholder, or after one byte. (this project's profile)
+-- What a text is filled with at its beginning, and the rest of it, filled: after a placeholder, or after one byte.
 abbrev pub filled_at : (List ℕ → List ℕ) → Option (List ℕ) → (ℕ → List ℕ) → ℕ → List ℕ
-filled_at cell None go_on b = b ∷ go_on 0
-filled_at cell (Some header) go_on b = cell header ++ go_on (length header + 1)
+filled_at cell None rest b = b ∷ rest 0
+filled_at cell (Some header) rest b = cell header ++ rest (length header + 1)
 
--- A text filled, without its first skip bytes, which belong to a placeholder that was filled. (this project's profile)
+-- A text filled, without its first skip bytes, which belong to a placeholder that was filled.
 unfoldable pub filled_from : List (List ℕ) → List (List ℕ) → ℕ → List ℕ → List ℕ
 filled_from headers cells skip [] = []
 filled_from headers cells (suc skip) (b ∷ bs) = filled_from headers cells skip bs
 filled_from headers cells zero (b ∷ bs) =
     filled_at (cell_under headers cells) (header_at headers (b ∷ bs)) (λ skip. filled_from headers cells skip bs) b
 
--- A text with the row's cell in place of each placeholder, from left to right; a cell isn't looked at again. (Cucumber's Gherkin reference: scenario outline; this project's profile)
+-- A text with the row's cell in place of each placeholder, from left to right; a cell isn't looked at again. (Cucumber's Gherkin reference: scenario outline)
 unfoldable pub filled : List (List ℕ) → List (List ℕ) → List ℕ → List ℕ
 filled headers cells text = filled_from headers cells 0 text
 
--- A part of a text: a placeholder, or one byte at which none begins. (this project's profile)
+-- A part of a text: a placeholder, or one byte at which none begins.
 pub data Part : Type 0 where
   Placeholder : List ℕ → Part
   Byte : ℕ → Part
 
--- A header of the row whose placeholder can stand in a text. (this project's profile)
+-- A header of the row whose placeholder can stand in a text.
 abbrev pub IsPlaceholder : List (List ℕ) → List ℕ → Type 0
 IsPlaceholder headers header = Contains headers header × (can_stand header ≡ true)
 
--- A text that begins with no placeholder. (this project's profile)
+-- A text that begins with no placeholder.
 abbrev pub BeginsWithNone : List (List ℕ) → List ℕ → Type 0
 BeginsWithNone headers text = (header rest : List ℕ) → IsPlaceholder headers header → text ≡ placeholder header ++ rest → ⊥
 
--- The cut of a text for a header row: parts that concatenate to it. (this project's profile)
+-- The cut of a text for a header row: parts that concatenate to it.
 abbrev pub IsCut : List (List ℕ) → List ℕ → List Part → Type 0
 IsCut headers text [] = text ≡ []
 IsCut headers text (Placeholder header ∷ parts) = IsPlaceholder headers header × ((rest : List ℕ) × (text ≡ placeholder header ++ rest) × IsCut headers rest parts)
 IsCut headers text (Byte b ∷ parts) = BeginsWithNone headers text × ((rest : List ℕ) × (text ≡ b ∷ rest) × IsCut headers rest parts)
 
--- A part, with the row's cell in place of a placeholder. (this project's profile)
+-- A part, with the row's cell in place of a placeholder.
 abbrev pub filled_part : List (List ℕ) → List (List ℕ) → Part → List ℕ
 filled_part headers cells (Placeholder header) = cell_under headers cells header
 filled_part headers cells (Byte b) = b ∷ []
 
--- Each text has one cut, and its parts filled are the filled text. (this project's profile)
+-- Each text has one cut, and its parts filled are the filled text.
 pub record FillsByCut (headers cells : List (List ℕ)) (text : List ℕ) : Type 0 where
   pub parts : List Part
   pub cut : IsCut headers text parts

@@ -8,7 +8,7 @@ pub record InheritedValue : Type 0 where
   pub tags : List (List ℕ)
   pub steps : List StepValue
 
--- What an `Inherited` says. (this project's profile)
+-- What an `Inherited` says.
 abbrev pub inherited_value : Inherited → InheritedValue
 inherited_value i = record { tags = texts i.feature_tags.now ++ texts i.rule_tags.now; steps = map step_value i.feature_steps.now ++ map step_value i.rule_steps.now }
 

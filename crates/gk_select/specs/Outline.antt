@@ -10,18 +10,18 @@ abbrev pub has_examples : List ExamplesValue → Bool
 has_examples [] = false
 has_examples (e ∷ es) = true
 
--- A scenario is an outline by its keyword, or where it has Examples. (Cucumber's Gherkin reference: scenario outline; this project's profile)
+-- A scenario is an outline by its keyword, or where it has Examples. (Cucumber's Gherkin reference: scenario outline)
 abbrev pub is_outline : ScenarioValue → Bool
 is_outline s = bytes_eq s.keyword (codes "Scenario Outline") || (bytes_eq s.keyword (codes "Scenario Template") || has_examples s.examples)
 
--- The name of the case of row R under Examples E of an outline: `NAME -- @E.R EXAMPLESNAME` without blanks at its end, where NAME is filled and EXAMPLESNAME is not. (behave's documentation: the option `scenario_outline_annotation_schema`; this project's profile)
+-- The name of the case of row R under Examples E of an outline: `NAME -- @E.R EXAMPLESNAME` without blanks at its end, where NAME is filled and EXAMPLESNAME is not. (behave's documentation: the option `scenario_outline_annotation_schema`)
 abbrev pub outline_name : List ℕ → ℕ → ℕ → List ℕ → List ℕ
 outline_name name e r examples = trim_back (name ++ codes " -- @" ++ decimal e ++ codes "." ++ decimal r ++ codes " " ++ examples)
 
--- A row has as many cells as the header. (this project's profile)
+-- A row has as many cells as the header.
 abbrev pub FitsHeader : ExamplesValue → RowValue → Type 0
 FitsHeader e r = length r.cells ≡ length e.header
 
--- All rows of Examples fit. (this project's profile)
+-- All rows of Examples fit.
 abbrev pub AllFit : ExamplesValue → Type 0
 AllFit e = AllByRecursion (FitsHeader e) e.rows

@@ -14,11 +14,11 @@ pub record AlternativeValue : Type 0 where
   pub negated : Bool
   pub tag : List ℕ
 
--- What an `Alternative` says. (this project's profile)
+-- What an `Alternative` says.
 abbrev pub alternative_value : Alternative → AlternativeValue
 alternative_value a = record { negated = a.negated; tag = string_bytes a.tag }
 
--- What a `TagRule` says: alternatives, one of which has to hold. (this project's profile)
+-- What a `TagRule` says: alternatives, one of which has to hold.
 abbrev pub tag_rule_value : TagRule → List AlternativeValue
 tag_rule_value r = map alternative_value r.alternatives.items
 
@@ -30,11 +30,11 @@ alternative_holds tags a = if a.negated then not (list_any (bytes_eq a.tag) tags
 abbrev pub holds : List AlternativeValue → List (List ℕ) → Bool
 holds rule tags = list_any (alternative_holds tags) rule
 
--- A byte that no text of alternatives has: a blank or a parenthesis. (this project's profile)
+-- A byte that no text of alternatives has: a blank or a parenthesis.
 abbrev pub is_of_new_form : ℕ → Bool
 is_of_new_form b = is_blank b || ((b == 40) || (b == 41))
 
--- The tag of an alternative without `~`: with `@` at its beginning it is a tag as it stands; without, a name that begins with neither `~` nor `-`, to which the `@` is added. (this project's profile)
+-- The tag of an alternative without `~`: with `@` at its beginning it is a tag as it stands; without, a name that begins with neither `~` nor `-`, to which the `@` is added.
 abbrev pub tag_named : List ℕ → Option (List ℕ)
 tag_named text =
     if begins text (codes "@") then (if is_tag text then Some text else None) else
@@ -46,11 +46,11 @@ alternative text =
     if begins text (codes "~") then option_map (λ tag. record { negated = true; tag = tag }) (tag_named (drop 1 text))
     else option_map (λ tag. record { negated = false; tag = tag }) (tag_named text)
 
--- What stands between the commas of a text. (this project's profile)
+-- What stands between the commas of a text.
 abbrev pub pieces : List ℕ → List (List ℕ)
 pieces text = slice_split (λ b. b == 44) text
 
--- The text of a rule: it has no blank and no parenthesis, and what stands between its commas says the rule's alternatives. (behave's documentation: tag expressions; this project's profile)
+-- The text of a rule: it has no blank and no parenthesis, and what stands between its commas says the rule's alternatives. (behave's documentation: tag expressions)
 pub record ReadsTags (text : List ℕ) (rule : List AlternativeValue) : Type 0 where
   pub old_form : list_any is_of_new_form text ≡ false
   pub says : map alternative (pieces text) ≡ map Some rule
@@ -59,6 +59,6 @@ pub record ReadsTags (text : List ℕ) (rule : List AlternativeValue) : Type 0 w
 abbrev pub SpellsNone : List ℕ → Type 0
 SpellsNone text = (rule : List AlternativeValue) → ReadsTags text rule → ⊥
 
--- A text over which memory can run out: it has no blank and no parenthesis, and its first alternative says something. (this project's profile)
+-- A text over which memory can run out: it has no blank and no parenthesis, and its first alternative says something.
 abbrev pub NeedsMemory : List ℕ → Type 0
 NeedsMemory text = (list_any is_of_new_form text ≡ false) × IsSome (alternative (slice_index_or (pieces text) 0 []))

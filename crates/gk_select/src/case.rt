@@ -2,7 +2,7 @@
 
 use gk_gherkin::Step;
 
-/// A plain scenario, or an outline filled from one row. (this project's profile)
+/// A plain scenario, or an outline filled from one row.
 #[derive(Debug, Drop)]
 pub struct Case {
     /// The scenario's name; of a row `NAME -- @E.R EXAMPLESNAME`, without blanks at its end.

@@ -9,7 +9,7 @@ use crate::case::Case;
 use crate::tag_rules::TagRule;
 
 /// Which cases are chosen: those of whose tags every rule holds, and whose line is among the lines where
-/// there are any. (behave's documentation: tag expressions; this project's profile)
+/// there are any. (behave's documentation: tag expressions)
 #[derive(Debug, Drop)]
 pub struct Choice {
     rules: Vec<TagRule>,

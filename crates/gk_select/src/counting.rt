@@ -8,7 +8,7 @@ ghost use Rattle.gk_select.specs.Counting.{left, examples_steps, scenario_steps,
 use crate::outline::is_outline;
 use gk_gherkin::{Background, Examples, Feature, Rule, Scenario};
 
-/// How many steps a feature may have after expansion. (this project's profile)
+/// How many steps a feature may have after expansion.
 pub const STEP_LIMIT: usize = 1_000_000;
 
 /// What is left of the room after some cases of as many steps each.

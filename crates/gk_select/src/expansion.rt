@@ -386,7 +386,7 @@ fn copied_cases(alloc: Global, feature: &Feature) -> Result<Vec<Case>, AllocErro
 /// `TooMany` comes exactly where the cases have more steps than `STEP_LIMIT`; they are counted before
 /// anything is built. `Memory` comes only where a growth was refused, and never in place of `TooMany`.
 /// A refusal answers no cases. The feature's texts are copied; `into_cases` moves them. (Cucumber's
-/// Gherkin reference: scenario outline, background, tag inheritance; this project's profile)
+/// Gherkin reference: scenario outline, background, tag inheritance)
 pub fn expand(alloc: Global, feature: &Feature) -> Result<Vec<Case>, SelectFault>
     requires { IsExpandable (feature_value feature.now) }
     // What is answered is the feature's cases.

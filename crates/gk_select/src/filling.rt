@@ -49,7 +49,7 @@ fn push_piece(
 ///
 /// A cell isn't looked at again, and of two equal headers the first counts. A `<` that begins no
 /// placeholder stays. The row has as many cells as the header. An error comes only where a growth was
-/// refused. (Cucumber's Gherkin reference: scenario outline; this project's profile)
+/// refused. (Cucumber's Gherkin reference: scenario outline)
 pub fn fill(
     alloc: Global,
     text: &str,
@@ -72,7 +72,7 @@ pub fn fill(
 }
 
 /// Each text has one cut for a header row, and the filled text is that of its parts. (Cucumber's
-/// Gherkin reference: scenario outline; this project's profile)
+/// Gherkin reference: scenario outline)
 pub fn texts_have_one_cut()
     ensures { (headers cells : List (List ℕ)) (text : List ℕ) → FillsByCut headers cells text }
 {}

@@ -6,7 +6,7 @@ ghost use Rattle.gk_select.specs.declared.select_fault.SelectFault.TheVariants.{
 use gk_gherkin::Refused;
 use std::fmt;
 
-/// Why a feature is not expanded, or a text of tags is refused. (this project's profile)
+/// Why a feature is not expanded, or a text of tags is refused.
 #[derive(Clone, Copy, Debug, PartialEq, Eq)]
 pub enum SelectFault {
     /// The cases of a feature have more than `LIMIT` steps.

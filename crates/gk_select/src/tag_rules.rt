@@ -90,10 +90,10 @@ fn read_alternative(alloc: Global, text: &str) -> Result<Alternative, SelectFaul
 /// An alternative is an optional `~`, an optional `@` and a name of at least one byte. With `~` the tag
 /// has to be absent. Without an `@` the name doesn't begin with `~` or `-`, and the `@` is added.
 ///
-/// `BadTagText` comes exactly where the text spells no rule: where an alternative is none, or where the
-/// text has a blank or a parenthesis. `Memory` comes only where a growth was refused, and never where
-/// the text has a blank or a parenthesis or its first alternative is none. (behave's documentation: tag
-/// expressions; this project's profile)
+/// A text spells no rule where it has a blank or a parenthesis, or where an alternative is none.
+/// `BadTagText` comes only there. `Memory` comes only where a growth was refused, so it may come in
+/// place of either answer; but never where the text has a blank or a parenthesis or its first
+/// alternative is none. (behave's documentation: tag expressions)
 pub fn read_tags(alloc: Global, text: &str) -> Result<TagRule, SelectFault>
     // What is answered is what the text spells.
     ensures found { IfOk result (λ r. ReadsTags text.now (tag_rule_value r)) }
@@ -115,7 +115,7 @@ pub fn read_tags(alloc: Global, text: &str) -> Result<TagRule, SelectFault>
     Ok(TagRule { alternatives })
 }
 
-/// No text spells two different rules. (behave's documentation: tag expressions; this project's profile)
+/// No text spells two different rules. (behave's documentation: tag expressions)
 pub fn texts_have_one_rule()
     ensures { (text : List ℕ) (a b : List AlternativeValue) →
         ReadsTags text a → ReadsTags text b → a ≡ b }

@@ -8,6 +8,10 @@ mod counted_tests;
 #[cfg(test)]
 mod gherkin_tests;
 #[cfg(test)]
+mod library_tests;
+#[cfg(test)]
+mod select_tests;
+#[cfg(test)]
 mod source_tests;
 #[cfg(test)]
 mod steps_tests;

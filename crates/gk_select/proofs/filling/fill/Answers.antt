@@ -3,7 +3,7 @@ use Rattle.std.specs.String.{string_bytes}
 use Rattle.gk_gherkin.specs.Feature.{texts}
 use Rattle.gk_select.specs.Filling.{filled}
 use Rattle.gk_select.proofs.FilledPieces.{fills_piece, fills_end}
-use Rattle.gk_select.proofs.FillingTurns.{cut, uncut, pushed, fit}
+use Rattle.gk_select.proofs.FillingLoops.{cut, uncut, pushed, fit}
 use Rattle.gk_select.proofs.filling.fill.Goals as goal
 
 pub loop-piece-preserved : goal.loop-piece-preserved

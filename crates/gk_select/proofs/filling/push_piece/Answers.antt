@@ -1,7 +1,7 @@
 use Rattle.std.proofs.Common.{◌++◌, ◌∷◌, [], List, ℕ, rules, ap, refl, ◌∙◌, arith}
 use Rattle.std.specs.String.{string_bytes}
 use Rattle.gk_gherkin.specs.Feature.{texts}
-use Rattle.gk_select.proofs.FillingTurns.{cut, uncut, at_placeholder, at_other, at_end, no_cell, some_cell, pushed, if_ok}
+use Rattle.gk_select.proofs.FillingLoops.{cut, uncut, at_placeholder, at_other, at_end, no_cell, some_cell, pushed, if_ok}
 use Rattle.gk_select.proofs.filling.push_piece.Goals as goal
 
 pub returns-in-Some-cell_under : goal.returns-in-Some-cell_under

@@ -21,8 +21,8 @@ module _ {Z : Type 0} (header row : List (String Z)) (i : ℕ) (h : String Z) (n
   pub found : (cell : String Z) → cell ≡ get_or row i cell → bytes_eq (string_bytes h) name ≡ true → cell_of (texts (drop i header)) (texts (drop i row)) name ≡ Some (string_bytes cell)
   found cell e t = column cell ∙ cond-true _ _ _ t ∙ ap (λ (s : String Z). Some (string_bytes s)) (sym e)
 
-  pub goes_on : bytes_eq (string_bytes h) name ≡ false → cell_of (texts (drop (i + 1) header)) (texts (drop (i + 1) row)) name ≡ cell_of (texts (drop i header)) (texts (drop i row)) name
-  goes_on f = sym (column h ∙ cond-false _ _ _ f)
+  pub other_column : bytes_eq (string_bytes h) name ≡ false → cell_of (texts (drop (i + 1) header)) (texts (drop (i + 1) row)) name ≡ cell_of (texts (drop i header)) (texts (drop i row)) name
+  other_column f = sym (column h ∙ cond-false _ _ _ f)
 
 -- What is cut off at a byte.
 module _ (c : ℕ) (bs : List ℕ) (r : Option (Bor (List ℕ) × Bor (List ℕ))) (split : IsSplitOnceResult c bs r) (ascii : c < 128) where
@@ -51,7 +51,7 @@ at_end headers cells rest plain = ap (filled_piece headers cells) (sym (append-n
 pub no_cell : {r : Option (Bor (List ℕ))} {o : Option (List ℕ)} → option_map (λ (x : Bor (List ℕ)). x.now) r ≡ o → r ≡ None → o ≡ None
 no_cell e n = sym e ∙ ap (option_map (λ (x : Bor (List ℕ)). x.now)) n
 
--- Behind the last column there is no cell.
+-- After the last column there is no cell.
 pub none_left : {Z : Type 0} (header row : List (String Z)) (i : ℕ) (name : List ℕ) → length header ≤ i → cell_of (texts (drop i header)) (texts (drop i row)) name ≡ None
 unfolding cell_of
 none_left header row i name l = rw (drop_all i header l) refl

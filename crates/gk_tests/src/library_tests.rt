@@ -1,0 +1,67 @@
+use gk_gherkin::StepType;
+use gk_steps::{Found, Library, default_library, read_library};
+use std::alloc::{AllocError, Global};
+use std::test::Fail;
+
+// A library of which an entry is for steps of one type, and another for steps of each type.
+const LIBRARY: &str = "step {a} b => fail\n\ngiven a {b} => pass\n";
+
+// What a text finds as a step of a type and as one of any type, and whether the first finds anything.
+fn looked_up(
+    alloc: Global,
+    library: &Library,
+    step_type: StepType,
+    text: &str,
+) -> Result<String, AllocError> {
+    let found = library.find(alloc, step_type, text)?;
+    let any = library.find_any(alloc, text)?;
+    let known = library.knows(alloc, step_type, text)?;
+    format!(in alloc; "{} {} {known}", shown(alloc, found)?, shown(alloc, any)?)
+}
+
+// Shows what was found.
+fn shown(alloc: Global, found: Option<Found>) -> Result<String, AllocError> {
+    match found {
+        Some(found) => format!(in alloc; "{} {:?}", found.entry, found.fields),
+        None => String::from_str(alloc, "none"),
+    }
+}
+
+// A step's type and text, and what is found.
+const FOUND: [(StepType, &str, &str); 4] = [
+    (
+        StepType::Given,
+        "a b",
+        "1 [Text(\"b\")] 0 [Text(\"a\")] true",
+    ),
+    (
+        StepType::When,
+        "a b",
+        "0 [Text(\"a\")] 0 [Text(\"a\")] true",
+    ),
+    (StepType::Given, "a c", "1 [Text(\"c\")] none true"),
+    (StepType::When, "a c", "none none false"),
+];
+
+#[test]
+fn libraries_are_read_and_asked(rt: HostRuntime) -> Result<(), Fail> {
+    let library = read_library(rt.alloc(), LIBRARY.as_bytes())?;
+    for (step_type, text, wanted) in FOUND {
+        let found = looked_up(rt.alloc(), &library, step_type, text)?;
+        assert_eq!(rt; found.as_str(), wanted);
+    }
+    Ok(())
+}
+
+#[test]
+fn the_built_in_library_has_its_entries(rt: HostRuntime) -> Result<(), Fail> {
+    let library = default_library(rt.alloc())?;
+    assert_eq!(rt; library.entries.len(), 28);
+    let text = "the number \"n\" grows by 5";
+    let found = looked_up(rt.alloc(), &library, StepType::Then, text)?;
+    assert_eq!(rt;
+        found.as_str(),
+        "22 [Text(\"n\"), Number(5)] 22 [Text(\"n\"), Number(5)] true"
+    );
+    Ok(())
+}
