@@ -55,7 +55,7 @@ IsArgumentsFault _ = ⊥
 
 -- Standard output failed, and moved a byte in each call but the one that failed, or it was not called at all. (this project's profile)
 abbrev pub SaysCalls : Device → Device → Fault → Type 0
-SaysCalls old new Write = (old.failures < new.failures) × (new.idle ≤ one_more old.idle)
+SaysCalls old new Write = (old.failures < new.failures) × (new.idle ≤ old.idle + 1)
 SaysCalls old new _ = IsUntouched old new
 
 -- A prefix of the report of some run was written, and standard output neither failed nor was flushed, and moved a byte in each call. (this project's profile)
