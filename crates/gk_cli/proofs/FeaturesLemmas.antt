@@ -50,14 +50,14 @@ pub same_on : (a b d : SandboxValue) → IsSame a b → IsSame b d → IsSame a 
 same_on a b d p q = record { contents = q.contents ∙ p.contents; saved = q.saved ∙ p.saved; marks = q.marks ∙ p.marks; recorded = q.recorded ∙ p.recorded }
 
 -- A run that was begun, whose features were run, and that was finished.
-pub judged_by : FinishedRunsAreJudged → (run : Run) (old started told : SandboxValue) (suite left : Suite) (around : Status) (features : List ChosenValue) (rows : List FeatureRow) →
-    IsStarted run old started suite → IsKept suite left → IsSame started told → AreFeatures run (state_of started.now) suite.is_open features rows →
-    ((outside : State) → IsWalked (begun run.library run.hooks levels.Run [] outside) left.before (state_of told.now) (cleanups_value left.cleanups) → IsSectionEnd run levels.Run [] outside around (has_passed left.before)) →
+pub judged_by : FinishedRunsAreJudged → (run : Run) (old started later : SandboxValue) (suite left : Suite) (around : Status) (features : List ChosenValue) (rows : List FeatureRow) →
+    IsStarted run old started suite → IsKept suite left → IsSame started later → AreFeatures run (state_of started.now) suite.is_open features rows →
+    ((outside : State) → IsWalked (begun run.library run.hooks levels.Run [] outside) left.before (state_of later.now) (cleanups_value left.cleanups) → IsSectionEnd run levels.Run [] outside around (has_passed left.before)) →
     Judged run old.now features (record { features = rows; around = around })
-judged_by law run old started told suite left around features rows start kept same are finish =
-    let walked : IsWalked (begun run.library run.hooks levels.Run [] (state_of old.now)) left.before (state_of told.now) (cleanups_value left.cleanups) =
-    subst (λ (x : Ending). IsWalked (begun run.library run.hooks levels.Run [] (state_of old.now)) x (state_of told.now) (cleanups_value left.cleanups)) (sym kept.before)
-    (subst (λ (x : List CleanupValue). IsWalked (begun run.library run.hooks levels.Run [] (state_of old.now)) suite.before (state_of told.now) x) (sym kept.cleanups)
+judged_by law run old started later suite left around features rows start kept same are finish =
+    let walked : IsWalked (begun run.library run.hooks levels.Run [] (state_of old.now)) left.before (state_of later.now) (cleanups_value left.cleanups) =
+    subst (λ (x : Ending). IsWalked (begun run.library run.hooks levels.Run [] (state_of old.now)) x (state_of later.now) (cleanups_value left.cleanups)) (sym kept.before)
+    (subst (λ (x : List CleanupValue). IsWalked (begun run.library run.hooks levels.Run [] (state_of old.now)) suite.before (state_of later.now) x) (sym kept.cleanups)
     (subst (λ (x : Contents). IsWalked (begun run.library run.hooks levels.Run [] (state_of old.now)) suite.before (state_of x) (cleanups_value suite.cleanups)) (sym same.contents) start.walked)) in
     law run old started suite features rows around start are (subst (λ (x : Ending). IsSectionEnd run levels.Run [] (state_of old.now) around (has_passed x)) kept.before (finish (state_of old.now) walked))
 

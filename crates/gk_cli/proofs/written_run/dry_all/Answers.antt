@@ -34,11 +34,11 @@ returns-in-Ok g c =
     let begun = c.in_ok-report.report in
     record {
       ok = if_ok c.finish.result (λ status reported. λ contents. as_whole run run contents features style old head begun new status refl c.in_ok-report.ensures.style c.in_ok-report.ensures.ok
-    (finished (AreDryFeatures (library_value c.args.inputs.library)) run contents features Passed head begun there c.dry_features.new.report new status
-    (λ rows are. c.dry_runs_are_judged.ensures run contents features rows refl are) c.dry_features.ensures.style c.in-Ok.ensures.ok reported)) c.finish.ensures.ok;
+          (finished (AreDryFeatures (library_value c.args.inputs.library)) run contents features Passed head begun there c.dry_features.new.report new status
+          (λ rows are. c.dry_runs_are_judged.ensures run contents features rows refl are) c.dry_features.ensures.style c.in-Ok.ensures.ok reported)) c.finish.ensures.ok;
       err = if_err c.finish.result (λ fault reported. λ contents. as_part run run contents features style old head begun new fault refl c.in_ok-report.ensures.style c.in_ok-report.ensures.ok
-    (finished_short (AreDryFeatures (library_value c.args.inputs.library)) run contents features Passed head begun there c.dry_features.new.report new fault
-    (λ rows are. c.dry_runs_are_judged.ensures run contents features rows refl are) c.dry_features.ensures.style c.in-Ok.ensures.ok reported)) c.finish.ensures.err;
+          (finished_short (AreDryFeatures (library_value c.args.inputs.library)) run contents features Passed head begun there c.dry_features.new.report new fault
+          (λ rows are. c.dry_runs_are_judged.ensures run contents features rows refl are) c.dry_features.ensures.style c.in-Ok.ensures.ok reported)) c.finish.ensures.err;
     }
 
 pub returns-clause-err : goal.returns-clause-err
