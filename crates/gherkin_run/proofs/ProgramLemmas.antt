@@ -32,7 +32,7 @@ use Rattle.gherkin_run.specs.declared.fault.Fault.TheVariants.{NotUtf8, Usage, E
 
 -- a device that isn't called
 pub untouched : (d : Device) → IsUntouched d d
-untouched d = record { written = nothing d.bytes; calls = refl; flushes = refl; failures = refl }
+untouched d = record { written = nothing d.bytes; calls = refl; flushes = refl; failures = refl; idle = refl }
   where
     nothing : (bytes : Option (List ℕ)) → Appends bytes bytes []
     nothing None = tt
@@ -70,10 +70,10 @@ fewer a b room e = omega (arith, e)
 
 pub calls_of_run : (r : Request) (c : Contents) (old new : Device) (files : FilesValue) (by : RunFault) (fault : Fault)
     → old.failures < 2 ^ 64 - 1 → IsFaultOfRun files by fault → SaysFault r c old new by → SaysCallsOfRun old new fault
-calls_of_run r c old new files run.Write Write room is says = fewer old.failures new.failures room says.1
+calls_of_run r c old new files run.Write Write room is says = (fewer old.failures new.failures room says.1, (let idle = says.2 in omega arith))
 calls_of_run r c old new files run.Write _ room is says = absurd is
 calls_of_run r c old new files run.Memory Memory room is (inl nothing) = inl nothing
-calls_of_run r c old new files run.Memory Memory room is (inr cut) = inr (r, c, cut.0, cut.1)
+calls_of_run r c old new files run.Memory Memory room is (inr cut) = inr (r, c, cut.0, cut.1, cut.2)
 calls_of_run r c old new files run.Memory _ room is says = absurd is
 calls_of_run r c old new files (run.Read input f) (Read name g) room is says = says.1
 calls_of_run r c old new files (run.Read input f) _ room is says = absurd is

@@ -1,5 +1,5 @@
 -- What the program answers and writes.
-use Rattle.std.specs.Prelude.{◌≡◌, ◌⊎◌, ◌<◌, ℕ, List, [], ◌∷◌, length, map, Option, Some, None, Result, Ok, Err, IsSome, IsSomeAnd, option_map, slice_get, string_bytes}
+use Rattle.std.specs.Prelude.{◌≡◌, ◌⊎◌, ◌<◌, ◌≤◌, ◌+◌, ℕ, List, [], ◌∷◌, length, map, Option, Some, None, Result, Ok, Err, IsSome, IsSomeAnd, option_map, slice_get, string_bytes}
 use Rattle.std.specs.Io.KnownBytes.{Appends, Keeps}
 use Rattle.std.specs.List.{All, Any}
 use Rattle.clap.specs.Words.{IsAmong, Text, kind_of}
@@ -53,23 +53,25 @@ IsArgumentsFault NotUtf8 = Unit {0}
 IsArgumentsFault Memory = Unit {0}
 IsArgumentsFault _ = ⊥
 
--- Standard output failed, or it was not called at all. (this project's profile)
+-- Standard output failed, and moved a byte in each call but the one that failed, or it was not called at all. (this project's profile)
 abbrev pub SaysCalls : Device → Device → Fault → Type 0
-SaysCalls old new Write = old.failures < new.failures
+SaysCalls old new Write = (old.failures < new.failures) × (new.idle ≤ old.idle + 1)
 SaysCalls old new _ = IsUntouched old new
 
--- A prefix of the report of some run was written, and standard output neither failed nor was flushed. (this project's profile)
+-- A prefix of the report of some run was written, and standard output neither failed nor was flushed, and moved a byte in each call. (this project's profile)
 abbrev pub IsCutForSome : Device → Device → Type 0
-IsCutForSome old new = (request : Request) × (contents : Contents) × Cut request contents old new × (new.failures ≡ old.failures)
+IsCutForSome old new = (request : Request) × (contents : Contents) × Cut request contents old new × (new.failures ≡ old.failures) × (new.idle ≡ old.idle)
 
 -- Standard output failed, or it was not called at all, or memory was refused after a prefix of the report was written. (this project's profile)
 abbrev pub SaysCallsOfRun : Device → Device → Fault → Type 0
 SaysCallsOfRun old new Memory = IsUntouched old new ⊎ IsCutForSome old new
 SaysCallsOfRun old new fault = SaysCalls old new fault
 
--- This text, and nothing else, was appended to standard output, and the status is 0. (this project's profile)
+-- This text, and nothing else, was appended to standard output, by calls that each moved at least one byte, and the status is 0. (this project's profile)
 pub record IsShown (text : List ℕ) (old new : Device) (status : ℕ) : Type 0 where
   pub written : Appends old.bytes new.bytes text
+  pub calls : new.calls ≤ old.calls + length text
+  pub busy : new.idle ≡ old.idle
   pub well : status ≡ 0
 
 -- Some text, and nothing else, was appended, with status 0: what it is, clap decides, and nothing here says. (this project's profile)
@@ -141,6 +143,7 @@ IsFaultOfRun files fault other = ⊥
 pub record IsFlushed (old new : Device) : Type 0 where
   pub written : Keeps old.bytes new.bytes
   pub calls : new.calls ≡ old.calls
+  pub idle : new.idle ≡ old.idle
   pub flushes : new.flushes ≡ one_more old.flushes
 
 -- The report of a judged list was written and flushed, and its status is answered; at each status other than 4 that list is the one that plain maps give. (this project's profile)
@@ -151,7 +154,7 @@ pub record IsFlushedRun (request : Request) (contents : Contents) (old new : Dev
   pub flushed : IsFlushed written new
 
 -- The report was written whole, and then the flush failed. (this project's profile)
-pub record IsUnflushed (request : Request) (contents : Contents) (old new : Device) (fault : Fault) : Type 0 where
+pub record FailsToFlush (request : Request) (contents : Contents) (old new : Device) (fault : Fault) : Type 0 where
   pub named : fault ≡ Write
   pub status : ℕ
   pub written : Device
@@ -163,7 +166,7 @@ pub record IsUnflushed (request : Request) (contents : Contents) (old new : Devi
 abbrev pub SaysSuite : FilesValue → Request → Contents → Device → Device → Fault → Type 0
 SaysSuite files request contents old new fault =
     ((by : RunFault) × IsFaultOfRun files by fault × SaysFault request contents old new by)
-    ⊎ IsUnflushed request contents old new fault
+    ⊎ FailsToFlush request contents old new fault
 
 -- The sources are those of the files that were given, in order, and of the library file and the hooks file. (this project's profile)
 pub record AreGiven (w : Words) (files : FilesValue) : Type 0 where

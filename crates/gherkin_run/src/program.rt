@@ -121,16 +121,13 @@ fn put_variables(sandbox: &mut Sandbox, variables: &[(String, String)]) -> Resul
     Ok(())
 }
 
-// The name of a file that is there; empty where there is none.
-fn name_given(alloc: Global, file: Option<Source>) -> String
+// The name of a file that is there.
+fn name_given(file: Option<Source>) -> String
     requires { IsSome file }
     ensures { option_map (λ source. source.name) (option_map source_value file)
         ≡ Some (string_bytes result) }
 {
-    match file {
-        Some(source) => source.name,
-        None => String::new(alloc),
-    }
+    file.unwrap().name
 }
 
 // The name of the source at a place.
@@ -143,7 +140,7 @@ fn name_at(sources: Vec<Source>, input: usize) -> String
 }
 
 // The program's fault for one of the run: files have their names in place of numbers.
-fn fault_of_run(alloc: Global, fault: RunFault, files: RunFiles) -> Fault
+fn fault_of_run(fault: RunFault, files: RunFiles) -> Fault
     requires { IsWithin (files_value files) fault }
     ensures { IsFaultOfRun (files_value files) fault result }
 {
@@ -153,11 +150,11 @@ fn fault_of_run(alloc: Global, fault: RunFault, files: RunFiles) -> Fault
             fault,
         },
         RunFault::Library(fault) => Fault::Library {
-            name: name_given(alloc, files.library),
+            name: name_given(files.library),
             fault,
         },
         RunFault::Hooks(fault) => Fault::Hooks {
-            name: name_given(alloc, files.hooks),
+            name: name_given(files.hooks),
             fault,
         },
         // A feature has too many steps; of the texts of `--tags` one is bad.
@@ -223,7 +220,7 @@ fn run_sources<W: Write>(
             Ok(()) => Ok(status),
             Err(_) => Err(Fault::Write),
         },
-        Err(fault) => Err(fault_of_run(alloc, fault, files)),
+        Err(fault) => Err(fault_of_run(fault, files)),
     }
 }
 

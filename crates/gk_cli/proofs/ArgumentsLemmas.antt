@@ -1,6 +1,6 @@
 -- The command that reads the arguments, and what its matches hold.
 use Rattle.std.proofs.Common.{◌≡◌, ◌≢◌, ◌⊎◌, ◌∙◌, ◌<◌, ◌≤◌, ◌&&◌, ◌||◌, ◌==◌, ◌+◌, ◌++◌, ap, ap₂, sym, subst, refl, inl, inr, arith, zero, suc, ℕ, Bool, true, false, not, List, [], ◌∷◌, length, map, codes, drop, take, is_some, get_or, Option, Some, None, Result, Ok, Err}
-use Rattle.std.specs.Prelude.{cond, find, if◌then◌else◌, option_map, unwrap_or, IsErrAnd, IsSomeAnd}
+use Rattle.std.specs.Prelude.{IsOk, cond, find, if◌then◌else◌, option_map, unwrap_or, IsErrAnd, IsSomeAnd}
 use Rattle.std.specs.Option.{option_map_or}
 use Rattle.std.specs.List.{All, Any, after_first, before_first, slice_index_or, list_all}
 use Rattle.std.specs.Str.{bytes_eq}
@@ -336,6 +336,13 @@ positive texts h = All-map (λ n. 1 ≤ n) line_number texts (λ k d lt. (h k d 
 -- the number of a text that was accepted is read
 pub unread : (text : Text) {E : Type 0} (e : E) → IsLineNumber text → ParsesUnsigned 32 10 text (Err e) → ⊥
 unread text e h refused = refused (h.0, omega (arith, h.3))
+
+pub is_read : (text : Text) {E : Type 0} (r : Result ℕ E) → IsLineNumber text → ParsesUnsigned 32 10 text r → IsOk r
+is_read text (Ok n) h parsed = refl
+is_read text (Err e) h parsed = absurd (unread text e h parsed)
+
+pub number_read : (text : Text) {E : Type 0} (r : Result ℕ E) (n : ℕ) → ParsesUnsigned 32 10 text r → r ≡ Ok n → n ≡ line_number text
+number_read text r n parsed same = (subst (ParsesUnsigned 32 10 text) same parsed).1
 
 pub line_at : (texts : List (Bor Text)) (i : ℕ) (d : Bor Text) → All IsLineNumber (map (λ t. t.now) texts) → i < length texts → IsLineNumber (get_or texts i d).now
 line_at texts i d h lt =

@@ -29,7 +29,7 @@ use Rattle.gk_cli.specs.declared.run_fault.RunFault.{RunFault}
 use Rattle.gk_cli.specs.declared.run_fault.RunFault.TheVariants.{Read, Library, Hooks, Select, Write, Memory}
 use Rattle.gk_cli.specs.Inputs.{Request, Inputs, AreInputs}
 use Rattle.gk_cli.specs.RunFault.{IsUnread}
-use Rattle.gk_cli.specs.Suite.{Device, IsReported, JudgedReport, Plain, AreJudged, IsUntouched, SaysFault, InputsAreUnique, run_with}
+use Rattle.gk_cli.specs.Suite.{Device, IsReported, JudgedReport, Plain, AreJudged, IsUntouched, IsCutShort, SaysFault, InputsAreUnique, run_with}
 use Rattle.gk_cli.specs.WrittenRun.{IsWhole, IsPart}
 
 -- A list without length.
@@ -50,14 +50,14 @@ pub same_on : (a b d : SandboxValue) → IsSame a b → IsSame b d → IsSame a 
 same_on a b d p q = record { contents = q.contents ∙ p.contents; saved = q.saved ∙ p.saved; marks = q.marks ∙ p.marks; recorded = q.recorded ∙ p.recorded }
 
 -- A run that was begun, whose features were run, and that was finished.
-pub judged_by : FinishedRunsAreJudged → (run : Run) (old started told : SandboxValue) (suite left : Suite) (around : Status) (features : List ChosenValue) (rows : List FeatureRow) →
-    IsStarted run old started suite → IsKept suite left → IsSame started told → AreFeatures run (state_of started.now) suite.is_open features rows →
-    ((outside : State) → IsWalked (begun run.library run.hooks levels.Run [] outside) left.before (state_of told.now) (cleanups_value left.cleanups) → IsSectionEnd run levels.Run [] outside around (has_passed left.before)) →
+pub judged_by : FinishedRunsAreJudged → (run : Run) (old started later : SandboxValue) (suite left : Suite) (around : Status) (features : List ChosenValue) (rows : List FeatureRow) →
+    IsStarted run old started suite → IsKept suite left → IsSame started later → AreFeatures run (state_of started.now) suite.is_open features rows →
+    ((outside : State) → IsWalked (begun run.library run.hooks levels.Run [] outside) left.before (state_of later.now) (cleanups_value left.cleanups) → IsSectionEnd run levels.Run [] outside around (has_passed left.before)) →
     Judged run old.now features (record { features = rows; around = around })
-judged_by law run old started told suite left around features rows start kept same are finish =
-    let walked : IsWalked (begun run.library run.hooks levels.Run [] (state_of old.now)) left.before (state_of told.now) (cleanups_value left.cleanups) =
-    subst (λ (x : Ending). IsWalked (begun run.library run.hooks levels.Run [] (state_of old.now)) x (state_of told.now) (cleanups_value left.cleanups)) (sym kept.before)
-    (subst (λ (x : List CleanupValue). IsWalked (begun run.library run.hooks levels.Run [] (state_of old.now)) suite.before (state_of told.now) x) (sym kept.cleanups)
+judged_by law run old started later suite left around features rows start kept same are finish =
+    let walked : IsWalked (begun run.library run.hooks levels.Run [] (state_of old.now)) left.before (state_of later.now) (cleanups_value left.cleanups) =
+    subst (λ (x : Ending). IsWalked (begun run.library run.hooks levels.Run [] (state_of old.now)) x (state_of later.now) (cleanups_value left.cleanups)) (sym kept.before)
+    (subst (λ (x : List CleanupValue). IsWalked (begun run.library run.hooks levels.Run [] (state_of old.now)) suite.before (state_of later.now) x) (sym kept.cleanups)
     (subst (λ (x : Contents). IsWalked (begun run.library run.hooks levels.Run [] (state_of old.now)) suite.before (state_of x) (cleanups_value suite.cleanups)) (sym same.contents) start.walked)) in
     law run old started suite features rows around start are (subst (λ (x : Ending). IsSectionEnd run levels.Run [] (state_of old.now) around (has_passed x)) kept.before (finish (state_of old.now) walked))
 
@@ -162,6 +162,14 @@ whole_is_plain unique one r contents old new inputs answer read whole other =
       only = only_list unique one r contents answer other inputs read;
     }
 
+cut_short : (r : Request) (contents : Contents) (old new : Device) (inputs : Inputs) (fault : RunFault) → AreInputs r inputs → (part : IsPart (run_with r inputs) contents inputs.features r.style old new fault) → IsCutShort r contents old new part.0
+cut_short r contents old new inputs fault read part = record {
+  judged = record { inputs = inputs; read = read; judged = part.1 };
+  written = part.2.written;
+  calls = part.2.calls;
+  unflushed = part.2.unflushed;
+}
+
 -- What was written in part is a prefix of the report of a judged list.
 pub part_is_cut : (r : Request) (contents : Contents) (old new : Device) (inputs : Inputs) (fault : RunFault) → AreInputs r inputs → IsPart (run_with r inputs) contents inputs.features r.style old new fault → SaysFault r contents old new fault
 part_is_cut r contents old new inputs (Read input why) read part = absurd part.2.why
@@ -169,9 +177,9 @@ part_is_cut r contents old new inputs (Library why) read part = absurd part.2.wh
 part_is_cut r contents old new inputs (Hooks why) read part = absurd part.2.why
 part_is_cut r contents old new inputs (Select input why) read part = absurd part.2.why
 part_is_cut r contents old new inputs Write read part =
-    ((part.0, record { judged = record { inputs = inputs; read = read; judged = part.1 }; written = part.2.written; unflushed = part.2.unflushed }), part.2.why)
+    ((part.0, cut_short r contents old new inputs Write read part), part.2.why.0, part.2.why.1)
 part_is_cut r contents old new inputs Memory read part =
-    inr ((part.0, record { judged = record { inputs = inputs; read = read; judged = part.1 }; written = part.2.written; unflushed = part.2.unflushed }), part.2.why)
+    inr ((part.0, cut_short r contents old new inputs Memory read part), part.2.why.0, part.2.why.1)
 
 -- What doesn't read writes nothing.
 pub unread_is_untouched : (r : Request) (contents : Contents) (old new : Device) (fault : RunFault) → IsUnread r fault → IsUntouched old new → SaysFault r contents old new fault

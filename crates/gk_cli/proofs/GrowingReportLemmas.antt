@@ -23,15 +23,16 @@ appends_none (Some xs) = sym (append-nil xs)
 
 -- A writer that isn't called is untouched.
 pub untouched : (d : Device) → IsUntouched d d
-untouched d = record { written = appends_none d.bytes; calls = refl; flushes = refl; failures = refl }
+untouched d = record { written = appends_none d.bytes; calls = refl; flushes = refl; failures = refl; idle = refl }
 
 pub written_none : (d : Device) → IsWritten d d []
-written_none d = record { written = appends_none d.bytes; turns = omega arith; quiet = refl; unflushed = refl }
+written_none d = record { written = appends_none d.bytes; calls = omega arith; busy = refl; quiet = refl; unflushed = refl }
 
 pub written_more : (a b d : Device) (xs ys : List ℕ) → IsWritten a b xs → IsWritten b d ys → IsWritten a d (xs ++ ys)
 written_more a b d xs ys p q = record {
   written = Appends-trans a.bytes b.bytes d.bytes xs ys p.written q.written;
-  turns = let n = length-append xs ys in let f = p.turns in let s = q.turns in omega arith;
+  calls = let n = length-append xs ys in let f = p.calls in let s = q.calls in omega arith;
+  busy = q.busy ∙ p.busy;
   quiet = q.quiet ∙ p.quiet;
   unflushed = q.unflushed ∙ p.unflushed;
 }
@@ -53,13 +54,13 @@ take_whole : (xs ys : List ℕ) → take (length xs) (xs ++ ys) ≡ xs
 take_whole [] ys = refl
 take_whole (x ∷ xs) ys = ap (λ (zs : List ℕ). x ∷ zs) (take_whole xs ys)
 
-stops_after : (a b d : Device) (fault : RunFault) → b.failures ≡ a.failures → StopsBy b d fault → StopsBy a d fault
-stops_after a b d (Read input why) e h = h
-stops_after a b d (Library why) e h = h
-stops_after a b d (Hooks why) e h = h
-stops_after a b d (Select input why) e h = h
-stops_after a b d Write e h = h ∙ ap one_more e
-stops_after a b d Memory e h = h ∙ e
+stops_after : (a b d : Device) (fault : RunFault) → b.failures ≡ a.failures → b.idle ≡ a.idle → StopsBy b d fault → StopsBy a d fault
+stops_after a b d (Read input why) quiet busy h = h
+stops_after a b d (Library why) quiet busy h = h
+stops_after a b d (Hooks why) quiet busy h = h
+stops_after a b d (Select input why) quiet busy h = h
+stops_after a b d Write quiet busy h = (h.0 ∙ ap one_more quiet, h.1 ∙ ap one_more busy)
+stops_after a b d Memory quiet busy h = (h.0 ∙ quiet, h.1 ∙ busy)
 
 -- One piece was written, and the next wasn't whole.
 pub stopped_after : (a b d : Device) (xs ys : List ℕ) (fault : RunFault) → IsWritten a b xs → IsStopped b d ys fault → IsStopped a d (xs ++ ys) fault
@@ -71,7 +72,8 @@ stopped_after a b d xs ys fault p q =
         (let e = length-append xs ys in let le = q.written.1 in omega arith),
         subst (Appends a.bytes d.bytes) (sym (take_after xs ys n)) (Appends-trans a.bytes b.bytes d.bytes xs (take n ys) p.written q.written.2),
       );
-      why = stops_after a b d fault p.quiet q.why;
+      calls = let e = length-append xs ys in let f = p.calls in let s = q.calls in omega arith;
+      why = stops_after a b d fault p.quiet p.busy q.why;
       unflushed = q.unflushed ∙ p.unflushed;
     }
 
@@ -79,7 +81,8 @@ stopped_after a b d xs ys fault p q =
 pub stopped_before : (a b : Device) (xs ys : List ℕ) → IsWritten a b xs → IsStopped a b (xs ++ ys) Memory
 stopped_before a b xs ys p = record {
   written = (length xs, (let e = length-append xs ys in omega arith), subst (Appends a.bytes b.bytes) (sym (take_whole xs ys)) p.written);
-  why = p.quiet;
+  calls = let e = length-append xs ys in let f = p.calls in omega arith;
+  why = (p.quiet, p.busy);
   unflushed = p.unflushed;
 }
 
@@ -94,6 +97,7 @@ stopped_within a b xs ys whole fault is q =
     subst (λ zs. IsStopped a b zs fault) (sym is)
     (record {
       written = (n, (let e = length-append xs ys in let le = q.written.1 in omega arith), subst (Appends a.bytes b.bytes) (sym (take_within xs ys n q.written.1)) q.written.2);
+      calls = let e = length-append xs ys in let f = q.calls in omega arith;
       why = q.why;
       unflushed = q.unflushed;
     })
@@ -167,4 +171,4 @@ pub tail_written : ReportsGrowByParts → (g : GrowingReport) (old new before : 
 tail_written law g old new before rows around text answer is written status grown =
     let whole = subst (IsWritten before new) (ap (λ (xs : List ℕ). so_far g.style rows ++ xs) (is rows grown.counted) ∙ sym (law.whole g.style (results_with rows around)))
     (written_more before old new (so_far g.style rows) text grown.written written) in
-    record { written = whole.written; answered = status rows grown.counted; turns = whole.turns; quiet = whole.quiet; unflushed = whole.unflushed }
+    record { written = whole.written; answered = status rows grown.counted; calls = whole.calls; busy = whole.busy; quiet = whole.quiet; unflushed = whole.unflushed }

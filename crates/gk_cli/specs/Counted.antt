@@ -19,6 +19,10 @@ flushes_of c = c.flushes
 abbrev pub failures_of : {T : Type 0} → Counted T → ℕ
 failures_of c = c.failures
 
+-- The count of its calls of `read` and `write` that moved no byte. (this project's profile)
+abbrev pub idle_of : {T : Type 0} → Counted T → ℕ
+idle_of c = c.idle
+
 -- One more, up to the greatest `u64`. (this project's profile)
 abbrev pub one_more : ℕ → ℕ
 one_more n = min (n + 1) (2 ^ 64 - 1)
@@ -38,6 +42,20 @@ IsQuiet old new = failures_of new ≡ failures_of old
 -- One more call of the device failed. (this project's profile)
 abbrev pub HasFailedOnce : {T : Type 0} → Counted T → Counted T → Type 0
 HasFailedOnce old new = failures_of new ≡ one_more (failures_of old)
+
+-- Each call of `read` and `write` in between moved at least one byte. (this project's profile)
+abbrev pub IsNeverIdle : {T : Type 0} → Counted T → Counted T → Type 0
+IsNeverIdle old new = idle_of new ≡ idle_of old
+
+-- One call of `read` or `write` in between moved no byte, and each other one at least one. (this project's profile)
+abbrev pub IsIdleOnce : {T : Type 0} → Counted T → Counted T → Type 0
+IsIdleOnce old new = idle_of new ≡ one_more (idle_of old)
+
+-- The count of idle calls after a read or a write: it moved no byte where it failed, and where it gave or took none, as of an empty piece. (this project's profile)
+abbrev pub counted_idle : {E : Type 0} → Result ℕ E → ℕ → ℕ
+counted_idle (Ok zero) n = one_more n
+counted_idle (Ok (suc k)) n = n
+counted_idle (Err e) n = one_more n
 
 -- The count of failures after a write: one that took no byte of a piece that isn't empty has failed. (this project's profile)
 abbrev pub counted_write : {E : Type 0} → Result ℕ E → List ℕ → ℕ → ℕ

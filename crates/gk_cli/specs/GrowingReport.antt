@@ -24,22 +24,24 @@ so_far style rows = head style ++ parts style rows
 abbrev pub results_with : List FeatureRow → Status → Results
 results_with rows around = record { features = rows; around = around }
 
--- These bytes were written, by no more calls than there are bytes.
+-- These bytes were written, by no more calls than there are bytes, each of which moved at least one.
 pub record IsWritten (old new : Device) (bytes : List ℕ) : Type 0 where
   pub written : Appends old.bytes new.bytes bytes
-  pub turns : new.calls ≤ old.calls + length bytes
+  pub calls : new.calls ≤ old.calls + length bytes
+  pub busy : new.idle ≡ old.idle
   pub quiet : new.failures ≡ old.failures
   pub unflushed : new.flushes ≡ old.flushes
 
--- Why no more is written: the writer failed once, or memory was refused.
+-- Why no more is written: the writer failed once, in a call that moved no byte, or memory was refused.
 abbrev pub StopsBy : Device → Device → RunFault → Type 0
-StopsBy old new Write = new.failures ≡ one_more old.failures
-StopsBy old new Memory = new.failures ≡ old.failures
+StopsBy old new Write = (new.failures ≡ one_more old.failures) × (new.idle ≡ one_more old.idle)
+StopsBy old new Memory = (new.failures ≡ old.failures) × (new.idle ≡ old.idle)
 StopsBy old new fault = ⊥
 
--- A prefix of these bytes was written, and no more is.
+-- A prefix of these bytes was written, by no more calls than there are bytes, and no more is.
 pub record IsStopped (old new : Device) (bytes : List ℕ) (fault : RunFault) : Type 0 where
   pub written : IsPrefixWritten old.bytes new.bytes bytes
+  pub calls : new.calls ≤ old.calls + length bytes
   pub why : StopsBy old new fault
   pub unflushed : new.flushes ≡ old.flushes
 

@@ -1,6 +1,10 @@
 -- A source, and reading one whole.
-use Rattle.std.specs.Prelude.{◌≡◌, ◌≤◌, ℕ, List, length, drop, Option, Some, None, IsSomeAnd, string_bytes}
+use Rattle.std.specs.Prelude.{◌≡◌, ◌≤◌, ℕ, List, length, drop, Option, Some, None, Result, Ok, Err, IsSomeAnd, string_bytes}
+use Rattle.std.specs.Io.KnownBytes.{Consumes}
+use Rattle.gk_cli.specs.Counted.{one_more}
 use Rattle.gk_cli.specs.declared.source.Source.{Source}
+use Rattle.gk_cli.specs.declared.source.SourceFault.{SourceFault}
+use Rattle.gk_cli.specs.declared.source.SourceFault.TheVariants.{Device, TooLong, Memory}
 
 -- A source: its name and its bytes. (this project's profile)
 pub record SourceValue : Type 0 where
@@ -15,3 +19,14 @@ source_value s = record { name = string_bytes s.name; bytes = s.bytes.items }
 abbrev pub StopsAfter : ℕ → Option (List ℕ) → Option (List ℕ) → Type 0
 StopsAfter n None rest = Unit {0}
 StopsAfter n (Some bytes) rest = (n ≤ length bytes) × IsSomeAnd rest (λ left. left ≡ drop n bytes)
+
+-- The reader gave this many bytes at most. (this project's profile)
+abbrev pub GivesAtMost : ℕ → Option (List ℕ) → Option (List ℕ) → Type 0
+GivesAtMost n old new = (bytes : List ℕ) × (length bytes ≤ n) × Consumes old new bytes
+
+-- The count of idle calls after a source was read, or wasn't read whole: the call that finds the end and the one that fails moved no byte, and each other call at least one. (this project's profile)
+abbrev pub idle_after : {T : Type 0} → Result T SourceFault → ℕ → ℕ
+idle_after (Ok bytes) n = one_more n
+idle_after (Err Device) n = one_more n
+idle_after (Err TooLong) n = n
+idle_after (Err Memory) n = n

@@ -12,7 +12,7 @@ use Rattle.gk_cli.specs.declared.arguments.Options.{Options}
 use Rattle.gk_cli.specs.declared.counted.Counted.{Counted}
 use Rattle.gk_cli.specs.declared.run_fault.RunFault.{RunFault}
 use Rattle.gk_cli.specs.declared.run_fault.RunFault.TheVariants.{Write, Memory}
-use Rattle.gk_cli.specs.Counted.{inner_of, calls_of, flushes_of, failures_of, one_more, IsPrefixWritten}
+use Rattle.gk_cli.specs.Counted.{inner_of, calls_of, flushes_of, failures_of, idle_of, one_more, IsPrefixWritten}
 use Rattle.gk_cli.specs.Inputs.{Request, Inputs, request_of, AreInputs}
 use Rattle.gk_cli.specs.RunFault.{IsUnread}
 
@@ -20,22 +20,24 @@ use Rattle.gk_cli.specs.RunFault.{IsUnread}
 abbrev pub run_with : Request → Inputs → Run
 run_with r inputs = record { library = inputs.library; hooks = inputs.hooks; dry_run = r.dry_run; stop = r.stop }
 
--- A writer: the bytes that it has taken, where they are known, and the counts of its calls, flushes and failures.
+-- A writer: the bytes that it has taken, where they are known, and the counts of its calls, flushes, failures and idle calls.
 pub record Device : Type 0 where
   pub bytes : Option (List ℕ)
   pub calls : ℕ
   pub flushes : ℕ
   pub failures : ℕ
+  pub idle : ℕ
 
 -- What a counted writer has taken and counted.
 abbrev pub device_of : {W : Type 0} → (W → Option (List ℕ)) → Counted W → Device
-device_of bytes_of out = record { bytes = bytes_of (inner_of out); calls = calls_of out; flushes = flushes_of out; failures = failures_of out }
+device_of bytes_of out = record { bytes = bytes_of (inner_of out); calls = calls_of out; flushes = flushes_of out; failures = failures_of out; idle = idle_of out }
 
--- The report of these results was written, and their status is answered. The writer didn't fail, wasn't flushed, and was called no more often than there are bytes.
+-- The report of these results was written, and their status is answered. The writer didn't fail, wasn't flushed, and was called no more often than there are bytes; each call moved at least one.
 pub record IsReported (style : Style) (old new : Device) (answer : ℕ) (results : Results) : Type 0 where
   pub written : Appends old.bytes new.bytes (report style results)
   pub answered : answer ≡ status results
-  pub turns : new.calls ≤ old.calls + length (report style results)
+  pub calls : new.calls ≤ old.calls + length (report style results)
+  pub busy : new.idle ≡ old.idle
   pub quiet : new.failures ≡ old.failures
   pub unflushed : new.flushes ≡ old.flushes
 
@@ -71,21 +73,23 @@ pub record IsUntouched (old new : Device) : Type 0 where
   pub calls : new.calls ≡ old.calls
   pub flushes : new.flushes ≡ old.flushes
   pub failures : new.failures ≡ old.failures
+  pub idle : new.idle ≡ old.idle
 
--- The writer took a prefix of the report of a judged list.
+-- The writer took a prefix of the report of a judged list, and was called no more often than that report has bytes.
 pub record IsCutShort (r : Request) (contents : Contents) (old new : Device) (results : Results) : Type 0 where
   pub judged : AreJudged r contents results
   pub written : IsPrefixWritten old.bytes new.bytes (report r.style results)
+  pub calls : new.calls ≤ old.calls + length (report r.style results)
   pub unflushed : new.flushes ≡ old.flushes
 
 -- The writer took a prefix of the report of some judged list.
 abbrev pub Cut : Request → Contents → Device → Device → Type 0
 Cut r contents old new = (results : Results) × IsCutShort r contents old new results
 
--- What each fault says. Where the writer failed, it failed once, and a prefix was written. Where memory was refused, nothing was written, or a prefix was and the writer didn't fail. Else what is asked for doesn't read, and nothing was written.
+-- What each fault says. Where the writer failed, it failed once, a prefix was written, and each other call moved at least one byte. Where memory was refused, nothing was written, or a prefix was, the writer didn't fail, and each call moved at least one byte. Else what is asked for doesn't read, and nothing was written.
 abbrev pub SaysFault : Request → Contents → Device → Device → RunFault → Type 0
-SaysFault r contents old new Write = Cut r contents old new × (new.failures ≡ one_more old.failures)
-SaysFault r contents old new Memory = IsUntouched old new ⊎ (Cut r contents old new × (new.failures ≡ old.failures))
+SaysFault r contents old new Write = Cut r contents old new × (new.failures ≡ one_more old.failures) × (new.idle ≡ one_more old.idle)
+SaysFault r contents old new Memory = IsUntouched old new ⊎ (Cut r contents old new × (new.failures ≡ old.failures) × (new.idle ≡ old.idle))
 SaysFault r contents old new fault = IsUnread r fault × IsUntouched old new
 
 -- What is asked for reads in one way only.

@@ -3,7 +3,7 @@ ghost use Rattle.std.specs.Prelude.{◌≡◌, map, Some, IfOk, codes, option_ma
 ghost use Rattle.std.specs.List.{All};
 ghost use Rattle.clap.specs.Words.{found_of, kind_of, new_rule, rows_of};
 ghost use Rattle.clap.specs.declared.error.kind.ErrorKind.TheVariants.{InvalidValue};
-ghost use Rattle.gk_cli.specs.Arguments.{files_rule, tags_rule, line_rule, library_rule, hooks_rule, env_rule, format_rule, flag_rule, command, HasRule, IsCommand, values_of, is_set, IsLineNumber, line_number, format_name, format_asked, SaysFormat, SaysVariable, SaysVariables, AreAsked, SaysMatches, SaysArguments};
+ghost use Rattle.gk_cli.specs.Arguments.{files_rule, line_rule, flag_rule, command, HasRule, IsCommand, values_of, is_set, IsLineNumber, line_number, format_name, format_asked, SaysFormat, SaysVariable, SaysVariables, AreAsked, SaysMatches, SaysArguments};
 
 use clap::builder::ValueParser;
 use clap::error::ErrorKind;
@@ -14,6 +14,22 @@ use thiserror::Error;
 
 const EXAMPLE: &str =
     "Example:\n  gherkin_run --tags @smoke --stop --format progress login.feature cart.feature";
+
+const FILES_HELP: &str = "Feature files, run in this order";
+
+const TAGS_HELP: &str =
+    "Run only scenarios whose tags fit T, as ~@slow,@db; each --tags has to fit";
+
+const LINE_HELP: &str =
+    "Run only the scenarios at line N of a file; of several lines, one has to fit";
+
+const LIBRARY_HELP: &str = "Take the steps from FILE in place of the default library";
+
+const HOOKS_HELP: &str = "Run the hooks in FILE around the run, its features and its scenarios";
+
+const ENV_HELP: &str = "Set a variable before the run; of equal names the last counts";
+
+const FORMAT_HELP: &str = "Write the report as plain, progress or json [default: plain]";
 
 const DRY_RUN_HELP: &str = "Look up the steps in the library, and run no step, hook or cleanup";
 
@@ -109,7 +125,7 @@ fn files_arg<'a>(alloc: Global) -> Arg<'a>
 {
     Arg::new(alloc, "files")
         .value_name("FILE")
-        .help("Feature files, run in this order")
+        .help(FILES_HELP)
         .required(true)
         .num_args(1..)
         .action(ArgAction::Append)
@@ -133,77 +149,14 @@ fn value_arg<'a>(
         .action(action)
 }
 
-fn tags_arg<'a>(alloc: Global) -> Arg<'a>
-    ensures { HasRule tags_rule result }
-{
-    value_arg(
-        alloc,
-        "tags",
-        "T",
-        "Run only scenarios whose tags fit T, as ~@slow,@db; each --tags has to fit",
-        ArgAction::Append,
-    )
-}
-
+// The option `--line`, whose value is a number.
 fn line_arg<'a>(alloc: Global) -> Arg<'a>
     ensures { HasRule line_rule result }
 {
-    value_arg(
-        alloc,
-        "line",
-        "N",
-        "Run only the scenarios at line N of a file; of several lines, one has to fit",
-        ArgAction::Append,
-    )
-    .value_parser(ValueParser::unsigned(1, 4_294_967_295))
-}
-
-fn library_arg<'a>(alloc: Global) -> Arg<'a>
-    ensures { HasRule library_rule result }
-{
-    value_arg(
-        alloc,
-        "library",
-        "FILE",
-        "Take the steps from FILE in place of the default library",
-        ArgAction::Set,
-    )
-}
-
-fn hooks_arg<'a>(alloc: Global) -> Arg<'a>
-    ensures { HasRule hooks_rule result }
-{
-    value_arg(
-        alloc,
-        "hooks",
-        "FILE",
-        "Run the hooks in FILE around the run, its features and its scenarios",
-        ArgAction::Set,
-    )
-}
-
-fn env_arg<'a>(alloc: Global) -> Arg<'a>
-    ensures { HasRule env_rule result }
-{
-    value_arg(
-        alloc,
-        "env",
-        "NAME=VALUE",
-        "Set a variable before the run; of equal names the last counts",
-        ArgAction::Append,
-    )
-}
-
-fn format_arg<'a>(alloc: Global) -> Arg<'a>
-    ensures { HasRule format_rule result }
-{
-    value_arg(
-        alloc,
-        "format",
-        "F",
-        "Write the report as plain, progress or json [default: plain]",
-        ArgAction::Set,
-    )
+    value_arg(alloc, "line", "N", LINE_HELP, ArgAction::Append).value_parser(ValueParser::unsigned(
+        1,
+        4_294_967_295,
+    ))
 }
 
 // A flag, which stands once at most.
@@ -225,16 +178,16 @@ fn command_of<'a>(alloc: Global) -> Result<Command<'a>, AllocError>
         .after_help(EXAMPLE)
         .arg(files_arg(alloc))?
         .next_help_heading("Which scenarios run")
-        .arg(tags_arg(alloc))?
+        .arg(value_arg(alloc, "tags", "T", TAGS_HELP, ArgAction::Append))?
         .arg(line_arg(alloc))?
         .next_help_heading("How they run")
-        .arg(library_arg(alloc))?
-        .arg(hooks_arg(alloc))?
-        .arg(env_arg(alloc))?
+        .arg(value_arg(alloc, "library", "FILE", LIBRARY_HELP, ArgAction::Set))?
+        .arg(value_arg(alloc, "hooks", "FILE", HOOKS_HELP, ArgAction::Set))?
+        .arg(value_arg(alloc, "env", "NAME=VALUE", ENV_HELP, ArgAction::Append))?
         .arg(flag_arg(alloc, "dry-run", DRY_RUN_HELP))?
         .arg(flag_arg(alloc, "stop", STOP_HELP))?
         .next_help_heading("Report")
-        .arg(format_arg(alloc))?
+        .arg(value_arg(alloc, "format", "F", FORMAT_HELP, ArgAction::Set))?
         .arg(flag_arg(alloc, "no-skipped", NO_SKIPPED_HELP))
 }
 
@@ -256,10 +209,7 @@ fn numbers(alloc: Global, texts: &[&str]) -> Result<Vec<u32>, AllocError>
 {
     let mut numbers = Vec::new(alloc);
     for text in texts {
-        match text.parse::<u32>() {
-            Ok(number) => numbers.push(number)?,
-            Err(_) => unreachable!(),
-        }
+        numbers.push(text.parse::<u32>().unwrap())?;
     }
     Ok(numbers)
 }

@@ -1,19 +1,21 @@
 //! A reader or a writer whose calls are counted, and writing bytes whole.
 ghost use Rattle.std.specs.Prelude.{◌≡◌, ◌≤◌, ◌+◌, length, OnOk, OnErr};
 ghost use Rattle.std.specs.Io.KnownBytes.{Appends};
-ghost use Rattle.gk_cli.specs.Counted.{inner_of, calls_of, one_more, IsPrefixWritten, IsQuiet, HasFailedOnce, IsUnflushed};
+ghost use Rattle.gk_cli.specs.Counted.{inner_of, calls_of, one_more, IsPrefixWritten, IsQuiet, HasFailedOnce, IsUnflushed, IsNeverIdle, IsIdleOnce};
 
 use std::io;
 use std::io::{Read, Write};
 
 /// Passes the calls of a reader or a writer on. Counts them, the flushes apart from the others, and counts
-/// those that failed. Each count stops rising at `u64::MAX`. (this project's profile)
+/// those that failed and those that moved no byte. Each count stops rising at `u64::MAX`. (this project's
+/// profile)
 #[derive(Debug, Drop)]
 pub struct Counted<T> {
     inner: T,
     calls: u64,
     flushes: u64,
     failures: u64,
+    idle: u64,
 }
 
 // A count, by one more; at `u64::MAX` it stays.
@@ -24,7 +26,7 @@ fn count_one(count: &mut u64)
 }
 
 impl<T> Counted<T> {
-    ghost use Rattle.gk_cli.specs.Counted.{inner_of, calls_of, flushes_of, failures_of};
+    ghost use Rattle.gk_cli.specs.Counted.{inner_of, calls_of, flushes_of, failures_of, idle_of};
 
     /// Counts the calls of `inner` from 0 on. Takes no memory.
     pub fn new(inner: T) -> Counted<T>
@@ -32,12 +34,14 @@ impl<T> Counted<T> {
         ensures calls { calls_of result ≡ 0 }
         ensures flushes { flushes_of result ≡ 0 }
         ensures failures { failures_of result ≡ 0 }
+        ensures idle { idle_of result ≡ 0 }
     {
         Counted {
             inner,
             calls: 0,
             flushes: 0,
             failures: 0,
+            idle: 0,
         }
     }
 
@@ -63,6 +67,14 @@ impl<T> Counted<T> {
         self.failures
     }
 
+    /// How many calls of `read` and `write` moved no byte: those of an empty piece, those that gave or took
+    /// nothing, and those that failed. Takes no memory.
+    pub fn idle(&self) -> u64
+        ensures { result ≡ idle_of self.now }
+    {
+        self.idle
+    }
+
     /// The reader or writer itself. Takes no memory.
     pub fn inner(&self) -> &T
         ensures { result.now ≡ inner_of self.now }
@@ -75,7 +87,7 @@ impl<W: Write> Write for Counted<W> {
     ghost use Rattle.std.specs.Prelude.{◌≡◌};
     ghost use Rattle.std.specs.Io.{WritesAtMost};
     ghost use Rattle.std.specs.Io.KnownBytes.{Keeps, WriteAppends};
-    ghost use Rattle.gk_cli.specs.Counted.{inner_of, calls_of, flushes_of, failures_of, one_more, counted_write, counted_flush, IsCalledOnce, IsUnflushed};
+    ghost use Rattle.gk_cli.specs.Counted.{inner_of, calls_of, flushes_of, failures_of, idle_of, one_more, counted_write, counted_flush, counted_idle, IsCalledOnce, IsUnflushed, IsNeverIdle};
 
     ghost contents = { λ c. W.contents (inner_of c) };
 
@@ -87,17 +99,20 @@ impl<W: Write> Write for Counted<W> {
         ensures flushes { IsUnflushed self.old self.new }
         ensures failures { failures_of self.new
             ≡ counted_write result buf.now (failures_of self.old) }
+        ensures idle { idle_of self.new ≡ counted_idle result (idle_of self.old) }
     {
         count_one(&mut self.calls);
         let taken = self.inner.write(buf);
         match &taken {
             Ok(0) => {
+                count_one(&mut self.idle);
                 if !buf.is_empty() {
                     count_one(&mut self.failures);
                 }
             }
             Ok(_) => {}
             Err(_) => {
+                count_one(&mut self.idle);
                 count_one(&mut self.failures);
             }
         }
@@ -109,6 +124,7 @@ impl<W: Write> Write for Counted<W> {
         ensures calls { calls_of self.new ≡ calls_of self.old }
         ensures flushes { flushes_of self.new ≡ one_more (flushes_of self.old) }
         ensures failures { failures_of self.new ≡ counted_flush result (failures_of self.old) }
+        ensures idle { IsNeverIdle self.old self.new }
     {
         count_one(&mut self.flushes);
         let flushed = self.inner.flush();
@@ -123,7 +139,7 @@ impl<R: Read> Read for Counted<R> {
     ghost use Rattle.std.specs.Prelude.{◌≡◌};
     ghost use Rattle.std.specs.Io.{ReadsAtMost};
     ghost use Rattle.std.specs.Io.KnownBytes.{ReadConsumes};
-    ghost use Rattle.gk_cli.specs.Counted.{inner_of, failures_of, counted_read, IsCalledOnce, IsUnflushed};
+    ghost use Rattle.gk_cli.specs.Counted.{inner_of, failures_of, idle_of, counted_read, counted_idle, IsCalledOnce, IsUnflushed};
 
     ghost remaining = { λ c. R.remaining (inner_of c) };
 
@@ -134,13 +150,19 @@ impl<R: Read> Read for Counted<R> {
         ensures calls { IsCalledOnce self.old self.new }
         ensures flushes { IsUnflushed self.old self.new }
         ensures failures { failures_of self.new ≡ counted_read result (failures_of self.old) }
+        ensures idle { idle_of self.new ≡ counted_idle result (idle_of self.old) }
     {
         count_one(&mut self.calls);
-        let taken = self.inner.read(buf);
-        if taken.is_err() {
-            count_one(&mut self.failures);
+        let given = self.inner.read(buf);
+        match &given {
+            Ok(0) => count_one(&mut self.idle),
+            Ok(_) => {}
+            Err(_) => {
+                count_one(&mut self.idle);
+                count_one(&mut self.failures);
+            }
         }
-        taken
+        given
     }
 }
 
@@ -148,8 +170,9 @@ impl<R: Read> Read for Counted<R> {
 #[derive(Clone, Copy, Debug, PartialEq, Eq, Drop)]
 pub struct NotWritten;
 
-/// Writes all the bytes, and flushes nothing. Each turn offers all that is left and has at least one byte
-/// taken, or ends with `NotWritten`; then a prefix of the bytes was written. A writer that failed isn't asked
+/// Writes all the bytes, and flushes nothing. Each call offers all that is left, and has at least one byte
+/// taken or is the last, with `NotWritten`; then a prefix of the bytes was written. Where no byte is left, none
+/// is made. A writer that failed isn't asked
 /// again. Takes no memory. (this project's profile)
 pub fn write_whole<W: Write>(out: &mut Counted<W>, bytes: &[u8]) -> Result<(), NotWritten>
     ensures ok { OnOk result
@@ -160,7 +183,10 @@ pub fn write_whole<W: Write>(out: &mut Counted<W>, bytes: &[u8]) -> Result<(), N
     // One failure ends it: no second call follows one that failed.
     ensures failed { OnErr result (HasFailedOnce out.old out.new) }
     // The writer is called no more often than there are bytes.
-    ensures turns { calls_of out.new ≤ calls_of out.old + length bytes.now }
+    ensures calls { calls_of out.new ≤ calls_of out.old + length bytes.now }
+    // Each call moved at least one byte, but for the one that failed.
+    ensures busy { OnOk result (IsNeverIdle out.old out.new) }
+    ensures idle { OnErr result (IsIdleOnce out.old out.new) }
     ensures unflushed { IsUnflushed out.old out.new }
 {
     let mut done = 0;

@@ -5,31 +5,38 @@ use gk_gherkin::ReadFault;
 use gk_select::SelectFault;
 use gk_steps::LibraryFault;
 use std::alloc::{AllocError, AllocFailed};
+use thiserror::Error;
 
 /// Why a run ended without its whole report. Where more than one fault could be named, the first is: the
 /// texts of tags come first, then the library, then the hooks, then each source in turn. (this project's profile)
-#[derive(Clone, Copy, Debug, PartialEq, Eq)]
+#[derive(Clone, Copy, Debug, PartialEq, Eq, Error)]
 pub enum RunFault {
     /// The source at place `input`, from 0, is the first that doesn't read, for this reason. Nothing was
     /// written.
+    #[error("source {input}: {fault}")]
     Read {
         input: usize,
         fault: ReadFault,
     },
     /// The library file doesn't read, for this reason. Nothing was written.
+    #[error("library: {}", .0.text())]
     Library(LibraryFault),
     /// The hooks file doesn't read, for this reason. Nothing was written.
+    #[error("hooks: {0}")]
     Hooks(ReadFault),
     /// `BadTagText`, without an input: a text of tags spells no rule. `TooMany`: the cases of the source at
     /// place `input`, from 0, have too many steps. Nothing was written.
+    #[error("{fault}")]
     Select {
         input: Option<usize>,
         fault: SelectFault,
     },
     /// The writer failed in this call, or took no byte of a piece. A prefix of the report was written.
+    #[error("cannot write")]
     Write,
     /// A growth of memory was refused outside the steps of scenarios, hooks and cleanups. A prefix of the
     /// report was written; nothing, where the inputs were still being read.
+    #[error("out of memory")]
     Memory,
 }
 

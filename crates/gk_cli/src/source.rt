@@ -1,8 +1,8 @@
 //! The sources of a run, and reading one whole.
 ghost use Rattle.std.specs.Prelude.{◌≡◌, ◌≢◌, ◌≤◌, ◌+◌, [], Some, IfOk, IfSome, IsErrOf, vec_len};
 ghost use Rattle.gk_gherkin.specs.Lines.{limit};
-ghost use Rattle.gk_cli.specs.Counted.{inner_of, calls_of, IsQuiet, HasFailedOnce};
-ghost use Rattle.gk_cli.specs.Source.{StopsAfter};
+ghost use Rattle.gk_cli.specs.Counted.{inner_of, calls_of, idle_of, IsQuiet, HasFailedOnce};
+ghost use Rattle.gk_cli.specs.Source.{StopsAfter, GivesAtMost, idle_after};
 
 use crate::counted::Counted;
 use gk_gherkin::LIMIT;
@@ -34,7 +34,7 @@ pub enum SourceFault {
 /// The bytes that one call of the reader is asked for.
 const PIECE: usize = 16_384;
 
-/// All the bytes of a reader. Each turn but the last has at least one byte, and the reader is asked for
+/// All the bytes of a reader. Each call but the last gives at least one byte, and the reader is asked for
 /// no byte after number `gk_gherkin::LIMIT` + 1, so one that never ends is `TooLong`. A reader that failed
 /// isn't asked again. (this project's profile)
 pub fn read_source<R: Read>(alloc: Global, reader: &mut Counted<R>) -> Result<Vec<u8>, SourceFault>
@@ -52,8 +52,11 @@ pub fn read_source<R: Read>(alloc: Global, reader: &mut Counted<R>) -> Result<Ve
     // `Memory` never comes where the reader has no byte.
     ensures spare { IsErrOf result SourceFault.Memory → IsQuiet reader.old reader.new }
     ensures free { IsErrOf result SourceFault.Memory → R.remaining (inner_of reader.old) ≢ Some [] }
-    // Each turn but the last gives a byte, and none is asked for after number LIMIT + 1.
-    ensures turns { IfOk result (λ v. calls_of reader.new ≤ calls_of reader.old + vec_len v + 1) }
+    // Whatever is answered, each call but the last gives a byte, and none after number LIMIT + 1.
+    ensures idle { idle_of reader.new ≡ idle_after result (idle_of reader.old) }
+    ensures given { GivesAtMost (limit + 1)
+        (R.remaining (inner_of reader.old)) (R.remaining (inner_of reader.new)) }
+    ensures calls { IfOk result (λ v. calls_of reader.new ≤ calls_of reader.old + vec_len v + 1) }
     ensures bounded { calls_of reader.new ≤ calls_of reader.old + (limit + 1) }
 {
     let mut bytes = Vec::new(alloc);

@@ -2,7 +2,7 @@
 ghost use Rattle.std.specs.Prelude.{◌≡◌, ◌-◌, ◌^◌, ◌<◌, IfOk, IfErr, OnOk};
 ghost use Rattle.gk_world.specs.Sandbox.{depth};
 ghost use Rattle.gk_run.specs.Running.{IsSame};
-ghost use Rattle.gk_cli.specs.Counted.{failures_of, IsQuiet, IsUnflushed};
+ghost use Rattle.gk_cli.specs.Counted.{failures_of, IsQuiet, IsUnflushed, IsNeverIdle};
 ghost use Rattle.gk_cli.specs.Inputs.{asked};
 ghost use Rattle.gk_cli.specs.Suite.{device_of, Reported, JudgedReport, Plain, SaysFault, InputsAreUnique};
 
@@ -72,6 +72,8 @@ pub fn run_suite<W: Write>(
         (device_of W.contents out.old) (device_of W.contents out.new)) }
     // A status comes only where the writer didn't fail.
     ensures quiet { OnOk result (IsQuiet out.old out.new) }
+    // Each call of the writer moved at least one byte.
+    ensures busy { OnOk result (IsNeverIdle out.old out.new) }
     ensures unflushed { IsUnflushed out.old out.new }
 {
     // No code runs in these two: the laws say that what is asked for reads in one way, and that results

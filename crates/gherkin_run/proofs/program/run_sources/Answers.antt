@@ -10,7 +10,7 @@ returns-in-Ok-flush-clause-run g c = record {
   written = device_of (λ w. g.W.Write.contents w) c.run_suite.new.out;
   judged = rw (c.bytes_of-steps.ensures, c.bytes_of-around.ensures, c.as_slice.ensures.value) at c.in-Ok.ensures.judged;
   plain = rw (c.bytes_of-steps.ensures, c.bytes_of-around.ensures, c.as_slice.ensures.value) at c.in-Ok.ensures.plain;
-  flushed = record { written = c.flush.ensures.bytes; calls = c.flush.ensures.calls; flushes = c.flush.ensures.flushes };
+  flushed = record { written = c.flush.ensures.bytes; calls = c.flush.ensures.calls; idle = c.flush.ensures.idle; flushes = c.flush.ensures.flushes };
 }
 
 pub returns-in-Ok-clause-fault : goal.returns-in-Ok-clause-fault
@@ -19,7 +19,7 @@ returns-in-Ok-clause-fault g c = inr record {
   status = c.in-Ok.status;
   written = device_of (λ w. g.W.Write.contents w) c.run_suite.new.out;
   judged = rw (c.bytes_of-steps.ensures, c.bytes_of-around.ensures, c.as_slice.ensures.value) at c.in-Ok.ensures.judged;
-  flushed = record { written = c.flush.ensures.bytes; calls = c.flush.ensures.calls; flushes = c.flush.ensures.flushes };
+  flushed = record { written = c.flush.ensures.bytes; calls = c.flush.ensures.calls; idle = c.flush.ensures.idle; flushes = c.flush.ensures.flushes };
   failed = c.in-Err-flush.ensures.failures ∙ ap one_more c.in-Ok.ensures.quiet;
 }
 

@@ -8,6 +8,7 @@ loop-done-preserved g c = record {
   within = search rules;
   written = Appends-after _ _ _ c.args.bytes.now c.loop-done.done c.in-Ok.n c.loop-done.invariant.written c.in-Ok.ensures.bytes;
   quiet = grind (arith, common_steps);
-  turns = search rules;
+  calls = search rules;
+  busy = grind (arith, common_steps);
   unflushed = search rules;
 }

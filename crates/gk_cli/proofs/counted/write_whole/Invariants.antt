@@ -7,7 +7,8 @@ invariant-loop-done g l = record {
   within : l.done ≤ length l.bytes;
   written : Appends (g.W.Write.contents l.fn.out.inner) (g.W.Write.contents l.out.inner) (take l.done l.bytes);
   quiet : l.out.failures ≡ l.fn.out.failures;
-  turns : l.out.calls ≤ l.fn.out.calls + l.done;
+  calls : l.out.calls ≤ l.fn.out.calls + l.done;
+  busy : l.out.idle ≡ l.fn.out.idle;
   unflushed : l.out.flushes ≡ l.fn.out.flushes;
 }
 

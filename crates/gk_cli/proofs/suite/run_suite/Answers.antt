@@ -34,6 +34,9 @@ returns-in-Ok-clause-fault g c =
 pub returns-in-Ok-clause-quiet : goal.returns-in-Ok-clause-quiet
 returns-in-Ok-clause-quiet g c = ok_known c.write_run.result (λ status whole. whole.2.quiet) c.write_run.ensures.ok
 
+pub returns-in-Ok-clause-busy : goal.returns-in-Ok-clause-busy
+returns-in-Ok-clause-busy g c = ok_known c.write_run.result (λ status whole. whole.2.busy) c.write_run.ensures.ok
+
 pub returns-in-Ok-clause-unflushed : goal.returns-in-Ok-clause-unflushed
 returns-in-Ok-clause-unflushed g c = either_way c.write_run.result (λ status whole. whole.2.unflushed) (λ fault part. part.2.unflushed) c.write_run.ensures.ok c.write_run.ensures.err
 

@@ -22,8 +22,8 @@ returns-in_err-report-clause-err g c =
     subst (λ (f : RunFault). (contents : Contents) → IsPart run contents features style old new f) (sym same)
     (λ contents. head_stopped c.reports_grow_by_parts.ensures run contents features style old new c.in_err-report.field-0.0 c.in_err-report.ensures.err))
 
-pub returns-in-Ok-clause-ok : goal.returns-in-Ok-clause-ok
-returns-in-Ok-clause-ok g c =
+pub returns-in-Ok : goal.returns-in-Ok
+returns-in-Ok g c =
     let run = dry_run_of c.args.inputs.library c.args.inputs.hooks c.args.options.now.stop in
     let features = map chosen_value c.args.inputs.features.items in
     let style = c.args.options.now.style in
@@ -32,23 +32,14 @@ returns-in-Ok-clause-ok g c =
     let there = device_of g.W.Write.contents c.dry_features.new.out in
     let new = device_of g.W.Write.contents c.finish.new.out in
     let begun = c.in_ok-report.report in
-    if_ok c.finish.result (λ status reported. λ contents. as_whole run run contents features style old head begun new status refl c.in_ok-report.ensures.style c.in_ok-report.ensures.ok
-    (finished (AreDryFeatures (library_value c.args.inputs.library)) run contents features Passed head begun there c.dry_features.new.report new status
-    (λ rows are. c.dry_runs_are_judged.ensures run contents features rows refl are) c.dry_features.ensures.style c.in-Ok.ensures.ok reported)) c.finish.ensures.ok
-
-pub returns-in-Ok-clause-err : goal.returns-in-Ok-clause-err
-returns-in-Ok-clause-err g c =
-    let run = dry_run_of c.args.inputs.library c.args.inputs.hooks c.args.options.now.stop in
-    let features = map chosen_value c.args.inputs.features.items in
-    let style = c.args.options.now.style in
-    let old = device_of g.W.Write.contents c.args.out.now in
-    let head = device_of g.W.Write.contents c.start.new.out in
-    let there = device_of g.W.Write.contents c.dry_features.new.out in
-    let new = device_of g.W.Write.contents c.finish.new.out in
-    let begun = c.in_ok-report.report in
-    if_err c.finish.result (λ fault reported. λ contents. as_part run run contents features style old head begun new fault refl c.in_ok-report.ensures.style c.in_ok-report.ensures.ok
-    (finished_short (AreDryFeatures (library_value c.args.inputs.library)) run contents features Passed head begun there c.dry_features.new.report new fault
-    (λ rows are. c.dry_runs_are_judged.ensures run contents features rows refl are) c.dry_features.ensures.style c.in-Ok.ensures.ok reported)) c.finish.ensures.err
+    record {
+      ok = if_ok c.finish.result (λ status reported. λ contents. as_whole run run contents features style old head begun new status refl c.in_ok-report.ensures.style c.in_ok-report.ensures.ok
+          (finished (AreDryFeatures (library_value c.args.inputs.library)) run contents features Passed head begun there c.dry_features.new.report new status
+          (λ rows are. c.dry_runs_are_judged.ensures run contents features rows refl are) c.dry_features.ensures.style c.in-Ok.ensures.ok reported)) c.finish.ensures.ok;
+      err = if_err c.finish.result (λ fault reported. λ contents. as_part run run contents features style old head begun new fault refl c.in_ok-report.ensures.style c.in_ok-report.ensures.ok
+          (finished_short (AreDryFeatures (library_value c.args.inputs.library)) run contents features Passed head begun there c.dry_features.new.report new fault
+          (λ rows are. c.dry_runs_are_judged.ensures run contents features rows refl are) c.dry_features.ensures.style c.in-Ok.ensures.ok reported)) c.finish.ensures.err;
+    }
 
 pub returns-clause-err : goal.returns-clause-err
 returns-clause-err g c = λ contents.

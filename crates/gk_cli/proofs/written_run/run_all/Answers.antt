@@ -1,4 +1,4 @@
-use Rattle.std.proofs.Common.{Bool, List, map, refl, subst, sym}
+use Rattle.std.proofs.Common.{Bool, List, map, refl, rules, subst, sym}
 use Rattle.gk_world.specs.State.{state_of}
 use Rattle.gk_run.specs.Run.{run_of}
 use Rattle.gk_run.specs.Results.{FeatureRow}
@@ -23,8 +23,8 @@ returns-in_err-report-clause-err g c =
     subst (IsPart run contents features style old new) (sym same)
     (head_stopped c.reports_grow_by_parts.ensures run contents features style old new c.in_err-report.field-0.0 c.in_err-report.ensures.err))
 
-pub returns-in-Ok-clause-ok : goal.returns-in-Ok-clause-ok
-returns-in-Ok-clause-ok g c =
+pub returns-in-Ok : goal.returns-in-Ok
+returns-in-Ok g c =
     let run = run_of c.args.inputs.library c.args.inputs.hooks c.args.options.now.stop in
     let contents = c.args.sandbox.now.now in
     let features = map chosen_value c.args.inputs.features.items in
@@ -40,34 +40,19 @@ returns-in-Ok-clause-ok g c =
     let Give : List ChosenValue → List FeatureRow → Type 0 = AreFeatures run (state_of c.start-suite.new.sandbox.now) suite.is_open in
     let written : AreWritten Give features head begun there grown =
     subst (λ (stop : Bool). AreWritten (AreFeatures (run_of c.args.inputs.library c.args.inputs.hooks stop) (state_of c.start-suite.new.sandbox.now) suite.is_open) features head begun there grown) c.start-suite.ensures.stops c.in-Ok.ensures.ok in
-    if_ok c.finish.result (λ status reported. as_whole run run contents features style old head begun new status refl c.in_ok-report.ensures.style c.in_ok-report.ensures.ok
-    (finished Give run contents features around head begun there grown new status
-    (λ rows are. judged_by c.finished_runs_are_judged.ensures run c.args.sandbox.now c.start-suite.new.sandbox c.run_features-written.new.sandbox suite c.run_features-written.new.so_far.suite around features rows
-    c.start-suite.ensures c.run_features-written.ensures.kept c.run_features-written.ensures.same are (λ outside walked. c.finish-around.ensures.around outside c.args.options.now.stop walked))
-    c.run_features-written.ensures.style written reported)) c.finish.ensures.ok
-
-pub returns-in-Ok-clause-err : goal.returns-in-Ok-clause-err
-returns-in-Ok-clause-err g c =
-    let run = run_of c.args.inputs.library c.args.inputs.hooks c.args.options.now.stop in
-    let contents = c.args.sandbox.now.now in
-    let features = map chosen_value c.args.inputs.features.items in
-    let style = c.args.options.now.style in
-    let old = device_of g.W.Write.contents c.args.out.now in
-    let head = device_of g.W.Write.contents c.start.new.out in
-    let there = device_of g.W.Write.contents c.run_features-written.new.out in
-    let new = device_of g.W.Write.contents c.finish.new.out in
-    let begun = c.in_ok-report.report in
-    let grown = c.run_features-written.new.so_far.report in
-    let suite = c.start-suite.result in
-    let around = c.finish-around.result in
-    let Give : List ChosenValue → List FeatureRow → Type 0 = AreFeatures run (state_of c.start-suite.new.sandbox.now) suite.is_open in
-    let written : AreWritten Give features head begun there grown =
-    subst (λ (stop : Bool). AreWritten (AreFeatures (run_of c.args.inputs.library c.args.inputs.hooks stop) (state_of c.start-suite.new.sandbox.now) suite.is_open) features head begun there grown) c.start-suite.ensures.stops c.in-Ok.ensures.ok in
-    if_err c.finish.result (λ fault reported. as_part run run contents features style old head begun new fault refl c.in_ok-report.ensures.style c.in_ok-report.ensures.ok
-    (finished_short Give run contents features around head begun there grown new fault
-    (λ rows are. judged_by c.finished_runs_are_judged.ensures run c.args.sandbox.now c.start-suite.new.sandbox c.run_features-written.new.sandbox suite c.run_features-written.new.so_far.suite around features rows
-    c.start-suite.ensures c.run_features-written.ensures.kept c.run_features-written.ensures.same are (λ outside walked. c.finish-around.ensures.around outside c.args.options.now.stop walked))
-    c.run_features-written.ensures.style written reported)) c.finish.ensures.err
+    record {
+      ok = if_ok c.finish.result (λ status reported. as_whole run run contents features style old head begun new status refl c.in_ok-report.ensures.style c.in_ok-report.ensures.ok
+          (finished Give run contents features around head begun there grown new status
+          (λ rows are. judged_by c.finished_runs_are_judged.ensures run c.args.sandbox.now c.start-suite.new.sandbox c.run_features-written.new.sandbox suite c.run_features-written.new.so_far.suite around features rows
+          c.start-suite.ensures c.run_features-written.ensures.kept c.run_features-written.ensures.same are (λ outside walked. c.finish-around.ensures.around outside c.args.options.now.stop walked))
+          c.run_features-written.ensures.style written reported)) c.finish.ensures.ok;
+      err = if_err c.finish.result (λ fault reported. as_part run run contents features style old head begun new fault refl c.in_ok-report.ensures.style c.in_ok-report.ensures.ok
+          (finished_short Give run contents features around head begun there grown new fault
+          (λ rows are. judged_by c.finished_runs_are_judged.ensures run c.args.sandbox.now c.start-suite.new.sandbox c.run_features-written.new.sandbox suite c.run_features-written.new.so_far.suite around features rows
+          c.start-suite.ensures c.run_features-written.ensures.kept c.run_features-written.ensures.same are (λ outside walked. c.finish-around.ensures.around outside c.args.options.now.stop walked))
+          c.run_features-written.ensures.style written reported)) c.finish.ensures.err;
+      same = search rules;
+    }
 
 pub returns-clause-err : goal.returns-clause-err
 returns-clause-err g c =
