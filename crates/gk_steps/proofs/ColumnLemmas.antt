@@ -15,7 +15,8 @@ use Rattle.std.specs.Char.{digit_value}
 use Rattle.std.specs.Str.Parse.{AllDigits}
 use Rattle.std.proofs.lemmas.Bool.Decides.{nat_tests}
 use Rattle.gk_steps.specs.Matching.{IsSpan}
-use Rattle.gk_steps.specs.Columns.{ArePlaces, part, IsStepTo, IsStep, IsNearest}
+use Rattle.gk_steps.specs.Places.{ArePlaces}
+use Rattle.gk_steps.specs.Columns.{part, IsStepTo, IsStep, IsNearest}
 use Rattle.gk_steps.proofs.TableLemmas.{IsTextPiece, cut_at, part_size}
 
 one_column : (text places : List ℕ) (d e : ℕ) → ArePlaces text places → d < length places → e < length places → get_or places d 0 ≡ get_or places e 0 → d ≡ e

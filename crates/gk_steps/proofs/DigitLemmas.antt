@@ -9,7 +9,8 @@ use Rattle.std.proofs.lemmas.Str.{IsCharBoundary-after_ascii}
 use Rattle.std.proofs.lemmas.Bool.Decides.{nat_tests}
 use Rattle.std.proofs.lemmas.Int.Digits.{digits_value_push}
 use Rattle.std.proofs.lemmas.Str.Parse.{digits_value-take-le}
-use Rattle.gk_steps.specs.Columns.{ArePlaces, part, IsDigitsTo, IsRunTo, IsLongestTo, IsLongest}
+use Rattle.gk_steps.specs.Places.{ArePlaces}
+use Rattle.gk_steps.specs.Columns.{part, IsDigitsTo, IsRunTo, IsLongestTo, IsLongest}
 use Rattle.gk_steps.proofs.TableLemmas.{part_size}
 use Rattle.gk_steps.proofs.ColumnLemmas.{digits_range}
 

@@ -16,4 +16,4 @@ mod WorkedPatterns
 mod DigitLemmas
 mod NumberLemmas
 mod LeftmostLemmas
-mod TypedLemmas
+mod LibraryLemmas

@@ -1,6 +1,6 @@
 -- Numbers from their digits: a zero or a sign in prefix.
 use Rattle.std.proofs.Common.{◌≡◌, ℕ, zero, suc, cond, ◌==◌, ◌+◌, ◌-◌, ◌<◌, ◌≤◌, inl, inr, Bool, true, false, List, [], ◌∷◌, length, take, drop, get_or, Option, Some, None, ap, sym, subst, ◌∙◌, arith}
-use Rattle.std.specs.Prelude.{FitsSigned}
+use Rattle.std.specs.Prelude.{FitsSigned, IsUtf8}
 use Rattle.std.specs.Int.{w64}
 use lib.IntN.{pos, neg_ℤ}
 use Rattle.std.specs.Str.Parse.{AllDigits, IsNumeral, digits_value}
@@ -10,11 +10,12 @@ use Rattle.std.proofs.lemmas.List.{drop_more, get_or-take, get_or-drop}
 use Rattle.gk_steps.specs.declared.pattern.FieldKind.TheVariants.{Decimal}
 use Rattle.gk_steps.specs.Pattern.{FieldPiece}
 use Rattle.gk_steps.specs.Matching.{IsSpan}
-use Rattle.gk_steps.specs.Columns.{ArePlaces, part, IsStepTo, IsStep, IsDigitsTo, HasDigits, IsLongest}
+use Rattle.gk_steps.specs.Places.{ArePlaces}
+use Rattle.gk_steps.specs.Columns.{part, IsStepTo, IsStep, IsDigitsTo, HasDigits, IsLongest}
 use Rattle.gk_steps.specs.Digits.{HasNumber}
 use Rattle.gk_steps.proofs.TableLemmas.{part_size}
 use Rattle.gk_steps.proofs.ColumnLemmas.{before, decimal_some}
-use Rattle.gk_steps.proofs.DigitLemmas.{part_none}
+use Rattle.gk_steps.proofs.DigitLemmas.{part_none, next_place}
 
 -- a part from its first byte
 pub part_prefix : (text places : List ℕ) (c d : ℕ) → ArePlaces text places → c + 1 < length places → d ≤ c → get_or places c 0 ≡ get_or places (c + 1) 0 + 1 → part text places (c + 1) d ≡ get_or text (get_or places (c + 1) 0) 0 ∷ part text places c d
@@ -121,45 +122,62 @@ longest_step : (most : ℕ) (text places : List ℕ) (below : List Bool) (c c' :
 longest_step most text places below c c' None to from best = λ d s. best d (omega arith) (from d s)
 longest_step most text places below c c' (Some b) to from best = (to b best.0, λ d s. best.1 d (omega arith) (from d s))
 
-plus_to : (text places : List ℕ) (below : List Bool) (c d : ℕ) → ArePlaces text places → c + 1 < length places → get_or places c 0 ≡ get_or places (c + 1) 0 + 1 → get_or text (get_or places (c + 1) 0) 0 ≡ 43 → IsDigitsTo 9223372036854775807 text places below c d → IsStepTo (FieldPiece [] Decimal) text places below (c + 1) d
-plus_to text places below c d h l next is s = record {
+-- a sign before digits, with the largest value of these
+pub record IsSign (sign : ℕ) (most : ℕ) : Type 0 where
+  pub low : sign < 128
+  pub digits : (x : List ℕ) → IsSpan Decimal (sign ∷ x) → IsNumeral 10 x × (digits_value 10 x ≤ most)
+  pub span : (x : List ℕ) → IsNumeral 10 x → digits_value 10 x ≤ most → IsSpan Decimal (sign ∷ x)
+
+pub is_plus : IsSign 43 9223372036854775807
+is_plus = record { low = omega arith; digits = plus_digits; span = digits_plus }
+
+pub is_minus : IsSign 45 9223372036854775808
+is_minus = record { low = omega arith; digits = minus_digits; span = digits_minus }
+
+-- a sign at the column after one
+pub record IsSignAt (sign : ℕ) (text : List ℕ) (places : List ℕ) (c : ℕ) : Type 0 where
+  pub known : c + 1 < length places
+  pub next : get_or places c 0 ≡ get_or places (c + 1) 0 + 1
+  pub is : get_or text (get_or places (c + 1) 0) 0 ≡ sign
+
+signed_to : (sign most : ℕ) (text places : List ℕ) (below : List Bool) (c d : ℕ) → IsSign sign most → ArePlaces text places → IsSignAt sign text places c → IsDigitsTo most text places below c d → IsStepTo (FieldPiece [] Decimal) text places below (c + 1) d
+signed_to sign most text places below c d k h a s = record {
   within = let w = s.within in omega arith;
   rest = s.rest;
-  takes = subst (IsSpan Decimal) (sym (signed_part text places below c d 43 h l next is s.within)) (digits_plus (part text places c d) s.numeral s.value);
+  takes = subst (IsSpan Decimal) (sym (signed_part text places below c d sign h a.known a.next a.is s.within)) (k.span (part text places c d) s.numeral s.value);
 }
 
-plus_from : (text places : List ℕ) (below : List Bool) (c d : ℕ) → ArePlaces text places → c + 1 < length places → get_or places c 0 ≡ get_or places (c + 1) 0 + 1 → get_or text (get_or places (c + 1) 0) 0 ≡ 43 → IsStepTo (FieldPiece [] Decimal) text places below (c + 1) d → IsDigitsTo 9223372036854775807 text places below c d
-plus_from text places below c d h l next is s =
-    let less = before (FieldPiece [] Decimal) text places below (c + 1) d h l s (decimal_some (part text places (c + 1) d) s.takes) in
-    let digits = plus_digits (part text places c d) (subst (IsSpan Decimal) (signed_part text places below c d 43 h l next is (omega arith)) s.takes) in
+signed_from : (sign most : ℕ) (text places : List ℕ) (below : List Bool) (c d : ℕ) → IsSign sign most → ArePlaces text places → IsSignAt sign text places c → IsStepTo (FieldPiece [] Decimal) text places below (c + 1) d → IsDigitsTo most text places below c d
+signed_from sign most text places below c d k h a s =
+    let less = before (FieldPiece [] Decimal) text places below (c + 1) d h a.known s (decimal_some (part text places (c + 1) d) s.takes) in
+    let digits = k.digits (part text places c d) (subst (IsSpan Decimal) (signed_part text places below c d sign h a.known a.next a.is (omega arith)) s.takes) in
     record { within = omega arith; rest = s.rest; numeral = digits.0; value = digits.1 }
 
-pub plus_at : (text places : List ℕ) (below : List Bool) (c : ℕ) (b : Bool) → ArePlaces text places → c + 1 < length places → get_or places c 0 ≡ get_or places (c + 1) 0 + 1 → get_or text (get_or places (c + 1) 0) 0 ≡ 43 → HasDigits 9223372036854775807 text places below c b → HasNumber text places below (c + 1) b
-plus_at text places below c true h l next is has = (has.0, plus_to text places below c has.0 h l next is has.1)
-plus_at text places below c false h l next is has = λ d s. has d (plus_from text places below c d h l next is s)
+signed_at : (sign most : ℕ) (text places : List ℕ) (below : List Bool) (c : ℕ) (b : Bool) → IsSign sign most → ArePlaces text places → IsSignAt sign text places c → HasDigits most text places below c b → HasNumber text places below (c + 1) b
+signed_at sign most text places below c true k h a has = (has.0, signed_to sign most text places below c has.0 k h a has.1)
+signed_at sign most text places below c false k h a has = λ d s. has d (signed_from sign most text places below c d k h a s)
 
-pub plus_longest : (text places : List ℕ) (below : List Bool) (c : ℕ) (o : Option ℕ) → ArePlaces text places → c + 1 < length places → get_or places c 0 ≡ get_or places (c + 1) 0 + 1 → get_or text (get_or places (c + 1) 0) 0 ≡ 43 → IsLongest 9223372036854775807 text places below c o → IsStep (FieldPiece [] Decimal) text places below (c + 1) o
-plus_longest text places below c o h l next is best = longest_step 9223372036854775807 text places below c (c + 1) o (λ d s. plus_to text places below c d h l next is s) (λ d s. plus_from text places below c d h l next is s) best
+sign_at : (sign most : ℕ) (text places : List ℕ) (c : ℕ) → IsSign sign most → IsUtf8 text → ArePlaces text places → c + 1 < length places → get_or text (get_or places (c + 1) 0) 0 ≡ sign → IsSignAt sign text places c
+sign_at sign most text places c k u h l is = record { known = l; next = next_place text places c u h l (subst (λ b. b < 128) (sym is) k.low); is = is }
 
-minus_to : (text places : List ℕ) (below : List Bool) (c d : ℕ) → ArePlaces text places → c + 1 < length places → get_or places c 0 ≡ get_or places (c + 1) 0 + 1 → get_or text (get_or places (c + 1) 0) 0 ≡ 45 → IsDigitsTo 9223372036854775808 text places below c d → IsStepTo (FieldPiece [] Decimal) text places below (c + 1) d
-minus_to text places below c d h l next is s = record {
-  within = let w = s.within in omega arith;
-  rest = s.rest;
-  takes = subst (IsSpan Decimal) (sym (signed_part text places below c d 45 h l next is s.within)) (digits_minus (part text places c d) s.numeral s.value);
-}
+-- the digits are looked at from the column before
+pub number_signed : (sign most : ℕ) (text places : List ℕ) (below : List Bool) (c : ℕ) (b : Bool) → IsSign sign most → IsUtf8 text → ArePlaces text places → 0 < c → c < length places → get_or text (get_or places c 0) 0 ≡ sign → HasDigits most text places below (c - 1) b → HasNumber text places below c b
+number_signed sign most text places below zero b k u h some l is has = absurd (omega arith)
+number_signed sign most text places below (suc c) b k u h some l is has =
+    let up : c + 1 ≡ suc c = omega arith in
+    let here : suc c - 1 ≡ c = omega arith in
+    let at = sign_at sign most text places c k u h (omega arith) (ap (λ n. get_or text (get_or places n 0) 0) up ∙ is) in
+    subst (λ n. HasNumber text places below n b) up (signed_at sign most text places below c b k h at (subst (λ n. HasDigits most text places below n b) here has))
 
-minus_from : (text places : List ℕ) (below : List Bool) (c d : ℕ) → ArePlaces text places → c + 1 < length places → get_or places c 0 ≡ get_or places (c + 1) 0 + 1 → get_or text (get_or places (c + 1) 0) 0 ≡ 45 → IsStepTo (FieldPiece [] Decimal) text places below (c + 1) d → IsDigitsTo 9223372036854775808 text places below c d
-minus_from text places below c d h l next is s =
-    let less = before (FieldPiece [] Decimal) text places below (c + 1) d h l s (decimal_some (part text places (c + 1) d) s.takes) in
-    let digits = minus_digits (part text places c d) (subst (IsSpan Decimal) (signed_part text places below c d 45 h l next is (omega arith)) s.takes) in
-    record { within = omega arith; rest = s.rest; numeral = digits.0; value = digits.1 }
-
-pub minus_at : (text places : List ℕ) (below : List Bool) (c : ℕ) (b : Bool) → ArePlaces text places → c + 1 < length places → get_or places c 0 ≡ get_or places (c + 1) 0 + 1 → get_or text (get_or places (c + 1) 0) 0 ≡ 45 → HasDigits 9223372036854775808 text places below c b → HasNumber text places below (c + 1) b
-minus_at text places below c true h l next is has = (has.0, minus_to text places below c has.0 h l next is has.1)
-minus_at text places below c false h l next is has = λ d s. has d (minus_from text places below c d h l next is s)
-
-pub minus_longest : (text places : List ℕ) (below : List Bool) (c : ℕ) (o : Option ℕ) → ArePlaces text places → c + 1 < length places → get_or places c 0 ≡ get_or places (c + 1) 0 + 1 → get_or text (get_or places (c + 1) 0) 0 ≡ 45 → IsLongest 9223372036854775808 text places below c o → IsStep (FieldPiece [] Decimal) text places below (c + 1) o
-minus_longest text places below c o h l next is best = longest_step 9223372036854775808 text places below c (c + 1) o (λ d s. minus_to text places below c d h l next is s) (λ d s. minus_from text places below c d h l next is s) best
+pub step_signed : (sign most : ℕ) (text places : List ℕ) (below : List Bool) (c : ℕ) (o : Option ℕ) → IsSign sign most → IsUtf8 text → ArePlaces text places → 0 < c → c < length places → get_or text (get_or places c 0) 0 ≡ sign → IsLongest most text places below (c - 1) o → IsStep (FieldPiece [] Decimal) text places below c o
+step_signed sign most text places below zero o k u h some l is best = absurd (omega arith)
+step_signed sign most text places below (suc c) o k u h some l is best =
+    let up : c + 1 ≡ suc c = omega arith in
+    let here : suc c - 1 ≡ c = omega arith in
+    let at = sign_at sign most text places c k u h (omega arith) (ap (λ n. get_or text (get_or places n 0) 0) up ∙ is) in
+    let from : IsLongest most text places below c o = subst (λ n. IsLongest most text places below n o) here best in
+    subst (λ n. IsStep (FieldPiece [] Decimal) text places below n o) up
+    (longest_step most text places below c (c + 1) o (λ d s. signed_to sign most text places below c d k h at s) (λ d s. signed_from sign most text places below c d k h at s) from)
 
 first_byte : (text places : List ℕ) (c d : ℕ) → ArePlaces text places → c < length places → d < c → get_or (part text places c d) 0 0 ≡ get_or text (get_or places c 0) 0
 first_byte text places c d h l less =

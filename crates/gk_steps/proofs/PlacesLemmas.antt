@@ -8,7 +8,7 @@ use Rattle.std.proofs.Math.Nat.{eq-or-lt_of_le}
 use Rattle.std.proofs.Math.Seq.{drop-length}
 use Rattle.std.proofs.lemmas.List.{take-append-drop, get_or_append_left, get_or_push}
 use Rattle.std.proofs.lemmas.Str.{IsUtf8-drop, IsUtf8-between, IsCharBoundary-past_char, IsCharBoundary-end, drop_past_char, chars_past_char, encode_same, length-encode, len_utf8_bounds, chars-nil}
-use Rattle.gk_steps.specs.Columns.{ArePlacesFrom}
+use Rattle.gk_steps.specs.Places.{ArePlacesFrom}
 
 -- the first character of a text that isn't empty
 record HasFirst (bs : List ℕ) : Type 0 where

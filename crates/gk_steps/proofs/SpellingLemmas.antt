@@ -13,8 +13,8 @@ use Rattle.gk_steps.specs.declared.pattern.FieldKind.TheVariants.{Plain, Decimal
 use Rattle.gk_steps.specs.Pattern.{PieceValue, Literal, FieldPiece, spelled_literal, spelled_piece, is_name_letter, is_name_byte, is_field_name, field_names, AreDistinctNames, AreLongestRuns, SpellsPattern, field_kind}
 use Rattle.gk_steps.specs.Spelling.{is_brace, BeginsAtBrace, EndsLiteral, EndsName, field_tail, literal_pieces, IsSpelled, HasLiteral, HasField, HasNoField, AddsLiteral, AddsField, BeginWithField, IsLeft, IsReadTo, are_distinct, is_pattern}
 use Rattle.gk_steps.specs.declared.pattern.Pattern.{Pattern}
-use Rattle.gk_steps.specs.declared.pattern_fault.PatternFault.{PatternFault}
-use Rattle.gk_steps.specs.declared.pattern_fault.PatternFault.TheVariants.{BadPattern, Memory}
+use Rattle.gk_steps.specs.declared.pattern.PatternFault.{PatternFault}
+use Rattle.gk_steps.specs.declared.pattern.PatternFault.TheVariants.{BadPattern, Memory}
 
 -- where a text may be cut
 brace_ascii : (b : ℕ) → is_brace b ≡ true → b < 128

@@ -13,7 +13,9 @@ use Rattle.std.proofs.lemmas.Bool.Decides.{nat_tests}
 use Rattle.gk_steps.specs.declared.pattern.FieldKind.TheVariants.{Plain, Decimal}
 use Rattle.gk_steps.specs.Pattern.{PieceValue, Literal, FieldPiece}
 use Rattle.gk_steps.specs.Matching.{IsSpan, Matches, MatchesNot, IsPreferred, IsBestMatch}
-use Rattle.gk_steps.specs.Columns.{ArePlaces, IsCell, IsRowTo, IsRow, part, Takes, IsStepTo, IsNotAfter, IsStep}
+use Rattle.gk_steps.specs.Places.{ArePlaces}
+use Rattle.gk_steps.specs.Columns.{part, Takes, IsStepTo, IsNotAfter, IsStep}
+use Rattle.gk_steps.specs.TableRows.{IsCell, IsRowTo, IsRow}
 use Rattle.gk_steps.proofs.MatchingLemmas.{same_prefix, same_back, with_span, IsSplit, split, join}
 
 -- a literal is text

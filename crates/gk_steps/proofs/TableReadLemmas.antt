@@ -8,7 +8,9 @@ use Rattle.std.proofs.lemmas.List.{get_or_append_left, get_or_push, get_or_read,
 use Rattle.gk_steps.specs.declared.pattern.Piece.{Piece}
 use Rattle.gk_steps.specs.Pattern.{PieceValue, Literal, FieldPiece, piece_value}
 use Rattle.gk_steps.specs.Matching.{Matches, MatchesNot, IsBestMatch, FieldValue, span_values}
-use Rattle.gk_steps.specs.Columns.{ArePlaces, IsCell, IsRow, IsStep, IsTable, IsReadTo, part, values_of}
+use Rattle.gk_steps.specs.Places.{ArePlaces}
+use Rattle.gk_steps.specs.Columns.{IsStep, IsReadTo, part, values_of}
+use Rattle.gk_steps.specs.TableRows.{IsCell, IsRow, IsTable}
 use Rattle.gk_steps.proofs.MatchingLemmas.{with_span, best_nothing, nothing_left}
 use Rattle.gk_steps.proofs.TableLemmas.{IsTextPiece, best_step, true_cell, last_cell}
 

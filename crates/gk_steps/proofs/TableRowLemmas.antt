@@ -6,7 +6,9 @@ use Rattle.std.proofs.lemmas.Bool.{eqb-true, eq-eqb}
 use Rattle.std.proofs.lemmas.List.{get_or_append_left, get_or_push}
 use Rattle.gk_steps.specs.declared.pattern.FieldKind.TheVariants.{Plain, Decimal}
 use Rattle.gk_steps.specs.Pattern.{PieceValue, FieldPiece}
-use Rattle.gk_steps.specs.Columns.{ArePlaces, IsCell, IsRow, IsRowTo, IsStep, IsAnyBefore, IsPlainRow}
+use Rattle.gk_steps.specs.Places.{ArePlaces}
+use Rattle.gk_steps.specs.Columns.{IsStep}
+use Rattle.gk_steps.specs.TableRows.{IsCell, IsRow, IsRowTo, IsAnyBefore, IsPlainRow}
 use Rattle.gk_steps.proofs.TableLemmas.{IsTextPiece, cell_more, end_cell, step_cell, no_step_cell, cell_of_step}
 use Rattle.gk_steps.specs.Digits.{HasNumber, IsNumberRow}
 use Rattle.gk_steps.proofs.ColumnLemmas.{plain_takes, before, rename, rename_back}

@@ -1,40 +1,10 @@
--- Proof machinery: the table of a match. A column is a number of characters, those that stand after a place;
--- a row is a number of pieces, the last ones of the pattern.
-use Rattle.std.specs.Prelude.{◌≡◌, ◌<◌, ◌≤◌, ◌+◌, ◌-◌, ℕ, Bool, true, false, List, [], ◌∷◌, ◌++◌, length, take, drop, slice_index, Vec, slice_index_or, Option, Some, None}
-use Rattle.std.specs.Str.{chars, IsCharBoundary}
+-- Proof machinery: steps over a piece, from a column of the table to another. A column is a number of characters,
+-- those that stand after a place.
+use Rattle.std.specs.Prelude.{◌≡◌, ◌<◌, ◌≤◌, ◌-◌, ℕ, Bool, true, false, List, [], ◌∷◌, ◌++◌, length, take, drop, slice_index, slice_index_or, Option, Some, None}
 use Rattle.std.specs.Str.Parse.{IsNumeral, AllDigits, digits_value}
 use Rattle.gk_steps.specs.declared.pattern.FieldKind.TheVariants.{Plain, Decimal}
-use Rattle.gk_steps.specs.Pattern.{PieceValue, Literal, FieldPiece, pieces_said}
-use Rattle.gk_steps.specs.declared.pattern.Piece.{Piece}
-use Rattle.std.specs.declared.alloc.Global.{Global}
-use Rattle.gk_steps.specs.Matching.{IsSpan, Matches, MatchesNot, IsBestMatch, FieldValue, span_value, span_values}
-
--- The places of a text from a place on where it may be cut, from the last to the first.
-pub record ArePlacesFrom (low : ℕ) (text : List ℕ) (places : List ℕ) : Type 0 where
-  pub some : 0 < length places
-  pub cuts : (c : ℕ) → c < length places → IsCharBoundary text (slice_index places c)
-  pub above : (c : ℕ) → c < length places → low ≤ slice_index places c
-  pub falling : (c d : ℕ) → c < d → d < length places → slice_index places d < slice_index places c
-  pub complete : (p : ℕ) → low ≤ p → IsCharBoundary text p → (c : ℕ) × (c < length places) × (slice_index places c ≡ p)
-  pub counts : (c : ℕ) → c < length places → length (chars (drop (slice_index places c) text)) ≡ c
-
--- All of them.
-abbrev pub ArePlaces : List ℕ → List ℕ → Type 0
-ArePlaces text places = ArePlacesFrom 0 text places
-
--- Whether these pieces match a text.
-abbrev pub IsCell : List PieceValue → List ℕ → Bool → Type 0
-IsCell ps text true = (spans : List (List ℕ)) × Matches ps text spans
-IsCell ps text false = MatchesNot ps text
-
--- The first cells of a row: whether these pieces match what stands after each place.
-pub record IsRowTo (size : ℕ) (ps : List PieceValue) (text : List ℕ) (places : List ℕ) (row : List Bool) : Type 0 where
-  pub size_is : length row ≡ size
-  pub cells : (c : ℕ) → c < size → IsCell ps (drop (slice_index places c) text) (slice_index_or row c false)
-
--- A whole row.
-abbrev pub IsRow : List PieceValue → List ℕ → List ℕ → List Bool → Type 0
-IsRow ps text places row = IsRowTo (length places) ps text places row
+use Rattle.gk_steps.specs.Pattern.{PieceValue, Literal, FieldPiece}
+use Rattle.gk_steps.specs.Matching.{IsSpan, Matches, IsBestMatch, FieldValue, span_value, span_values}
 
 -- What stands between two columns' places.
 abbrev pub part : List ℕ → List ℕ → ℕ → ℕ → List ℕ
@@ -62,33 +32,10 @@ abbrev pub IsStep : PieceValue → List ℕ → List ℕ → List Bool → ℕ �
 IsStep piece text places below c None = (d : ℕ) → IsStepTo piece text places below c d → ⊥
 IsStep piece text places below c (Some d) = IsStepTo piece text places below c d × ((e : ℕ) → IsStepTo piece text places below c e → IsNotAfter piece d e)
 
--- Whether a cell before a column is true.
-abbrev pub IsAnyBefore : List Bool → ℕ → Bool → Type 0
-IsAnyBefore row c true = (d : ℕ) × (d < c) × (slice_index_or row d false ≡ true)
-IsAnyBefore row c false = (d : ℕ) → d < c → slice_index_or row d false ≡ false
-
 -- The nearest cell before a column that is true, or that there is none.
 abbrev pub IsNearest : List Bool → ℕ → Option ℕ → Type 0
 IsNearest row c None = (d : ℕ) → d < c → slice_index_or row d false ≡ false
 IsNearest row c (Some d) = (d < c) × (slice_index_or row d false ≡ true) × ((e : ℕ) → e < c → d < e → slice_index_or row e false ≡ false)
-
--- The first cells of a row of which each says whether a cell before it is true in the row below.
-pub record IsPlainRow (size : ℕ) (below : List Bool) (row : List Bool) : Type 0 where
-  pub size_is : length row ≡ size
-  pub cells : (c : ℕ) → c < size → IsAnyBefore below c (slice_index_or row c false)
-
--- This is the row with one piece more in front, whatever the pieces of the row below are.
-abbrev pub IsRowOver : PieceValue → List ℕ → List ℕ → List Bool → List Bool → Type 0
-IsRowOver piece text places below row = (ps : List PieceValue) → IsRow ps text places below → IsRow (piece ∷ ps) text places row
-
--- The rows for the last pieces of a pattern, from none on.
-pub record IsTable (size : ℕ) (ps : List PieceValue) (text : List ℕ) (places : List ℕ) (rows : List (Vec Bool Global)) : Type 0 where
-  pub size_is : length rows ≡ size
-  pub each : (r : ℕ) (d : Vec Bool Global) → r < size → IsRow (drop (length ps - r) ps) text places (slice_index_or rows r d).items
-
--- The rows of all last pieces of a pattern, from none of them to the whole pattern.
-abbrev pub IsWholeTable : List Piece → List ℕ → List ℕ → List (Vec Bool Global) → Type 0
-IsWholeTable pieces text places rows = IsTable (length pieces + 1) (pieces_said pieces) text places rows
 
 -- What a field says that took a span.
 abbrev pub values_of : PieceValue → List ℕ → List FieldValue

@@ -9,7 +9,9 @@ pub mod LibraryFault
 pub mod DefaultFile
 pub mod Spelling
 pub mod LibraryLine
-pub mod Typed
+pub mod Library
+pub mod Places
 pub mod Columns
+pub mod TableRows
 pub mod Leftmost
 pub mod Digits

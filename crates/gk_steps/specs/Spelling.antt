@@ -5,8 +5,8 @@ use Rattle.std.specs.declared.alloc.Global.{Global}
 use Rattle.gk_steps.specs.declared.pattern.FieldKind.{FieldKind}
 use Rattle.gk_steps.specs.declared.pattern.FieldKind.TheVariants.{Plain, Decimal}
 use Rattle.gk_steps.specs.declared.pattern.Piece.{Piece}
-use Rattle.gk_steps.specs.declared.pattern_fault.PatternFault.{PatternFault}
-use Rattle.gk_steps.specs.declared.pattern_fault.PatternFault.TheVariants.{Memory}
+use Rattle.gk_steps.specs.declared.pattern.PatternFault.{PatternFault}
+use Rattle.gk_steps.specs.declared.pattern.PatternFault.TheVariants.{Memory}
 use Rattle.gk_steps.specs.Pattern.{PieceValue, Literal, FieldPiece, piece_value, pieces_said, spelled_literal, spelled_piece, is_name_byte, is_field_name, field_names, field_kind, AreLongestRuns}
 
 -- A brace.

@@ -4,10 +4,12 @@ ghost use Rattle.std.specs.Str.Parse.{signed_digits_value};
 ghost use Rattle.gk_steps.specs.declared.pattern.FieldKind.TheVariants.{Decimal};
 ghost use Rattle.gk_steps.specs.Pattern.{Literal, FieldPiece, piece_value};
 ghost use Rattle.gk_steps.specs.Matching.{IsSpan};
-ghost use Rattle.gk_steps.specs.Columns.{ArePlaces, IsStep, IsNearest};
+ghost use Rattle.gk_steps.specs.Places.{ArePlaces};
+ghost use Rattle.gk_steps.specs.Columns.{IsStep, IsNearest};
 
 use crate::digits::{LARGEST, longest_digits};
 use crate::pattern::{FieldKind, Piece};
+use crate::places::RowBelow;
 
 /// The rest after a prefix.
 pub(crate) fn rest_after<'a>(text: &'a str, prefix: &str) -> Option<&'a str>
@@ -23,23 +25,18 @@ pub(crate) fn rest_after<'a>(text: &'a str, prefix: &str) -> Option<&'a str>
 }
 
 /// The step over a literal.
-fn literal_step(
-    literal: &str,
-    text: &str,
-    places: &[usize],
-    below: &[bool],
-    column: usize,
-) -> Option<usize>
-    requires places { ArePlaces text.now places.now }
-    requires column { column < length places.now }
-    requires width { length below.now ≡ length places.now }
-    ensures { IsStep (Literal literal.now) text.now places.now below.now column result }
+fn literal_step(literal: &str, text: &str, below: &RowBelow<'_>, column: usize) -> Option<usize>
+    requires places { ArePlaces text.now below.now.places.now }
+    requires column { column < length below.now.places.now }
+    requires width { length below.now.cells.now ≡ length below.now.places.now }
+    ensures { IsStep (Literal literal.now)
+        text.now below.now.places.now below.now.cells.now column result }
 {
-    let rest = rest_after(&text[places[column]..], literal)?;
+    let rest = rest_after(&text[below.places[column]..], literal)?;
     let end = text.len() - rest.len();
     for back in 0..column + 1 {
-        if places[column - back] == end {
-            return if below[column - back] {
+        if below.places[column - back] == end {
+            return if below.cells[column - back] {
                 Some(column - back)
             } else {
                 None
@@ -71,43 +68,39 @@ pub(crate) fn number_of(span: &str) -> Option<i64>
 }
 
 /// The longest step over a number. Looks along a run of digits once.
-fn decimal_step(text: &str, places: &[usize], below: &[bool], column: usize) -> Option<usize>
-    requires places { ArePlaces text.now places.now }
-    requires column { column < length places.now }
-    requires width { length below.now ≡ length places.now }
-    ensures { IsStep (FieldPiece [] Decimal) text.now places.now below.now column result }
+fn decimal_step(text: &str, below: &RowBelow<'_>, column: usize) -> Option<usize>
+    requires places { ArePlaces text.now below.now.places.now }
+    requires column { column < length below.now.places.now }
+    requires width { length below.now.cells.now ≡ length below.now.places.now }
+    ensures { IsStep (FieldPiece [] Decimal)
+        text.now below.now.places.now below.now.cells.now column result }
 {
     if column == 0 {
         return None;
     }
-    let byte = text.as_bytes()[places[column]];
+    let byte = text.as_bytes()[below.places[column]];
     if byte == b'+' {
-        return longest_digits(LARGEST, text, places, below, column - 1);
+        return longest_digits(LARGEST, text, below, column - 1);
     }
     if byte == b'-' {
-        return longest_digits(LARGEST + 1, text, places, below, column - 1);
+        return longest_digits(LARGEST + 1, text, below, column - 1);
     }
-    longest_digits(LARGEST, text, places, below, column)
+    longest_digits(LARGEST, text, below, column)
 }
 
 /// The preferred step over a piece.
-pub(crate) fn step(
-    piece: &Piece,
-    text: &str,
-    places: &[usize],
-    below: &[bool],
-    column: usize,
-) -> Option<usize>
-    requires places { ArePlaces text.now places.now }
-    requires column { column < length places.now }
-    requires width { length below.now ≡ length places.now }
-    ensures { IsStep (piece_value piece.now) text.now places.now below.now column result }
+pub(crate) fn step(piece: &Piece, text: &str, below: &RowBelow<'_>, column: usize) -> Option<usize>
+    requires places { ArePlaces text.now below.now.places.now }
+    requires column { column < length below.now.places.now }
+    requires width { length below.now.cells.now ≡ length below.now.places.now }
+    ensures { IsStep (piece_value piece.now)
+        text.now below.now.places.now below.now.cells.now column result }
 {
     match piece {
-        Piece::Literal(literal) => literal_step(literal, text, places, below, column),
+        Piece::Literal(literal) => literal_step(literal, text, below, column),
         Piece::Field { kind, .. } => match kind {
-            FieldKind::Plain => plain_step(below, column),
-            FieldKind::Decimal => decimal_step(text, places, below, column),
+            FieldKind::Plain => plain_step(below.cells, column),
+            FieldKind::Decimal => decimal_step(text, below, column),
         },
     }
 }

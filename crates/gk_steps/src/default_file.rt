@@ -1,6 +1,7 @@
 //! The step library that counts where no file is given.
 ghost use Rattle.std.specs.Prelude.{◌≡◌, IfOk};
 ghost use Rattle.gk_gherkin.specs.Lines.{lines_of};
+ghost use Rattle.gk_steps.specs.declared.library_fault.LibraryFault.TheVariants.{Memory};
 ghost use Rattle.gk_steps.specs.Finding.{library_value};
 ghost use Rattle.gk_steps.specs.LibraryFile.{ReadsLibrary};
 ghost use Rattle.gk_steps.specs.DefaultFile.{default_text, default_entries};
@@ -40,6 +41,14 @@ step the scenario is skipped => skip_scenario\n\
 step it passes => pass\n\
 step it fails => fail\n";
 
+// Refused memory, as std's error. No other fault can come of the default text.
+fn as_alloc_error(fault: LibraryFault) -> AllocError
+    requires { fault ≡ Memory }
+{
+    let _memory = fault;
+    AllocError
+}
+
 /// The library that `DEFAULT_TEXT` spells. (this project's profile)
 pub fn default_library(alloc: Global) -> Result<Library, AllocError>
     // What is answered is what the text says.
@@ -49,10 +58,7 @@ pub fn default_library(alloc: Global) -> Result<Library, AllocError>
 {
     match read_library(alloc, DEFAULT_TEXT.as_bytes()) {
         Ok(library) => Ok(library),
-        Err(fault) => match fault {
-            LibraryFault::Memory => Err(AllocError),
-            _ => unreachable!(),
-        },
+        Err(fault) => Err(as_alloc_error(fault)),
     }
 }
 

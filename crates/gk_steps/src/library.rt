@@ -1,6 +1,6 @@
 //! Step libraries.
 ghost use Rattle.std.specs.Prelude.{◌≡◌, ◌≤◌, length, IsTrue};
-ghost use Rattle.gk_steps.specs.Typed.{are_for_each_from, is_for_one_before};
+ghost use Rattle.gk_steps.specs.Library.{are_for_each_from, is_for_one_before};
 
 use crate::action::Action;
 use crate::pattern::Pattern;

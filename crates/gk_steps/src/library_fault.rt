@@ -36,15 +36,14 @@ impl LibraryFault {
         ensures { result ≡ line_of_library_fault self.now }
     {
         match self {
-            LibraryFault::NotUtf8 { line } => Some(*line),
-            LibraryFault::BadType { line } => Some(*line),
-            LibraryFault::BadPattern { line } => Some(*line),
-            LibraryFault::UnknownAction { line } => Some(*line),
-            LibraryFault::MissingField { line } => Some(*line),
-            LibraryFault::FieldKind { line } => Some(*line),
-            LibraryFault::Ambiguous { line } => Some(*line),
-            LibraryFault::TooLong => None,
-            LibraryFault::Memory => None,
+            LibraryFault::NotUtf8 { line }
+            | LibraryFault::BadType { line }
+            | LibraryFault::BadPattern { line }
+            | LibraryFault::UnknownAction { line }
+            | LibraryFault::MissingField { line }
+            | LibraryFault::FieldKind { line }
+            | LibraryFault::Ambiguous { line } => Some(*line),
+            LibraryFault::TooLong | LibraryFault::Memory => None,
         }
     }
 

@@ -17,8 +17,7 @@ use crate::action::{Action, row_named};
 use crate::finding::find_of;
 use crate::library::Entry;
 use crate::library_fault::LibraryFault;
-use crate::pattern::{FieldKind, Pattern, Piece};
-use crate::pattern_fault::PatternFault;
+use crate::pattern::{FieldKind, Pattern, PatternFault, Piece};
 use crate::spelling::{field_kind, read_pattern};
 use gk_gherkin::text::{begins, split_word, trim};
 use gk_gherkin::{BorrowedLine, StepType};
@@ -72,10 +71,19 @@ fn last_arrow<'a>(text: &'a str) -> Option<(&'a str, &'a str)>
     None
 }
 
-// A line's type, and the trimmed sides of its arrow.
+// What a line says of its entry: the type, and the trimmed sides of the arrow.
+#[derive(Clone, Copy, Debug)]
+struct EntryText<'a> {
+    step_type: Option<StepType>,
+    pattern: &'a str,
+    action: &'a str,
+}
+
+// What a line says of its entry.
 #[tactic(auto, unfolding(crate::specs::LibraryFile::type_of, crate::specs::LibraryFile::sides_of))]
-fn cut<'a>(line: &BorrowedLine<'a>) -> Result<(Option<StepType>, &'a str, &'a str), LibraryFault>
-    ensures cut { IfOk result (λ c. IsCut (borrowed_value line.now) c.0 c.1.now c.2.now) }
+fn cut<'a>(line: &BorrowedLine<'a>) -> Result<EntryText<'a>, LibraryFault>
+    ensures cut { IfOk result (λ said.
+        IsCut (borrowed_value line.now) said.step_type said.pattern.now said.action.now) }
     ensures fault { IfErr result (λ f. CutFaultSays f (borrowed_value line.now)) }
 {
     let number = line.place.line;
@@ -84,7 +92,11 @@ fn cut<'a>(line: &BorrowedLine<'a>) -> Result<(Option<StepType>, &'a str, &'a st
         None => Err(LibraryFault::BadType { line: number }),
         Some(step_type) => match last_arrow(rest) {
             None => Err(LibraryFault::BadPattern { line: number }),
-            Some((pattern, action)) => Ok((step_type, trim(pattern), trim(action))),
+            Some((pattern, action)) => Ok(EntryText {
+                step_type,
+                pattern: trim(pattern),
+                action: trim(action),
+            }),
         },
     }
 }
@@ -186,29 +198,28 @@ fn entry_from(
     alloc: Global,
     earlier: &[Entry],
     line: &BorrowedLine<'_>,
-    step_type: Option<StepType>,
-    text: &str,
-    name: &str,
+    said: &EntryText<'_>,
 ) -> Result<Entry, LibraryFault>
-    requires { IsCut (borrowed_value line.now) step_type text.now name.now }
+    requires { IsCut (borrowed_value line.now)
+        said.now.step_type said.now.pattern.now said.now.action.now }
     ensures entry { IfOk result (λ e.
         SpellsEntry (entries_said earlier.now) (borrowed_value line.now) (entry_value e)) }
     ensures fault { IfErr result (λ f.
         EntryFaultSays f (entries_said earlier.now) (borrowed_value line.now)) }
 {
     let number = line.place.line;
-    let pattern = match pattern_at(alloc, number, text) {
+    let pattern = match pattern_at(alloc, number, said.pattern) {
         Ok(pattern) => pattern,
         Err(fault) => return Err(fault),
     };
-    let action = match action_at(number, name, &pattern.pieces) {
+    let action = match action_at(number, said.action, &pattern.pieces) {
         Ok(action) => action,
         Err(fault) => return Err(fault),
     };
-    match find_of(alloc, earlier, step_type, text)? {
+    match find_of(alloc, earlier, said.step_type, said.pattern)? {
         Some(_) => Err(LibraryFault::Ambiguous { line: number }),
         None => Ok(Entry {
-            step_type,
+            step_type: said.step_type,
             pattern,
             action,
         }),
@@ -227,7 +238,7 @@ pub(crate) fn read_entry(
         EntryFaultSays f (entries_said earlier.now) (borrowed_value line.now)) }
 {
     match cut(line) {
-        Ok((step_type, text, name)) => entry_from(alloc, earlier, line, step_type, text, name),
+        Ok(said) => entry_from(alloc, earlier, line, &said),
         Err(fault) => Err(fault),
     }
 }

@@ -5,14 +5,16 @@ ghost use Rattle.std.specs.Str.{chars};
 ghost use Rattle.gk_steps.specs.Pattern.{piece_value, pieces_said, pattern_value};
 ghost use Rattle.gk_steps.specs.Matching.{IsSpan, Matches, IsMatchResult, MatchesAreDetermined};
 ghost use Rattle.gk_steps.specs.Matching.{field_value, fields_said, span_value};
-ghost use Rattle.gk_steps.specs.Columns.{ArePlaces, IsWholeTable, Takes, values_of};
+ghost use Rattle.gk_steps.specs.Places.{ArePlaces};
+ghost use Rattle.gk_steps.specs.Columns.{Takes, values_of};
+ghost use Rattle.gk_steps.specs.TableRows.{IsWholeTable};
 ghost use Rattle.gk_steps.specs.Leftmost.{FindsRest};
 ghost use Rattle.gk_steps.specs.PassingOver.{FitsStart, FitsEnd};
 
 use crate::columns::{number_of, step};
 use crate::leftmost::{Cut, cut_of};
 use crate::pattern::{Field, FieldKind, Pattern, Piece};
-use crate::places::places_of;
+use crate::places::{RowBelow, places_of};
 use crate::table_rows::{Counter, first_row, row_over};
 use std::alloc::{AllocError, Global};
 
@@ -76,7 +78,11 @@ fn table_of(
     rows.push(first)?;
     for below in 0..pieces.len() {
         let piece = &pieces[pieces.len() - 1 - below];
-        let row = row_over(&mut counter, alloc, piece, text, places, &rows[below])?;
+        let below = RowBelow {
+            places,
+            cells: &rows[below],
+        };
+        let row = row_over(&mut counter, alloc, piece, text, &below)?;
         rows.push(row)?;
     }
     Ok((rows, counter.filled))
@@ -100,7 +106,11 @@ fn read(
     let mut column = places.len() - 1;
     for taken in 0..pieces.len() {
         let piece = &pieces[taken];
-        let next = step(piece, text, places, &rows[pieces.len() - 1 - taken], column).unwrap();
+        let below = RowBelow {
+            places,
+            cells: &rows[pieces.len() - 1 - taken],
+        };
+        let next = step(piece, text, &below, column).unwrap();
         push_taken(
             &mut fields,
             alloc,

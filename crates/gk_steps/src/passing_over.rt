@@ -42,10 +42,10 @@ pub(crate) fn ends_with(text: &str, back: &str) -> bool
 }
 
 // Whether a text begins with another.
-fn begins_with(text: &str, front: &str) -> bool
-    ensures { MatchBool result (BeginsWith text.now front.now) (BeginsNotWith text.now front.now) }
+fn begins_with(text: &str, start: &str) -> bool
+    ensures { MatchBool result (BeginsWith text.now start.now) (BeginsNotWith text.now start.now) }
 {
-    begins_with_bytes(text.as_bytes(), front.as_bytes())
+    begins_with_bytes(text.as_bytes(), start.as_bytes())
 }
 
 // Whether the first literal begins the text.

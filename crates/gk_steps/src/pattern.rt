@@ -1,4 +1,8 @@
 //! Patterns of step texts.
+ghost use Rattle.std.specs.Prelude.{◌≡◌};
+ghost use Rattle.gk_steps.specs.declared.pattern.PatternFault.TheVariants.{Memory};
+
+use std::alloc::{AllocError, AllocFailed};
 
 /// The kind of a field: `{name}` or `{name:d}`. (behave's documentation: step parameters)
 #[derive(Clone, Copy, Debug, PartialEq, Eq)]
@@ -27,4 +31,29 @@ pub struct Pattern {
 pub enum Field {
     Text(String),
     Number(i64),
+}
+
+/// Why a pattern could not be read.
+#[derive(Clone, Copy, Debug, PartialEq, Eq)]
+pub enum PatternFault {
+    /// The text spells no pattern.
+    BadPattern,
+    /// A growth of memory was refused.
+    Memory,
+}
+
+impl From<AllocError> for PatternFault {
+    ghost from_gives = { λ _ e. e ≡ Memory };
+
+    fn from(_e: AllocError) -> PatternFault {
+        PatternFault::Memory
+    }
+}
+
+impl<T: Drop> From<AllocFailed<T>> for PatternFault {
+    ghost from_gives = { λ _ e. e ≡ Memory };
+
+    fn from(_e: AllocFailed<T>) -> PatternFault {
+        PatternFault::Memory
+    }
 }

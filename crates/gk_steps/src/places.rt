@@ -1,6 +1,6 @@
 //! The places between a text's characters.
 ghost use Rattle.std.specs.Prelude.{IfOk};
-ghost use Rattle.gk_steps.specs.Columns.{ArePlaces};
+ghost use Rattle.gk_steps.specs.Places.{ArePlaces};
 
 use std::alloc::{AllocError, Global};
 
@@ -18,4 +18,11 @@ pub(crate) fn places_of(alloc: Global, text: &str) -> Result<Vec<usize>, AllocEr
         }
     }
     Ok(places)
+}
+
+/// The row of the table below the one to be filled, with the places of its columns.
+#[derive(Clone, Copy, Debug)]
+pub(crate) struct RowBelow<'a> {
+    pub places: &'a [usize],
+    pub cells: &'a [bool],
 }

@@ -3,7 +3,7 @@ ghost use Rattle.std.specs.Prelude.{◌≡◌, ◌≤◌, ◌<◌, ◌++◌, ℕ
 ghost use Rattle.std.specs.Prelude.{IfOk, IfSome, IsSomeAnd, MatchOption, None, Err};
 ghost use Rattle.std.specs.List.{prefix_len, position_or_len, list_all};
 ghost use Rattle.gk_steps.specs.declared.pattern.FieldKind.{FieldKind as Kind};
-ghost use Rattle.gk_steps.specs.declared.pattern_fault.PatternFault.TheVariants.{BadPattern};
+ghost use Rattle.gk_steps.specs.declared.pattern.PatternFault.TheVariants.{BadPattern};
 ghost use Rattle.gk_steps.specs.Pattern as spec;
 ghost use Rattle.gk_steps.specs.Pattern.{PieceValue, pieces_said, pattern_value, spelled_literal};
 ghost use Rattle.gk_steps.specs.Pattern.{SpellsPattern, SpellingIsUnique};
@@ -13,8 +13,7 @@ ghost use Rattle.gk_steps.specs.Spelling.{HasField, HasNoField, PushesLiteral, P
 ghost use Rattle.gk_steps.specs.Spelling.{IsSpelled, AnswersPieces, field_tail};
 
 use crate::columns::rest_after;
-use crate::pattern::{FieldKind, Pattern, Piece};
-use crate::pattern_fault::PatternFault;
+use crate::pattern::{FieldKind, Pattern, PatternFault, Piece};
 use std::alloc::{AllocError, Global};
 
 fn is_brace(byte: u8) -> bool

@@ -2,11 +2,13 @@
 ghost use Rattle.std.specs.Prelude.{◌≡◌, ◌<◌, ◌≤◌, ◌+◌, ℕ, List, [], ◌∷◌, ◌++◌, length, if◌then◌else◌, is_ok, IfOk, OnOk};
 ghost use Rattle.gk_steps.specs.Pattern.{PieceValue, piece_value};
 ghost use Rattle.gk_steps.specs.Digits.{IsNumberRow};
-ghost use Rattle.gk_steps.specs.Columns.{ArePlaces, IsRow, IsRowOver, IsPlainRow};
+ghost use Rattle.gk_steps.specs.Places.{ArePlaces};
+ghost use Rattle.gk_steps.specs.TableRows.{IsRow, IsRowOver, IsPlainRow};
 
 use crate::columns::step;
 use crate::digits::{Digits, has_number};
 use crate::pattern::{FieldKind, Piece};
+use crate::places::RowBelow;
 use std::alloc::{AllocError, Global};
 
 /// Counts the cells that were filled.
@@ -63,56 +65,30 @@ fn plain_row(counter: &mut Counter, alloc: Global, below: &[bool]) -> Result<Vec
     Ok(row)
 }
 
-// The row of a piece by steps from each column.
-fn stepped_row(
-    counter: &mut Counter,
-    alloc: Global,
-    piece: &Piece,
-    text: &str,
-    places: &[usize],
-    below: &[bool],
-) -> Result<Vec<bool>, AllocError>
-    requires room { counter.old.filled + length places.now ≤ 18446744073709551615 }
-    requires places { ArePlaces text.now places.now }
-    requires width { length below.now ≡ length places.now }
-    ensures row { IfOk result (λ row.
-        IsRowOver (piece_value piece.now) text.now places.now below.now row.items) }
-    ensures filled { OnOk result (counter.new.filled ≡ counter.old.filled + length places.now) }
-{
-    let mut row = Vec::new(alloc);
-    for column in 0..places.len() {
-        let cell = step(piece, text, places, below, column).is_some();
-        counter.fill(&mut row, cell)?;
-    }
-    Ok(row)
-}
-
 // The row of a number: one pass, in which leading zeros are taken from the column after.
 fn decimal_row(
     counter: &mut Counter,
     alloc: Global,
     text: &str,
-    places: &[usize],
-    below: &[bool],
+    below: &RowBelow<'_>,
 ) -> Result<Vec<bool>, AllocError>
-    requires room { counter.old.filled + length places.now ≤ 18446744073709551615 }
-    requires places { ArePlaces text.now places.now }
-    requires width { length below.now ≡ length places.now }
+    requires room { counter.old.filled + length below.now.places.now ≤ 18446744073709551615 }
+    requires places { ArePlaces text.now below.now.places.now }
+    requires width { length below.now.cells.now ≡ length below.now.places.now }
     ensures row { IfOk result (λ row.
-        IsNumberRow (length places.now) text.now places.now below.now row.items) }
-    ensures filled { OnOk result (counter.new.filled ≡ counter.old.filled + length places.now) }
+        IsNumberRow (length below.now.places.now)
+        text.now below.now.places.now below.now.cells.now row.items) }
+    ensures filled { OnOk result
+        (counter.new.filled ≡ counter.old.filled + length below.now.places.now) }
 {
     let mut row = Vec::new(alloc);
     let mut digits = Digits {
         positive: false,
         negative: false,
     };
-    for column in 0..places.len() {
-        let here = digits.next(text, places, below, column);
-        counter.fill(
-            &mut row,
-            has_number(text, places, below, column, digits, here),
-        )?;
+    for column in 0..below.places.len() {
+        let here = digits.next(text, below, column);
+        counter.fill(&mut row, has_number(text, below, column, digits, here))?;
         digits = here;
     }
     Ok(row)
@@ -124,21 +100,27 @@ pub(crate) fn row_over(
     alloc: Global,
     piece: &Piece,
     text: &str,
-    places: &[usize],
-    below: &[bool],
+    below: &RowBelow<'_>,
 ) -> Result<Vec<bool>, AllocError>
-    requires room { counter.old.filled + length places.now ≤ 18446744073709551615 }
-    requires places { ArePlaces text.now places.now }
-    requires width { length below.now ≡ length places.now }
+    requires room { counter.old.filled + length below.now.places.now ≤ 18446744073709551615 }
+    requires places { ArePlaces text.now below.now.places.now }
+    requires width { length below.now.cells.now ≡ length below.now.places.now }
     ensures row { IfOk result (λ row.
-        IsRowOver (piece_value piece.now) text.now places.now below.now row.items) }
-    ensures filled { OnOk result (counter.new.filled ≡ counter.old.filled + length places.now) }
+        IsRowOver (piece_value piece.now)
+        text.now below.now.places.now below.now.cells.now row.items) }
+    ensures filled { OnOk result
+        (counter.new.filled ≡ counter.old.filled + length below.now.places.now) }
 {
-    match piece {
-        Piece::Literal(_) => stepped_row(counter, alloc, piece, text, places, below),
-        Piece::Field { kind, .. } => match kind {
-            FieldKind::Plain => plain_row(counter, alloc, below),
-            FieldKind::Decimal => decimal_row(counter, alloc, text, places, below),
-        },
+    if let Piece::Field { kind, .. } = piece {
+        return match kind {
+            FieldKind::Plain => plain_row(counter, alloc, below.cells),
+            FieldKind::Decimal => decimal_row(counter, alloc, text, below),
+        };
     }
+    let mut row = Vec::new(alloc);
+    for column in 0..below.places.len() {
+        let cell = step(piece, text, below, column).is_some();
+        counter.fill(&mut row, cell)?;
+    }
+    Ok(row)
 }

@@ -5,9 +5,9 @@ use Rattle.gk_steps.proofs.ColumnLemmas.{plain_is, named, field_piece}
 use Rattle.gk_steps.proofs.columns.step.Goals as goal
 
 pub returns-in-Plain : goal.returns-in-Plain
-returns-in-Plain c = subst (λ p. IsStep p c.args.text.now c.args.places.now c.args.below.now c.args.column c.plain_step.result) (sym (field_piece c.args.piece.now c.in-Field.name c.in-Field.kind Plain c.in-Field.is c.in-Plain.is))
-    (plain_is (string_bytes c.in-Field.name) c.args.text.now c.args.places.now c.args.below.now c.args.column c.plain_step.result c.utf8.text c.requires.places c.requires.column c.plain_step.ensures)
+returns-in-Plain c = subst (λ p. IsStep p c.args.text.now c.args.below.now.places.now c.args.below.now.cells.now c.args.column c.plain_step.result) (sym (field_piece c.args.piece.now c.in-Field.name c.in-Field.kind Plain c.in-Field.is c.in-Plain.is))
+    (plain_is (string_bytes c.in-Field.name) c.args.text.now c.args.below.now.places.now c.args.below.now.cells.now c.args.column c.plain_step.result c.utf8.text c.requires.places c.requires.column c.plain_step.ensures)
 
 pub returns-in-Decimal : goal.returns-in-Decimal
-returns-in-Decimal c = subst (λ p. IsStep p c.args.text.now c.args.places.now c.args.below.now c.args.column c.decimal_step.result) (sym (field_piece c.args.piece.now c.in-Field.name c.in-Field.kind Decimal c.in-Field.is c.in-Decimal.is))
-    (named (string_bytes c.in-Field.name) c.args.text.now c.args.places.now c.args.below.now c.args.column c.decimal_step.result c.decimal_step.ensures)
+returns-in-Decimal c = subst (λ p. IsStep p c.args.text.now c.args.below.now.places.now c.args.below.now.cells.now c.args.column c.decimal_step.result) (sym (field_piece c.args.piece.now c.in-Field.name c.in-Field.kind Decimal c.in-Field.is c.in-Decimal.is))
+    (named (string_bytes c.in-Field.name) c.args.text.now c.args.below.now.places.now c.args.below.now.cells.now c.args.column c.decimal_step.result c.decimal_step.ensures)

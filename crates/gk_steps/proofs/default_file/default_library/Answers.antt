@@ -19,9 +19,9 @@ returns-in-Ok-clause-entries c =
     let same : c.as_bytes.result.now ≡ default_text = c.as_bytes.ensures.value ∙ refl in
     one_reading (lines_of default_text) (library_value c.in-Ok.library) default_entries (subst (λ (t : List ℕ). ReadsLibrary (lines_of t) (library_value c.in-Ok.library)) same c.in-Ok.ensures.found.1) default_reads
 
-pub unreachable-requires : goal.unreachable-requires
+pub as_alloc_error-requires : goal.as_alloc_error-requires
 unfolding default_text
-unreachable-requires c =
+as_alloc_error-requires c =
     let same : c.as_bytes.result.now ≡ default_text = c.as_bytes.ensures.value ∙ refl in
     let is_text : IsText c.as_bytes.result.now = (subst (λ (t : List ℕ). length t ≤ limit) (sym same) default_short, c.as_bytes.ensures.utf8) in
-    c.in_default.not-Memory (c.in-Err.ensures.only default_entries is_text (subst (λ (t : List ℕ). ReadsLibrary (lines_of t) default_entries) (sym same) default_reads))
+    (c.in-Err.ensures.only default_entries is_text (subst (λ (t : List ℕ). ReadsLibrary (lines_of t) default_entries) (sym same) default_reads))

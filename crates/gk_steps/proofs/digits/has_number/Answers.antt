@@ -1,37 +1,21 @@
-use Rattle.std.proofs.Common.{◌≡◌, ◌∙◌, ◌+◌, ◌-◌, ◌<◌, ap, sym, subst, get_or, length, arith}
-use Rattle.gk_steps.specs.Digits.{HasNumber}
-use Rattle.gk_steps.proofs.DigitLemmas.{next_place}
-use Rattle.gk_steps.proofs.NumberLemmas.{plus_at, minus_at, bare_at, not_byte}
+use Rattle.std.proofs.Common.{◌≡◌, ◌∙◌, ap, sym, get_or, arith}
+use Rattle.gk_steps.proofs.NumberLemmas.{is_plus, is_minus, number_signed, bare_at, not_byte}
 use Rattle.gk_steps.proofs.digits.has_number.Goals as goal
 
 pub returns-then-byte-eq43 : goal.returns-then-byte-eq43
 returns-then-byte-eq43 c =
-    let text = c.args.text.now in
-    let places = c.args.places.now in
-    let below = c.args.below.now in
-    let d = c.args.column - 1 in
-    let up : d + 1 ≡ c.args.column = omega arith in
-    let l : d + 1 < length places = omega arith in
-    let is : get_or text (get_or places (d + 1) 0) 0 ≡ 43 = ap (λ k. get_or text (get_or places k 0) 0) up ∙ ap (λ bs. get_or bs (get_or places c.args.column 0) 0) (sym c.as_bytes.ensures.value) ∙ c.if-byte-eq43.true in
-    let next = next_place text places d c.utf8.text c.requires.places l (omega arith) in
-    subst (λ k. HasNumber text places below k c.args.after.positive) up (plus_at text places below d c.args.after.positive c.requires.places l next is c.requires.after.positive)
+    number_signed 43 9223372036854775807 c.args.text.now c.args.below.now.places.now c.args.below.now.cells.now c.args.column c.args.after.positive is_plus c.utf8.text c.requires.places (omega arith) c.requires.column
+    (ap (λ bs. get_or bs (get_or c.args.below.now.places.now c.args.column 0) 0) (sym c.as_bytes.ensures.value) ∙ c.if-byte-eq43.true) c.requires.after.positive
 
 pub returns-then-byte-eq45 : goal.returns-then-byte-eq45
 returns-then-byte-eq45 c =
-    let text = c.args.text.now in
-    let places = c.args.places.now in
-    let below = c.args.below.now in
-    let d = c.args.column - 1 in
-    let up : d + 1 ≡ c.args.column = omega arith in
-    let l : d + 1 < length places = omega arith in
-    let is : get_or text (get_or places (d + 1) 0) 0 ≡ 45 = ap (λ k. get_or text (get_or places k 0) 0) up ∙ ap (λ bs. get_or bs (get_or places c.args.column 0) 0) (sym c.as_bytes.ensures.value) ∙ c.if-byte-eq45.true in
-    let next = next_place text places d c.utf8.text c.requires.places l (omega arith) in
-    subst (λ k. HasNumber text places below k c.args.after.negative) up (minus_at text places below d c.args.after.negative c.requires.places l next is c.requires.after.negative)
+    number_signed 45 9223372036854775808 c.args.text.now c.args.below.now.places.now c.args.below.now.cells.now c.args.column c.args.after.negative is_minus c.utf8.text c.requires.places (omega arith) c.requires.column
+    (ap (λ bs. get_or bs (get_or c.args.below.now.places.now c.args.column 0) 0) (sym c.as_bytes.ensures.value) ∙ c.if-byte-eq45.true) c.requires.after.negative
 
 pub returns : goal.returns
 returns c =
     let text = c.args.text.now in
-    let places = c.args.places.now in
+    let places = c.args.below.now.places.now in
     let same : get_or text (get_or places c.args.column 0) 0 ≡ get_or c.as_bytes.result.now (get_or places c.args.column 0) 0 = ap (λ bs. get_or bs (get_or places c.args.column 0) 0) (sym c.as_bytes.ensures.value) in
-    bare_at text places c.args.below.now c.args.column c.args.here.positive c.requires.places c.requires.column
+    bare_at text places c.args.below.now.cells.now c.args.column c.args.here.positive c.requires.places c.requires.column
     (not_byte (get_or text (get_or places c.args.column 0) 0) 45 (λ e. c.if-byte-eq45.false (sym same ∙ e))) (not_byte (get_or text (get_or places c.args.column 0) 0) 43 (λ e. c.if-byte-eq43.false (sym same ∙ e))) c.requires.here.positive

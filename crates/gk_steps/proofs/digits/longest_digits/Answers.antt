@@ -7,8 +7,8 @@ use Rattle.gk_steps.proofs.digits.longest_digits.Goals.{then-below-next, else-be
 pub returns-then-not-is_ascii_digit : goal.returns-then-not-is_ascii_digit
 returns-then-not-is_ascii_digit c =
     let text = c.args.text.now in
-    let places = c.args.places.now in
-    let below = c.args.below.now in
+    let places = c.args.below.now.places.now in
+    let below = c.args.below.now.cells.now in
     let d = c.args.column - c.loop-back.back - 1 in
     let up : d + 1 ≡ c.args.column - c.loop-back.back = omega arith in
     let b = get_or c.as_bytes-bytes.result.now (get_or places (c.args.column - c.loop-back.back) 0) 0 in
@@ -20,8 +20,8 @@ returns-then-not-is_ascii_digit c =
 pub returns-in-None : goal.returns-in-None
 returns-in-None c =
     let text = c.args.text.now in
-    let places = c.args.places.now in
-    let below = c.args.below.now in
+    let places = c.args.below.now.places.now in
+    let below = c.args.below.now.cells.now in
     let d = c.args.column - c.loop-back.back - 1 in
     let up : d + 1 ≡ c.args.column - c.loop-back.back = omega arith in
     let b = get_or c.as_bytes-bytes.result.now (get_or places (c.args.column - c.loop-back.back) 0) 0 in
@@ -37,8 +37,8 @@ returns-in-None c =
 pub loop-back-preserved : goal.loop-back-preserved
 loop-back-preserved c =
     let text = c.args.text.now in
-    let places = c.args.places.now in
-    let below = c.args.below.now in
+    let places = c.args.below.now.places.now in
+    let below = c.args.below.now.cells.now in
     let d = c.args.column - c.loop-back.back - 1 in
     let up : d + 1 ≡ c.args.column - c.loop-back.back = omega arith in
     let b = get_or c.as_bytes-bytes.result.now (get_or places (c.args.column - c.loop-back.back) 0) 0 in

@@ -1,6 +1,6 @@
 use Rattle.std.proofs.Common.{◌∙◌, ◌+◌, ◌-◌, ◌++◌, ◌∷◌, [], ap, sym, subst, length, map, drop, arith}
 use Rattle.gk_steps.specs.Pattern.{piece_value}
-use Rattle.gk_steps.specs.Columns.{IsRow}
+use Rattle.gk_steps.specs.TableRows.{IsRow}
 use Rattle.gk_steps.proofs.TableReadLemmas.{table_first, table_more, row_at}
 use Rattle.gk_steps.proofs.matching.table_of.Goals as goal
 

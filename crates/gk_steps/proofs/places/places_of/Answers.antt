@@ -1,5 +1,5 @@
 use Rattle.std.proofs.Common.{◌≡◌, true, false, refl, ◌∙◌, ◌+◌, ◌-◌, ◌++◌, ◌∷◌, [], ap, sym, subst, length, arith}
-use Rattle.gk_steps.specs.Columns.{ArePlacesFrom}
+use Rattle.gk_steps.specs.Places.{ArePlacesFrom}
 use Rattle.gk_steps.proofs.PlacesLemmas.{end_only, pushed, skipped}
 use Rattle.gk_steps.proofs.places.places_of.Goals as goal
 use Rattle.gk_steps.proofs.places.places_of.Goals.{then-is_char_boundary+in_ok-push-2, else-is_char_boundary}

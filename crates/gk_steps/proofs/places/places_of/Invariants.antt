@@ -1,5 +1,5 @@
 use Rattle.std.proofs.Common.{◌-◌, length}
-use Rattle.gk_steps.specs.Columns.{ArePlacesFrom}
+use Rattle.gk_steps.specs.Places.{ArePlacesFrom}
 use Rattle.gk_steps.proofs.places.places_of.Given as goal
 
 abbrev pub invariant-loop-after : goal.invariant-loop-after

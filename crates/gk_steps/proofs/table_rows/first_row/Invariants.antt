@@ -1,5 +1,6 @@
 use Rattle.std.proofs.Common.{◌≡◌, ◌+◌, ℕ, List, []}
-use Rattle.gk_steps.specs.Columns.{ArePlaces, IsRowTo}
+use Rattle.gk_steps.specs.Places.{ArePlaces}
+use Rattle.gk_steps.specs.TableRows.{IsRowTo}
 use Rattle.gk_steps.proofs.table_rows.first_row.Given as goal
 
 abbrev pub invariant-loop-column : goal.invariant-loop-column

@@ -1,5 +1,5 @@
 use Rattle.std.proofs.Common.{◌∙◌, ◌+◌, subst, sym, arith}
-use Rattle.gk_steps.specs.Columns.{IsAnyBefore}
+use Rattle.gk_steps.specs.TableRows.{IsAnyBefore}
 use Rattle.gk_steps.proofs.TableRowLemmas.{any_new, any_kept, plain_more}
 use Rattle.gk_steps.proofs.table_rows.plain_row.Goals as goal
 use Rattle.gk_steps.proofs.table_rows.plain_row.Goals.{then-any, else-any}

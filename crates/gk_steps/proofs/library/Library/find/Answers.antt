@@ -1,6 +1,6 @@
 use Rattle.std.proofs.Common.{inl, map, take, subst, Some, option_map}
 use Rattle.gk_steps.specs.Finding.{HasCandidate, HasCandidateFor, IsFoundOf, entry_value, found_value, library_value}
-use Rattle.gk_steps.proofs.TypedLemmas.{typed_found, typed_candidate}
+use Rattle.gk_steps.proofs.LibraryLemmas.{typed_found, typed_candidate}
 use Rattle.gk_steps.proofs.FindingLemmas.{own_computed, other_answer, of_fault}
 use Rattle.gk_steps.proofs.library.Library.find.Goals as goal
 

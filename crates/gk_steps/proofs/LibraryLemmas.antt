@@ -8,7 +8,7 @@ use Rattle.std.proofs.Math.Seq.{drop-length}
 use Rattle.gk_gherkin.specs.declared.feature.StepType.{StepType}
 use Rattle.gk_steps.specs.declared.library.Entry.{Entry}
 use Rattle.gk_steps.specs.Finding.{EntryValue, LibraryValue, FoundValue, HasCandidate, IsFoundOf, entry_value}
-use Rattle.gk_steps.specs.Typed.{are_for_each_from}
+use Rattle.gk_steps.specs.Library.{are_for_each_from}
 use Rattle.gk_steps.proofs.BestMatchLemmas.{and_left, and_right}
 
 -- elements before a place
