@@ -8,6 +8,7 @@ Fails where
 - a run that a document shows gives something else (a `console` block over the files above it, and, on a page of
   docs/guide/, over those of the guide's other pages);
 - two pages of docs/guide/ have files of the same name;
+- a file of examples/ that a document shows isn't that file;
 - a definition of specs/ has no comment above it, or a broken one;
 - two crates have modules of the same name;
 - README.md has more than 120 lines;
@@ -105,7 +106,8 @@ PLAIN_WORDS = set("""
 # The pages for users name words of features and libraries, not of the code: of them only names that can't
 # be anything else are looked up.
 GUIDE = [it for it in PAGES if it.startswith("docs/guide/")]
-USERS_PAGES = (*GUIDE, "docs/FAULTS.md", "examples/README.md", "tests/runs/README.md", "bench/README.md")
+USERS_PAGES = (*GUIDE, "docs/FAULTS.md", "tests/runs/README.md", "tests/side_by_side/README.md", "bench/README.md",
+               *(it for it in DOCUMENTS if it.startswith("examples/")))
 
 
 def members():
@@ -309,23 +311,42 @@ def shown_twice():
                 yield f"{page}:{number}: {other} shows a file {name} as well"
 
 
+def is_example(name):
+    """Whether a file that a page shows is one of examples/, which is there already."""
+    return name.startswith("examples/")
+
+
+def example_differences(page):
+    """Files of examples/ that a page shows otherwise than they are."""
+    for number, name, text in shown_files(page):
+        if is_example(name) and (name not in FILES or read(name) != text):
+            yield number, f"{name} is another file"
+
+
+def lay(folder, name, text):
+    """Puts a file that a page shows where its runs find it."""
+    if not is_example(name):
+        with open(os.path.join(folder, name), "w", encoding="utf-8") as file:
+            file.write(text)
+
+
 def run_differences(page, program, room):
     """Runs what a page shows, over the files that stand above it on the page, and on other pages of the guide."""
     folder = os.path.join(room, page.replace("/", "_"))
     os.makedirs(folder)
-    with open(os.path.join(folder, "run"), "w", encoding="utf-8") as file:
-        file.write(f'#!/bin/sh\nexec "{program}" "$@"\n')
-    os.chmod(os.path.join(folder, "run"), 0o755)
+    # A page calls the program from the top of the repository, or from a folder below.
+    for script in (os.path.join(folder, "run"), os.path.join(room, "run")):
+        with open(script, "w", encoding="utf-8") as file:
+            file.write(f'#!/bin/sh\nexec "{program}" "$@"\n')
+        os.chmod(script, 0o755)
     os.symlink(os.path.join(HOME, "examples"), os.path.join(folder, "examples"))
     for other in guide_beside(page):
         for _, name, text in shown_files(other):
-            with open(os.path.join(folder, name), "w", encoding="utf-8") as file:
-                file.write(text)
+            lay(folder, name, text)
     for number, kind, text in blocks(page):
         names = kind.split()
         if len(names) == 2 and names[0] in ("gherkin", "text"):
-            with open(os.path.join(folder, names[1]), "w", encoding="utf-8") as file:
-                file.write(text)
+            lay(folder, names[1], text)
         elif kind == "console":
             status = 0
             for command, printed in shown_runs(text):
@@ -494,6 +515,7 @@ def main():
         tests.check(f"links in {page}", lines_of(page, dead_links(page)))
     for page in PAGES:
         tests.check(f"clauses in {page}", lines_of(page, named_clauses(page)))
+        tests.check(f"examples in {page}", lines_of(page, example_differences(page)))
         for number, difference in run_differences(page, program, room):
             tests.check(f"{page}:{number}", [difference] if difference else [])
     tests.check("files of docs/guide/", shown_twice())

@@ -703,15 +703,95 @@ def outline_of_closings():
     return filled(">" * 2_097_152)
 
 
-@large_run
-def many_alternatives():
-    tags = "~@a," * 30_000 + "@b"
+def chosen_by(tags):
+    """Two scenarios, one of which has the tag `@b` too, and is alone chosen by texts of tags."""
     step = "Given it passes"
     feature = "Feature: f\n@a\n" + scenario("one", [step]) + "@a @b\n" + scenario("two", [step])
     report = part("passed", [case("one", "skipped", [(step, "skipped")]),
                              case("two", "passed", [(step, "passed")])])
+    options = [it for text in tags for it in ("--tags", text)]
     return Run({"a.feature": feature}, 0, report + closing(1, (1, 0, 1), (1, 0, 1)),
-               arguments=["--tags", tags, "a.feature"])
+               arguments=[*options, "a.feature"])
+
+
+@large_run
+def many_alternatives():
+    return chosen_by(["~@a," * 30_000 + "@b"])
+
+
+# An argument has 131,071 bytes at most: what follows comes near that.
+
+@large_run
+def many_terms_of_an_or():
+    return chosen_by(["@c or " * 21_800 + "@b"])
+
+
+@large_run
+def many_terms_of_an_and():
+    return chosen_by(["@b and " * 18_700 + "@a"])
+
+
+@large_run
+def many_groups_of_an_or():
+    return chosen_by(["(@c)or" * 21_800 + "(@b)"])
+
+
+@large_run
+def many_negated_terms():
+    return chosen_by(["not @b or " * 13_000 + "@b", "not @c and " * 11_900 + "@b"])
+
+
+@large_run
+def many_deep_terms():
+    deep = "not (" * 50 + "@b" + ")" * 50
+    return chosen_by([" or ".join([deep] * 400), " and ".join([deep] * 400)])
+
+
+@large_run
+def many_expressions():
+    return chosen_by([f"@b or @t{number}" for number in range(1000)])
+
+
+@large_run
+def expression_of_a_long_tag():
+    return chosen_by(["@b or @" + "t" * 130_000])
+
+
+def refused_text(tags):
+    """A text of tags that is refused, after others that aren't."""
+    return Run({"a.feature": driver.feature("Given it passes")}, 2, "",
+               "gherkin_run: bad tag expression\n",
+               arguments=["--tags", "@a or @b", "--tags", tags, "a.feature"])
+
+
+@large_run
+def many_terms_and_nothing_after_them():
+    return refused_text("@a or " * 21_800)
+
+
+@large_run
+def many_parentheses():
+    return refused_text("(" * 65_000 + "@a" + ")" * 65_000)
+
+
+@large_run
+def many_open_parentheses():
+    return refused_text("(" * 131_000)
+
+
+@large_run
+def many_closing_parentheses():
+    return refused_text("@a" + ")" * 131_000)
+
+
+@large_run
+def many_nots():
+    return refused_text("not " * 32_000 + "@a")
+
+
+@large_run
+def many_blanks():
+    return refused_text(" \t" * 65_000)
 
 
 @large_run

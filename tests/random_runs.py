@@ -122,6 +122,54 @@ class Maker:
         tags = [it for it in TAGS if self.chance.random() < 0.2]
         return [" ".join(tags)] if tags else []
 
+    def gap(self, before, after):
+        """Blanks between two parts of an expression, or none where one has a parenthesis there."""
+        may_be_none = before.endswith(("(", ")")) or after.startswith(("(", ")"))
+        return self.chance.choice(["", " "] if may_be_none else [" ", " ", "\t", "  "])
+
+    def joined(self, *parts):
+        """Parts of an expression, with blanks between them."""
+        text = ""
+        for part in parts:
+            text += (self.gap(text, part) if text else "") + part
+        return text
+
+    def several(self, operator, make, depth):
+        """Some parts with an operator between them, and whether each holds of a set of tags."""
+        parts = [make(depth) for _ in range(self.chance.choice([1, 1, 2, 3]))]
+        text = parts[0][0]
+        for part, _ in parts[1:]:
+            text = self.joined(text, operator, part)
+        return text, [holds for _, holds in parts]
+
+    def expression(self, depth=3):
+        """An expression of tags, and the function that says whether it holds of a set of tags."""
+        text, terms = self.several("or", self.term, depth)
+        return text, lambda tags: any(holds(tags) for holds in terms)
+
+    def term(self, depth):
+        """A term of an expression: factors between `and`."""
+        text, factors = self.several("and", self.factor, depth)
+        return text, lambda tags: all(holds(tags) for holds in factors)
+
+    def factor(self, depth):
+        """A tag, a negation, or an expression in parentheses."""
+        kind = self.chance.random() if depth else 1
+        if kind < 0.3:
+            text, holds = self.expression(depth - 1)
+            return self.joined("(", text, ")"), holds
+        if kind < 0.6:
+            text, holds = self.factor(depth - 1)
+            return self.joined("not", text), lambda tags: not holds(tags)
+        tag = self.chance.choice(TAGS)
+        return tag, lambda tags: tag in tags
+
+    def alternatives(self):
+        """A text of the old form, and the function that says whether it holds of a set of tags."""
+        chosen = [(self.chance.choice(["", "~"]), self.chance.choice(TAGS)) for _ in range(2)]
+        text = ",".join(tilde + tag[self.chance.randrange(2):] for tilde, tag in chosen)
+        return text, lambda tags: any((tag in tags) != bool(tilde) for tilde, tag in chosen)
+
     def scenario(self, name):
         """The lines of a scenario, or of an outline."""
         chance = self.chance
@@ -191,7 +239,9 @@ class Suite:
             self.options += ["--hooks", "h.hooks"]
         if self.chance.random() < 0.3:
             self.options += ["--env", "v=x"]
-        tags = ["--tags", self.chance.choice(["@a", "~@a", "@a,@b", "~@b,@c"])]
+        texts = [maker.expression(), maker.expression(), maker.alternatives()]
+        self.texts = self.chance.sample(texts, self.chance.randrange(1, 3))
+        tags = [it for text, _ in self.texts for it in ("--tags", text)]
         self.choices = tags if self.chance.random() < 0.4 else []
         for name, parts in self.features.items():
             self.write(name, text_of(parts))
@@ -222,6 +272,7 @@ class Suite:
         """What differs, in words."""
         try:
             whole, chosen = self.json([]), self.json(self.choices)
+            yield from self.chosen_by_tags()
             yield from self.alone(whole)
             yield from self.turned_round(whole)
             yield from self.file_by_file(whole)
@@ -231,6 +282,26 @@ class Suite:
             yield from self.stopped(chosen)
         except ValueError as trouble:
             yield str(trouble)
+
+    def chosen_lines(self, *tags):
+        """The files and lines of the scenarios that texts of tags choose. In a dry run no other
+        is skipped."""
+        options = [it for text in tags for it in ("--tags", text)]
+        features = self.json(["--dry-run", *options])["features"]
+        return {(feature["source"], scenario["line"]) for feature in features
+                for scenario in feature["scenarios"] if scenario["status"] != "skipped"}
+
+    def chosen_by_tags(self):
+        """Texts of tags choose the scenarios of whose tags they hold."""
+        having = {tag: self.chosen_lines(tag) for tag in TAGS}
+        wanted = set()
+        for place in self.chosen_lines():
+            tags = {tag for tag in TAGS if place in having[tag]}
+            if all(holds(tags) for _, holds in self.texts):
+                wanted.add(place)
+        texts = [text for text, _ in self.texts]
+        if self.chosen_lines(*texts) != wanted:
+            yield f"{texts} don't choose the scenarios of whose tags they hold: {wanted}"
 
     def alone(self, whole):
         """Each scenario has the same rows alone, by its line, as in the suite."""

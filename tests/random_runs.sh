@@ -9,11 +9,12 @@
 # - a run over several files has the rows, counts and status of the runs over each of them;
 # - a dry run calls undefined what the run does, and nothing that the run carried out;
 # - a run that stops has the rows of the whole run up to the first failure, and after it none;
+# - texts of tags choose the scenarios of whose tags they hold, expressions and alternatives;
 # - the three formats say the same, with --no-skipped and without, and each counts its own rows.
 #
 # Where something differs, the suite's files and what differs are kept in out/random_runs/SEED.
 # PROGRAM is the built program; without it, or where it is empty, the one that ./run runs. Closes
-# with one line 'N passed, M failed'; a suite is one test, of some 25 runs. `./test` makes 1,200
+# with one line 'N passed, M failed'; a suite is one test, of some 30 runs. `./test` makes 1,200
 # suites, in about a minute.
 set -eu
 

@@ -726,6 +726,41 @@ def alternatives_of_tags(size):
     return Sized(made, options=["--tags=" + "a," * size + "b"])
 
 
+@row(most=20_000)
+def terms_of_an_or(size):
+    made = Made().scenario("it passes", tags="@b").scenario(Step("it passes", "skipped"), tags="@c")
+    return Sized(made, options=["--tags=" + "@a or " * size + "@b "])
+
+
+@row(most=18_000)
+def terms_of_an_and(size):
+    made = Made().scenario("it passes", tags="@b @a")
+    made.scenario(Step("it passes", "skipped"), tags="@a")
+    return Sized(made, options=["--tags=" + "@a and " * size + "@b "])
+
+
+@row(most=60_000)
+def blanks_of_an_expression(size):
+    made = Made().scenario("it passes", tags="@b").scenario(Step("it passes", "skipped"), tags="@c")
+    return Sized(made, options=["--tags=" + " " * size + "(@b" + "\t" * size + ")"])
+
+
+@row(most=4_097)
+def parentheses_of_an_expression(size):
+    made = Made().scenario("it passes", tags="@b")
+    if size <= 100:
+        made.scenario(Step("it passes", "skipped"), tags="@c")
+    fault = "" if size <= 100 else "bad tag expression"
+    return Sized(made, options=["--tags=" + "(" * size + "@b" + ")" * size], fault=fault, status=2)
+
+
+@row(most=4_097)
+def negations_of_an_expression(size):
+    made = Made().scenario(Step("it passes", "skipped" if size % 2 else "passed"), tags="@b")
+    fault = "" if size <= 100 else "bad tag expression"
+    return Sized(made, options=["--tags=" + "not " * size + "@b "], fault=fault, status=2)
+
+
 @row()
 def bytes_of_a_text_of_tags(size):
     tag = letters(size)

@@ -61,7 +61,7 @@ compare() {
         check "$name: a report as JSON and none as plain" [ ! -s "$room/json" ]
         return
     fi
-    jq --raw-output --from-file "$home/tests/plain.jq" "$room/json" > "$room/made" || true
+    jq --raw-output --from-file "$home/examples/recipes/plain.jq" "$room/json" > "$room/made" || true
     check "$name: another plain report" cmp "$room/plain" "$room/made"
     check "$name: another status inside" [ "$(jq .status "$room/json")" = "$status" ]
     case " $* " in

@@ -1,5 +1,5 @@
 -- A run whose output is flushed, the program's faults for those of the run, and variables one after another.
-use Rattle.std.proofs.Common.{◌≡◌, ◌∙◌, ◌+◌, ◌-◌, ◌^◌, ◌<◌, ◌≤◌, ◌++◌, ap, sym, subst, refl, inl, inr, arith, suc, ℕ, List, [], ◌∷◌, length, map, take, drop, get_or, Option, Some, None, Result, Ok, Err, add-one}
+use Rattle.std.proofs.Common.{◌≡◌, ◌∙◌, ◌+◌, ◌<◌, ◌≤◌, ◌++◌, ap, sym, subst, refl, inl, inr, arith, suc, ℕ, List, [], ◌∷◌, length, map, take, drop, get_or, Option, Some, None, Result, Ok, Err, add-one}
 use Rattle.std.specs.Prelude.{IfErr, IfOk, IsSome, IsSomeAnd, String, is_some, option_map, string_bytes}
 use Rattle.std.specs.declared.alloc.Global.{Global}
 use Rattle.std.specs.List.{All, Any}
@@ -15,7 +15,7 @@ use Rattle.gk_world.specs.declared.refusals.WorldFault.{WorldFault}
 use Rattle.gk_world.specs.declared.refusals.WorldFault.TheVariants as world
 use Rattle.gk_select.specs.declared.select_fault.SelectFault.TheVariants as select
 use Rattle.gk_cli.specs.Arguments.{PairValue, pair_value}
-use Rattle.gk_cli.specs.Counted.{one_more}
+use Rattle.gk_cli.specs.Counted.{CanRise, one_more}
 use Rattle.gk_cli.specs.Inputs.{Request}
 use Rattle.gk_cli.specs.Source.{SourceValue, source_value}
 use Rattle.gk_cli.specs.declared.source.Source.{Source}
@@ -65,11 +65,11 @@ within options files c old new (run.Select (Some input) select.Memory) says = ab
 within options files c old new run.Write says = tt
 within options files c old new run.Memory says = tt
 
-pub fewer : (a b : ℕ) → a < 2 ^ 64 - 1 → b ≡ one_more a → a < b
+pub fewer : (a b : ℕ) → CanRise a → b ≡ one_more a → a < b
 fewer a b room e = omega (arith, e)
 
 pub calls_of_run : (r : Request) (c : Contents) (old new : Device) (files : FilesValue) (by : RunFault) (fault : Fault)
-    → old.failures < 2 ^ 64 - 1 → IsFaultOfRun files by fault → SaysFault r c old new by → SaysCallsOfRun old new fault
+    → CanRise old.failures → IsFaultOfRun files by fault → SaysFault r c old new by → SaysCallsOfRun old new fault
 calls_of_run r c old new files run.Write Write room is says = (fewer old.failures new.failures room says.1, (let idle = says.2 in omega arith))
 calls_of_run r c old new files run.Write _ room is says = absurd is
 calls_of_run r c old new files run.Memory Memory room is (inl nothing) = inl nothing

@@ -1,50 +1,92 @@
 -- What reading the files answers.
-use Rattle.std.specs.Prelude.{◌≡◌, ◌⊎◌, ◌<◌, List, ℕ, length, map, Option, String, option_map, string_bytes, IfSome, IsSomeAnd}
+use Rattle.std.specs.Prelude.{◌≡◌, ◌⊎◌, ◌++◌, List, [], ◌∷◌, ℕ, map, Option, Some, None, Result, Ok, Err, String, Vec, option_map, string_bytes, IsSomeAnd}
 use Rattle.std.specs.List.{Any}
 use Rattle.std.specs.declared.alloc.Global.{Global}
-use Rattle.gk_gherkin.specs.Lines.{limit}
-use Rattle.gk_cli.specs.Counted.{one_more}
 use Rattle.gk_cli.specs.Source.{SourceValue, source_value}
 use Rattle.gk_cli.specs.declared.source.Source.{Source}
+use Rattle.gk_cli.specs.declared.source.SourceFault.{SourceFault}
+use Rattle.gk_cli.specs.declared.source.SourceFault.TheVariants as reading
 use Rattle.gherkin_run.specs.declared.fault.Fault.{Fault}
 use Rattle.gherkin_run.specs.declared.fault.Fault.TheVariants.{CannotRead, TooLong, Memory}
 use Rattle.gherkin_run.specs.declared.files.RunFiles.{RunFiles}
 
--- The name of a source. (this project's profile)
+-- The name of a source.
 abbrev pub name_of : Source → List ℕ
 name_of source = string_bytes source.name
 
--- Why a source of this name was not read from a reader with these bytes: the reader failed once, has too many bytes, or memory ran out. (this project's profile)
-abbrev pub SaysSourceFault : List ℕ → Option (List ℕ) → ℕ → ℕ → Fault → Type 0
-SaysSourceFault name bytes before after (CannotRead other) = (string_bytes other ≡ name) × (after ≡ one_more before)
-SaysSourceFault name bytes before after (TooLong other) = (string_bytes other ≡ name) × (after ≡ before) × IfSome bytes (λ all. limit < length all)
-SaysSourceFault name bytes before after Memory = after ≡ before
-SaysSourceFault name bytes before after _ = ⊥
-
--- A fault of reading that names this file, or out of memory. (this project's profile)
+-- A fault of reading that names this file, or out of memory.
 abbrev pub IsFileFault : List ℕ → Fault → Type 0
 IsFileFault name (CannotRead other) = string_bytes other ≡ name
 IsFileFault name (TooLong other) = string_bytes other ≡ name
 IsFileFault name Memory = Unit {0}
 IsFileFault name _ = ⊥
 
--- A fault of reading that names the library file, the hooks file or one of the feature files, or out of memory. (this project's profile)
+-- A fault of reading that names the library file, the hooks file or one of the feature files, or out of memory.
 abbrev pub IsFaultOfFiles : Option (String Global) → Option (String Global) → List (String Global) → Fault → Type 0
 IsFaultOfFiles library hooks names fault =
     IsSomeAnd library (λ name. IsFileFault (string_bytes name) fault)
     ⊎ (IsSomeAnd hooks (λ name. IsFileFault (string_bytes name) fault)
     ⊎ Any (λ name. IsFileFault (string_bytes name) fault) names)
 
--- The files of a run, with their bytes as they were read: the library file and the hooks file, where they are named, and the feature files. (this project's profile)
+-- What to read a file gave: its bytes, or why they can't be had.
+abbrev pub answer_of : Result (Vec ℕ Global) SourceFault → Result (List ℕ) SourceFault
+answer_of (Ok bytes) = Ok bytes.items
+answer_of (Err fault) = Err fault
+
+-- The fault of a run for a file of this name that couldn't be read, for this reason.
+abbrev pub IsFaultOfReading : List ℕ → SourceFault → Fault → Type 0
+IsFaultOfReading name reading.Device (CannotRead other) = string_bytes other ≡ name
+IsFaultOfReading name reading.TooLong (TooLong other) = string_bytes other ≡ name
+IsFaultOfReading name reading.Memory Memory = Unit {0}
+IsFaultOfReading name by fault = ⊥
+
+-- Files are read one after another from a system, each from the state that the one before left; nothing else is read.
+abbrev pub AreRead : {S : Type 0} → (S → List ℕ → Result (List ℕ) SourceFault → S → Type 0) → S → List SourceValue → S → Type 0
+AreRead reads old [] new = old ≡ new
+AreRead {S} reads old (file ∷ files) new = (between : S) × reads old file.name (Ok file.bytes) between × AreRead reads between files new
+
+-- The file of this name was asked for, and could not be read; the fault is its own.
+abbrev pub IsNotRead : {S : Type 0} → (S → List ℕ → Result (List ℕ) SourceFault → S → Type 0) → S → List ℕ → S → Fault → Type 0
+IsNotRead reads old name new fault = (by : SourceFault) × reads old name (Err by) new × IsFaultOfReading name by fault
+
+-- The first of the files that are left could not be read; or memory ran out before the next was asked for, or where none is left.
+abbrev pub StopsHere : {S : Type 0} → (S → List ℕ → Result (List ℕ) SourceFault → S → Type 0) → S → List (List ℕ) → S → Fault → Type 0
+StopsHere reads old [] new fault = (old ≡ new) × (fault ≡ Memory)
+StopsHere reads old (name ∷ names) new fault = IsNotRead reads old name new fault ⊎ (old ≡ new) × (fault ≡ Memory)
+
+-- Some of these files were read, the first in their order, and there reading stops; nothing else is read.
+pub record StopsReading {S : Type 0} (reads : S → List ℕ → Result (List ℕ) SourceFault → S → Type 0) (old : S) (names : List (List ℕ)) (new : S) (fault : Fault) : Type 0 where
+  pub files : List SourceValue
+  pub left : List (List ℕ)
+  pub between : S
+  pub order : map (λ file. file.name) files ++ left ≡ names
+  pub read : AreRead reads old files between
+  pub stops : StopsHere reads between left new fault
+
+-- The one that is there, if any.
+abbrev pub one_of : {X : Type 0} → Option X → List X
+one_of None = []
+one_of (Some x) = x ∷ []
+
+-- The files of a run, with their bytes as they were read: the library file and the hooks file, where they are named, and the feature files.
 pub record FilesValue : Type 0 where
   pub library : Option SourceValue
   pub hooks : Option SourceValue
   pub sources : List SourceValue
 
--- The files of a run as the definitions see them. (this project's profile)
+-- The files of a run as the definitions see them.
 abbrev pub files_value : RunFiles → FilesValue
 files_value files = record {
   library = option_map source_value files.library;
   hooks = option_map source_value files.hooks;
   sources = map source_value files.sources.items;
 }
+
+-- The files of a run in the order in which they are read: the library file, the hooks file, the feature files.
+abbrev pub files_in_order : FilesValue → List SourceValue
+files_in_order files = one_of files.library ++ (one_of files.hooks ++ files.sources)
+
+-- The names of these files, in the same order.
+abbrev pub names_in_order : Option (String Global) → Option (String Global) → List (String Global) → List (List ℕ)
+names_in_order library hooks names =
+    one_of (option_map string_bytes library) ++ (one_of (option_map string_bytes hooks) ++ map string_bytes names)

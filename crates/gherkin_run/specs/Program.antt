@@ -27,18 +27,18 @@ use Rattle.gherkin_run.specs.declared.fault.Fault.TheVariants.{NotUtf8, Usage, E
 use Rattle.gherkin_run.specs.declared.program.Asked.{Asked}
 use Rattle.gherkin_run.specs.declared.program.Asked.TheVariants.{Help, Run}
 
--- The text was asked for, and is no mistake. (this project's profile)
+-- The text was asked for, and is no mistake.
 abbrev pub IsAskedFor : Error → Type 0
 IsAskedFor e = (kind_of e ≡ DisplayHelp) ⊎ (kind_of e ≡ DisplayVersion)
 
--- A request for help is no mistake, and a mistake is no request for help. (this project's profile)
+-- A request for help is no mistake, and a mistake is no request for help.
 abbrev pub SaysError : Error → Result Asked Fault → Type 0
 SaysError e (Ok (Help f)) = IsAskedFor e × (f ≡ e)
 SaysError e (Ok (Run w)) = ⊥
 SaysError e (Err (Usage f)) = (IsAskedFor e → ⊥) × (f ≡ e)
 SaysError e (Err _) = ⊥
 
--- What some arguments ask for, and what is wrong with them: help is no mistake, and a mistake is no request for help. (this project's profile)
+-- What some arguments ask for, and what is wrong with them: help is no mistake, and a mistake is no request for help.
 abbrev pub SaysAsked : List Text → Result Asked Fault → Type 0
 SaysAsked arguments (Ok (Help e)) = IsAskedFor e × IsAmong (kind_of e) (faults_in arguments)
 SaysAsked arguments (Ok (Run w)) = SaysArguments arguments (Ok w)
@@ -47,77 +47,77 @@ SaysAsked arguments (Err Env) = SaysArguments arguments (Err words.Env)
 SaysAsked arguments (Err Memory) = Unit {0}
 SaysAsked arguments (Err _) = ⊥
 
--- What can be wrong before the arguments are read. (this project's profile)
+-- What can be wrong before the arguments are read.
 abbrev pub IsArgumentsFault : Fault → Type 0
 IsArgumentsFault NotUtf8 = Unit {0}
 IsArgumentsFault Memory = Unit {0}
 IsArgumentsFault _ = ⊥
 
--- Standard output failed, and moved a byte in each call but the one that failed, or it was not called at all. (this project's profile)
+-- Standard output failed, and moved a byte in each call but the one that failed, or it was not called at all.
 abbrev pub SaysCalls : Device → Device → Fault → Type 0
 SaysCalls old new Write = (old.failures < new.failures) × (new.idle ≤ old.idle + 1)
 SaysCalls old new _ = IsUntouched old new
 
--- A prefix of the report of some run was written, and standard output neither failed nor was flushed, and moved a byte in each call. (this project's profile)
+-- A prefix of the report of some run was written, and standard output neither failed nor was flushed, and moved a byte in each call.
 abbrev pub IsCutForSome : Device → Device → Type 0
 IsCutForSome old new = (request : Request) × (contents : Contents) × Cut request contents old new × (new.failures ≡ old.failures) × (new.idle ≡ old.idle)
 
--- Standard output failed, or it was not called at all, or memory was refused after a prefix of the report was written. (this project's profile)
+-- Standard output failed, or it was not called at all, or memory was refused after a prefix of the report was written.
 abbrev pub SaysCallsOfRun : Device → Device → Fault → Type 0
 SaysCallsOfRun old new Memory = IsUntouched old new ⊎ IsCutForSome old new
 SaysCallsOfRun old new fault = SaysCalls old new fault
 
--- This text, and nothing else, was appended to standard output, by calls that each moved at least one byte, and the status is 0. (this project's profile)
+-- This text, and nothing else, was appended to standard output, by calls that each moved at least one byte, and the status is 0.
 pub record IsShown (text : List ℕ) (old new : Device) (status : ℕ) : Type 0 where
   pub written : Appends old.bytes new.bytes text
   pub calls : new.calls ≤ old.calls + length text
   pub busy : new.idle ≡ old.idle
   pub well : status ≡ 0
 
--- Some text, and nothing else, was appended, with status 0: what it is, clap decides, and nothing here says. (this project's profile)
+-- Some text, and nothing else, was appended, with status 0: what it is, clap decides, and nothing here says.
 abbrev pub IsHelp : Device → Device → ℕ → Type 0
 IsHelp old new status = (text : List ℕ) × IsShown text old new status
 
--- Why help was not written whole. (this project's profile)
+-- Why help was not written whole.
 abbrev pub IsHelpFault : Fault → Type 0
 IsHelpFault Write = Unit {0}
 IsHelpFault Memory = Unit {0}
 IsHelpFault _ = ⊥
 
--- Contents with some variables put in, in order: of equal names the last counts. (this project's profile)
+-- Contents with some variables put in, in order: of equal names the last counts.
 abbrev pub with_variables : Contents → List PairValue → Contents
 with_variables c [] = c
 with_variables c (v ∷ vs) = with_variables (with_env c v.name v.text) vs
 
--- A variable that no sandbox takes: a bad name, or a text too long. (this project's profile)
+-- A variable that no sandbox takes: a bad name, or a text too long.
 abbrev pub IsRefused : PairValue → Type 0
 IsRefused v = IsSome (put_refusal v.name v.text)
 
--- A sandbox takes every one of these variables. (this project's profile)
+-- A sandbox takes every one of these variables.
 abbrev pub AreTaken : List PairValue → Type 0
 AreTaken variables = All (λ v. put_refusal v.name v.text ≡ None) variables
 
--- A variable that the sandbox refuses is a mistake in the arguments, out of memory apart. (this project's profile)
+-- A variable that the sandbox refuses is a mistake in the arguments, out of memory apart.
 abbrev pub IsFaultOfVariable : WorldFault → Fault → Type 0
 IsFaultOfVariable world.Memory fault = fault ≡ Memory
 IsFaultOfVariable _ fault = fault ≡ Env
 
--- The variables are in the sandbox, and its layers are as before; or one of them is refused. (this project's profile)
+-- The variables are in the sandbox, and its layers are as before; or one of them is refused.
 abbrev pub SaysVariables : List PairValue → SandboxValue → SandboxValue → Result (Unit {0}) Fault → Type 0
 SaysVariables variables old new (Ok u) = (new.now ≡ with_variables old.now variables) × (new.saved ≡ old.saved) × AreTaken variables
 SaysVariables variables old new (Err Env) = Any IsRefused variables
 SaysVariables variables old new (Err Memory) = Unit {0}
 SaysVariables variables old new (Err _) = ⊥
 
--- The bytes of the library file or of the hooks file, where one is named. (this project's profile)
+-- The bytes of the library file or of the hooks file, where one is named.
 abbrev pub bytes_given : Option SourceValue → Option (List ℕ)
 bytes_given file = option_map (λ s. s.bytes) file
 
--- The source at a place has this name. (this project's profile)
+-- The source at a place has this name.
 abbrev pub IsNamed : List SourceValue → ℕ → List ℕ → Type 0
 IsNamed sources input name = (source : SourceValue) × (slice_get sources input ≡ Some source) × (name ≡ source.name)
 
--- What a fault of the run speaks of is there. (this project's profile)
+-- What a fault of the run speaks of is there.
 abbrev pub IsWithin : FilesValue → RunFault → Type 0
 IsWithin files (run.Read input fault) = input < length files.sources
 IsWithin files (run.Library fault) = IsSome files.library
@@ -128,7 +128,7 @@ IsWithin files (run.Select input fault) = ⊥
 IsWithin files run.Write = Unit {0}
 IsWithin files run.Memory = Unit {0}
 
--- The program's fault for a fault of the run: the same one, where a file has its name in place of its number. (this project's profile)
+-- The program's fault for a fault of the run: the same one, where a file has its name in place of its number.
 abbrev pub IsFaultOfRun : FilesValue → RunFault → Fault → Type 0
 IsFaultOfRun files (run.Read input fault) (Read name same) = (same ≡ fault) × IsNamed files.sources input (string_bytes name)
 IsFaultOfRun files (run.Library fault) (Library name same) = (same ≡ fault) × (option_map (λ s. s.name) files.library ≡ Some (string_bytes name))
@@ -139,21 +139,21 @@ IsFaultOfRun files run.Write Write = Unit {0}
 IsFaultOfRun files run.Memory Memory = Unit {0}
 IsFaultOfRun files fault other = ⊥
 
--- Standard output was flushed once, and took nothing more. (this project's profile)
+-- Standard output was flushed once, and took nothing more.
 pub record IsFlushed (old new : Device) : Type 0 where
   pub written : Keeps old.bytes new.bytes
   pub calls : new.calls ≡ old.calls
   pub idle : new.idle ≡ old.idle
   pub flushes : new.flushes ≡ one_more old.flushes
 
--- The report of a judged list was written and flushed, and its status is answered; at each status other than 4 that list is the one that plain maps give. (this project's profile)
+-- The report of a judged list was written and flushed, and its status is answered; at each status other than 4 that list is the one that plain maps give.
 pub record IsFlushedRun (request : Request) (contents : Contents) (old new : Device) (status : ℕ) : Type 0 where
   pub written : Device
   pub judged : JudgedReport request contents old written status
   pub plain : Plain request contents old written status
   pub flushed : IsFlushed written new
 
--- The report was written whole, and then the flush failed. (this project's profile)
+-- The report was written whole, and then the flush failed.
 pub record FailsToFlush (request : Request) (contents : Contents) (old new : Device) (fault : Fault) : Type 0 where
   pub named : fault ≡ Write
   pub status : ℕ
@@ -162,54 +162,54 @@ pub record FailsToFlush (request : Request) (contents : Contents) (old new : Dev
   pub flushed : IsFlushed written new
   pub failed : new.failures ≡ one_more old.failures
 
--- A fault after the files are read: that of the run, or of the flush. (this project's profile)
+-- A fault after the files are read: that of the run, or of the flush.
 abbrev pub SaysSuite : FilesValue → Request → Contents → Device → Device → Fault → Type 0
 SaysSuite files request contents old new fault =
     ((by : RunFault) × IsFaultOfRun files by fault × SaysFault request contents old new by)
     ⊎ FailsToFlush request contents old new fault
 
--- The sources are those of the files that were given, in order, and of the library file and the hooks file. (this project's profile)
+-- The sources are those of the files that were given, in order, and of the library file and the hooks file.
 pub record AreGiven (w : Words) (files : FilesValue) : Type 0 where
   pub sources : map (λ s. s.name) files.sources ≡ map string_bytes w.files.items
   pub library : option_map (λ s. s.name) files.library ≡ option_map string_bytes w.library
   pub hooks : option_map (λ s. s.name) files.hooks ≡ option_map string_bytes w.hooks
 
--- The variables that were given. (this project's profile)
+-- The variables that were given.
 abbrev pub variables_given : Words → List PairValue
 variables_given w = map pair_value w.env.items
 
--- The contents that a run begins with: the variables alone. (this project's profile)
+-- The contents that a run begins with: the variables alone.
 abbrev pub contents_given : Words → Contents
 contents_given w = with_variables nothing_yet (variables_given w)
 
--- What a run of these files is asked for. (this project's profile)
+-- What a run of these files is asked for.
 abbrev pub request_of_files : Options → FilesValue → Request
 request_of_files options files = request_of options (bytes_given files.library) (bytes_given files.hooks) files.sources
 
--- A fault of the run of these files, or of the flush. (this project's profile)
+-- A fault of the run of these files, or of the flush.
 abbrev pub SaysRun : Options → FilesValue → Contents → Device → Device → Fault → Type 0
 SaysRun options files contents old new fault =
     SaysSuite files (request_of_files options files) contents old new fault
 
--- The variables are taken, and what was written and the status are those of one run of the files that were given, with their bytes as they were read. (this project's profile)
+-- The variables are taken, and what was written and the status are those of one run of the files that were given, with their bytes as they were read.
 pub record IsRun (w : Words) (old new : Device) (status : ℕ) : Type 0 where
   pub files : FilesValue
   pub given : AreGiven w files
   pub taken : AreTaken (variables_given w)
   pub run : IsFlushedRun (request_of_files w.options files) (contents_given w) old new status
 
--- A file of this name was given. (this project's profile)
+-- A file of this name was given.
 abbrev pub IsGiven : Words → List ℕ → Type 0
 IsGiven w name = IsSomeAnd w.library (λ file. name ≡ string_bytes file) ⊎ (IsSomeAnd w.hooks (λ file. name ≡ string_bytes file) ⊎ Any (λ file. name ≡ string_bytes file) w.files.items)
 
--- A fault of the run of the files that were given; the variables are taken. (this project's profile)
+-- A fault of the run of the files that were given; the variables are taken.
 pub record IsFaultOfGiven (w : Words) (old new : Device) (fault : Fault) : Type 0 where
   pub files : FilesValue
   pub given : AreGiven w files
   pub taken : AreTaken (variables_given w)
   pub says : SaysSuite files (request_of_files w.options files) (contents_given w) old new fault
 
--- What each fault says of what was asked for: a bad variable comes before every fault of a file; where memory was refused, nothing was written, or a prefix of the report was. (this project's profile)
+-- What each fault says of what was asked for: a bad variable comes before every fault of a file; where memory was refused, nothing was written, or a prefix of the report was.
 abbrev pub SaysProgram : Words → Device → Device → Fault → Type 0
 SaysProgram w old new NotUtf8 = ⊥
 SaysProgram w old new (Usage e) = ⊥
@@ -219,31 +219,31 @@ SaysProgram w old new (TooLong name) = IsGiven w (string_bytes name) × AreTaken
 SaysProgram w old new Memory = IsUntouched old new ⊎ IsFaultOfGiven w old new Memory
 SaysProgram w old new fault = IsFaultOfGiven w old new fault
 
--- What was asked for was done: for help some text was written, with status 0, or there was a run. (this project's profile)
+-- What was asked for was done: for help some text was written, with status 0, or there was a run.
 abbrev pub IsDone : Asked → Device → Device → ℕ → Type 0
 IsDone (Help e) old new status = IsHelp old new status
 IsDone (Run w) old new status = IsRun w old new status
 
--- Why what was asked for was not done. (this project's profile)
+-- Why what was asked for was not done.
 abbrev pub SaysUndone : Asked → Device → Device → Fault → Type 0
 SaysUndone (Help e) old new fault = IsHelpFault fault × SaysCalls old new fault
 SaysUndone (Run w) old new fault = SaysProgram w old new fault
 
--- What these arguments ask for was done. (this project's profile)
+-- What these arguments ask for was done.
 abbrev pub IsDoneFor : List Text → Device → Device → ℕ → Type 0
 IsDoneFor arguments old new status = (asked : Asked) × SaysAsked arguments (Ok asked) × IsDone asked old new status
 
--- These arguments are at fault, and standard output was not called; or what they ask for was not done. (this project's profile)
+-- These arguments are at fault, and standard output was not called; or what they ask for was not done.
 abbrev pub IsFaultFor : List Text → Device → Device → Fault → Type 0
 IsFaultFor arguments old new fault =
     (SaysAsked arguments (Err fault) × IsUntouched old new)
     ⊎ ((asked : Asked) × SaysAsked arguments (Ok asked) × SaysUndone asked old new fault)
 
--- What some arguments ask for was done. (this project's profile)
+-- What some arguments ask for was done.
 abbrev pub IsDoneForSome : Device → Device → ℕ → Type 0
 IsDoneForSome old new status = (arguments : List Text) × IsDoneFor arguments old new status
 
--- The arguments could not be had, and standard output was not called; or this is the fault for some arguments. (this project's profile)
+-- The arguments could not be had, and standard output was not called; or this is the fault for some arguments.
 abbrev pub IsFaultForSome : Device → Device → Fault → Type 0
 IsFaultForSome old new fault =
     (IsArgumentsFault fault × IsUntouched old new)

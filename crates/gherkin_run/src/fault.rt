@@ -8,8 +8,7 @@ use gk_steps::LibraryFault;
 use std::alloc::{AllocError, AllocFailed};
 use std::fmt;
 
-/// Why the program ends without a whole report. A file is named as its argument on the command line. (this
-/// project's profile)
+/// Why the program ends without a whole report. A file is named as its argument on the command line.
 #[derive(Debug, Drop)]
 pub enum Fault {
     /// An argument isn't UTF-8.
@@ -40,7 +39,7 @@ pub enum Fault {
 }
 
 impl Fault {
-    /// The status that the program ends with. (this project's profile)
+    /// The status that the program ends with.
     pub fn status(&self) -> u8
         ensures { result ≡ (row_of self.now).status }
     {

@@ -1,78 +1,120 @@
 //! Reading the files.
-ghost use Rattle.std.specs.Prelude.{◌≡◌, ◌≤◌, map, IfOk, IfErr, IfSome, option_map, vec_len, string_bytes};
+ghost use Rattle.std.specs.Prelude.{◌≡◌, ◌≤◌, map, IfOk, IfErr, IfSome, Ok, option_map, string_bytes, vec_len};
 ghost use Rattle.std.specs.List.{Any};
-ghost use Rattle.gk_cli.specs.Counted.{inner_of, failures_of};
-ghost use Rattle.gherkin_run.specs.Files.{IsFaultOfFiles, IsFileFault, SaysSourceFault, name_of};
+ghost use Rattle.gherkin_run.specs.Files.{AreRead, IsFaultOfFiles, IsFaultOfReading, IsFileFault, IsNotRead, StopsReading, files_in_order, files_value, name_of, names_in_order, one_of};
+ghost use Rattle.gk_cli.specs.Source.{source_value};
 
 use crate::fault::Fault;
 use gk_cli::{Counted, Source, SourceFault, read_source};
 use gk_gherkin::LIMIT;
 use std::alloc::Global;
-use std::io::Read;
 use std::rt::Files;
 use std::{fs, io};
 
-/// A source of this name with all the bytes of the reader. A reader that fails is `CannotRead`, one with more
-/// bytes than `gk_gherkin::LIMIT` is `TooLong`. (this project's profile)
-fn source_of<R: Read>(alloc: Global, name: String, reader: &mut Counted<R>) -> Result<Source, Fault>
-    ensures named { IfOk result (λ source. name_of source ≡ string_bytes name) }
-    ensures whole { IfOk result (λ source.
-        IfSome (R.remaining (inner_of reader.old)) (λ bytes. source.bytes.items ≡ bytes)) }
-    ensures within { IfOk result (λ source. vec_len source.bytes ≤ LIMIT) }
-    ensures quiet { IfOk result (λ source. failures_of reader.new ≡ failures_of reader.old) }
-    ensures fault { IfErr result (SaysSourceFault (string_bytes name)
-        (R.remaining (inner_of reader.old)) (failures_of reader.old) (failures_of reader.new)) }
-{
-    match read_source(alloc, reader) {
-        Ok(bytes) => Ok(Source { name, bytes }),
-        Err(SourceFault::Device) => Err(Fault::CannotRead { name }),
-        Err(SourceFault::TooLong) => Err(Fault::TooLong { name }),
-        Err(SourceFault::Memory) => Err(Fault::Memory),
+/// What files are read from. What is proved over a `System` holds of each, and so says of the real one only in
+/// which order it is asked for which files, and what becomes of its answers.
+pub trait System {
+    ghost use Rattle.std.specs.Prelude.{◌≤◌, ℕ, List, Result, IfOk, vec_len};
+    ghost use Rattle.gk_cli.specs.declared.source.SourceFault.{SourceFault};
+    ghost use Rattle.gherkin_run.specs.Files.{answer_of};
+
+    /// In the first state, to read the file of this name gives this answer, and leaves the second state.
+    ghost reads: { Self → List ℕ → Result (List ℕ) SourceFault → Self → Type 0 };
+
+    /// All the bytes of the file of this name, or why they can't be had.
+    fn read(&mut self, alloc: Global, name: &str) -> Result<Vec<u8>, SourceFault>
+        ensures read { reads self.old name.now (answer_of result) self.new }
+        ensures within { IfOk result (λ bytes. vec_len bytes ≤ LIMIT) };
+}
+
+/// The files of the machine that the program runs on. Of what they give, nothing is said.
+#[derive(Drop)]
+pub struct Machine<'a, R: Files> {
+    pub rt: &'a R,
+}
+
+impl<R: Files> System for Machine<'_, R> {
+    ghost reads = { λ _ _ _ _. Unit {0} };
+
+    fn read(&mut self, alloc: Global, name: &str) -> Result<Vec<u8>, SourceFault> {
+        match fs::open(self.rt, name) {
+            Ok(file) => read_source(alloc, &mut Counted::new(file)),
+            Err(error) => match error.kind() {
+                io::ErrorKind::OutOfMemory => Err(SourceFault::Memory),
+                _ => Err(SourceFault::Device),
+            },
+        }
     }
 }
 
-fn read_file<R: Files + AllocGlobal>(rt: &R, name: String) -> Result<Source, Fault>
+fn fault_of_reading(name: String, fault: SourceFault) -> Fault
+    ensures { IsFaultOfReading (string_bytes name) fault result }
+{
+    match fault {
+        SourceFault::Device => Fault::CannotRead { name },
+        SourceFault::TooLong => Fault::TooLong { name },
+        SourceFault::Memory => Fault::Memory,
+    }
+}
+
+/// A source of this name with all the bytes of the file. A file that can't be opened or read is `CannotRead`,
+/// one with more bytes than `gk_gherkin::LIMIT` is `TooLong`.
+fn read_file<S: System>(alloc: Global, system: &mut S, name: String) -> Result<Source, Fault>
     ensures named { IfOk result (λ source. name_of source ≡ string_bytes name) }
     ensures within { IfOk result (λ source. vec_len source.bytes ≤ LIMIT) }
+    ensures read { IfOk result (λ source.
+        S.reads system.old (string_bytes name) (Ok source.bytes.items) system.new) }
+    ensures first { IfErr result
+        (IsNotRead S.reads system.old (string_bytes name) system.new) }
     ensures fault { IfErr result (IsFileFault (string_bytes name)) }
 {
-    match fs::open(rt, name.as_str()) {
-        Ok(file) => source_of(rt.alloc(), name, &mut Counted::new(file)),
-        Err(error) => match error.kind() {
-            io::ErrorKind::OutOfMemory => Err(Fault::Memory),
-            _ => Err(Fault::CannotRead { name }),
-        },
+    match system.read(alloc, name.as_str()) {
+        Ok(bytes) => Ok(Source { name, bytes }),
+        Err(fault) => Err(fault_of_reading(name, fault)),
     }
 }
 
-/// Reads each file whole, in order. The first that can't be read is the fault.
-fn read_files<R: Files + AllocGlobal>(rt: &R, names: Vec<String>) -> Result<Vec<Source>, Fault>
+/// Reads each file whole, in order, and nothing else. The first that can't be read is the fault.
+fn read_files<S: System>(
+    alloc: Global,
+    system: &mut S,
+    names: Vec<String>,
+) -> Result<Vec<Source>, Fault>
     ensures named { IfOk result
         (λ sources. map name_of sources.items ≡ map string_bytes names.items) }
+    ensures read { IfOk result (λ sources.
+        AreRead S.reads system.old (map source_value sources.items) system.new) }
+    ensures first { IfErr result
+        (StopsReading S.reads system.old (map string_bytes names.items) system.new) }
     ensures fault { IfErr result
         (λ fault. Any (λ name. IsFileFault (string_bytes name) fault) names.items) }
 {
-    let mut sources = Vec::new(rt.alloc());
+    let mut sources = Vec::new(alloc);
     for name in names {
-        let source = read_file(rt, name)?;
+        let source = read_file(alloc, system, name)?;
         sources.push(source)?;
     }
     Ok(sources)
 }
 
-/// Reads a file whole, where one is named: the library file, or the hooks file.
-fn read_named_file<R: Files + AllocGlobal>(
-    rt: &R,
+/// Reads a file whole, where one is named: the library file, or the hooks file. Reads nothing else.
+fn read_named_file<S: System>(
+    alloc: Global,
+    system: &mut S,
     name: Option<String>,
 ) -> Result<Option<Source>, Fault>
     ensures named { IfOk result
         (λ source. option_map name_of source ≡ option_map string_bytes name) }
+    ensures read { IfOk result (λ source.
+        AreRead S.reads system.old (one_of (option_map source_value source)) system.new) }
+    ensures first { IfErr result
+        (StopsReading S.reads system.old (one_of (option_map string_bytes name)) system.new) }
     ensures fault { IfErr result
         (λ fault. IfSome name (λ name. IsFileFault (string_bytes name) fault)) }
     ensures unnamed { name ≡ None → result ≡ Ok None }
 {
     match name {
-        Some(name) => match read_file(rt, name) {
+        Some(name) => match read_file(alloc, system, name) {
             Ok(source) => Ok(Some(source)),
             Err(fault) => Err(fault),
         },
@@ -88,10 +130,11 @@ pub struct RunFiles {
     pub sources: Vec<Source>,
 }
 
-/// Reads the library file and the hooks file, where they are named, and then each feature file, in order. The
-/// first that can't be read is the fault.
-pub fn read_run_files<R: Files + AllocGlobal>(
-    rt: &R,
+/// Reads the library file and the hooks file, where they are named, and then each feature file, in order, and
+/// nothing else. The first that can't be read is the fault, and none is read after it.
+pub fn read_run_files<S: System>(
+    alloc: Global,
+    system: &mut S,
     library: Option<String>,
     hooks: Option<String>,
     names: Vec<String>,
@@ -102,11 +145,17 @@ pub fn read_run_files<R: Files + AllocGlobal>(
         (λ files. option_map name_of files.hooks ≡ option_map string_bytes hooks) }
     ensures named { IfOk result
         (λ files. map name_of files.sources.items ≡ map string_bytes names.items) }
+    // Each source has the bytes that the file of its name gave, and no other file was read.
+    ensures read { IfOk result (λ files.
+        AreRead S.reads system.old (files_in_order (files_value files)) system.new) }
+    // The fault is of the first file that wasn't read, in the order library, hooks, files.
+    ensures first { IfErr result (StopsReading S.reads system.old
+        (names_in_order library hooks names.items) system.new) }
     ensures fault { IfErr result (IsFaultOfFiles library hooks names.items) }
 {
-    let library = read_named_file(rt, library)?;
-    let hooks = read_named_file(rt, hooks)?;
-    let sources = read_files(rt, names)?;
+    let library = read_named_file(alloc, system, library)?;
+    let hooks = read_named_file(alloc, system, hooks)?;
+    let sources = read_files(alloc, system, names)?;
     Ok(RunFiles {
         library,
         hooks,

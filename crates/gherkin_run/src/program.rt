@@ -1,15 +1,15 @@
 //! From the arguments to the report.
-ghost use Rattle.std.specs.Prelude.{◌≡◌, ◌<◌, ◌-◌, ◌^◌, map, IfOk, IfErr, IsSome, OnOk, Some, option_map, string_bytes, vec_len};
+ghost use Rattle.std.specs.Prelude.{◌≡◌, ◌<◌, map, IfOk, IfErr, IsSome, OnOk, Some, option_map, string_bytes, vec_len};
 ghost use Rattle.gk_world.specs.Sandbox.{depth, new_sandbox};
 ghost use Rattle.gk_cli.specs.Arguments.{pair_value};
-ghost use Rattle.gk_cli.specs.Counted.{flushes_of, failures_of, one_more};
+ghost use Rattle.gk_cli.specs.Counted.{CountsCanRise, flushes_of, failures_of, one_more};
 ghost use Rattle.gk_cli.specs.Suite.{device_of};
 ghost use Rattle.gk_cli.specs.Source.{source_value};
 ghost use Rattle.gherkin_run.specs.Files.{files_value};
 ghost use Rattle.gherkin_run.specs.Program.{SaysAsked, SaysError, IsHelpFault, IsArgumentsFault, IsFaultOfVariable, SaysVariables, IsWithin, IsNamed, IsFaultOfRun, bytes_given, request_of_files, IsFlushedRun, SaysRun, SaysCalls, SaysCallsOfRun, SaysProgram, IsRun, IsShown, IsHelp, IsDoneFor, IsFaultFor, IsDoneForSome, IsFaultForSome};
 
 use crate::fault::Fault;
-use crate::files::{RunFiles, read_run_files};
+use crate::files::{Machine, RunFiles, read_run_files};
 use gk_cli::{
     Counted, Options, RunFault, Source, Words, WordsFault, read_words, run_suite, write_whole,
 };
@@ -38,7 +38,7 @@ fn asked_for(error: clap::Error) -> Result<Asked, Fault>
 }
 
 /// What these arguments ask for; the first is the program's name. A mistake is `Usage`, and comes before
-/// `Env`. (this project's profile)
+/// `Env`.
 fn asked_by(alloc: Global, arguments: &[String]) -> Result<Asked, Fault>
     ensures { SaysAsked (map string_bytes arguments.now) result }
 {
@@ -65,7 +65,7 @@ fn arguments_of<R: Env + AllocGlobal>(rt: &R) -> Result<Vec<String>, Fault>
 
 /// Writes a text, and flushes.
 fn show_text<W: Write>(text: &str, out: &mut Counted<W>) -> Result<u8, Fault>
-    requires room { failures_of out.old < 2 ^ 64 - 1 }
+    requires room { CountsCanRise out.old }
     ensures shown { IfOk result
         (IsShown text.now (device_of W.contents out.old) (device_of W.contents out.new)) }
     ensures quiet { OnOk result (failures_of out.new ≡ failures_of out.old) }
@@ -85,7 +85,7 @@ fn show_text<W: Write>(text: &str, out: &mut Counted<W>) -> Result<u8, Fault>
 
 /// Writes clap's text for help, and flushes.
 fn show_help<W: Write>(alloc: Global, text: &clap::Error, out: &mut Counted<W>) -> Result<u8, Fault>
-    requires room { failures_of out.old < 2 ^ 64 - 1 }
+    requires room { CountsCanRise out.old }
     ensures well { IfOk result
         (IsHelp (device_of W.contents out.old) (device_of W.contents out.new)) }
     ensures quiet { OnOk result (failures_of out.new ≡ failures_of out.old) }
@@ -108,7 +108,7 @@ fn fault_of_variable(fault: WorldFault) -> Fault
 }
 
 /// Puts the variables into the sandbox, in order; of equal names the last counts. A bad name or a text too
-/// long is `Env`. (this project's profile)
+/// long is `Env`.
 fn put_variables(sandbox: &mut Sandbox, variables: &[(String, String)]) -> Result<(), Fault>
     ensures { SaysVariables (map pair_value variables.now) sandbox.old sandbox.new result }
 {
@@ -189,7 +189,7 @@ fn run_sources<W: Write>(
     files: RunFiles,
     out: &mut Counted<W>,
 ) -> Result<u8, Fault>
-    requires room { failures_of out.old < 2 ^ 64 - 1 }
+    requires room { CountsCanRise out.old }
     requires outside { depth sandbox.old ≡ 0 }
     // What was written and the status are those of one run of these inputs.
     ensures run { IfOk result (IsFlushedRun (request_of_files options.now (files_value files))
@@ -231,7 +231,7 @@ fn run_in<R: Files + AllocGlobal, W: Write>(
     words: Words,
     out: &mut Counted<W>,
 ) -> Result<u8, Fault>
-    requires room { failures_of out.old < 2 ^ 64 - 1 }
+    requires room { CountsCanRise out.old }
     requires empty { sandbox.old ≡ new_sandbox }
     ensures run { IfOk result
         (IsRun words (device_of W.contents out.old) (device_of W.contents out.new)) }
@@ -243,7 +243,14 @@ fn run_in<R: Files + AllocGlobal, W: Write>(
         (SaysCallsOfRun (device_of W.contents out.old) (device_of W.contents out.new)) }
 {
     put_variables(sandbox, words.env.as_slice())?;
-    let files = read_run_files(rt, words.library, words.hooks, words.files)?;
+    let mut machine = Machine { rt };
+    let files = read_run_files(
+        rt.alloc(),
+        &mut machine,
+        words.library,
+        words.hooks,
+        words.files,
+    )?;
     run_sources(rt.alloc(), sandbox, &words.options, files, out)
 }
 
@@ -254,7 +261,7 @@ fn run_words<R: Files + AllocGlobal, W: Write>(
     words: Words,
     out: &mut Counted<W>,
 ) -> Result<u8, Fault>
-    requires room { failures_of out.old < 2 ^ 64 - 1 }
+    requires room { CountsCanRise out.old }
     // The files were read under their names, in order, and what was written and the status are
     // those of one run of them.
     ensures run { IfOk result
@@ -276,7 +283,7 @@ fn run_asked<R: Files + AllocGlobal, W: Write>(
     arguments: &[String],
     out: &mut Counted<W>,
 ) -> Result<u8, Fault>
-    requires room { failures_of out.old < 2 ^ 64 - 1 }
+    requires room { CountsCanRise out.old }
     ensures done { IfOk result (IsDoneFor (map string_bytes arguments.now)
         (device_of W.contents out.old) (device_of W.contents out.new)) }
     ensures quiet { OnOk result (failures_of out.new ≡ failures_of out.old) }
@@ -299,7 +306,7 @@ pub fn run<R: Env + Files + AllocGlobal, W: Write>(
     rt: &R,
     out: &mut Counted<W>,
 ) -> Result<u8, Fault>
-    requires room { failures_of out.old < 2 ^ 64 - 1 }
+    requires room { CountsCanRise out.old }
     ensures done { IfOk result
         (IsDoneForSome (device_of W.contents out.old) (device_of W.contents out.new)) }
     ensures quiet { OnOk result (failures_of out.new ≡ failures_of out.old) }

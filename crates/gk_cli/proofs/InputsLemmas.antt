@@ -15,7 +15,8 @@ use Rattle.gk_select.specs.declared.case.Case.{Case}
 use Rattle.gk_select.specs.declared.select_fault.SelectFault.{SelectFault}
 use Rattle.gk_select.specs.declared.select_fault.SelectFault.TheVariants as select_faults
 use Rattle.gk_select.specs.Case.{CaseValue, case_value}
-use Rattle.gk_select.specs.TagRules.{AlternativeValue, ReadsTags}
+use Rattle.gk_select.specs.TagGrammar.{Expression}
+use Rattle.gk_select.specs.TagRules.{ReadsTags}
 use Rattle.gk_select.specs.Choice.{is_chosen}
 use Rattle.gk_steps.specs.declared.library_fault.LibraryFault.{LibraryFault}
 use Rattle.gk_steps.specs.declared.library_fault.LibraryFault.TheVariants as library_faults
@@ -80,7 +81,7 @@ all_push P [] x all h = (h, tt)
 all_push P (y ∷ ys) x all h = (all.0, all_push P ys x all.1 h)
 
 -- One text of tags more.
-pub rules_one : (ts : List (List ℕ)) (rs : List (List AlternativeValue)) (t : List ℕ) (r : List AlternativeValue) → AreRules ts rs → ReadsTags t r → AreRules (ts ++ t ∷ []) (rs ++ r ∷ [])
+pub rules_one : (ts : List (List ℕ)) (rs : List Expression) (t : List ℕ) (r : Expression) → AreRules ts rs → ReadsTags t r → AreRules (ts ++ t ∷ []) (rs ++ r ∷ [])
 rules_one [] rs t r none reads = (r, [], reads, refl, ap (λ x. x ++ r ∷ []) none)
 rules_one (x ∷ ts) rs t r h reads = (h.0, h.1 ++ r ∷ [], h.2, rules_one ts h.1 t r h.3 reads, ap (λ x. x ++ r ∷ []) h.4)
 
@@ -138,8 +139,8 @@ first_unread chooses sources features input source Write read place h = h
 first_unread chooses sources features input source Memory read place h = tt
 
 -- The first text that spells no rule is there, or memory was refused.
-pub tags_said : (tags : List (List ℕ)) (i : ℕ) (text : List ℕ) (rules : List (List AlternativeValue)) (fault : SelectFault) → slice_get tags i ≡ Some text → AreRules (take i tags) rules →
-    (fault ≡ select_faults.Memory) ⊎ ((fault ≡ select_faults.BadTagText) × ((rule : List AlternativeValue) → ReadsTags text rule → ⊥)) → SaysTags tags fault
+pub tags_said : (tags : List (List ℕ)) (i : ℕ) (text : List ℕ) (rules : List Expression) (fault : SelectFault) → slice_get tags i ≡ Some text → AreRules (take i tags) rules →
+    (fault ≡ select_faults.Memory) ⊎ ((fault ≡ select_faults.BadTagText) × ((rule : Expression) → ReadsTags text rule → ⊥)) → SaysTags tags fault
 tags_said tags i text rules fault place read (inl memory) = subst (SaysTags tags) (sym memory) tt
 tags_said tags i text rules fault place read (inr bad) =
     subst (SaysTags tags) (sym bad.0) (record { before = take i tags; text = text; after = drop (suc i) tags; whole = cut_at tags i text place; rules = rules; read = read; bad = bad.1 })
@@ -163,7 +164,7 @@ says_library bytes (library_faults.FieldKind n) h = (bytes, refl, h)
 says_library bytes (library_faults.Ambiguous n) h = (bytes, refl, h)
 
 -- The same, after the texts of tags.
-pub library_unread : (r : Request) (rules : List (List AlternativeValue)) (fault : LibraryFault) → AreRules r.tags rules → SaysLibrary r.library fault → IsUnread r (library_fault fault)
+pub library_unread : (r : Request) (rules : List Expression) (fault : LibraryFault) → AreRules r.tags rules → SaysLibrary r.library fault → IsUnread r (library_fault fault)
 library_unread r rules library_faults.Memory tags h = tt
 library_unread r rules library_faults.TooLong tags h = record { rules = rules; tags = tags; bytes = h.0; given = h.1; says = h.2; named = λ e. cc }
 library_unread r rules (library_faults.NotUtf8 n) tags h = record { rules = rules; tags = tags; bytes = h.0; given = h.1; says = h.2; named = λ e. cc }
@@ -189,7 +190,7 @@ says_hooks bytes (read_faults.BadRow n) h = (bytes, refl, h)
 says_hooks bytes (read_faults.BadHook n) h = (bytes, refl, h)
 
 -- The same, after the texts of tags and the library.
-pub hooks_unread : (r : Request) (rules : List (List AlternativeValue)) (entries : LibraryValue) (fault : ReadFault) →
+pub hooks_unread : (r : Request) (rules : List Expression) (entries : LibraryValue) (fault : ReadFault) →
     AreRules r.tags rules → IsLibrary r.library entries → SaysHooks r.hooks fault → IsUnread r (hooks_fault fault)
 hooks_unread r rules entries read_faults.Memory tags library h = tt
 hooks_unread r rules entries read_faults.TooLong tags library h = record { rules = rules; tags = tags; entries = entries; library = library; bytes = h.0; given = h.1; says = h.2; named = λ e. cc }
@@ -204,7 +205,7 @@ hooks_unread r rules entries (read_faults.BadRow n) tags library h = record { ru
 hooks_unread r rules entries (read_faults.BadHook n) tags library h = record { rules = rules; tags = tags; entries = entries; library = library; bytes = h.0; given = h.1; says = h.2; named = λ e. cc }
 
 -- The fault of a source, after the texts of tags, the library and the hooks.
-pub sources_unread : (r : Request) (rules : List (List AlternativeValue)) (entries : LibraryValue) (hooks : List HookValue) (fault : RunFault) →
+pub sources_unread : (r : Request) (rules : List Expression) (entries : LibraryValue) (hooks : List HookValue) (fault : RunFault) →
     AreRules r.tags rules → IsLibrary r.library entries → AreHooks r.hooks hooks → SaysSources (is_chosen rules r.lines) r.sources fault → IsUnread r fault
 sources_unread r rules entries hooks (Read i fault) tags library around h = (record { rules = rules; tags = tags; entries = entries; library = library; hooks = hooks; around = around; first = h.0 }, h.1)
 sources_unread r rules entries hooks (Select (Some i) select_faults.TooMany) tags library around h = record { rules = rules; tags = tags; entries = entries; library = library; hooks = hooks; around = around; first = h }
@@ -219,9 +220,9 @@ sources_unread r rules entries hooks Write tags library around h = h
 sources_unread r rules entries hooks Memory tags library around h = tt
 
 abbrev pub OneRule : Type 0
-OneRule = (text : List ℕ) (a b : List AlternativeValue) → ReadsTags text a → ReadsTags text b → a ≡ b
+OneRule = (text : List ℕ) (a b : Expression) → ReadsTags text a → ReadsTags text b → a ≡ b
 
-same_rules : OneRule → (ts : List (List ℕ)) (rs qs : List (List AlternativeValue)) → AreRules ts rs → AreRules ts qs → rs ≡ qs
+same_rules : OneRule → (ts : List (List ℕ)) (rs qs : List Expression) → AreRules ts rs → AreRules ts qs → rs ≡ qs
 same_rules one [] rs qs a b = a ∙ sym b
 same_rules one (t ∷ ts) rs qs (rule, others, reads, rest, is) (rule', others', reads', rest', is') =
     is ∙ ap (λ r. r ∷ others) (one t rule rule' reads reads') ∙ ap (λ x. rule' ∷ x) (same_rules one ts others others' rest rest') ∙ sym is'

@@ -4,7 +4,7 @@ use Rattle.std.specs.Io.KnownBytes.{Appends}
 use Rattle.std.specs.Fmt.{digits}
 use Rattle.std.specs.Str.{chars, is_utf8}
 use lib.Utf8
-use Rattle.std.proofs.Common.{refl, sym, subst, ◌∙◌, arith, inr}
+use Rattle.std.proofs.Common.{refl, sym, subst, ◌∙◌, arith, inl, inr}
 use Rattle.std.proofs.lemmas.Str.{IsUtf8-from_is_utf8}
 use Rattle.gk_gherkin.specs.declared.feature.StepType.TheVariants.{Given, Then}
 use Rattle.gk_gherkin.specs.declared.class.Fence.TheVariants.{Quotes}
@@ -19,7 +19,7 @@ use Rattle.gk_gherkin.specs.Feature.{Empty, Text, StepValue, RowValue, ExamplesV
 use Rattle.gk_gherkin.specs.Grammar.{IsIgnoredAbove, skip_none, skip, none, more, AreTags, untagged, tagged, described, describe, IsRow, IsStep, IsBackground, AreExamples, IsScenario, IsRule, Reads}
 use Rattle.gk_select.specs.Expansion.{cases}
 use Rattle.gk_select.specs.Filling.{filled, filled_from, cell_under}
-use Rattle.gk_select.specs.TagRules.{AlternativeValue}
+use Rattle.gk_select.specs.TagGrammar.{Expression, one_term, or_terms, one_factor, tagged, negated}
 use Rattle.gk_select.specs.Choice.{is_chosen}
 use Rattle.gk_steps.specs.declared.action.Action.TheVariants as actions
 use Rattle.gk_steps.specs.declared.pattern.FieldKind.TheVariants as kinds
@@ -472,8 +472,8 @@ unfolding is_utf8 chars lib.Utf8.encode
 library_is_text = (omega arith, IsUtf8-from_is_utf8 library_bytes refl)
 
 -- What is asked for, as it reads.
-abbrev tag_rule : List AlternativeValue
-tag_rule = record { negated = false; tag = codes "@shop" } ∷ record { negated = true; tag = codes "@slow" } ∷ []
+abbrev tag_rule : Expression
+tag_rule = or_terms (one_factor (tagged (codes "@shop"))) (one_term (one_factor (negated (tagged (codes "@slow")))))
 
 -- The library, and the feature with the choice by that rule.
 abbrev inputs : Inputs
@@ -488,7 +488,13 @@ has_room = omega arith
 inputs_read : AreInputs request inputs
 inputs_read = record {
   rules = tag_rule ∷ [];
-  tags = (tag_rule, [], record { old_form = refl; says = refl }, refl, refl);
+  tags = (
+    tag_rule,
+    [],
+    inl (record { first = record { negated = false; tag = codes "@shop" }; others = record { negated = true; tag = codes "@slow" } ∷ []; reads = record { old_form = refl; says = refl }; is = refl }),
+    refl,
+    refl,
+  );
   library = (library_is_text, library_reads);
   hooks = refl;
   features = (Some feature, [], is_text, reads, has_room, refl, refl);

@@ -24,7 +24,7 @@ use Rattle.gk_cli.specs.declared.arguments.Words.{Words}
 use Rattle.gk_cli.specs.declared.arguments.WordsFault.{WordsFault}
 use Rattle.gk_cli.specs.declared.arguments.WordsFault.TheVariants.{Usage, Env, Memory}
 
--- The files: at least one, in as many places as one likes. (this project's profile)
+-- The files: at least one, in as many places as one likes.
 abbrev pub files_rule : Rule
 files_rule = record (new_rule (codes "files")) {
   action = Some Append;
@@ -37,7 +37,7 @@ files_rule = record (new_rule (codes "files")) {
 abbrev pub tags_rule : Rule
 tags_rule = record (new_rule (codes "tags")) { long = Some (codes "tags"); action = Some Append; value_names = 1 }
 
--- The option `--line N`, as often as one likes, where N fits a `u32` and isn't 0. (this project's profile)
+-- The option `--line N`, as often as one likes, where N fits a `u32` and isn't 0.
 abbrev pub line_rule : Rule
 line_rule = record (new_rule (codes "line")) {
   long = Some (codes "line");
@@ -46,15 +46,15 @@ line_rule = record (new_rule (codes "line")) {
   value_names = 1;
 }
 
--- The option `--library FILE`, once at most. (this project's profile)
+-- The option `--library FILE`, once at most.
 abbrev pub library_rule : Rule
 library_rule = record (new_rule (codes "library")) { long = Some (codes "library"); action = Some Set; value_names = 1 }
 
--- The option `--hooks FILE`, once at most. (this project's profile)
+-- The option `--hooks FILE`, once at most.
 abbrev pub hooks_rule : Rule
 hooks_rule = record (new_rule (codes "hooks")) { long = Some (codes "hooks"); action = Some Set; value_names = 1 }
 
--- The option `--env NAME=VALUE`, as often as one likes. (this project's profile)
+-- The option `--env NAME=VALUE`, as often as one likes.
 abbrev pub env_rule : Rule
 env_rule = record (new_rule (codes "env")) { long = Some (codes "env"); action = Some Append; value_names = 1 }
 
@@ -62,21 +62,21 @@ env_rule = record (new_rule (codes "env")) { long = Some (codes "env"); action =
 abbrev pub format_rule : Rule
 format_rule = record (new_rule (codes "format")) { long = Some (codes "format"); action = Some Set; value_names = 1 }
 
--- A flag, once at most: clap finds `true` for it where it stands among the arguments, and `false` where it doesn't. (this project's profile)
+-- A flag, once at most: clap finds `true` for it where it stands among the arguments, and `false` where it doesn't.
 abbrev pub flag_rule : Text → Rule
 flag_rule name = record (new_rule name) { long = Some name; action = Some SetTrue }
 
--- The files, the options and the flags. (this project's profile)
+-- The files, the options and the flags.
 abbrev pub rules : List Rule
 rules =
     files_rule ∷ tags_rule ∷ line_rule ∷ library_rule ∷ hooks_rule ∷ env_rule
     ∷ flag_rule (codes "dry-run") ∷ flag_rule (codes "stop") ∷ format_rule ∷ flag_rule (codes "no-skipped") ∷ []
 
--- The command: its name and its rules. Help is clap's own. (this project's profile)
+-- The command: its name and its rules. Help is clap's own.
 abbrev pub command : App
 command = fold with_rule (new_app (codes "gherkin_run")) rules
 
--- What clap finds in the arguments, of which the first is the program's name. (this project's profile)
+-- What clap finds in the arguments, of which the first is the program's name.
 abbrev pub found_in : List Text → List Row
 found_in arguments = matches_of command arguments
 
@@ -86,7 +86,7 @@ format_name Plain = codes "plain"
 format_name Progress = codes "progress"
 format_name Json = codes "json"
 
--- A format has this name. (this project's profile)
+-- A format has this name.
 abbrev pub is_format : Text → Bool
 is_format name = list_any (λ format. bytes_eq (format_name format) name) (Plain ∷ Progress ∷ Json ∷ [])
 
@@ -94,63 +94,63 @@ is_format name = list_any (λ format. bytes_eq (format_name format) name) (Plain
 abbrev pub format_asked : List Row → Text
 format_asked rows = unwrap_or (first_of (codes "format") rows) (codes "plain")
 
--- The faults in the arguments, a request for help among them: those of the first step at which clap fails; where there are none, a format of an unknown name. (this project's profile)
+-- The faults in the arguments, a request for help among them: those of the first step at which clap fails; where there are none, a format of an unknown name.
 abbrev pub faults_in : List Text → Kinds
 faults_in arguments = or_else (fault_of command arguments) (if is_format (format_asked (found_in arguments)) then [] else (InvalidValue ∷ []))
 
--- Whether a flag stands among the arguments. (this project's profile)
+-- Whether a flag stands among the arguments.
 abbrev pub is_set : Text → List Row → Bool
 is_set name rows = option_map_or (λ text. bytes_eq text (codes "true")) (one_of name rows) false
 
--- The values of one option or of the files, in order. (this project's profile)
+-- The values of one option or of the files, in order.
 abbrev pub values_of : Text → List Row → List Text
 values_of id rows = unwrap_or (all_of id rows) []
 
--- A text that spells a line's number. (this project's profile)
+-- A text that spells a line's number.
 abbrev pub IsLineNumber : Text → Type 0
 IsLineNumber text = IsUnsignedIn 1 4294967295 text
 
--- The number that it spells, in decimal digits after a plus or none. (this project's profile)
+-- The number that it spells, in decimal digits after a plus or none.
 abbrev pub line_number : Text → ℕ
 line_number text = digits_value 10 (without_leading_plus text)
 
--- The format of a name; an unknown name has none. (this project's profile)
+-- The format of a name; an unknown name has none.
 abbrev pub SaysFormat : Text → Option Format → Type 0
 SaysFormat name (Some format) = format_name format ≡ name
 SaysFormat name None = is_format name ≡ false
 
--- A name and a text. (this project's profile)
+-- A name and a text.
 pub record PairValue : Type 0 where
   pub name : Text
   pub text : Text
 
--- What a pair of strings says. (this project's profile)
+-- What a pair of strings says.
 abbrev pub pair_value : String Global × String Global → PairValue
 pair_value pair = record { name = string_bytes pair.0; text = string_bytes pair.1 }
 
--- A text has an `=`, which is byte 61. (this project's profile)
+-- A text has an `=`, which is byte 61.
 abbrev pub has_equals : Text → Bool
 has_equals text = has_byte 61 text
 
--- A text cut at its first `=`. (this project's profile)
+-- A text cut at its first `=`.
 abbrev pub cut_at_equals : Text → PairValue
 cut_at_equals text = record { name = before_first (λ b. b == 61) text; text = after_first (λ b. b == 61) text }
 
--- The variable that a text of `--env` names; a text without `=` names none. (this project's profile)
+-- The variable that a text of `--env` names; a text without `=` names none.
 abbrev pub SaysVariable : Text → Result (String Global × String Global) WordsFault → Type 0
 SaysVariable text (Ok variable) = (has_equals text ≡ true) × (pair_value variable ≡ cut_at_equals text)
 SaysVariable text (Err Env) = has_equals text ≡ false
 SaysVariable text (Err Memory) = Unit {0}
 SaysVariable text (Err (Usage e)) = ⊥
 
--- The variables that some texts of `--env` name: the first text without `=` is a fault. (this project's profile)
+-- The variables that some texts of `--env` name: the first text without `=` is a fault.
 abbrev pub SaysVariables : List Text → Result (Vec (String Global × String Global) Global) WordsFault → Type 0
 SaysVariables texts (Ok variables) = All (λ text. has_equals text ≡ true) texts × (map pair_value variables.items ≡ map cut_at_equals texts)
 SaysVariables texts (Err Env) = Any (λ text. has_equals text ≡ false) texts
 SaysVariables texts (Err Memory) = Unit {0}
 SaysVariables texts (Err (Usage e)) = ⊥
 
--- The options are those that clap found. (this project's profile)
+-- The options are those that clap found.
 pub record AreAsked (rows : List Row) (options : Options) : Type 0 where
   pub tags : map string_bytes options.tags.items ≡ values_of (codes "tags") rows
   pub lines : options.lines.items ≡ map line_number (values_of (codes "line") rows)
@@ -159,7 +159,7 @@ pub record AreAsked (rows : List Row) (options : Options) : Type 0 where
   pub format : format_name options.style.format ≡ format_asked rows
   pub no_skipped : options.style.no_skipped ≡ is_set (codes "no-skipped") rows
 
--- What is asked for is what clap found. (this project's profile)
+-- What is asked for is what clap found.
 pub record IsAskedBy (rows : List Row) (w : Words) : Type 0 where
   pub files : map string_bytes w.files.items ≡ values_of (codes "files") rows
   pub options : AreAsked rows w.options
@@ -168,34 +168,34 @@ pub record IsAskedBy (rows : List Row) (w : Words) : Type 0 where
   pub variables : map pair_value w.env.items ≡ map cut_at_equals (values_of (codes "env") rows)
   pub cut : All (λ text. has_equals text ≡ true) (values_of (codes "env") rows)
 
--- What is asked for, from what clap found; `Env` comes where an `--env` has no `=`. (this project's profile)
+-- What is asked for, from what clap found; `Env` comes where an `--env` has no `=`.
 abbrev pub SaysMatches : List Row → Result Words WordsFault → Type 0
 SaysMatches rows (Ok w) = IsAskedBy rows w
 SaysMatches rows (Err (Usage e)) = ⊥
 SaysMatches rows (Err Env) = Any (λ text. has_equals text ≡ false) (values_of (codes "env") rows)
 SaysMatches rows (Err Memory) = Unit {0}
 
--- Arguments without a fault give what clap finds in them, a file at least and no line 0; `Usage` has one of their faults and comes before `Env`; `Memory` may come in place of any answer. (this project's profile)
+-- Arguments without a fault give what clap finds in them, a file at least and no line 0; `Usage` has one of their faults and comes before `Env`; `Memory` may come in place of any answer.
 abbrev pub SaysArguments : List Text → Result Words WordsFault → Type 0
 SaysArguments arguments (Ok w) = (faults_in arguments ≡ []) × IsAskedBy (found_in arguments) w × (w.files.items ≢ []) × All (λ n. 1 ≤ n) w.options.lines.items
 SaysArguments arguments (Err (Usage e)) = IsAmong (kind_of e) (faults_in arguments)
 SaysArguments arguments (Err Env) = (faults_in arguments ≡ []) × SaysMatches (found_in arguments) (Err Env)
 SaysArguments arguments (Err Memory) = Unit {0}
 
--- Proof machinery: an argument of clap's has this rule, and excludes nothing. (this project's profile)
+-- Proof machinery: an argument of clap's has this rule, and excludes nothing.
 pub record HasRule (rule : Rule) (a : Arg) : Type 0 where
   pub same : rule_of a ≡ rule
   pub plain : IsPlainArg a
   pub local : a.global ≡ false
 
--- Proof machinery: clap's command so far is that one, nothing in it excludes anything, and a subcommand lifts no demand. (this project's profile)
+-- Proof machinery: clap's command so far is that one, nothing in it excludes anything, and a subcommand lifts no demand.
 pub record IsCommand (wanted : App) (c : Command) : Type 0 where
   pub app : app_of c ≡ wanted
   pub plain : IsPlain c
   pub local : (fields_of c).has_globals ≡ false
   pub demands : (fields_of c).subcommand_negates_reqs ≡ false
 
--- What becomes of an error of clap's: out of memory is a fault of its own. (this project's profile)
+-- What becomes of an error of clap's: out of memory is a fault of its own.
 abbrev pub IsFaultBy : Error → WordsFault → Type 0
 IsFaultBy e (Usage f) = (f ≡ e) × (kind_of e ≢ OutOfMemory)
 IsFaultBy e Env = ⊥

@@ -1,79 +1,91 @@
 -- Readers and writers whose calls and failures are counted.
-use Rattle.std.specs.Prelude.{◌≡◌, ◌≤◌, ℕ, zero, suc, ◌+◌, ◌-◌, ◌^◌, min, List, [], ◌∷◌, length, take, Option, Result, Ok, Err}
+use Rattle.std.specs.Prelude.{◌≡◌, ◌<◌, ◌≤◌, ℕ, zero, suc, ◌+◌, ◌-◌, ◌^◌, min, List, [], ◌∷◌, length, take, Option, Result, Ok, Err}
 use Rattle.std.specs.Io.KnownBytes.{Appends}
 use Rattle.gk_cli.specs.declared.counted.Counted.{Counted}
 
--- The reader or writer whose calls are counted. (this project's profile)
+-- The reader or writer whose calls are counted.
 abbrev pub inner_of : {T : Type 0} → Counted T → T
 inner_of c = c.inner
 
--- The count of its calls of `read` and `write`. (this project's profile)
+-- The count of its calls of `read` and `write`.
 abbrev pub calls_of : {T : Type 0} → Counted T → ℕ
 calls_of c = c.calls
 
--- The count of its calls of `flush`. (this project's profile)
+-- The count of its calls of `flush`.
 abbrev pub flushes_of : {T : Type 0} → Counted T → ℕ
 flushes_of c = c.flushes
 
--- The count of its failures. (this project's profile)
+-- The count of its failures.
 abbrev pub failures_of : {T : Type 0} → Counted T → ℕ
 failures_of c = c.failures
 
--- The count of its calls of `read` and `write` that moved no byte. (this project's profile)
+-- The count of its calls of `read` and `write` that moved no byte.
 abbrev pub idle_of : {T : Type 0} → Counted T → ℕ
 idle_of c = c.idle
 
--- One more, up to the greatest `u64`. (this project's profile)
+-- One more, up to the greatest `u64`.
 abbrev pub one_more : ℕ → ℕ
 one_more n = min (n + 1) (2 ^ 64 - 1)
 
--- The device was called once more. (this project's profile)
+-- A count that rises by one, and by no more, is seen to do so: before and after it is below the greatest `u64`, where it stays.
+abbrev pub CanRise : ℕ → Type 0
+CanRise n = n + 1 < 2 ^ 64 - 1
+
+-- The failures of a reader or a writer, and its calls that move no byte, can be counted by one more.
+abbrev pub ReadCountsCanRise : {T : Type 0} → Counted T → Type 0
+ReadCountsCanRise c = CanRise (failures_of c) × CanRise (idle_of c)
+
+-- So can the flushes of a writer.
+abbrev pub CountsCanRise : {T : Type 0} → Counted T → Type 0
+CountsCanRise c = ReadCountsCanRise c × CanRise (flushes_of c)
+
+-- The device was called once more.
 abbrev pub IsCalledOnce : {T : Type 0} → Counted T → Counted T → Type 0
 IsCalledOnce old new = calls_of new ≡ one_more (calls_of old)
 
--- The device wasn't flushed in between. (this project's profile)
+-- The device wasn't flushed in between.
 abbrev pub IsUnflushed : {T : Type 0} → Counted T → Counted T → Type 0
 IsUnflushed old new = flushes_of new ≡ flushes_of old
 
--- No call of the device failed in between. (this project's profile)
+-- No call of the device failed in between.
 abbrev pub IsQuiet : {T : Type 0} → Counted T → Counted T → Type 0
 IsQuiet old new = failures_of new ≡ failures_of old
 
--- One more call of the device failed. (this project's profile)
+-- One more call of the device failed.
 abbrev pub HasFailedOnce : {T : Type 0} → Counted T → Counted T → Type 0
 HasFailedOnce old new = failures_of new ≡ one_more (failures_of old)
 
--- Each call of `read` and `write` in between moved at least one byte. (this project's profile)
+-- Each call of `read` and `write` in between moved at least one byte.
 abbrev pub IsNeverIdle : {T : Type 0} → Counted T → Counted T → Type 0
 IsNeverIdle old new = idle_of new ≡ idle_of old
 
--- One call of `read` or `write` in between moved no byte, and each other one at least one. (this project's profile)
+-- One call of `read` or `write` in between moved no byte, and each other one at least one.
 abbrev pub IsIdleOnce : {T : Type 0} → Counted T → Counted T → Type 0
 IsIdleOnce old new = idle_of new ≡ one_more (idle_of old)
 
--- The count of idle calls after a read or a write: it moved no byte where it failed, and where it gave or took none, as of an empty piece. (this project's profile)
+-- The count of idle calls after a read or a write: it moved no byte where it failed, and where it gave or took none, as of an empty piece.
 abbrev pub counted_idle : {E : Type 0} → Result ℕ E → ℕ → ℕ
 counted_idle (Ok zero) n = one_more n
 counted_idle (Ok (suc k)) n = n
 counted_idle (Err e) n = one_more n
 
--- The count of failures after a write: one that took no byte of a piece that isn't empty has failed. (this project's profile)
+-- The count of failures after a write: one that took no byte of a piece that isn't empty has failed.
 abbrev pub counted_write : {E : Type 0} → Result ℕ E → List ℕ → ℕ → ℕ
 counted_write (Ok zero) [] n = n
 counted_write (Ok zero) (b ∷ bs) n = one_more n
 counted_write (Ok (suc k)) bs n = n
 counted_write (Err e) bs n = one_more n
 
--- The count of failures after a read. (this project's profile)
+-- The count of failures after a read.
 abbrev pub counted_read : {E : Type 0} → Result ℕ E → ℕ → ℕ
 counted_read (Ok k) n = n
 counted_read (Err e) n = one_more n
 
--- The count of failures after a flush. (this project's profile)
+-- The count of failures after a flush.
 abbrev pub counted_flush : {E : Type 0} → Result (Unit {0}) E → ℕ → ℕ
 counted_flush (Ok u) n = n
 counted_flush (Err e) n = one_more n
 
--- A prefix of the bytes was written. (this project's profile)
+-- A prefix of the bytes was written.
 abbrev pub IsPrefixWritten : Option (List ℕ) → Option (List ℕ) → List ℕ → Type 0
 IsPrefixWritten old new bytes = (n : ℕ) × (n ≤ length bytes) × Appends old new (take n bytes)

@@ -16,7 +16,7 @@ use Rattle.gk_cli.specs.Suite.{Device}
 abbrev pub style_of : GrowingReport → Style
 style_of g = g.style
 
--- A report so far: its head, and the parts of these results. (this project's profile)
+-- A report so far: its head, and the parts of these results.
 abbrev pub so_far : Style → List FeatureRow → List ℕ
 so_far style rows = head style ++ parts style rows
 

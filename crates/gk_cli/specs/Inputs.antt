@@ -11,7 +11,8 @@ use Rattle.gk_gherkin.specs.HooksGrammar.{ReadsHooks}
 use Rattle.gk_gherkin.specs.ReadFault.{FaultSays, FeatureFault}
 use Rattle.gk_select.specs.Case.{CaseValue}
 use Rattle.gk_select.specs.Expansion.{cases, step_count, step_limit, HasTooManySteps}
-use Rattle.gk_select.specs.TagRules.{AlternativeValue, ReadsTags}
+use Rattle.gk_select.specs.TagGrammar.{Expression}
+use Rattle.gk_select.specs.TagRules.{ReadsTags}
 use Rattle.gk_select.specs.Choice.{is_chosen}
 use Rattle.gk_steps.specs.LibraryFile.{ReadsLibrary}
 use Rattle.gk_steps.specs.DefaultFile.{default_text}
@@ -60,16 +61,16 @@ pub record Inputs : Type 0 where
   pub features : List ChosenValue
 
 -- The texts of tags spell these rules, one each, in order. (behave's documentation: tag expressions)
-abbrev pub AreRules : List (List ℕ) → List (List AlternativeValue) → Type 0
+abbrev pub AreRules : List (List ℕ) → List Expression → Type 0
 AreRules [] rules = rules ≡ []
-AreRules (text ∷ more) rules = (rule : List AlternativeValue) × (others : List (List AlternativeValue)) × ReadsTags text rule × AreRules more others × (rules ≡ rule ∷ others)
+AreRules (text ∷ more) rules = (rule : Expression) × (others : List Expression) × ReadsTags text rule × AreRules more others × (rules ≡ rule ∷ others)
 
--- The library file spells these entries; where none is given, the default library does. (this project's profile)
+-- The library file spells these entries; where none is given, the default library does.
 abbrev pub IsLibrary : Option (List ℕ) → LibraryValue → Type 0
 IsLibrary None entries = ReadsLibrary (lines_of default_text) entries
 IsLibrary (Some bytes) entries = IsText bytes × ReadsLibrary (lines_of bytes) entries
 
--- The hooks file spells these hooks; where none is given, there are none. (this project's profile)
+-- The hooks file spells these hooks; where none is given, there are none.
 abbrev pub AreHooks : Option (List ℕ) → List HookValue → Type 0
 AreHooks None hooks = hooks ≡ []
 AreHooks (Some bytes) hooks = IsText bytes × ReadsHooks (lines_of bytes) hooks
@@ -82,12 +83,12 @@ member_by chooses case = record { scenario = case; selected = chooses case }
 abbrev pub chosen_of : (CaseValue → Bool) → List ℕ → FeatureValue → ChosenValue
 chosen_of chooses source f = record { source = source; name = f.name; line = f.line; tags = f.tags; members = map (member_by chooses) (cases f) }
 
--- The feature of a source before others; a source without one counts nowhere. (this project's profile)
+-- The feature of a source before others; a source without one counts nowhere.
 abbrev pub with_reading : (CaseValue → Bool) → List ℕ → Option FeatureValue → List ChosenValue → List ChosenValue
 with_reading chooses source None others = others
 with_reading chooses source (Some f) others = chosen_of chooses source f ∷ others
 
--- The cases of what a source reads as have no more steps than the limit. (this project's profile)
+-- The cases of what a source reads as have no more steps than the limit.
 abbrev pub HasRoom : Option FeatureValue → Type 0
 HasRoom None = Unit {0}
 HasRoom (Some f) = step_count f ≤ step_limit
@@ -101,23 +102,23 @@ AreRead chooses (s ∷ ss) features =
 
 -- What is asked for reads as these inputs.
 pub record AreInputs (r : Request) (inputs : Inputs) : Type 0 where
-  pub rules : List (List AlternativeValue)
+  pub rules : List Expression
   pub tags : AreRules r.tags rules
   pub library : IsLibrary r.library inputs.library
   pub hooks : AreHooks r.hooks inputs.hooks
   pub features : AreRead (is_chosen rules r.lines) r.sources inputs.features
 
--- A text of tags is the first that spells no rule. (this project's profile)
+-- A text of tags is the first that spells no rule.
 pub record HasBadTags (tags : List (List ℕ)) : Type 0 where
   pub before : List (List ℕ)
   pub text : List ℕ
   pub after : List (List ℕ)
   pub whole : tags ≡ before ++ text ∷ after
-  pub rules : List (List AlternativeValue)
+  pub rules : List Expression
   pub read : AreRules before rules
-  pub bad : (rule : List AlternativeValue) → ReadsTags text rule → ⊥
+  pub bad : (rule : Expression) → ReadsTags text rule → ⊥
 
--- The source at a place, from 0, is the first that doesn't read, and this is said of its bytes. (this project's profile)
+-- The source at a place, from 0, is the first that doesn't read, and this is said of its bytes.
 pub record IsFirstUnread (chooses : CaseValue → Bool) (sources : List SourceValue) (input : ℕ) (Unread : List ℕ → Type 0) : Type 0 where
   pub before : List ChosenValue
   pub read : AreRead chooses (take input sources) before
@@ -125,9 +126,9 @@ pub record IsFirstUnread (chooses : CaseValue → Bool) (sources : List SourceVa
   pub place : slice_get sources input ≡ Some source
   pub unread : Unread source.bytes
 
--- The same, where the texts of tags, the library and the hooks read. (this project's profile)
+-- The same, where the texts of tags, the library and the hooks read.
 pub record StopsAtSource (r : Request) (input : ℕ) (Unread : List ℕ → Type 0) : Type 0 where
-  pub rules : List (List AlternativeValue)
+  pub rules : List Expression
   pub tags : AreRules r.tags rules
   pub entries : LibraryValue
   pub library : IsLibrary r.library entries
@@ -139,7 +140,7 @@ pub record StopsAtSource (r : Request) (input : ℕ) (Unread : List ℕ → Type
 abbrev pub HasFault : ReadFault → List ℕ → Type 0
 HasFault fault bytes = FaultSays FeatureFault fault bytes
 
--- These bytes spell a feature whose cases have more steps than the limit. (this project's profile)
+-- These bytes spell a feature whose cases have more steps than the limit.
 abbrev pub HasTooMany : List ℕ → Type 0
 HasTooMany bytes = (f : FeatureValue) × IsText bytes × Reads (lines_of bytes) (Some f) × HasTooManySteps f
 

@@ -8,7 +8,7 @@ use Rattle.gk_gherkin.specs.ReadFault.{FaultSays, HooksFault}
 use Rattle.gk_gherkin.specs.Feature.{FeatureValue}
 use Rattle.gk_select.specs.Case.{CaseValue}
 use Rattle.gk_select.specs.Expansion.{HasTooManySteps}
-use Rattle.gk_select.specs.TagRules.{AlternativeValue}
+use Rattle.gk_select.specs.TagGrammar.{Expression}
 use Rattle.gk_steps.specs.declared.library_fault.LibraryFault.{LibraryFault}
 use Rattle.gk_steps.specs.declared.library_fault.LibraryFault.TheVariants as library_faults
 use Rattle.gk_steps.specs.Finding.{LibraryValue}
@@ -18,18 +18,18 @@ use Rattle.gk_cli.specs.declared.run_fault.RunFault.TheVariants.{Read, Library, 
 use Rattle.gk_cli.specs.Source.{SourceValue}
 use Rattle.gk_cli.specs.Inputs.{Request, AreRules, IsLibrary, HasBadTags, IsFirstUnread, StopsAtSource, HasFault, HasTooMany}
 
--- A library file doesn't read, where the texts of tags do. (this project's profile)
+-- A library file doesn't read, where the texts of tags do.
 pub record StopsAtLibrary (r : Request) (fault : LibraryFault) : Type 0 where
-  pub rules : List (List AlternativeValue)
+  pub rules : List Expression
   pub tags : AreRules r.tags rules
   pub bytes : List ℕ
   pub given : r.library ≡ Some bytes
   pub says : LibraryFaultSays fault bytes
   pub named : fault ≢ library_faults.Memory
 
--- A hooks file doesn't read, where the texts of tags and the library do. (this project's profile)
+-- A hooks file doesn't read, where the texts of tags and the library do.
 pub record StopsAtHooks (r : Request) (fault : ReadFault) : Type 0 where
-  pub rules : List (List AlternativeValue)
+  pub rules : List Expression
   pub tags : AreRules r.tags rules
   pub entries : LibraryValue
   pub library : IsLibrary r.library entries
@@ -38,7 +38,7 @@ pub record StopsAtHooks (r : Request) (fault : ReadFault) : Type 0 where
   pub says : FaultSays HooksFault fault bytes
   pub named : fault ≢ read_faults.Memory
 
--- What is asked for doesn't read, and this is why; refused memory says nothing of it. (this project's profile)
+-- What is asked for doesn't read, and this is why; refused memory says nothing of it.
 abbrev pub IsUnread : Request → RunFault → Type 0
 IsUnread r (Read input fault) = StopsAtSource r input (HasFault fault) × (fault ≢ read_faults.Memory)
 IsUnread r (Library fault) = StopsAtLibrary r fault
@@ -49,7 +49,7 @@ IsUnread r (Select input fault) = ⊥
 IsUnread r Write = ⊥
 IsUnread r Memory = Unit {0}
 
--- The status of a run that ended with a fault. (this project's profile)
+-- The status of a run that ended with a fault.
 abbrev pub status_of_fault : RunFault → ℕ
 status_of_fault Memory = 4
 status_of_fault (Select input select_faults.BadTagText) = 2

@@ -6,25 +6,25 @@ use Rattle.gk_cli.specs.declared.source.Source.{Source}
 use Rattle.gk_cli.specs.declared.source.SourceFault.{SourceFault}
 use Rattle.gk_cli.specs.declared.source.SourceFault.TheVariants.{Device, TooLong, Memory}
 
--- A source: its name and its bytes. (this project's profile)
+-- A source: its name and its bytes.
 pub record SourceValue : Type 0 where
   pub name : List ℕ
   pub bytes : List ℕ
 
--- What a `Source` says. (this project's profile)
+-- What a `Source` says.
 abbrev pub source_value : Source → SourceValue
 source_value s = record { name = string_bytes s.name; bytes = s.bytes.items }
 
--- The reader gave this many bytes and no more; it had them. (this project's profile)
+-- The reader gave this many bytes and no more; it had them.
 abbrev pub StopsAfter : ℕ → Option (List ℕ) → Option (List ℕ) → Type 0
 StopsAfter n None rest = Unit {0}
 StopsAfter n (Some bytes) rest = (n ≤ length bytes) × IsSomeAnd rest (λ left. left ≡ drop n bytes)
 
--- The reader gave this many bytes at most. (this project's profile)
+-- The reader gave this many bytes at most.
 abbrev pub GivesAtMost : ℕ → Option (List ℕ) → Option (List ℕ) → Type 0
 GivesAtMost n old new = (bytes : List ℕ) × (length bytes ≤ n) × Consumes old new bytes
 
--- The count of idle calls after a source was read, or wasn't read whole: the call that finds the end and the one that fails moved no byte, and each other call at least one. (this project's profile)
+-- The count of idle calls after a source was read, or wasn't read whole: the call that finds the end and the one that fails moved no byte, and each other call at least one.
 abbrev pub idle_after : {T : Type 0} → Result T SourceFault → ℕ → ℕ
 idle_after (Ok bytes) n = one_more n
 idle_after (Err Device) n = one_more n

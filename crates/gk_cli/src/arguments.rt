@@ -18,7 +18,7 @@ const EXAMPLE: &str =
 const FILES_HELP: &str = "Feature files, run in this order";
 
 const TAGS_HELP: &str =
-    "Run only scenarios whose tags fit T, as ~@slow,@db; each --tags has to fit";
+    "Run only scenarios whose tags fit T, as @a,~@b or '@a or not @b'; each --tags has to fit";
 
 const LINE_HELP: &str =
     "Run only the scenarios at line N of a file; of several lines, one has to fit";
@@ -340,7 +340,7 @@ fn words_by<'a>(
 /// alone, and every argument after the first `--`, is a feature file; there has to be one. Options and files
 /// stand in any order, and `--opt=value` is the same as `--opt value`. `--help` and `-h` ask for help, and
 /// answer `Usage` with the exit code 0. A mistake is `Usage`, and comes before `Env`; `Memory` may come in
-/// place of any answer. (this project's profile)
+/// place of any answer.
 pub fn read_words(alloc: Global, words: &[String]) -> Result<Words, WordsFault>
     ensures { SaysArguments (map string_bytes words.now) result }
 {

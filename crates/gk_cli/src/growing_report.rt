@@ -4,6 +4,7 @@ ghost use Rattle.gk_run.specs.Results.{feature_row};
 ghost use Rattle.gk_report.specs.Report.{is_empty, report};
 ghost use Rattle.gk_cli.specs.Suite.{device_of};
 ghost use Rattle.gk_cli.specs.GrowingReport.{IsWritten, IsStopped};
+ghost use Rattle.gk_cli.specs.Counted.{CountsCanRise};
 
 use crate::counted::{Counted, write_whole};
 use crate::run_fault::RunFault;
@@ -13,6 +14,8 @@ use std::alloc::Global;
 use std::io::Write;
 
 fn write_piece<W: Write>(out: &mut Counted<W>, text: &str) -> Result<(), RunFault>
+    requires room { CountsCanRise out.old }
+    ensures room { OnOk result (CountsCanRise out.new) }
     ensures ok { OnOk result
         (IsWritten (device_of W.contents out.old) (device_of W.contents out.new) text.now) }
     ensures err { IfErr result
@@ -45,16 +48,19 @@ impl GrowingReport {
     ghost use Rattle.std.specs.Prelude.{◌≡◌, ℕ, [], List, OnOk, IfOk, IfErr};
     ghost use Rattle.gk_run.specs.Results.{FeatureRow, feature_row};
     ghost use Rattle.gk_report.specs.Report.{report};
+    ghost use Rattle.gk_cli.specs.Counted.{CountsCanRise};
     ghost use Rattle.gk_cli.specs.Suite.{Device, device_of, IsReported};
     ghost use Rattle.gk_cli.specs.GrowingReport.{so_far, IsStopped, IsGrown, Grows, Stops, style_of, results_with};
 
     /// Writes the head. `Memory` comes where it couldn't be made, and nothing was written; `Write` where the
-    /// writer failed, and a prefix of it was. (this project's profile)
+    /// writer failed, and a prefix of it was.
     pub fn start<W: Write>(
         alloc: Global,
         style: Style,
         out: &mut Counted<W>,
     ) -> Result<GrowingReport, RunFault>
+        requires room { CountsCanRise out.old }
+        ensures room { OnOk result (CountsCanRise out.new) }
         ensures ok { IfOk result (λ g.
             IsGrown (device_of W.contents out.old) (device_of W.contents out.new) g []) }
         ensures style { IfOk result (λ g. style_of g ≡ style) }
@@ -72,13 +78,15 @@ impl GrowingReport {
 
     /// Writes the part of a feature, and counts it. `Memory` comes where the part couldn't be made, and nothing
     /// of it was written; `Write` where the writer failed, and a prefix of it was. At either the feature isn't
-    /// counted. (this project's profile)
+    /// counted.
     pub fn add<W: Write>(
         &mut self,
         alloc: Global,
         feature: FeatureResult,
         out: &mut Counted<W>,
     ) -> Result<(), RunFault>
+        requires room { CountsCanRise out.old }
+        ensures room { OnOk result (CountsCanRise out.new) }
         ensures ok { OnOk result (Grows (device_of W.contents out.old) self.old
             (device_of W.contents out.new) self.new (feature_row feature)) }
         ensures style { style_of self.new ≡ style_of self.old }
@@ -96,13 +104,14 @@ impl GrowingReport {
 
     /// Writes the tail. Answers the status of the run, `around` being how its own hooks and cleanups ended.
     /// `Memory` comes where the tail couldn't be made, and nothing of it was written; `Write` where the writer
-    /// failed, and a prefix of it was. (this project's profile)
+    /// failed, and a prefix of it was.
     pub fn finish<W: Write>(
         self,
         alloc: Global,
         around: Status,
         out: &mut Counted<W>,
     ) -> Result<u8, RunFault>
+        requires room { CountsCanRise out.old }
         ensures ok { IfOk result (λ status. (before : Device) (rows : List FeatureRow) →
             IsGrown before (device_of W.contents out.old) self rows →
             IsReported (style_of self) before (device_of W.contents out.new)

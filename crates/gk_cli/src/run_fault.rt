@@ -8,7 +8,7 @@ use std::alloc::{AllocError, AllocFailed};
 use thiserror::Error;
 
 /// Why a run ended without its whole report. Where more than one fault could be named, the first is: the
-/// texts of tags come first, then the library, then the hooks, then each source in turn. (this project's profile)
+/// texts of tags come first, then the library, then the hooks, then each source in turn.
 #[derive(Clone, Copy, Debug, PartialEq, Eq, Error)]
 pub enum RunFault {
     /// The source at place `input`, from 0, is the first that doesn't read, for this reason. Nothing was
@@ -44,7 +44,7 @@ impl RunFault {
     ghost use Rattle.gk_cli.specs.RunFault.{status_of_fault};
 
     /// The status that a program ends with: 4 where memory was refused, 2 for a text of tags that spells no
-    /// rule, and else 3. Takes no memory. (this project's profile)
+    /// rule, and else 3. Takes no memory.
     pub fn status(&self) -> u8
         ensures { result ≡ status_of_fault self.now }
     {

@@ -1,7 +1,7 @@
 //! The sources of a run, and reading one whole.
 ghost use Rattle.std.specs.Prelude.{◌≡◌, ◌≢◌, ◌≤◌, ◌+◌, [], Some, IfOk, IfSome, IsErrOf, vec_len};
 ghost use Rattle.gk_gherkin.specs.Lines.{limit};
-ghost use Rattle.gk_cli.specs.Counted.{inner_of, calls_of, idle_of, IsQuiet, HasFailedOnce};
+ghost use Rattle.gk_cli.specs.Counted.{inner_of, calls_of, idle_of, IsQuiet, HasFailedOnce, ReadCountsCanRise};
 ghost use Rattle.gk_cli.specs.Source.{StopsAfter, GivesAtMost, idle_after};
 
 use crate::counted::Counted;
@@ -36,8 +36,10 @@ const PIECE: usize = 16_384;
 
 /// All the bytes of a reader. Each call but the last gives at least one byte, and the reader is asked for
 /// no byte after number `gk_gherkin::LIMIT` + 1, so one that never ends is `TooLong`. A reader that failed
-/// isn't asked again. (this project's profile)
+/// isn't asked again. Its counts of failures and idle calls are below `u64::MAX - 1`, so that one more of each can
+/// be seen.
 pub fn read_source<R: Read>(alloc: Global, reader: &mut Counted<R>) -> Result<Vec<u8>, SourceFault>
+    requires room { ReadCountsCanRise reader.old }
     ensures whole { IfOk result (λ v.
         IfSome (R.remaining (inner_of reader.old)) (λ xs. v.items ≡ xs)) }
     ensures within { IfOk result (λ v. vec_len v ≤ limit) }
@@ -52,7 +54,8 @@ pub fn read_source<R: Read>(alloc: Global, reader: &mut Counted<R>) -> Result<Ve
     // `Memory` never comes where the reader has no byte.
     ensures spare { IsErrOf result SourceFault.Memory → IsQuiet reader.old reader.new }
     ensures free { IsErrOf result SourceFault.Memory → R.remaining (inner_of reader.old) ≢ Some [] }
-    // Whatever is answered, each call but the last gives a byte, and none after number LIMIT + 1.
+    // Whatever is answered, each call but the last gives a byte. Where the reader's bytes are known,
+    // it gives none after number LIMIT + 1; of another reader `given` says nothing.
     ensures idle { idle_of reader.new ≡ idle_after result (idle_of reader.old) }
     ensures given { GivesAtMost (limit + 1)
         (R.remaining (inner_of reader.old)) (R.remaining (inner_of reader.new)) }

@@ -1,8 +1,8 @@
 //! The whole run.
-ghost use Rattle.std.specs.Prelude.{◌≡◌, ◌-◌, ◌^◌, ◌<◌, IfOk, IfErr, OnOk};
+ghost use Rattle.std.specs.Prelude.{◌≡◌, IfOk, IfErr, OnOk};
 ghost use Rattle.gk_world.specs.Sandbox.{depth};
 ghost use Rattle.gk_run.specs.Running.{IsSame};
-ghost use Rattle.gk_cli.specs.Counted.{failures_of, IsQuiet, IsUnflushed, IsNeverIdle};
+ghost use Rattle.gk_cli.specs.Counted.{CountsCanRise, IsQuiet, IsUnflushed, IsNeverIdle};
 ghost use Rattle.gk_cli.specs.Inputs.{asked};
 ghost use Rattle.gk_cli.specs.Suite.{device_of, Reported, JudgedReport, Plain, SaysFault, InputsAreUnique};
 
@@ -38,8 +38,8 @@ fn inputs_are_unique()
 /// The answer is the status of the run: 0 where nothing failed, 1 where a scenario, a hook or a cleanup failed
 /// or a step is undefined, 4 where memory was refused in one of these. `RunFault` says when each error comes and
 /// what was written. Whatever is answered, files, variables, values and layers of the sandbox are as they
-/// were, and nothing is flushed. No layer of the sandbox is open, and the writer's count of failures is
-/// below `u64::MAX`. (this project's profile)
+/// were, and nothing is flushed. No layer of the sandbox is open, and the writer's counts of
+/// failures, idle calls and flushes are below `u64::MAX - 1`, so that one more of each can be seen.
 pub fn run_suite<W: Write>(
     alloc: Global,
     sandbox: &mut Sandbox,
@@ -49,7 +49,7 @@ pub fn run_suite<W: Write>(
     sources: &[Source],
     out: &mut Counted<W>,
 ) -> Result<u8, RunFault>
-    requires room { failures_of out.old < 2 ^ 64 - 1 }
+    requires room { CountsCanRise out.old }
     requires outside { depth sandbox.old ≡ 0 }
 
     // What was written and what is answered are the report and the status of one list of results.

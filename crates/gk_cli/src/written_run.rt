@@ -10,6 +10,7 @@ ghost use Rattle.gk_run.specs.Running.{IsSame};
 ghost use Rattle.gk_run.specs.OpenRun.{IsKept};
 ghost use Rattle.gk_run.specs.DryRun.{AreDryFeatures};
 ghost use Rattle.gk_cli.specs.Inputs.{inputs_value};
+ghost use Rattle.gk_cli.specs.Counted.{CountsCanRise};
 ghost use Rattle.gk_cli.specs.Suite.{device_of, run_by};
 ghost use Rattle.gk_cli.specs.GrowingReport.{style_of};
 ghost use Rattle.gk_cli.specs.WrittenRun.{RunsNext, EndsRunNext, AreRun, IsDryNext, EndsDryNext, AreWritten, AreWrittenUpTo, IsWhole, IsPart, dry_run_of};
@@ -52,8 +53,10 @@ fn run_next<W: Write>(
     feature: Chosen,
     out: &mut Counted<W>,
 ) -> Result<(), RunFault>
+    requires room { CountsCanRise out.old }
     requires innermost { so_far.old.suite.layer ≡ depth sandbox.old }
     requires paired { IsPaired feature }
+    ensures room { OnOk result (CountsCanRise out.new) }
     ensures ok { OnOk result (RunsNext glue.now sandbox.old feature
         (device_of W.contents out.old) so_far.old
         (device_of W.contents out.new) so_far.new) }
@@ -78,8 +81,10 @@ fn run_features<W: Write>(
     features: Vec<Chosen>,
     out: &mut Counted<W>,
 ) -> Result<(), RunFault>
+    requires room { CountsCanRise out.old }
     requires innermost { so_far.old.suite.layer ≡ depth sandbox.old }
     requires paired { AllByRecursion IsPaired features.items }
+    ensures room { OnOk result (CountsCanRise out.new) }
     ensures ok { OnOk result (AreWritten (AreRun glue.now sandbox.old so_far.old.suite)
         (map chosen_value features.items)
         (device_of W.contents out.old) so_far.old.report
@@ -106,6 +111,7 @@ fn run_all<W: Write>(
     inputs: ReadInputs,
     out: &mut Counted<W>,
 ) -> Result<u8, RunFault>
+    requires room { CountsCanRise out.old }
     requires outside { depth sandbox.old ≡ 0 }
     requires paired { AllByRecursion IsPaired inputs.features.items }
     ensures ok { IfOk result (IsWhole
@@ -153,7 +159,9 @@ fn dry_next<W: Write>(
     report: &mut GrowingReport,
     out: &mut Counted<W>,
 ) -> Result<(), RunFault>
+    requires room { CountsCanRise out.old }
     requires paired { IsPaired feature }
+    ensures room { OnOk result (CountsCanRise out.new) }
     ensures ok { OnOk result (IsDryNext (library_value library.now) (chosen_value feature)
         (device_of W.contents out.old) report.old (device_of W.contents out.new) report.new) }
     ensures err { IfErr result (EndsDryNext (library_value library.now) (chosen_value feature)
@@ -173,7 +181,9 @@ fn dry_features<W: Write>(
     report: &mut GrowingReport,
     out: &mut Counted<W>,
 ) -> Result<(), RunFault>
+    requires room { CountsCanRise out.old }
     requires paired { AllByRecursion IsPaired features.items }
+    ensures room { OnOk result (CountsCanRise out.new) }
     ensures ok { OnOk result (AreWritten (AreDryFeatures (library_value library.now))
         (map chosen_value features.items)
         (device_of W.contents out.old) report.old (device_of W.contents out.new) report.new) }
@@ -195,6 +205,7 @@ fn dry_all<W: Write>(
     inputs: ReadInputs,
     out: &mut Counted<W>,
 ) -> Result<u8, RunFault>
+    requires room { CountsCanRise out.old }
     requires paired { AllByRecursion IsPaired inputs.features.items }
     ensures ok { IfOk result (λ status. (contents : Contents) → IsWhole
         (dry_run_of inputs.library inputs.hooks options.now.stop) contents
@@ -225,7 +236,7 @@ fn dry_all<W: Write>(
 /// Runs what was read, and writes its report: the head before the run begins, the part of each feature when
 /// it has ended, and the tail when the run has. `Memory` comes where a piece couldn't be made, or where a
 /// feature's results have no room; `Write` where the writer failed. Then the run is finished, its answer is
-/// given up, and nothing more is written. (this project's profile)
+/// given up, and nothing more is written.
 pub fn write_run<W: Write>(
     alloc: Global,
     sandbox: &mut Sandbox,
@@ -233,6 +244,7 @@ pub fn write_run<W: Write>(
     inputs: ReadInputs,
     out: &mut Counted<W>,
 ) -> Result<u8, RunFault>
+    requires room { CountsCanRise out.old }
     requires outside { depth sandbox.old ≡ 0 }
     requires paired { AllByRecursion IsPaired inputs.features.items }
     ensures ok { IfOk result (IsWhole (run_by options.now (inputs_value inputs)) sandbox.old.now

@@ -1,9 +1,9 @@
 -- The classes of lines in a hooks file, by their classes in a feature file.
-use Rattle.std.proofs.Common.{◌≡◌, ◌≢◌, ℕ, suc, Bool, true, false, cond, ◌==◌, ◌||◌, List, [], ◌∷◌, length, refl, ap, sym, ◌∙◌, arith}
+use Rattle.std.proofs.Common.{◌≡◌, ◌≢◌, ℕ, suc, Bool, true, false, cond, None, ◌==◌, ◌||◌, List, [], ◌∷◌, length, refl, ap, sym, ◌∙◌, arith}
 use Rattle.std.specs.Prelude.{codes}
 use Rattle.std.proofs.lemmas.Bool.Decides.{nat_tests}
 use Rattle.gk_gherkin.specs.declared.class.Class.{Class}
-use Rattle.gk_gherkin.specs.declared.class.Class.TheVariants.{Blank, Other}
+use Rattle.gk_gherkin.specs.declared.class.Class.TheVariants.{Blank, FenceLine, Other}
 use Rattle.gk_gherkin.specs.declared.hook_headings.HooksClass.{HooksClass}
 use Rattle.gk_gherkin.specs.declared.hook_headings.HooksClass.TheVariants.{HookLine, Plain}
 use Rattle.gk_gherkin.specs.Lines.{LineValue}
@@ -11,6 +11,8 @@ use Rattle.gk_gherkin.specs.Text.{trim}
 use Rattle.gk_gherkin.specs.Class.{class, class_of, class_of_words}
 use Rattle.gk_gherkin.specs.Text.{begins}
 use Rattle.gk_gherkin.specs.HookHeadings.{hooks_class}
+use Rattle.gk_gherkin.specs.Reading.{opening}
+use Rattle.gk_gherkin.proofs.ReadingStates.{no_fence}
 
 -- whether a text begins as a hook line does
 abbrev as_hook : List ℕ → Bool
@@ -59,3 +61,19 @@ hooks_class_by l false e n = ap (λ (b : Bool). cond b HookLine (Plain (class l)
 -- A line of a class that isn't Other is no hook line.
 pub class_plain : (l : LineValue) (c : Class) → class l ≡ c → c ≢ Other → hooks_class l ≡ Plain c
 class_plain l c e n = hooks_class_by l (as_hook (trim l.text)) refl (λ other. n (sym e ∙ other)) ∙ ap Plain e
+
+-- A hook line opens no doc string.
+no_fence_of_hook : (b : Bool) (l : LineValue) (c : Class) → hooks_class l ≡ HookLine → class l ≡ c → opening b c ≡ None
+no_fence_of_hook b l (FenceLine fence) is c = let plain = class_plain l (FenceLine fence) c (λ e. cc) in let no : ⊥ = cc in absurd no
+no_fence_of_hook b l c is e = no_fence b c tt
+
+pub hook_opens_none : (b : Bool) (l : LineValue) → hooks_class l ≡ HookLine → opening b (class l) ≡ None
+hook_opens_none b l is = no_fence_of_hook b l (class l) is refl
+
+-- Lines of one class open a doc string alike.
+opens_by_class : (b : Bool) (l other : LineValue) (c : HooksClass) → hooks_class l ≡ c → hooks_class other ≡ c → opening b (class l) ≡ None → opening b (class other) ≡ None
+opens_by_class b l other HookLine is e none = hook_opens_none b other e
+opens_by_class b l other (Plain c) is e none = ap (opening b) (plain_class other c e ∙ sym (plain_class l c is)) ∙ none
+
+pub opens_alike : (b : Bool) (l other : LineValue) → hooks_class other ≡ hooks_class l → opening b (class l) ≡ None → opening b (class other) ≡ None
+opens_alike b l other alike bare = opens_by_class b l other (hooks_class l) refl alike bare

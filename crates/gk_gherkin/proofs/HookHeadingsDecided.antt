@@ -5,10 +5,10 @@ use Rattle.std.proofs.lemmas.Slice.Eq.{bytes_eq-Decides}
 use Rattle.std.specs.List.{AllByRecursion}
 use Rattle.gk_gherkin.specs.declared.hooks.HookKind.{HookKind}
 use Rattle.gk_gherkin.specs.declared.hooks.HookKind.TheVariants.{BeforeAll, AfterAll, BeforeFeature, AfterFeature, BeforeScenario, AfterScenario, BeforeTag, AfterTag}
-use Rattle.gk_gherkin.specs.Hooks.{HookValue}
+use Rattle.gk_gherkin.specs.Hooks.{HookValue, place_of_kind, is_same_kind, is_same_tag}
 use Rattle.gk_gherkin.specs.HookHeadings.{HookHeading}
 use Rattle.gk_gherkin.specs.HooksGrammar.{heading_of, AreDistinct}
-use Rattle.gk_gherkin.specs.HooksMachine.{number_of, is_same_kind, is_same_tag, is_same_heading, stands}
+use Rattle.gk_gherkin.specs.HooksPlace.{stands}
 
 both : (a b : Bool) → (a && b) ≡ true → (a ≡ true) × (b ≡ true)
 both true true h = (refl, refl)
@@ -31,7 +31,7 @@ kind_at (suc (suc (suc (suc (suc zero))))) = AfterScenario
 kind_at (suc (suc (suc (suc (suc (suc zero)))))) = BeforeTag
 kind_at _ = AfterTag
 
-kind_back : (k : HookKind) → kind_at (number_of k) ≡ k
+kind_back : (k : HookKind) → kind_at (place_of_kind k) ≡ k
 unfolding kind_at
 kind_back BeforeAll = refl
 kind_back AfterAll = refl
@@ -49,7 +49,7 @@ same_eqb : (m : ℕ) → (m == m) ≡ true
 same_eqb m = grind (arith, nat_tests)
 
 kind_so : (a b : HookKind) → is_same_kind a b ≡ true → a ≡ b
-kind_so a b h = sym (kind_back a) ∙ ap kind_at (eqb_same (number_of a) (number_of b) h) ∙ kind_back b
+kind_so a b h = sym (kind_back a) ∙ ap kind_at (eqb_same (place_of_kind a) (place_of_kind b) h) ∙ kind_back b
 
 tag_so : (a b : Option (List ℕ)) → is_same_tag a b ≡ true → a ≡ b
 tag_so None None h = refl
@@ -66,6 +66,10 @@ and_true true true e f = refl
 and_true true false e f = f
 and_true false b e f = e
 
+-- whether two headings are the same
+abbrev pub is_same_heading : HookHeading → HookHeading → Bool
+is_same_heading a b = is_same_kind a.kind b.kind && is_same_tag a.tag b.tag
+
 pub heading_so : (a b : HookHeading) → is_same_heading a b ≡ true → a ≡ b
 heading_so a b h =
     let k = both (is_same_kind a.kind b.kind) (is_same_tag a.tag b.tag) h in
@@ -73,7 +77,7 @@ heading_so a b h =
     ∙ ap (λ (tag : Option (List ℕ)). let made : HookHeading = record { kind = b.kind; tag = tag } in made) (tag_so a.tag b.tag k.1)
 
 heading_itself : (a : HookHeading) → is_same_heading a a ≡ true
-heading_itself a = and_true (is_same_kind a.kind a.kind) (is_same_tag a.tag a.tag) (same_eqb (number_of a.kind)) (tag_itself a.tag)
+heading_itself a = and_true (is_same_kind a.kind a.kind) (is_same_tag a.tag a.tag) (same_eqb (place_of_kind a.kind)) (tag_itself a.tag)
 
 not_true : (b : Bool) → b ≡ false → b ≡ true → ⊥
 not_true true e f = cc

@@ -1,28 +1,29 @@
 -- No lines have two faults of a feature file.
 use Rattle.std.specs.Prelude.{codes}
-use Rattle.std.proofs.Common.{◌≡◌, ◌≢◌, ◌⊎◌, inl, inr, ℕ, Bool, true, false, ◌&&◌, ◌==◌, length, List, [], ◌∷◌, ◌++◌, Option, Some, None, Result, Ok, Err, refl, ap, sym, subst, ◌∙◌, append_assoc, arith}
+use Rattle.std.proofs.Common.{◌≡◌, ◌≢◌, ◌⊎◌, inl, inr, ℕ, Bool, true, false, ◌&&◌, ◌==◌, length, List, [], ◌∷◌, ◌++◌, Option, None, Result, Ok, Err, refl, ap, sym, subst, ◌∙◌, append_assoc, arith}
 use Rattle.std.proofs.lemmas.Bool.Decides.{nat_tests}
 use Rattle.std.proofs.lemmas.List.{append-nil}
-use Rattle.std.specs.List.{AllByRecursion}
-use Rattle.gk_gherkin.specs.declared.class.Class.TheVariants.{Comment, TagLine, FenceLine}
-use Rattle.gk_gherkin.specs.declared.class.Fence.{Fence}
-use Rattle.gk_gherkin.specs.declared.class.Fence.TheVariants.{Quotes, Backticks}
-use Rattle.gk_gherkin.specs.declared.read_fault.ReadFault.{ReadFault}
+use Rattle.gk_gherkin.specs.declared.class.Class.TheVariants.{Comment, FenceLine, TagLine}
+use Rattle.gk_gherkin.specs.declared.class.Fence.TheVariants.{Backticks, Quotes}
 use Rattle.gk_gherkin.specs.declared.read_fault.ReadFault.TheVariants as faults
-use Rattle.gk_gherkin.specs.Lines.{LineValue, Lines, line_at}
+use Rattle.gk_gherkin.specs.declared.class.Fence.{Fence}
+use Rattle.gk_gherkin.specs.declared.read_fault.ReadFault.{ReadFault}
+use Rattle.gk_gherkin.specs.FeaturePlace.{Above, FeaturePlace, Inside, OpenFeature, Tagged, Untagged, by_language, feature_places, on, on_comment, takes_text}
+use Rattle.gk_gherkin.specs.Reading.{At, InText, State, longer, opening, run, step}
 use Rattle.gk_gherkin.specs.Text.{begins, trim}
+use Rattle.gk_gherkin.specs.Lines.{LineValue, Lines, line_at}
 use Rattle.gk_gherkin.specs.Class.{class, class_of, class_of_words, fence_text}
 use Rattle.gk_gherkin.specs.DocStrings.{closes}
 use Rattle.gk_gherkin.specs.Language.{language_of}
-use Rattle.gk_gherkin.specs.Grammar.{IsIgnored, IsIgnoredClass, Skips, skip_none, skip, IsReadable}
-use Rattle.gk_gherkin.specs.ReadFault.{BeginsSome, NoneLikeIt, StopsAt, IsBadTag, IsBadRow, IsOtherWidth, IsOtherLanguage, EndsInDocString, TakesTags, EndsInTags, FeatureFault}
-use Rattle.gk_gherkin.specs.Machine.{Place, Above, Inside, QuoteValue, State, At, Tagged, Quoted, Read, ◌>>=◌, quote_of, on_fence, on_place, placed, text_after, after_quote, in_quote, by_language, on_comment, on, step, run, run_by}
-use Rattle.gk_gherkin.proofs.ReaderSound.{no_ok}
-use Rattle.gk_gherkin.proofs.ReaderComplete.{runs}
-use Rattle.gk_gherkin.proofs.ReaderRuns.{run-append, one_more_line}
+use Rattle.gk_gherkin.specs.Grammar.{IsIgnored, IsIgnoredClass, IsReadable, Skips, skip, skip_none}
+use Rattle.gk_gherkin.specs.ReadFault.{BeginsSome, EndsInDocString, EndsInTags, FeatureFault, IsBadRow, IsBadTag, IsOtherLanguage, IsOtherWidth, NoneLikeIt, StopsAt, TakesTags}
+use Rattle.gk_gherkin.specs.Gives.{◌>>=◌}
+use Rattle.gk_gherkin.proofs.ReadingRuns.{no_ok, one_more_line, run-append}
+use Rattle.gk_gherkin.proofs.ReadingStates.{no_fence, step_plain, step_stays}
+use Rattle.gk_gherkin.proofs.ReadingStops.{IsOpen, closed, not_in_text, open_until, still_open}
+use Rattle.gk_gherkin.proofs.FeaturePlaceStops.{before_text, behind_text, feature_runs, heading_for, plain_fence, readable_after_tags, readable_at, text_takes}
+use Rattle.gk_gherkin.proofs.OneFault.{Cuts, bad_row_before_width, closing_line, cuts, first, no_fault_before_end, no_fault_in_doc_string, not_both, one_line, one_opening, one_place, same, second, unexpected_before_bad_row, unexpected_before_bad_tag, unexpected_before_width}
 use Rattle.gk_gherkin.proofs.RowStops.{line_of}
-use Rattle.gk_gherkin.proofs.ReaderStops.{halted, readable_at, heading_for, readable_after_tags, not_quoted, closing_step}
-use Rattle.gk_gherkin.proofs.OneFault.{Cuts, same, first, second, cuts, closing_line, unexpected_before_bad_row, unexpected_before_width, bad_row_before_width, one_place, one_line, not_both, no_fault_in_doc_string, one_opening, unexpected_before_bad_tag, no_fault_before_end}
 
 -- a comment that names no language can stand wherever the lines before it begin a readable list
 abbrev comment : LineValue
@@ -41,43 +42,42 @@ unfolding closes
 comment_open Quotes = refl
 comment_open Backticks = refl
 
-commented : (place : Place) (s : State) → on_comment place s comment ≡ Ok s
+commented : (feature : OpenFeature) (s : FeaturePlace) → on_comment feature s comment ≡ Ok s
 commented Above s = ap (λ (r : Option (List ℕ)). by_language r s comment) comment_language
 commented (Inside top part) s = refl
 
-comment_at : (place : Place) → step (At place) comment ≡ Ok (At place)
-unfolding step on
-comment_at place = ap (on (At place) comment) comment_class ∙ commented place (At place)
+comment_on : (place : FeaturePlace) → on place comment (class comment) ≡ Ok place
+unfolding on
+comment_on (Untagged feature) = ap (on (Untagged feature) comment) comment_class ∙ commented feature (Untagged feature)
+comment_on (Tagged feature tags n) = ap (on (Tagged feature tags n) comment) comment_class ∙ commented feature (Tagged feature tags n)
 
-comment_tagged : (place : Place) (tags : List (List ℕ)) (n : ℕ) → step (Tagged place tags n) comment ≡ Ok (Tagged place tags n)
-unfolding step on
-comment_tagged place tags n = ap (on (Tagged place tags n) comment) comment_class ∙ commented place (Tagged place tags n)
+comment_step : (place : FeaturePlace) → step feature_places (At place) comment ≡ Ok (At place)
+comment_step place = step_plain feature_places place place comment (ap (opening (takes_text place)) comment_class ∙ no_fence (takes_text place) Comment tt) (comment_on place)
 
-content_step : (quote : QuoteValue) (fence : Fence) (column n : ℕ) (texts : Option (List ℕ)) (l : LineValue) → closes fence l ≡ false → step (Quoted quote fence column n texts) l ≡ Ok (Quoted quote fence column n (text_after texts fence column l))
-unfolding step on
-content_step quote fence column n texts l c = ap (λ (b : Bool). let r : Read = Ok (in_quote b quote fence column n texts l) in r) c
-
-comment_after : (s : State) (before : Lines) → run (At Above) before ≡ Ok s → BeginsSome IsReadable class (before ++ comment ∷ [])
-comment_after (At place) before r =
-    let readable = readable_at (before ++ comment ∷ []) place (one_more_line step (At Above) before (At place) (At place) comment r (comment_at place)) in
+comment_at : (place : FeaturePlace) (before : Lines) → run feature_places (At feature_places.first) before ≡ Ok (At place) → BeginsSome IsReadable class (before ++ comment ∷ [])
+comment_at (Untagged feature) before r =
+    let readable = readable_at (before ++ comment ∷ []) feature (one_more_line (step feature_places) (At feature_places.first) before (At (Untagged feature)) (At (Untagged feature)) comment r (comment_step (Untagged feature))) in
     ([], subst IsReadable (sym (append-nil (before ++ comment ∷ []))) readable)
-comment_after (Tagged place tags n) before r =
-    (heading_for place ∷ [], readable_after_tags (before ++ comment ∷ []) place tags n (one_more_line step (At Above) before (Tagged place tags n) (Tagged place tags n) comment r (comment_tagged place tags n)))
-comment_after (Quoted quote fence column n texts) before r =
-    let more = text_after texts fence column comment in
-    let closing = line_at 1 (fence_text fence) in
-    let reached : run (At Above) (before ++ comment ∷ []) ≡ Ok (Quoted quote fence column n more) = one_more_line step (At Above) before (Quoted quote fence column n texts) (Quoted quote fence column n more) comment r (content_step quote fence column n texts comment (comment_open fence)) in
-    (closing ∷ [], readable_at ((before ++ comment ∷ []) ++ closing ∷ []) (after_quote quote more) (one_more_line step (At Above) (before ++ comment ∷ []) (Quoted quote fence column n more) (At (after_quote quote more)) closing reached (closing_step quote fence column n more closing (closing_line fence))))
+comment_at (Tagged feature tags n) before r =
+    (heading_for feature ∷ [], readable_after_tags (before ++ comment ∷ []) feature tags n (one_more_line (step feature_places) (At feature_places.first) before (At (Tagged feature tags n)) (At (Tagged feature tags n)) comment r (comment_step (Tagged feature tags n))))
 
-comment_by : (r : Read) (before : Lines) (extra : LineValue) (place : Place) → run (At Above) before ≡ r → (r >>= λ t. run t (extra ∷ [])) ≡ Ok (At place) → BeginsSome IsReadable class (before ++ comment ∷ [])
+comment_after : (s : State FeaturePlace) (before : Lines) → run feature_places (At feature_places.first) before ≡ Ok s → BeginsSome IsReadable class (before ++ comment ∷ [])
+comment_after (At place) before r = comment_at place before r
+comment_after (InText place text) before r =
+    let more = longer text comment in
+    let end = line_at 1 (fence_text text.fence) in
+    let reached : run feature_places (At feature_places.first) (before ++ comment ∷ []) ≡ Ok (InText place more) = one_more_line (step feature_places) (At feature_places.first) before (InText place text) (InText place more) comment r (step_stays feature_places place text comment (comment_open text.fence)) in
+    (end ∷ [], closed feature_places IsReadable class feature_runs before_text behind_text (before ++ comment ∷ []) place more end reached (text_takes before place text r) (closing_line text.fence))
+
+comment_by : (r : Result (State FeaturePlace) ReadFault) (before : Lines) (extra : LineValue) (place : FeaturePlace) → run feature_places (At feature_places.first) before ≡ r → (r >>= λ t. run feature_places t (extra ∷ [])) ≡ Ok (At place) → BeginsSome IsReadable class (before ++ comment ∷ [])
 comment_by (Ok s) before extra place is h = comment_after s before is
 comment_by (Err e) before extra place is h = no_ok h
 
 comment_stands : (before : Lines) → IsReadable before ⊎ ((extra : LineValue) × IsReadable (before ++ extra ∷ [])) → BeginsSome IsReadable class (before ++ comment ∷ [])
-comment_stands before (inl readable) = let k = runs before readable.0 readable.1 in comment_after (At k.0) before k.1
+comment_stands before (inl readable) = let k = feature_runs before readable in comment_after (At k.0) before k.1
 comment_stands before (inr (extra, readable)) =
-    let k = runs (before ++ extra ∷ []) readable.0 readable.1 in
-    comment_by (run (At Above) before) before extra k.0 refl (sym (run-append step (At Above) before (extra ∷ [])) ∙ k.1)
+    let k = feature_runs (before ++ extra ∷ []) readable in
+    comment_by (run feature_places (At feature_places.first) before) before extra k.0 refl (sym (run-append (step feature_places) (At feature_places.first) before (extra ∷ [])) ∙ k.1)
 
 unexpected_before_language : (ls : Lines) (n m : ℕ) → StopsAt IsReadable class ls n (NoneLikeIt IsReadable class) → StopsAt IsReadable class ls m IsOtherLanguage → ⊥
 unexpected_before_language ls n m f g =
@@ -85,58 +85,21 @@ unexpected_before_language ls n m f g =
     let more = comment_stands f.before f.fits in
     f.fault comment (comment_class ∙ sym (ap class e.1 ∙ g.fault.is)) more.0 more.1
 
--- a fence that makes readable lines unreadable opens a doc string
-fence_placed : (r : Result Place ReadFault) (place : Place) (before : Lines) (opening : LineValue) {P : Type 0} → run (At Above) before ≡ Ok (At place) → step (At place) opening ≡ placed r → (IsReadable (before ++ opening ∷ []) → ⊥) → BeginsSome IsReadable class (before ++ opening ∷ []) → P
-fence_placed (Ok p) place before opening reached h unread some = absurd (unread (readable_at (before ++ opening ∷ []) p (one_more_line step (At Above) before (At place) (At p) opening reached h)))
-fence_placed (Err e) place before opening reached h unread some = absurd (halted before opening (At place) e reached h some.0 some.1)
+-- a fence that opens a doc string is at no readable end until it is closed
+abbrev Open : Lines → Fence → Type 0
+Open ls fence = IsOpen feature_places IsReadable class feature_runs plain_fence ls fence
 
-fence_step : (place : Place) (q : Option QuoteValue) (opening : LineValue) (fence : Fence) → class opening ≡ FenceLine fence → quote_of place ≡ q → step (At place) opening ≡ on_fence q place opening fence
-unfolding step on
-fence_step place q opening fence is w = ap (on (At place) opening) is ∙ ap (λ (q : Option QuoteValue). on_fence q place opening fence) w
+not_open : (ls : Lines) (fence : Fence) → Open ls fence → IsReadable ls → ⊥
+not_open ls fence o readable = not_in_text feature_places IsReadable class feature_runs ls o.place o.text o.reached readable
 
-opens : (place : Place) (q : Option QuoteValue) (before : Lines) (opening : LineValue) (fence : Fence) → run (At Above) before ≡ Ok (At place) → class opening ≡ FenceLine fence → quote_of place ≡ q → (IsReadable (before ++ opening ∷ []) → ⊥) → BeginsSome IsReadable class (before ++ opening ∷ [])
-    → (quote : QuoteValue) × (run (At Above) (before ++ opening ∷ []) ≡ Ok (Quoted quote fence opening.column opening.line None))
-opens place (Some quote) before opening fence reached is w unread some = (quote, one_more_line step (At Above) before (At place) (Quoted quote fence opening.column opening.line None) opening reached (fence_step place (Some quote) opening fence is w))
-opens place None before opening fence reached is w unread some = fence_placed (on_place place opening (FenceLine fence)) place before opening reached (fence_step place None opening fence is w) unread some
-
--- a doc string stays open over lines that don't close it
-stays : (mid : Lines) (quote : QuoteValue) (fence : Fence) (column n : ℕ) (texts : Option (List ℕ)) → AllByRecursion (λ line. closes fence line ≡ false) mid → (more : Option (List ℕ)) × (run (Quoted quote fence column n texts) mid ≡ Ok (Quoted quote fence column n more))
-unfolding run_by
-stays [] quote fence column n texts a = (texts, refl)
-stays (l ∷ mid) quote fence column n texts a =
-    let k = stays mid quote fence column n (text_after texts fence column l) a.1 in
-    (k.0, ap (λ (r : Read). r >>= λ t. run t mid) (content_step quote fence column n texts l a.0) ∙ k.1)
-
-record IsOpen (ls : Lines) (fence : Fence) : Type 0 where
-  quote : QuoteValue
-  column : ℕ
-  number : ℕ
-  texts : Option (List ℕ)
-  reached : run (At Above) ls ≡ Ok (Quoted quote fence column number texts)
-
-still_open : (before mid : Lines) (opening : LineValue) (fence : Fence) → class opening ≡ FenceLine fence → IsReadable before → (IsReadable (before ++ opening ∷ []) → ⊥) → AllByRecursion (λ line. closes fence line ≡ false) mid → BeginsSome IsReadable class (before ++ opening ∷ []) → IsOpen (before ++ opening ∷ mid) fence
-still_open before mid opening fence is readable unread inside some =
-    let k = runs before readable.0 readable.1 in
-    let o = opens k.0 (quote_of k.0) before opening fence k.1 is refl unread some in
-    let s = stays mid o.0 fence opening.column opening.line None inside in
-    let cut : before ++ opening ∷ mid ≡ (before ++ opening ∷ []) ++ mid = sym (append_assoc before (opening ∷ []) mid) in
-    record { quote = o.0; column = opening.column; number = opening.line; texts = s.0; reached = ap (run (At Above)) cut ∙ run-append step (At Above) (before ++ opening ∷ []) mid ∙ ap (λ (r : Read). r >>= λ t. run t mid) o.1 ∙ s.1 }
-
-not_open : (ls : Lines) (fence : Fence) → IsOpen ls fence → IsReadable ls → ⊥
-not_open ls fence o readable = not_quoted o.quote fence o.column o.number o.texts (sym (runs ls readable.0 readable.1).1 ∙ o.reached)
-
-open_until : (before mid : Lines) (opening : LineValue) (fence : Fence) → class opening ≡ FenceLine fence → IsReadable before → (IsReadable (before ++ opening ∷ []) → ⊥) → AllByRecursion (λ line. closes fence line ≡ false) mid → IsReadable (before ++ opening ∷ mid) → ⊥
-open_until before mid opening fence is readable unread inside whole =
-    not_open (before ++ opening ∷ mid) fence (still_open before mid opening fence is readable unread inside (mid, subst IsReadable (sym (append_assoc before (opening ∷ []) mid)) whole)) whole
-
-open_at_end : (ls : Lines) (n : ℕ) (d : EndsInDocString IsReadable class ls n) → IsOpen ls d.fence
+open_at_end : (ls : Lines) (n : ℕ) (d : EndsInDocString IsReadable class ls n) → Open ls d.fence
 open_at_end ls n d =
     let closing = line_at 1 (fence_text d.fence) in
     let closed : IsReadable (ls ++ closing ∷ []) = d.closed closing (closing_line d.fence) in
     let here : IsReadable ((d.before ++ d.opening ∷ d.content) ++ closing ∷ []) = subst (λ (ls : Lines). IsReadable (ls ++ closing ∷ [])) d.whole closed in
     let whole : IsReadable (d.before ++ d.opening ∷ (d.content ++ closing ∷ [])) = subst IsReadable (append_assoc d.before (d.opening ∷ d.content) (closing ∷ [])) here in
     let some : BeginsSome IsReadable class (d.before ++ d.opening ∷ []) = (d.content ++ closing ∷ [], subst IsReadable (sym (append_assoc d.before (d.opening ∷ []) (d.content ++ closing ∷ []))) whole) in
-    subst (λ (ls : Lines). IsOpen ls d.fence) (sym d.whole) (still_open d.before d.content d.opening d.fence d.is d.fits d.opens d.inside some)
+    subst (λ (ls : Lines). Open ls d.fence) (sym d.whole) (still_open feature_places IsReadable class feature_runs plain_fence d.before d.content d.opening d.fence d.is d.fits d.opens d.inside some)
 
 -- a line that closes a doc string is a fence
 fence_alone : (fence : Fence) (text : List ℕ) → (begins text (fence_text fence) && (length text == 3)) ≡ true → text ≡ fence_text fence
@@ -149,17 +112,18 @@ unfolding closes class class_of class_of_words
 closing_class Quotes l h = ap class_of (fence_alone Quotes (trim l.text) h)
 closing_class Backticks l h = ap class_of (fence_alone Backticks (trim l.text) h)
 
-heading_in_text : (b : Bool) (fence : Fence) (ls : Lines) (l : LineValue) → IsOpen ls fence → closes fence l ≡ b → TakesTags (class l) → IsReadable (ls ++ l ∷ []) → ⊥
+heading_in_text : (b : Bool) (fence : Fence) (ls : Lines) (l : LineValue) → Open ls fence → closes fence l ≡ b → TakesTags (class l) → IsReadable (ls ++ l ∷ []) → ⊥
 heading_in_text true fence ls l o c takes readable = subst TakesTags (closing_class fence l c) takes
 heading_in_text false fence ls l o c takes readable =
-    let more = text_after o.texts fence o.column l in
-    not_open (ls ++ l ∷ []) fence (record { quote = o.quote; column = o.column; number = o.number; texts = more; reached = one_more_line step (At Above) ls (Quoted o.quote fence o.column o.number o.texts) (Quoted o.quote fence o.column o.number more) l o.reached (content_step o.quote fence o.column o.number o.texts l c) }) readable
+    let more = longer o.text l in
+    let stays : step feature_places (InText o.place o.text) l ≡ Ok (InText o.place more) = step_stays feature_places o.place o.text l (ap (λ (fence : Fence). closes fence l) o.same ∙ c) in
+    not_open (ls ++ l ∷ []) fence (record { place = o.place; text = more; takes = o.takes; same = o.same; reached = one_more_line (step feature_places) (At feature_places.first) ls (InText o.place o.text) (InText o.place more) l o.reached stays }) readable
 
 text_before_tags : (ls : Lines) (n m : ℕ) → EndsInDocString IsReadable class ls n → EndsInTags ls m → ⊥
 text_before_tags ls n m d t = heading_in_text (closes d.fence t.fits.0) d.fence ls t.fits.0 (open_at_end ls n d) refl t.fits.1 t.fits.2
 
 one_text : (ls : Lines) (n m : ℕ) → EndsInDocString IsReadable class ls n → EndsInDocString IsReadable class ls m → n ≡ m
-one_text ls n m f g = one_opening IsReadable class open_until ls n m f g (cuts f.before g.before f.content g.content f.opening g.opening (sym f.whole ∙ g.whole))
+one_text ls n m f g = one_opening IsReadable class (open_until feature_places IsReadable class feature_runs plain_fence) ls n m f g (cuts f.before g.before f.content g.content f.opening g.opening (sym f.whole ∙ g.whole))
 
 -- of two tag lines at the end the last
 ignored_in : (mid rest : Lines) (l : LineValue) {ks : Lines} → ks ≡ mid ++ l ∷ rest → Skips IsIgnored ks [] → IsIgnored l

@@ -3,19 +3,20 @@ use Rattle.std.proofs.Common.{◌≡◌, ◌≢◌, ℕ, Bool, true, false, cond
 use Rattle.std.specs.Prelude.{codes}
 use Rattle.std.proofs.lemmas.List.{append-nil}
 use Rattle.std.proofs.lemmas.Bool.Decides.{nat_tests}
-use Rattle.gk_gherkin.specs.Rows.{cells_of, parts_of, unescaped}
+use Rattle.gk_gherkin.specs.declared.class.Class.TheVariants.{RowLine, StepLine}
+use Rattle.gk_gherkin.specs.declared.read_fault.ReadFault.TheVariants.{BadRow, CellCount, Unexpected}
 use Rattle.gk_gherkin.specs.declared.class.Class.{Class}
-use Rattle.gk_gherkin.specs.declared.class.Class.TheVariants.{StepLine, RowLine}
 use Rattle.gk_gherkin.specs.declared.read_fault.ReadFault.{ReadFault}
-use Rattle.gk_gherkin.specs.declared.read_fault.ReadFault.TheVariants.{Unexpected, CellCount, BadRow}
+use Rattle.gk_gherkin.specs.OpenParts.{Stepped, on_block, on_body, on_row, row_of, width_of, with_block}
 use Rattle.gk_gherkin.specs.Lines.{LineValue, Lines}
 use Rattle.gk_gherkin.specs.Class.{class, class_of, class_of_words}
-use Rattle.gk_gherkin.specs.Feature.{BlockValue, Empty, Text, Table, StepValue, RowValue}
-use Rattle.gk_gherkin.specs.Grammar.{Many, more, IsRow, IsTable, IsBlock}
-use Rattle.gk_gherkin.specs.ReadFault.{BeginsSome, BeginsNone, IsBadRow, IsOtherWidth}
-use Rattle.gk_gherkin.specs.Machine.{Stepped, ◌>>=◌, row_of, on_row, width_of, with_block, on_block, on_body}
-use Rattle.gk_gherkin.proofs.ReaderSound.{eqb_same, StepsBuilt}
-use Rattle.gk_gherkin.proofs.ReaderRuns.{no_err, err_same, bind_err}
+use Rattle.gk_gherkin.specs.Rows.{cells_of, parts_of, unescaped}
+use Rattle.gk_gherkin.specs.Feature.{BlockValue, Empty, RowValue, StepValue, Table, Text}
+use Rattle.gk_gherkin.specs.Grammar.{IsBlock, IsRow, IsTable, Many, more}
+use Rattle.gk_gherkin.specs.ReadFault.{BeginsNone, BeginsSome, IsBadRow, IsOtherWidth}
+use Rattle.gk_gherkin.specs.Gives.{◌>>=◌}
+use Rattle.gk_gherkin.proofs.ReadingRuns.{bind_err, err_same, no_err}
+use Rattle.gk_gherkin.proofs.OpenPartsSound.{StepsBuilt, eqb_same}
 
 -- a line of no number
 abbrev pub line_of : List ℕ → LineValue

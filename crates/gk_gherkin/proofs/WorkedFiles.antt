@@ -12,9 +12,11 @@ use Rattle.gk_gherkin.specs.StepTypes.{type_after}
 use Rattle.gk_gherkin.specs.Feature.{FeatureValue, Empty, Text, Table}
 use Rattle.gk_gherkin.specs.Grammar.{Reads}
 use Rattle.gk_gherkin.specs.ReadFault.{FeatureFault}
-use Rattle.gk_gherkin.specs.Machine.{on_heading, on_row, on_block, on_grid, on_body, on_open, on_place, on, step, run_by, finish, reading}
-use Rattle.gk_gherkin.proofs.ReaderSound.{sound}
-use Rattle.gk_gherkin.proofs.ReaderStops.{faulty}
+use Rattle.gk_gherkin.specs.OpenParts.{on_row, on_block, on_grid, on_body, on_open}
+use Rattle.gk_gherkin.specs.Reading.{step, run_by, finish, reading}
+use Rattle.gk_gherkin.specs.FeaturePlace.{on_heading, on_place, on}
+use Rattle.gk_gherkin.proofs.FeaturePlaceSound.{sound}
+use Rattle.gk_gherkin.proofs.FeaturePlaceStops.{faulty}
 use Rattle.gk_gherkin.proofs.OneFeatureFault.{one_feature_fault}
 
 -- An empty file, and one of comments alone, hold no feature.

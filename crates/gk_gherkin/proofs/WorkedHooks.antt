@@ -13,10 +13,11 @@ use Rattle.gk_gherkin.specs.Hooks.{HookValue}
 use Rattle.gk_gherkin.specs.HookHeadings.{hooks_class, hook_heading}
 use Rattle.gk_gherkin.specs.HooksGrammar.{ReadsHooks}
 use Rattle.gk_gherkin.specs.ReadFault.{HooksFault}
-use Rattle.gk_gherkin.specs.Machine.{on_row, on_block, on_body, run_by}
-use Rattle.gk_gherkin.specs.HooksMachine.{on_hook, on_hook_body, on_hooks_place, on, step, finish, reading}
-use Rattle.gk_gherkin.proofs.HooksSound.{hooks_sound}
-use Rattle.gk_gherkin.proofs.HooksStops.{hooks_faulty}
+use Rattle.gk_gherkin.specs.OpenParts.{on_row, on_block, on_body}
+use Rattle.gk_gherkin.specs.Reading.{step, run_by, finish, reading}
+use Rattle.gk_gherkin.specs.HooksPlace.{on_hook, on_hook_body, on_hooks_place, on}
+use Rattle.gk_gherkin.proofs.HooksPlaceSound.{hooks_sound}
+use Rattle.gk_gherkin.proofs.HooksPlaceStops.{hooks_faulty}
 
 -- An empty file has no hooks.
 abbrev empty : Lines

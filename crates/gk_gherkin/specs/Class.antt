@@ -8,12 +8,12 @@ use Rattle.gk_gherkin.specs.declared.class.Fence.TheVariants.{Quotes, Backticks}
 use Rattle.gk_gherkin.specs.Lines.{LineValue}
 use Rattle.gk_gherkin.specs.Text.{begins, is_blank, trim}
 
--- The three characters of a fence. (this project's profile)
+-- The three characters of a fence.
 abbrev pub fence_text : Fence → List ℕ
 fence_text Quotes = codes "\"\"\""
 fence_text Backticks = codes "```"
 
--- Whether a text begins with one of some words. (this project's profile)
+-- Whether a text begins with one of some words.
 abbrev pub begins_with_one : List ℕ → List (List ℕ) → Bool
 begins_with_one text words = list_any (begins text) words
 
@@ -41,11 +41,11 @@ examples_keywords = codes "Examples:" ∷ codes "Scenarios:" ∷ []
 abbrev pub step_keywords : List (List ℕ)
 step_keywords = codes "Given" ∷ codes "When" ∷ codes "Then" ∷ codes "And" ∷ codes "But" ∷ codes "*" ∷ []
 
--- Whether a text begins with a step keyword that a blank follows. (this project's profile)
+-- Whether a text begins with a step keyword that a blank follows.
 abbrev pub begins_as_step : List ℕ → Bool
 begins_as_step text = list_any (λ word. begins text word && is_blank (slice_index text (length word))) step_keywords
 
--- The class of a trimmed text that is neither blank, comment nor tags: headings, steps, rows and fences, the first that fits. (this project's profile)
+-- The class of a trimmed text that is neither blank, comment nor tags: headings, steps, rows and fences, the first that fits.
 unfoldable pub class_of_words : List ℕ → Class
 class_of_words text =
     if begins_with_one text feature_keywords then FeatureHeading else
@@ -58,18 +58,18 @@ class_of_words text =
     (if begins text (fence_text Quotes) then FenceLine Quotes else
     (if begins text (fence_text Backticks) then FenceLine Backticks else Other))))))))
 
--- The class of a trimmed text, the first that fits. (this project's profile)
+-- The class of a trimmed text, the first that fits.
 unfoldable pub class_of : List ℕ → Class
 class_of text =
     if length text == 0 then Blank else
     (if begins text (codes "#") then Comment else
     (if begins text (codes "@") then TagLine else class_of_words text))
 
--- The class of a line is that of its trimmed text. (this project's profile)
+-- The class of a line is that of its trimmed text.
 unfoldable pub class : LineValue → Class
 class line = class_of (trim line.text)
 
--- A colon. (this project's profile)
+-- A colon.
 abbrev pub is_colon : ℕ → Bool
 is_colon b = b == 58
 

@@ -70,44 +70,44 @@ pub record FeatureValue : Type 0 where
   pub scenarios : List ScenarioValue
   pub rules : List RuleValue
 
--- The texts of a list of strings. (this project's profile)
+-- The texts of a list of strings.
 abbrev pub texts : {Z : Type 0} → List (String Z) → List (List ℕ)
 texts strings = map string_bytes strings
 
--- What a list of texts says, or none where there is no list. (this project's profile)
+-- What a list of texts says, or none where there is no list.
 abbrev pub found_texts : {Y Z : Type 0} → Option (Vec (String Z) Y) → Option (List (List ℕ))
 found_texts found = option_map (λ v. texts v.items) found
 
--- What a `Block` says. (this project's profile)
+-- What a `Block` says.
 abbrev pub block_value : Block → BlockValue
 block_value blocks.Empty = Empty
 block_value (blocks.Text text) = Text (string_bytes text)
 block_value (blocks.Table rows) = Table (map (λ row. texts row.items) rows.items)
 
--- What a `Step` says. (this project's profile)
+-- What a `Step` says.
 abbrev pub step_value : Step → StepValue
 step_value s = record { keyword = string_bytes s.keyword; step_type = s.step_type; text = string_bytes s.text; block = block_value s.block; line = s.line }
 
--- What a `Row` says. (this project's profile)
+-- What a `Row` says.
 abbrev pub row_value : Row → RowValue
 row_value r = record { line = r.line; cells = texts r.cells.items }
 
--- What an `Examples` says. (this project's profile)
+-- What an `Examples` says.
 abbrev pub examples_value : Examples → ExamplesValue
 examples_value e = record { name = string_bytes e.name; line = e.line; tags = texts e.tags.items; header = texts e.header.items; rows = map row_value e.rows.items }
 
--- What a `Background` says. (this project's profile)
+-- What a `Background` says.
 abbrev pub background_value : Background → BackgroundValue
 background_value b = record { line = b.line; steps = map step_value b.steps.items }
 
--- What a `Scenario` says. (this project's profile)
+-- What a `Scenario` says.
 abbrev pub scenario_value : Scenario → ScenarioValue
 scenario_value s = record { keyword = string_bytes s.keyword; name = string_bytes s.name; line = s.line; tags = texts s.tags.items; steps = map step_value s.steps.items; examples = map examples_value s.examples.items }
 
--- What a `Rule` says. (this project's profile)
+-- What a `Rule` says.
 abbrev pub rule_value : Rule → RuleValue
 rule_value r = record { name = string_bytes r.name; line = r.line; tags = texts r.tags.items; background = option_map background_value r.background; scenarios = map scenario_value r.scenarios.items }
 
--- What a `Feature` says. (this project's profile)
+-- What a `Feature` says.
 abbrev pub feature_value : Feature → FeatureValue
 feature_value f = record { name = string_bytes f.name; line = f.line; tags = texts f.tags.items; background = option_map background_value f.background; scenarios = map scenario_value f.scenarios.items; rules = map rule_value f.rules.items }

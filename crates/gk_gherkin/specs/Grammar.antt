@@ -24,25 +24,25 @@ IsIgnoredClass _ = ⊥
 abbrev pub IsIgnored : LineValue → Type 0
 IsIgnored line = IsIgnoredClass (class line)
 
--- Above the Feature line a comment names no language other than English. (Cucumber's Gherkin reference: spoken languages; this project's profile)
+-- Above the Feature line a comment names no language other than English. (Cucumber's Gherkin reference: spoken languages)
 abbrev pub IsIgnoredAbove : LineValue → Type 0
 IsIgnoredAbove line = IsIgnored line × IsEnglishOrNone (language_of line)
 
--- Any number of ignored lines. (this project's profile)
+-- Any number of ignored lines.
 pub data Skips (Ignored : LineValue → Type 0) : Lines → Lines → Type 0 where
   skip_none : {ls : Lines} → Skips Ignored ls ls
   skip : {l : LineValue} {ls rest : Lines} → Ignored l → Skips Ignored ls rest → Skips Ignored (l ∷ ls) rest
 
--- One line, after any number of ignored ones. (this project's profile)
+-- One line, after any number of ignored ones.
 abbrev pub Next : (LineValue → Type 0) → Lines → LineValue → Lines → Type 0
 Next Ignored ls line rest = Skips Ignored ls (line ∷ rest)
 
--- X*: parts of one shape, one after the other. (this project's profile)
+-- X*: parts of one shape, one after the other.
 pub data Many {A : Type 0} (Part : Lines → A → Lines → Type 0) : Lines → List A → Lines → Type 0 where
   none : {ls : Lines} → Many Part ls [] ls
   more : {ls mid rest : Lines} {x : A} {xs : List A} → Part ls x mid → Many Part mid xs rest → Many Part ls (x ∷ xs) rest
 
--- A part, or nothing: [X]. (this project's profile)
+-- A part, or nothing: [X].
 abbrev pub Perhaps : {A : Type 0} → (Lines → A → Lines → Type 0) → Lines → Option A → Lines → Type 0
 Perhaps Part ls None rest = ls ≡ rest
 Perhaps Part ls (Some x) rest = Part ls x rest
@@ -105,7 +105,7 @@ pub record IsRow (ls : Lines) (row : RowValue) (rest : Lines) : Type 0 where
   pub number : row.line ≡ line.line
   pub cells : cells_of line ≡ Some row.cells
 
--- All rows have as many cells as the first, and there is a first. (this project's profile)
+-- All rows have as many cells as the first, and there is a first.
 abbrev pub AreOfOneWidth : List RowValue → Type 0
 AreOfOneWidth [] = ⊥
 AreOfOneWidth (first ∷ others) = AllByRecursion (λ (row : RowValue). length row.cells ≡ length first.cells) others
@@ -227,14 +227,14 @@ abbrev pub Reads : Lines → Option FeatureValue → Type 0
 Reads ls None = Skips IsIgnoredAbove ls []
 Reads ls (Some feature) = (tail : Lines) × IsFeature ls feature tail × Skips IsIgnored tail []
 
--- A list of lines is readable where it has a reading. (this project's profile)
+-- A list of lines is readable where it has a reading.
 abbrev pub IsReadable : Lines → Type 0
 IsReadable ls = (feature : Option FeatureValue) × Reads ls feature
 
--- The relations say concatenation: a part leads from some lines to a rest exactly where the lines are some lines of its own and then that rest, and the part leads from its own lines to nothing. (this project's profile)
+-- The relations say concatenation: a part leads from some lines to a rest exactly where the lines are some lines of its own and then that rest, and the part leads from its own lines to nothing.
 abbrev pub IsConcatenation : {A : Type 0} → (Lines → A → Lines → Type 0) → Type 0
 IsConcatenation {A} Part = (ls rest : Lines) (x : A) → Part ls x rest ↔ ((own : Lines) × (ls ≡ own ++ rest) × Part own x [])
 
--- No list of lines has two readings. (this project's profile)
+-- No list of lines has two readings.
 abbrev pub HasOneReading : Type 0
 HasOneReading = (ls : Lines) (one other : Option FeatureValue) → Reads ls one → Reads ls other → one ≡ other

@@ -13,7 +13,7 @@ use Rattle.gk_gherkin.specs.Class.{class, is_colon}
 use Rattle.gk_gherkin.specs.Text.{begins}
 use Rattle.gk_gherkin.specs.Tags.{is_tag}
 
--- The class of a line in a hooks file: a hook line, which begins with `before_` or `after_`, or that of any other line. (this project's profile)
+-- The class of a line in a hooks file: a hook line, which begins with `before_` or `after_`, or that of any other line.
 unfoldable pub hooks_class : LineValue → HooksClass
 hooks_class line = if begins (trim line.text) (codes "before_") || begins (trim line.text) (codes "after_") then HookLine else Plain (class line)
 
@@ -27,45 +27,45 @@ pub record PlainHeading : Type 0 where
   pub text : List ℕ
   pub kind : HookKind
 
--- All headings without a tag. (behave's documentation: environment file functions; this project's profile)
+-- All headings without a tag. (behave's documentation: environment file functions)
 abbrev pub plain_headings : List PlainHeading
 plain_headings =
     record { text = codes "before_all:"; kind = BeforeAll } ∷ record { text = codes "after_all:"; kind = AfterAll }
     ∷ record { text = codes "before_feature:"; kind = BeforeFeature } ∷ record { text = codes "after_feature:"; kind = AfterFeature }
     ∷ record { text = codes "before_scenario:"; kind = BeforeScenario } ∷ record { text = codes "after_scenario:"; kind = AfterScenario } ∷ []
 
--- The heading without a tag that a text is. (this project's profile)
+-- The heading without a tag that a text is.
 abbrev pub plain_heading : List ℕ → Option HookHeading
 plain_heading text = option_map (λ (h : PlainHeading). record { kind = h.kind; tag = None }) (find (λ (h : PlainHeading). bytes_eq text h.text) plain_headings)
 
--- A heading without a tag, of this kind. (proof machinery)
+-- A heading without a tag, of this kind. Proof machinery.
 abbrev pub plain : HookKind → HookHeading
 plain kind = record { kind = kind; tag = None }
 
--- The text, where it is a tag without blanks. (this project's profile)
+-- The text, where it is a tag without blanks.
 abbrev pub tag_alone : List ℕ → Option (List ℕ)
 tag_alone text = if is_tag text && list_all (λ b. not (is_blank b)) text then Some text else None
 
--- The tag that stands in a text between a word with at least one blank after it and the colon at the text's end. (this project's profile)
+-- The tag that stands in a text between a word with at least one blank after it and the colon at the text's end.
 abbrev pub tag_between : List ℕ → List ℕ → Option (List ℕ)
 tag_between word text =
     if begins text word && (is_blank (slice_index text (length word)) && ends_with nat_eq text (codes ":"))
     then tag_alone (trim_front (before_last is_colon (drop (length word) text))) else None
 
--- The heading with a tag that a text is, where it begins with this word. (this project's profile)
+-- The heading with a tag that a text is, where it begins with this word.
 abbrev pub tag_heading : List ℕ → HookKind → List ℕ → Option HookHeading
 tag_heading word kind text = option_map (λ tag. record { kind = kind; tag = Some tag }) (tag_between word text)
 
--- The first of two answers that there is. (this project's profile)
+-- The first of two answers that there is.
 abbrev pub or_else : {A : Type 0} → Option A → Option A → Option A
 or_else None other = other
 or_else (Some x) other = Some x
 
--- The heading that a line is: one of those without a tag, or `before_tag` or `after_tag`, blanks, a tag and a colon; none for any other text. (behave's documentation: environment file functions; this project's profile)
+-- The heading that a line is: one of those without a tag, or `before_tag` or `after_tag`, blanks, a tag and a colon; none for any other text. (behave's documentation: environment file functions)
 unfoldable pub hook_heading : LineValue → Option HookHeading
 hook_heading line = or_else (plain_heading (trim line.text))
     (or_else (tag_heading (codes "before_tag") BeforeTag (trim line.text)) (tag_heading (codes "after_tag") AfterTag (trim line.text)))
 
--- What a `Heading` says. (proof machinery)
+-- What a `Heading` says. Proof machinery.
 abbrev pub heading_value : Heading → HookHeading
 heading_value h = record { kind = h.kind; tag = option_map (λ t. t.now) h.tag }

@@ -1,22 +1,50 @@
 -- What a hooks file says, without where it lies in memory. Texts are lists of bytes, tags stand with their `@`.
-use Rattle.std.specs.Prelude.{ℕ, List, map, Option, option_map}
+use Rattle.std.specs.Prelude.{ℕ, Bool, true, false, ◌==◌, ◌&&◌, List, map, Option, Some, None, option_map}
+use Rattle.std.specs.Str.{bytes_eq}
 use Rattle.std.specs.String.{string_bytes}
 use Rattle.gk_gherkin.specs.declared.hooks.HookKind.{HookKind}
+use Rattle.gk_gherkin.specs.declared.hooks.HookKind.TheVariants.{BeforeAll, AfterAll, BeforeFeature, AfterFeature, BeforeScenario, AfterScenario, BeforeTag, AfterTag}
 use Rattle.gk_gherkin.specs.declared.hooks.Hook.{Hook}
 use Rattle.gk_gherkin.specs.declared.hooks.HookFile.{HookFile}
 use Rattle.gk_gherkin.specs.Feature.{StepValue, step_value}
 
--- A hook: its kind, the tag that it is for, if its kind has one, the line of its heading, and its steps. (behave's documentation: environment file functions; this project's profile)
+-- A hook: its kind, the tag that it is for, if its kind has one, the line of its heading, and its steps. (behave's documentation: environment file functions)
 pub record HookValue : Type 0 where
   pub kind : HookKind
   pub tag : Option (List ℕ)
   pub line : ℕ
   pub steps : List StepValue
 
--- What a `Hook` says. (this project's profile)
+-- What a `Hook` says.
 abbrev pub hook_value : Hook → HookValue
 hook_value h = record { kind = h.kind; tag = option_map string_bytes h.tag; line = h.line; steps = map step_value h.steps.items }
 
--- What a `HookFile` says. (this project's profile)
+-- What a `HookFile` says.
 abbrev pub hooks_value : HookFile → List HookValue
 hooks_value file = map hook_value file.hooks.items
+
+-- Where a kind stands among the kinds.
+abbrev pub place_of_kind : HookKind → ℕ
+place_of_kind BeforeAll = 0
+place_of_kind AfterAll = 1
+place_of_kind BeforeFeature = 2
+place_of_kind AfterFeature = 3
+place_of_kind BeforeScenario = 4
+place_of_kind AfterScenario = 5
+place_of_kind BeforeTag = 6
+place_of_kind AfterTag = 7
+
+-- Whether two kinds are the same.
+abbrev pub is_same_kind : HookKind → HookKind → Bool
+is_same_kind a b = place_of_kind a == place_of_kind b
+
+-- Whether two tags are the same, or both none.
+abbrev pub is_same_tag : Option (List ℕ) → Option (List ℕ) → Bool
+is_same_tag None None = true
+is_same_tag None (Some b) = false
+is_same_tag (Some a) None = false
+is_same_tag (Some a) (Some b) = bytes_eq a b
+
+-- Whether a hook is for this kind and this tag; with no tag, whether it is for this kind and has none.
+abbrev pub is_for : HookValue → HookKind → Option (List ℕ) → Bool
+is_for hook kind tag = is_same_kind hook.kind kind && is_same_tag hook.tag tag

@@ -7,11 +7,11 @@ use Rattle.gk_gherkin.specs.HookHeadings.{hooks_class, HookHeading, hook_heading
 use Rattle.gk_gherkin.specs.Hooks.{HookValue}
 use Rattle.gk_gherkin.specs.Grammar.{IsIgnored, Skips, Next, Many, AreSteps}
 
--- The heading of a hook. (this project's profile)
+-- The heading of a hook.
 abbrev pub heading_of : HookValue → HookHeading
 heading_of hook = record { kind = hook.kind; tag = hook.tag }
 
--- HookPart = hook StepPart*. (behave's documentation: environment file functions; this project's profile)
+-- HookPart = hook StepPart*. (behave's documentation: environment file functions)
 pub record IsHook (ls : Lines) (hook : HookValue) (rest : Lines) : Type 0 where
   pub line : LineValue
   pub after_heading : Lines
@@ -21,22 +21,22 @@ pub record IsHook (ls : Lines) (hook : HookValue) (rest : Lines) : Type 0 where
   pub number : hook.line ≡ line.line
   pub steps : AreSteps after_heading hook.steps rest
 
--- No heading stands twice. (this project's profile)
+-- No heading stands twice.
 abbrev pub AreDistinct : List HookValue → Type 0
 AreDistinct [] = Unit {0}
 AreDistinct (hook ∷ others) = AllByRecursion (λ other. heading_of other ≢ heading_of hook) others × AreDistinct others
 
--- Hooks = HookPart*. (behave's documentation: environment file functions; this project's profile)
+-- Hooks = HookPart*. (behave's documentation: environment file functions)
 pub record ReadsHooks (ls : Lines) (hooks : List HookValue) : Type 0 where
   pub tail : Lines
   pub parts : Many IsHook ls hooks tail
   pub end : Skips IsIgnored tail []
   pub distinct : AreDistinct hooks
 
--- A list of lines is readable as hooks where it has a reading. (this project's profile)
+-- A list of lines is readable as hooks where it has a reading.
 abbrev pub AreHooksReadable : Lines → Type 0
 AreHooksReadable ls = (hooks : List HookValue) × ReadsHooks ls hooks
 
--- No list of lines has two readings as hooks. (this project's profile)
+-- No list of lines has two readings as hooks.
 abbrev pub HaveOneHooksReading : Type 0
 HaveOneHooksReading = (ls : Lines) (one other : List HookValue) → ReadsHooks ls one → ReadsHooks ls other → one ≡ other

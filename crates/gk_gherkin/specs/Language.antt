@@ -5,15 +5,15 @@ use Rattle.gk_gherkin.specs.Lines.{LineValue}
 use Rattle.gk_gherkin.specs.Text.{trim, trim_front}
 use Rattle.gk_gherkin.specs.Text.{begins}
 
--- The rest of a text after a word that it begins with, without its leading blanks; none where it begins with no such word. (this project's profile)
+-- The rest of a text after a word that it begins with, without its leading blanks; none where it begins with no such word.
 abbrev pub rest_after : List ℕ → List ℕ → Option (List ℕ)
 rest_after word text = if begins text word then Some (trim_front (drop (length word) text)) else None
 
--- An ASCII letter, `-` or `_`. (this project's profile)
+-- An ASCII letter, `-` or `_`.
 abbrev pub is_language_letter : ℕ → Bool
 is_language_letter b = (nat_le 65 b && nat_le b 90) || ((nat_le 97 b && nat_le b 122) || ((b == 45) || (b == 95)))
 
--- The text, where it is a word of such letters. (this project's profile)
+-- The text, where it is a word of such letters.
 abbrev pub language_word : List ℕ → Option (List ℕ)
 language_word text = if not (length text == 0) && list_all is_language_letter text then Some text else None
 
@@ -25,11 +25,11 @@ language_of line =
     (option_and_then (rest_after (codes "language"))
     (rest_after (codes "#") (trim line.text))))
 
--- No language, or English. (this project's profile)
+-- No language, or English.
 abbrev pub IsEnglishOrNone : Option (List ℕ) → Type 0
 IsEnglishOrNone None = Unit {0}
 IsEnglishOrNone (Some word) = word ≡ codes "en"
 
--- A comment names a language other than English. (this project's profile)
+-- A comment names a language other than English.
 abbrev pub NamesOtherLanguage : LineValue → Type 0
 NamesOtherLanguage line = (word : List ℕ) × (language_of line ≡ Some word) × (word ≢ codes "en")

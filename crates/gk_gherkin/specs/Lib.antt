@@ -1,4 +1,4 @@
--- What feature files are, in reading order. Each names its source.
+-- What feature files and hooks files are, in reading order. A definition whose comment names no source is this project's profile, or a word that the others use.
 pub mod Text
 pub mod Lines
 pub mod Class
@@ -13,8 +13,9 @@ pub mod Hooks
 pub mod HookHeadings
 pub mod HooksGrammar
 pub mod ReadFault
-pub mod Machine
-pub mod HooksMachine
--- Proof machinery: which lines need memory.
-pub mod MemoryNeeds
-pub mod HooksMemoryNeeds
+-- Proof machinery: how lines are read one after the other.
+pub mod Gives
+pub mod OpenParts
+pub mod Reading
+pub mod FeaturePlace
+pub mod HooksPlace

@@ -23,23 +23,23 @@ use Rattle.gk_gherkin.specs.HooksGrammar.{heading_of, ReadsHooks, AreHooksReadab
 
 -- The same is said of both grammars: Readable says which lists of lines have a reading, kind gives the class of a line there.
 module _ (Readable : Lines → Type 0) {C : Type 0} (kind : LineValue → C) where
-  -- Some readable list begins with these lines. (this project's profile)
+  -- Some readable list begins with these lines.
   abbrev pub BeginsSome : Lines → Type 0
   BeginsSome ls = (more : Lines) × Readable (ls ++ more)
 
-  -- No readable list begins with these lines. (this project's profile)
+  -- No readable list begins with these lines.
   abbrev pub BeginsNone : Lines → Type 0
   BeginsNone ls = (more : Lines) → Readable (ls ++ more) → ⊥
 
-  -- Some line of the class of this one can stand after the lines before. (this project's profile)
+  -- Some line of the class of this one can stand after the lines before.
   abbrev pub SomeLikeIt : Lines → LineValue → Type 0
   SomeLikeIt before line = (other : LineValue) × (kind other ≡ kind line) × BeginsSome (before ++ other ∷ [])
 
-  -- No line of the class of this one can stand after the lines before. (this project's profile)
+  -- No line of the class of this one can stand after the lines before.
   abbrev pub NoneLikeIt : Lines → LineValue → Type 0
   NoneLikeIt before line = (other : LineValue) → kind other ≡ kind line → BeginsNone (before ++ other ∷ [])
 
-  -- A fault on line n: the lines before it are readable, alone or with one line more after them; those up to and with it begin no readable list; and the fault's own fact holds of it. (this project's profile)
+  -- A fault on line n: the lines before it are readable, alone or with one line more after them; those up to and with it begin no readable list; and the fault's own fact holds of it.
   pub record StopsAt (ls : Lines) (n : ℕ) (Fault : Lines → LineValue → Type 0) : Type 0 where
     pub before : Lines
     pub line : LineValue
@@ -50,13 +50,13 @@ module _ (Readable : Lines → Type 0) {C : Type 0} (kind : LineValue → C) whe
     pub stops : BeginsNone (before ++ line ∷ [])
     pub fault : Fault before line
 
-  -- A row, where a row can stand, that isn't between two bars. (this project's profile)
+  -- A row, where a row can stand, that isn't between two bars.
   pub record IsBadRow (before : Lines) (line : LineValue) : Type 0 where
     pub is : class line ≡ RowLine
     pub fits : SomeLikeIt before line
     pub bad : cells_of line ≡ None
 
-  -- A row, where a row can stand, with another number of cells than each row that can stand there. (this project's profile)
+  -- A row, where a row can stand, with another number of cells than each row that can stand there.
   pub record IsOtherWidth (before : Lines) (line : LineValue) : Type 0 where
     pub is : class line ≡ RowLine
     pub fits : SomeLikeIt before line
@@ -66,7 +66,7 @@ module _ (Readable : Lines → Type 0) {C : Type 0} (kind : LineValue → C) whe
     pub wanted : (other : LineValue) → class other ≡ RowLine → BeginsSome (before ++ other ∷ []) → IfSome (cells_of other) (λ wanted. length wanted ≡ width)
     pub differs : length cells ≢ width
 
-  -- The lines end in a doc string that line n opened: those before it are readable, with it they aren't, and any line that closes it would make them all readable, but none stands there. (this project's profile)
+  -- The lines end in a doc string that line n opened: those before it are readable, with it they aren't, and any line that closes it would make them all readable, but none stands there.
   pub record EndsInDocString (ls : Lines) (n : ℕ) : Type 0 where
     pub before : Lines
     pub fence : Fence
@@ -81,19 +81,19 @@ module _ (Readable : Lines → Type 0) {C : Type 0} (kind : LineValue → C) whe
     pub unread : Readable ls → ⊥
     pub closed : (closing : LineValue) → closes fence closing ≡ true → Readable (ls ++ closing ∷ [])
 
--- A tag line, where one can stand, with a word that is no tag. (this project's profile)
+-- A tag line, where one can stand, with a word that is no tag.
 pub record IsBadTag (before : Lines) (line : LineValue) : Type 0 where
   pub is : class line ≡ TagLine
   pub fits : SomeLikeIt IsReadable class before line
   pub bad : tags_of line ≡ None
 
--- A comment without a Feature line above it that names another language than English. (this project's profile)
+-- A comment without a Feature line above it that names another language than English.
 pub record IsOtherLanguage (before : Lines) (line : LineValue) : Type 0 where
   pub is : class line ≡ Comment
   pub above : AllByRecursion (λ other. class other ≢ FeatureHeading) before
   pub names : NamesOtherLanguage line
 
--- A heading that takes tags. (this project's profile)
+-- A heading that takes tags.
 abbrev pub TakesTags : Class → Type 0
 TakesTags FeatureHeading = Unit {0}
 TakesTags RuleHeading = Unit {0}
@@ -101,7 +101,7 @@ TakesTags ScenarioHeading = Unit {0}
 TakesTags ExamplesHeading = Unit {0}
 TakesTags _ = ⊥
 
--- The lines end after tag line n, blank lines and comments aside: a heading that takes tags would make them readable, and none stands there. (this project's profile)
+-- The lines end after tag line n, blank lines and comments aside: a heading that takes tags would make them readable, and none stands there.
 pub record EndsInTags (ls : Lines) (n : ℕ) : Type 0 where
   pub before : Lines
   pub line : LineValue
@@ -113,18 +113,18 @@ pub record EndsInTags (ls : Lines) (n : ℕ) : Type 0 where
   pub unread : IsReadable ls → ⊥
   pub fits : (heading : LineValue) × TakesTags (class heading) × IsReadable (ls ++ heading ∷ [])
 
--- The first word of a line, but for a comment, is a tag. (this project's profile)
+-- The first word of a line, but for a comment, is a tag.
 abbrev pub BeginsWithTag : LineValue → Type 0
 BeginsWithTag line = (word : List ℕ) (others : List (List ℕ)) → words_before_comment line.text ≡ word ∷ others → is_tag word ≡ true
 
--- The first line that isn't ignored is a feature's heading, or a tag line that begins with a tag. No line before it needs memory, and no other line that stands first. (this project's profile)
+-- The first line that isn't ignored is a feature's heading, or a tag line that begins with a tag. No line before it needs memory, and no other line that stands first.
 pub record NeedsMemory (ls : Lines) : Type 0 where
   pub line : LineValue
   pub rest : Lines
   pub next : Next IsIgnoredAbove ls line rest
   pub needs : (class line ≡ FeatureHeading) ⊎ ((class line ≡ TagLine) × BeginsWithTag line)
 
--- What a fault says of the lines of a feature file; refused memory, that they need some. (this project's profile)
+-- What a fault says of the lines of a feature file; refused memory, that they need some.
 abbrev pub FeatureFault : ReadFault → Lines → Type 0
 FeatureFault (Unexpected n) ls = StopsAt IsReadable class ls n (NoneLikeIt IsReadable class)
 FeatureFault (BadTag n) ls = StopsAt IsReadable class ls n IsBadTag
@@ -136,7 +136,7 @@ FeatureFault (TagsAtEnd n) ls = EndsInTags ls n
 FeatureFault Memory ls = NeedsMemory ls
 FeatureFault _ ls = ⊥
 
--- A heading that stood before, with its tag. (this project's profile)
+-- A heading that stood before, with its tag.
 pub record StoodBefore (before : Lines) (line : LineValue) : Type 0 where
   pub hooks : List HookValue
   pub reading : ReadsHooks before hooks
@@ -146,13 +146,13 @@ pub record StoodBefore (before : Lines) (line : LineValue) : Type 0 where
   pub whole : hooks ≡ earlier ++ hook ∷ later
   pub same : hook_heading line ≡ Some (heading_of hook)
 
--- A hook line, where one can stand, that is no heading or one that stood before. (this project's profile)
+-- A hook line, where one can stand, that is no heading or one that stood before.
 pub record IsBadHook (before : Lines) (line : LineValue) : Type 0 where
   pub is : hooks_class line ≡ HookLine
   pub fits : SomeLikeIt AreHooksReadable hooks_class before line
   pub bad : (hook_heading line ≡ None) ⊎ StoodBefore before line
 
--- The first line that isn't ignored is a hook's heading. No line before it needs memory, and no other line that stands first. (this project's profile)
+-- The first line that isn't ignored is a hook's heading. No line before it needs memory, and no other line that stands first.
 pub record HooksNeedMemory (ls : Lines) : Type 0 where
   pub line : LineValue
   pub rest : Lines
@@ -160,7 +160,7 @@ pub record HooksNeedMemory (ls : Lines) : Type 0 where
   pub is : hooks_class line ≡ HookLine
   pub heading : hook_heading line ≢ None
 
--- What a fault says of the lines of a hooks file; refused memory, that they need some. (this project's profile)
+-- What a fault says of the lines of a hooks file; refused memory, that they need some.
 abbrev pub HooksFault : ReadFault → Lines → Type 0
 HooksFault (Unexpected n) ls = StopsAt AreHooksReadable hooks_class ls n (NoneLikeIt AreHooksReadable hooks_class)
 HooksFault (BadHook n) ls = StopsAt AreHooksReadable hooks_class ls n IsBadHook
@@ -170,32 +170,32 @@ HooksFault (UnclosedText n) ls = EndsInDocString AreHooksReadable hooks_class ls
 HooksFault Memory ls = HooksNeedMemory ls
 HooksFault _ ls = ⊥
 
--- What a fault says of the bytes: too many before no UTF-8, and both before any fault of the lines. (this project's profile)
+-- What a fault says of the bytes: too many before no UTF-8, and both before any fault of the lines.
 abbrev pub FaultSays : (ReadFault → Lines → Type 0) → ReadFault → List ℕ → Type 0
 FaultSays OfLines TooLong bytes = IsTooLong bytes
 FaultSays OfLines (NotUtf8 n) bytes = IsNotUtf8At bytes n
 FaultSays OfLines fault bytes = IsText bytes × OfLines fault (lines_of bytes)
 
--- No bytes have two faults, neither of two classes nor on two lines; refused memory aside, which is no fault of theirs. (this project's profile)
+-- No bytes have two faults, neither of two classes nor on two lines; refused memory aside, which is no fault of theirs.
 abbrev pub HaveOneFault : (ReadFault → Lines → Type 0) → Type 0
 HaveOneFault OfLines = (bytes : List ℕ) (one other : ReadFault) → one ≢ Memory → other ≢ Memory → FaultSays OfLines one bytes → FaultSays OfLines other bytes → one ≡ other
 
--- What a fault says where the lines alone are read. (this project's profile)
+-- What a fault says where the lines alone are read.
 abbrev pub LinesFaultSays : ReadFault → List ℕ → Type 0
 LinesFaultSays Memory bytes = IsText bytes
 LinesFaultSays fault bytes = FaultSays (λ other ls. ⊥) fault bytes
 
--- What was answered has this reading, or memory ran out. (this project's profile)
+-- What was answered has this reading, or memory ran out.
 abbrev pub AnswersOrLacksMemory : Result (Option Feature) ReadFault → Option FeatureValue → Type 0
 AnswersOrLacksMemory (Ok answer) reading = option_map feature_value answer ≡ reading
 AnswersOrLacksMemory (Err fault) reading = fault ≡ Memory
 
--- What was answered are these hooks, or memory ran out. (this project's profile)
+-- What was answered are these hooks, or memory ran out.
 abbrev pub AnswersHooksOrLacksMemory : Result HookFile ReadFault → List HookValue → Type 0
 AnswersHooksOrLacksMemory (Ok file) hooks = hooks_value file ≡ hooks
 AnswersHooksOrLacksMemory (Err fault) hooks = fault ≡ Memory
 
--- The line that a fault names. (this project's profile)
+-- The line that a fault names.
 abbrev pub line_of_fault : ReadFault → Option ℕ
 line_of_fault (NotUtf8 n) = Some n
 line_of_fault (Unexpected n) = Some n
@@ -209,7 +209,7 @@ line_of_fault (BadHook n) = Some n
 line_of_fault TooLong = None
 line_of_fault Memory = None
 
--- What a fault is called, without its line. (this project's profile)
+-- What a fault is called, without its line.
 abbrev pub text_of_fault : ReadFault → List ℕ
 text_of_fault (NotUtf8 n) = codes "not UTF-8"
 text_of_fault (Unexpected n) = codes "unexpected line"

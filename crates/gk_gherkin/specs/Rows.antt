@@ -4,12 +4,12 @@ use Rattle.gk_gherkin.specs.Lines.{LineValue}
 use Rattle.gk_gherkin.specs.Text.{trim}
 use Rattle.gk_gherkin.specs.Text.{begins}
 
--- An empty part before the parts that there are. (this project's profile)
+-- An empty part before the parts that there are.
 abbrev pub part_before : Option (List (List ℕ)) → Option (List (List ℕ))
 part_before None = None
 part_before (Some parts) = Some ([] ∷ parts)
 
--- A byte put at the beginning of the first part. (this project's profile)
+-- A byte put at the beginning of the first part.
 abbrev pub into_first : ℕ → Option (List (List ℕ)) → Option (List (List ℕ))
 into_first b (Some (part ∷ parts)) = Some ((b ∷ part) ∷ parts)
 into_first b _ = None
@@ -31,11 +31,11 @@ unescaped (b ∷ c ∷ rest) =
     (if (c == 124) || (c == 92) then c ∷ unescaped rest else b ∷ c ∷ unescaped rest))
     else b ∷ unescaped (c ∷ rest)
 
--- The cell of a part: trimmed, and then unescaped. (this project's profile)
+-- The cell of a part: trimmed, and then unescaped.
 abbrev pub cell_of : List ℕ → List ℕ
 cell_of part = unescaped (trim part)
 
--- The cells of the parts; none where there are no parts, which is a text of one bar. (this project's profile)
+-- The cells of the parts; none where there are no parts, which is a text of one bar.
 abbrev pub cells_of_parts : Option (List (List ℕ)) → Option (List (List ℕ))
 cells_of_parts None = None
 cells_of_parts (Some []) = None
@@ -45,12 +45,12 @@ cells_of_parts (Some (part ∷ parts)) = Some (map cell_of (part ∷ parts))
 unfoldable pub cells_of : LineValue → Option (List (List ℕ))
 cells_of line = if begins (trim line.text) (codes "|") then cells_of_parts (parts_of (drop 1 (trim line.text))) else None
 
--- The parts of a text without an unescaped bar. (proof machinery)
+-- The parts of a text without an unescaped bar. Proof machinery.
 abbrev pub no_bar : List ℕ → Option (List (List ℕ))
 no_bar [] = Some []
 no_bar (b ∷ part) = None
 
--- The parts of a text of which the first part and what follows it are known. (proof machinery)
+-- The parts of a text of which the first part and what follows it are known. Proof machinery.
 abbrev pub parts_after : List ℕ → List ℕ → Option (List (List ℕ))
 parts_after part [] = no_bar part
 parts_after part (bar ∷ rest) = option_map (λ parts. part ∷ parts) (parts_of rest)

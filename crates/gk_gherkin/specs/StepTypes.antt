@@ -12,11 +12,11 @@ type_after before keyword =
     (if bytes_eq keyword (codes "When") then When else
     (if bytes_eq keyword (codes "Then") then Then else before))
 
--- Each step has the type that its keyword gives after the step before it. (this project's profile)
+-- Each step has the type that its keyword gives after the step before it.
 abbrev pub AreTypedAfter : StepType → List StepValue → Type 0
 AreTypedAfter before [] = Unit {0}
 AreTypedAfter before (step ∷ steps) = (step.step_type ≡ type_after before step.keyword) × AreTypedAfter step.step_type steps
 
--- The steps of a background, a scenario or a hook: before the first of them the type is given. (this project's profile)
+-- The steps of a background, a scenario or a hook: before the first of them the type is given.
 abbrev pub AreTyped : List StepValue → Type 0
 AreTyped steps = AreTypedAfter Given steps

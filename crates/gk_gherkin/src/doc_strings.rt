@@ -5,8 +5,9 @@ ghost use Rattle.std.specs.String.{string_bytes};
 ghost use Rattle.gk_gherkin.specs.Lines.{borrowed_value};
 ghost use Rattle.gk_gherkin.specs.Text.{is_blank};
 ghost use Rattle.gk_gherkin.specs.Class as class;
-ghost use Rattle.gk_gherkin.specs.Machine.{Gives};
-ghost use Rattle.gk_gherkin.specs.Machine as machine;
+ghost use Rattle.gk_gherkin.specs.Gives.{Gives};
+ghost use Rattle.gk_gherkin.specs.Reading as reading;
+ghost use Rattle.gk_gherkin.specs.Reading.Views.{text_value};
 ghost use Rattle.gk_gherkin.specs.DocStrings as spec;
 
 use crate::class::Fence;
@@ -14,10 +15,11 @@ use crate::lines::BorrowedLine;
 use crate::read_fault::ReadFault;
 use crate::text::{begins, leading_blanks, trim};
 use std::alloc::Global;
+use std::mem;
 
-/// Whether a line closes the doc string that a fence opened.
+// Whether a line closes the doc string that a fence opened.
 #[tactic(auto, unfolding(crate::specs::DocStrings::closes))]
-pub fn closes(fence: Fence, line: &BorrowedLine<'_>) -> bool
+fn closes(fence: Fence, line: &BorrowedLine<'_>) -> bool
     ensures { result ≡ spec.closes fence (borrowed_value line.now) }
 {
     let text = trim(line.text);
@@ -78,7 +80,7 @@ fn with_content(
 }
 
 #[tactic(auto, using(crate::proofs::TextEnds::after_end))]
-pub fn with_line(
+fn with_line(
     alloc: Global,
     content: Option<String>,
     fence: Fence,
@@ -87,7 +89,7 @@ pub fn with_line(
 ) -> Result<String, ReadFault>
     ensures { let next = spec.content_of fence (column - 1) (borrowed_value line.now) in
         Gives string_bytes result
-        (Ok (machine.with_line (option_map string_bytes content) next)) }
+        (Ok (reading.with_line (option_map string_bytes content) next)) }
 {
     match content {
         Some(text) => {
@@ -99,12 +101,53 @@ pub fn with_line(
     }
 }
 
-/// The whole text of a doc string.
-pub fn whole_text(alloc: Global, content: Option<String>) -> String
-    ensures { string_bytes result ≡ machine.whole_text (option_map string_bytes content) }
-{
-    match content {
-        Some(text) => text,
-        None => String::new(alloc),
+/// An open doc string: its fence, the column and the number of that fence's line, and the text so far,
+/// if it has a line.
+#[derive(Drop)]
+pub struct DocString {
+    pub fence: Fence,
+    pub column: u32,
+    pub line: u32,
+    pub content: Option<String>,
+}
+
+impl DocString {
+    /// The doc string that a fence opens.
+    pub fn opened(fence: Fence, line: &BorrowedLine<'_>) -> DocString
+        ensures { text_value result ≡ reading.opened fence (borrowed_value line.now) }
+    {
+        DocString {
+            fence,
+            column: line.place.column,
+            line: line.place.line,
+            content: None,
+        }
+    }
+
+    /// Whether a line closes it.
+    pub fn is_closed_by(&self, line: &BorrowedLine<'_>) -> bool
+        ensures { result ≡ spec.closes self.now.fence (borrowed_value line.now) }
+    {
+        closes(self.fence, line)
+    }
+
+    /// Adds a line.
+    pub fn add(&mut self, alloc: Global, line: &BorrowedLine<'_>) -> Result<(), ReadFault>
+        ensures { Gives (λ _. text_value self.new) result
+            (Ok (reading.longer (text_value self.old) (borrowed_value line.now))) }
+    {
+        let before = mem::replace(&mut self.content, None);
+        self.content = Some(with_line(alloc, before, self.fence, self.column, line)?);
+        Ok(())
+    }
+
+    /// Its whole text.
+    pub fn into_text(self, alloc: Global) -> String
+        ensures { string_bytes result ≡ reading.whole_text (text_value self).content }
+    {
+        match self.content {
+            Some(text) => text,
+            None => String::new(alloc),
+        }
     }
 }

@@ -3,9 +3,10 @@ ghost use Rattle.std.specs.Prelude.{codes, nat_eq, option_map, not, ◌≡◌};
 ghost use Rattle.std.specs.List.{list_all, ends_with};
 ghost use Rattle.gk_gherkin.specs.Lines.{borrowed_value};
 ghost use Rattle.gk_gherkin.specs.Text.{is_blank};
+ghost use Rattle.gk_gherkin.specs.Class as words;
 ghost use Rattle.gk_gherkin.specs.HookHeadings as spec;
 
-use crate::class::{Class, class_of_line};
+use crate::class::Class;
 use crate::hooks::HookKind;
 use crate::lines::BorrowedLine;
 use crate::tags::is_tag;
@@ -27,16 +28,17 @@ pub struct Heading<'a> {
     pub tag: Option<&'a str>,
 }
 
-/// The class of a line in a hooks file.
+/// The class in a hooks file of a line that has this one in a feature file.
 #[tactic(auto, unfolding(crate::specs::HookHeadings::hooks_class))]
-pub fn hooks_class(line: &BorrowedLine<'_>) -> HooksClass
+pub fn hooks_class(line: &BorrowedLine<'_>, class: Class) -> HooksClass
+    requires { class ≡ words.class (borrowed_value line.now) }
     ensures { result ≡ spec.hooks_class (borrowed_value line.now) }
 {
     let text = trim(line.text);
     if begins(text, "before_") || begins(text, "after_") {
         HooksClass::HookLine
     } else {
-        HooksClass::Plain(class_of_line(line))
+        HooksClass::Plain(class)
     }
 }
 

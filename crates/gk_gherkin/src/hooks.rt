@@ -1,4 +1,7 @@
 //! What a hooks file says. Tags stand with their `@`. Lines are counted from 1.
+ghost use Rattle.std.specs.Prelude.{option_copied, option_map, ◌≡◌};
+ghost use Rattle.std.specs.String.{string_bytes};
+ghost use Rattle.gk_gherkin.specs.Hooks as spec;
 
 use crate::feature::Step;
 
@@ -31,4 +34,33 @@ pub struct Hook {
 #[derive(Debug, Drop)]
 pub struct HookFile {
     pub hooks: Vec<Hook>,
+}
+
+impl Hook {
+    /// Whether the hook is for this kind and this tag; with no tag, whether it is for this kind and has
+    /// none. (this project's profile)
+    pub fn is_for(&self, kind: HookKind, tag: Option<&str>) -> bool
+        ensures { result ≡ spec.is_for (spec.hook_value self.now) kind (option_copied tag.entry) }
+    {
+        is_same_kind(self.kind, kind) && is_same_tag(&self.tag, tag)
+    }
+}
+
+fn is_same_kind(a: HookKind, b: HookKind) -> bool
+    ensures { result ≡ spec.is_same_kind a b }
+{
+    a == b
+}
+
+fn is_same_tag(a: &Option<String>, b: Option<&str>) -> bool
+    ensures { result
+        ≡ spec.is_same_tag (option_map string_bytes a.now) (option_copied b.entry) }
+{
+    match a {
+        None => b.is_none(),
+        Some(tag) => match b {
+            None => false,
+            Some(other) => tag.as_str() == other,
+        },
+    }
 }

@@ -6,29 +6,26 @@
 mod class;
 mod doc_strings;
 mod feature;
+mod feature_place;
 mod grammar;
 mod hook_headings;
 mod hooks;
-mod hooks_machine;
-mod hooks_reader;
+mod hooks_grammar;
+mod hooks_place;
 mod language;
 mod lines;
-mod machine;
+mod open_parts;
 mod read_fault;
-mod reader;
+mod reading;
 mod rows;
-mod states;
 mod step_types;
 mod tags;
 pub mod text;
 
 pub use feature::{Background, Block, Examples, Feature, Row, Rule, Scenario, Step, StepType};
-pub use grammar::{
-    fault_is_unique, hooks_reading_is_unique, parts_are_concatenations, reading_is_unique,
-};
+pub use grammar::{fault_is_unique, parts_are_concatenations, read_feature, reading_is_unique};
 pub use hooks::{Hook, HookFile, HookKind};
-pub use hooks_reader::read_hooks;
+pub use hooks_grammar::{hooks_reading_is_unique, read_hooks};
 pub use lines::{BorrowedLine, Document, LIMIT, Line, Place, borrowed_line, read_lines, text_of};
 pub use read_fault::{ReadFault, Refused};
-pub use reader::read_feature;
 pub use text::trim_back;

@@ -3,7 +3,7 @@ ghost use Rattle.std.specs.Prelude.{Ok, ◌≡◌, ◌≤◌, ◌<◌, ◌++◌,
 ghost use Rattle.std.specs.String.{string_bytes};
 ghost use Rattle.gk_gherkin.specs.Lines.{borrowed_value};
 ghost use Rattle.gk_gherkin.specs.Feature.{found_texts};
-ghost use Rattle.gk_gherkin.specs.Machine.{Gives};
+ghost use Rattle.gk_gherkin.specs.Gives.{Gives};
 ghost use Rattle.gk_gherkin.specs.Rows as spec;
 
 use crate::lines::BorrowedLine;

@@ -2,7 +2,7 @@
 ghost use Rattle.std.specs.Prelude.{Ok, IfOk, IfErr, ◌≡◌, ◌++◌, ◌∷◌, []};
 ghost use Rattle.gk_gherkin.specs.Lines.{borrowed_value};
 ghost use Rattle.gk_gherkin.specs.Feature.{found_texts, texts};
-ghost use Rattle.gk_gherkin.specs.Machine.{Gives};
+ghost use Rattle.gk_gherkin.specs.Gives.{Gives};
 ghost use Rattle.gk_gherkin.specs.ReadFault.{BeginsWithTag};
 ghost use Rattle.gk_gherkin.specs.Tags as spec;
 ghost use Rattle.gk_gherkin.specs.declared.read_fault.ReadFault.TheVariants.{Memory};

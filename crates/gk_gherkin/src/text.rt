@@ -108,3 +108,10 @@ pub(crate) fn begins_word(text: &str, word: &str) -> bool
     let word = word.as_bytes();
     bytes.starts_with(word) && word.len() < bytes.len() && is_blank(bytes[word.len()])
 }
+
+/// Whether a text stands in another. The empty text stands in every text.
+pub fn stands_in(text: &str, whole: &str) -> bool
+    ensures { result ≡ spec.stands_in text.now whole.now }
+{
+    whole.contains(text)
+}

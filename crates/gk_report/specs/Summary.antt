@@ -76,7 +76,7 @@ IsStatusOf summary around number = (rows : List FeatureRow) → summary ≡ summ
 abbrev pub CountsOneMore : Summary → FeatureRow → Summary → Type 0
 CountsOneMore old row new = (rows : List FeatureRow) → old ≡ summary_of rows → new ≡ summary_of (rows ++ row ∷ [])
 
--- Proof machinery from here on: counting one status after the other. One more, up to the greatest number.
+-- One more, up to the greatest number.
 abbrev pub raised : ℕ → ℕ
 raised n = min (n + 1) greatest
 

@@ -1,9 +1,9 @@
 //! The plain report: the lines of a feature, and the closing lines, which it shares with progress.
-ghost use Rattle.std.specs.Prelude.{[], map, flat_map, codes, cond};
+ghost use Rattle.std.specs.Prelude.{[], ◌++◌, map, flat_map, codes, cond};
 ghost use Rattle.gk_run.specs.Results.{step_row, case_row, feature_row};
-ghost use Rattle.gk_report.specs.ReportTexts.{is_hidden, printed_cases, Pushes, AnswersText};
+ghost use Rattle.gk_report.specs.ReportTexts.{is_hidden, printed_cases, line_feed, Pushes, AnswersText};
 ghost use Rattle.gk_report.specs.PlainReport as spec;
-ghost use Rattle.gk_report.specs.PlainReport.{step_verdict, step_line, status_line, case_line, around_line, case_lines, feature_line, counted, counted_if_any, passed_part, undefined_part, count_line, closing_lines};
+ghost use Rattle.gk_report.specs.PlainReport.{step_verdict, step_line, case_line, around_line, case_lines, feature_line, counted, counted_if_any, passed_part, undefined_part, count_line, closing_lines};
 
 use crate::report_texts::{hides, push_one_line, reason_text, status_text};
 use crate::summary::{Counts, Summary};
@@ -21,27 +21,48 @@ fn push_verdict(out: &mut String, status: Status, reason: Option<Reason>) -> Res
     Ok(())
 }
 
+// What a line of a status ends with.
+#[inline(always)]
+fn push_ending(out: &mut String, status: Status, reason: Option<Reason>) -> Result<(), AllocError>
+    ensures { Pushes out.old
+        (codes " ... " ++ step_verdict status reason ++ line_feed) result out.new }
+{
+    out.push_str(" ... ")?;
+    push_verdict(out, status, reason)?;
+    out.push_str("\n")
+}
+
+// A keyword after an indent, with what stands behind it.
+#[inline(always)]
+fn push_keyword(
+    out: &mut String,
+    indent: &str,
+    keyword: &str,
+    behind: &str,
+) -> Result<(), AllocError>
+    ensures { Pushes out.old (indent.now ++ keyword.now ++ behind.now) result out.new }
+{
+    out.push_str(indent)?;
+    out.push_str(keyword)?;
+    out.push_str(behind)
+}
+
 #[tactic(auto, unfolding(crate::specs::PlainReport::status_line, crate::specs::PlainReport::step_line))]
 fn push_step(out: &mut String, step: &StepResult) -> Result<(), AllocError>
     ensures { Pushes out.old (step_line (step_row step.now)) result out.new }
 {
-    write!(out, "    {} ", step.keyword)?;
+    push_keyword(out, "    ", step.keyword.as_str(), " ")?;
     push_one_line(out, step.text.as_str())?;
-    out.push_str(" ... ")?;
-    push_verdict(out, step.status, step.reason)?;
-    out.push_str("\n")?;
-    Ok(())
+    push_ending(out, step.status, step.reason)
 }
 
 #[tactic(auto, unfolding(crate::specs::PlainReport::status_line, crate::specs::PlainReport::case_line))]
 fn push_case_line(out: &mut String, case: &CaseResult) -> Result<(), AllocError>
     ensures { Pushes out.old (case_line (case_row case.now)) result out.new }
 {
-    write!(out, "  {}: ", case.keyword)?;
+    push_keyword(out, "  ", case.keyword.as_str(), ": ")?;
     push_one_line(out, case.name.as_str())?;
-    let status = status_text(case.status);
-    write!(out, " ... {status}\n")?;
-    Ok(())
+    push_ending(out, case.status, None)
 }
 
 // The line of hooks and cleanups, unless they passed.
@@ -49,13 +70,12 @@ fn push_case_line(out: &mut String, case: &CaseResult) -> Result<(), AllocError>
 fn push_around(out: &mut String, indent: &str, around: Status) -> Result<(), AllocError>
     ensures { Pushes out.old (around_line indent.now around) result out.new }
 {
-    if around != Status::Passed {
-        out.push_str(indent)?;
-        out.push_str("(hooks and cleanups)")?;
-        let status = status_text(around);
-        write!(out, " ... {status}\n")?;
+    if around == Status::Passed {
+        return Ok(());
     }
-    Ok(())
+    out.push_str(indent)?;
+    out.push_str("(hooks and cleanups)")?;
+    push_ending(out, around, None)
 }
 
 fn push_case(out: &mut String, case: &CaseResult) -> Result<(), AllocError>
@@ -75,9 +95,7 @@ fn push_feature_line(out: &mut String, feature: &FeatureResult) -> Result<(), Al
 {
     out.push_str("Feature: ")?;
     push_one_line(out, feature.name.as_str())?;
-    let status = status_text(feature.status);
-    write!(out, " ... {status}\n")?;
-    Ok(())
+    push_ending(out, feature.status, None)
 }
 
 // The lines of a scenario, unless it is hidden.

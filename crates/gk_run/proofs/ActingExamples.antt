@@ -11,8 +11,8 @@ use Rattle.gk_steps.specs.Finding.{LibraryValue, FoundValue}
 use Rattle.gk_world.specs.State.{State, nothing, with_text, see}
 use Rattle.gk_world.specs.Refusals.{is_too_long}
 use Rattle.gk_run.specs.declared.results.Reason.TheVariants as reasons
-use Rattle.gk_run.specs.Numbers.{number_of}
-use Rattle.gk_run.specs.Acting.{carried_out, given, Given, passes, fails, table, with_file, without_file, with_env, without_env, with_own, without_own, unless}
+use Rattle.gk_steps.specs.Decimal.{number_of}
+use Rattle.gk_run.specs.Acting.{carried_out, files_of, given, Given, passes, fails, table, with_file, without_file, with_env, without_env, with_own, without_own, unless}
 
 -- a file, a variable, a value of an outer layer, and one of the innermost
 abbrev start : State
@@ -97,6 +97,12 @@ rename_itself = refl
 rename_absent : table actions.RenameFile (renaming (codes "b") []) start ≡ fails start reasons.Absent
 rename_absent = refl
 
+rename_writes_one_file : files_of actions.RenameFile (renaming (codes "a") (codes "b")) start ≡ (codes "b", codes "one") ∷ []
+rename_writes_one_file = refl
+
+rename_to_itself_writes_none : files_of actions.RenameFile (renaming (codes "a") (codes "a")) start ≡ []
+rename_to_itself_writes_none = refl
+
 rename_bad_name : table actions.RenameFile (renaming (codes "a") []) start ≡ fails start reasons.BadName
 rename_bad_name = refl
 
@@ -106,8 +112,12 @@ write_files = refl
 write_files_head_alone : table actions.WriteFiles (under (Table (two (codes "name") (codes "text") ∷ []))) start ≡ passes start
 write_files_head_alone = refl
 
-write_files_in_the_middle : table actions.WriteFiles (under (Table (two (codes "name") (codes "text") ∷ two (codes "b") (codes "1") ∷ two [] (codes "2") ∷ two (codes "c") (codes "3") ∷ []))) start ≡ record (fails (with_file start (codes "b") (codes "1")) reasons.BadName) { begun = true }
+write_files_in_the_middle : table actions.WriteFiles (under (Table (two (codes "name") (codes "text") ∷ two (codes "b") (codes "1") ∷ two [] (codes "2") ∷ two (codes "c") (codes "3") ∷ []))) start ≡ record (fails (with_file start (codes "b") (codes "1")) reasons.BadName) { part_passed = true }
 write_files_in_the_middle = refl
+
+-- memory may be refused before the row that is refused, with one file written, and not beyond it
+write_files_up_to_the_refused : files_of actions.WriteFiles (under (Table (two (codes "name") (codes "text") ∷ two (codes "b") (codes "1") ∷ two [] (codes "2") ∷ two (codes "c") (codes "3") ∷ []))) start ≡ (codes "b", codes "1") ∷ []
+write_files_up_to_the_refused = refl
 
 write_files_no_table : table actions.WriteFiles (under Empty) start ≡ fails start reasons.NoTable
 write_files_no_table = refl

@@ -1,11 +1,11 @@
 -- What the world's changes and answers are to the table of actions.
-use Rattle.std.specs.Prelude.{⊤, ℤ, pos, ◌+ℤ◌, not, ◌==◌, String, string_bytes, FitsSigned, cond, option_map, ◌&&◌, Option, Some, None, Result, Ok, Err, OnOk, OnErr, map, unwrap_or, is_none}
+use Rattle.std.specs.Prelude.{⊤, ℤ, pos, negsuc, ◌+ℤ◌, if◌then◌else◌, not, ◌==◌, String, string_bytes, FitsSigned, cond, option_map, ◌&&◌, Option, Some, None, Result, Ok, Err, OnOk, OnErr, map, unwrap_or, is_none}
 use Rattle.std.specs.FinMap as finite
 use Rattle.std.specs.FinMap.{get-insert, get-remove}
-use Rattle.std.specs.Str.Parse.{signed_digits_value}
+use Rattle.std.specs.Str.Parse.{signed_digits_value, without_leading_sign}
 use Rattle.std.specs.Fmt.{signed_decimal}
 use Rattle.std.proofs.Common.{inl, inr, ◌≢◌, ◌≤◌, Vec, Global, vec_len, get_or, drop-cons, add-one, w64, ◌≡◌, ℕ, suc, ◌+◌, ◌<◌, Bool, true, false, List, [], ◌∷◌, length, drop, refl, sym, ap, subst, ◌∙◌, arith}
-use Rattle.std.proofs.lemmas.Bool.{eqb-true}
+use Rattle.std.proofs.lemmas.Bool.{eqb-true, leb-true, le-leb, true≢false}
 use Rattle.std.proofs.lemmas.Bool.Decides.{Decides-ltb}
 use Rattle.std.proofs.lemmas.List.{append-nil, length-map, drop_all}
 use Rattle.std.proofs.lemmas.Fmt.{length_signed_le}
@@ -23,13 +23,29 @@ use Rattle.gk_run.specs.declared.acting.Site.{Site}
 use Rattle.gk_run.specs.declared.acting.Site.TheVariants as sites
 use Rattle.gk_run.specs.declared.results.Reason.{Reason}
 use Rattle.gk_run.specs.declared.results.Reason.TheVariants as reasons
-use Rattle.gk_run.proofs.NumbersLemmas.{not_so, second_of, in_range_fits, fits_in_range}
+use Rattle.gk_steps.specs.Decimal.{is_number, is_numeral, number_of, is_i64}
 use Rattle.gk_steps.specs.declared.action.Action.{Action}
 use Rattle.gk_steps.specs.declared.action.Action.TheVariants as actions
 use Rattle.gk_steps.specs.Finding.{found_any, LibraryValue, FoundValue, action_of}
-use Rattle.gk_run.specs.Numbers.{is_number, number_of, is_in_range}
 use Rattle.gk_gherkin.specs.Feature.{BlockValue, texts}
-use Rattle.gk_run.specs.Acting.{IsActedWith, WritesFirst, WritesFile, row_file, files_of, Given, given, table, carried_out, act, at_site, done_of, without_cleanups, registers, registers_at, may_register, skips, CleanupValue, HasRegistered, changes_nothing, write_row, write_rows, have_two_cells, Done, add_number, is_pass, is_fail, is_refused, and_then, set_own, passes, fails, unless, unless_for, with_T, absent, differs, reason_of, outcome_of, IsExactly, IsDone, IsActed, IsText, HasText, IsNumber, lacks, not_number, differs_from, with_file, without_file, with_env, without_env, with_own, without_own}
+use Rattle.gk_run.specs.Acting.{IsActedWith, WritesFirst, WritesFile, row_file, first_file, rows_files, files_of, Given, given, table, carried_out, act, at_site, done_of, without_cleanups, registers, registers_at, may_register, skips, CleanupValue, HasRegistered, changes_nothing, write_row, write_rows, have_two_cells, Done, add_number, is_pass, is_fail, is_refused, and_then, set_own, passes, fails, unless, unless_for, with_T, absent, differs, outcome_of, IsExactly, IsDone, IsActed, IsText, HasText, IsNumber, lacks, not_number, differs_from, with_file, without_file, with_env, without_env, with_own, without_own}
+
+not_so : (b : Bool) (P : Type 0) → (b ≡ true → P) → (P → ⊥) → b ≡ false
+not_so true P so never = absurd (never (so refl))
+not_so false P so never = refl
+
+second_of : (a b : Bool) → (a && b) ≡ true → b ≡ true
+second_of true b h = h
+second_of false b h = absurd (true≢false (sym h))
+
+-- a number that an `i64` holds
+fits_test : (z : ℤ) → FitsSigned w64 z → is_i64 z ≡ true
+fits_test (pos n) fits = le-leb n 9223372036854775807 (omega (arith, fits.sfits))
+fits_test (negsuc n) fits = le-leb n 9223372036854775807 (omega (arith, fits.sfits))
+
+fits_so : (z : ℤ) → is_i64 z ≡ true → FitsSigned w64 z
+fits_so (pos n) h = let within = leb-true n 9223372036854775807 h in record { sfits = omega arith }
+fits_so (negsuc n) h = let within = leb-true n 9223372036854775807 h in record { sfits = omega arith }
 
 -- a map with a text put in
 inserted : (m : Texts) (name text : List ℕ) → finite.get (finite.insert m name text) ≡ with_text (finite.get m) name text
@@ -66,6 +82,14 @@ value_removed_in c (v ∷ vs) e some name = rw e (ap (λ (m : Map). let s : Stat
 pub value_removed : (c : Contents) → 0 < length c.values → (name : List ℕ) → state_of (changes.without_value c name) ≡ without_own (state_of c) name
 value_removed c some name = value_removed_in c c.values refl some name
 
+-- a refusal of the world as a reason; memory has none, and is in no list of tests
+abbrev pub reason_of : WorldFault → Reason
+reason_of faults.Absent = reasons.Absent
+reason_of faults.TextTooLong = reasons.TextTooLong
+reason_of faults.BadName = reasons.BadName
+reason_of faults.OtherLayer = reasons.OtherLayer
+reason_of faults.Memory = reasons.Absent
+
 -- the world's tests with the reasons of their faults
 abbrev pub reasons_of : List (Bool × WorldFault) → List (Bool × Reason)
 reasons_of ws = map (λ w. (w.0, reason_of w.1)) ws
@@ -94,12 +118,12 @@ acted_so : (ws : List (Bool × WorldFault)) (r : Result ⊤ WorldFault) (old new
     → IsActed (unless (state_of old.now) (reasons_of ws) after) old (outcome_of r) new
 acted_so ws (Ok x) old new changed after ok answer err e = record {
   carried_out = carried (state_of old.now) ws after (state_of new.now) answer (ap state_of ok.contents ∙ e);
-  layers = record { saved = ok.layers; marks = ok.marks };
+  layers = record { layers = ok.layers; marks = ok.marks };
   kept = λ m. let no : ⊥ = cc in absurd no;
 }
 acted_so ws (Err fault) old new changed after ok answer err e =
     let P : SandboxValue → Type 0 = λ v. IsActed (unless (state_of old.now) (reasons_of ws) after) old (outcome_of {A = ⊤} (Err fault)) v in
-    subst P (sym err) (record { carried_out = refused (state_of old.now) ws after fault answer; layers = record { saved = refl; marks = refl }; kept = λ m. refl })
+    subst P (sym err) (record { carried_out = refused (state_of old.now) ws after fault answer; layers = record { layers = refl; marks = refl }; kept = λ m. refl })
 
 -- a change of the world by one call
 pub acted : (ws : List (Bool × WorldFault)) (r : Result ⊤ WorldFault) (o : Outcome) (old new : SandboxValue) (changed : Contents) (after : State) → o ≡ outcome_of r
@@ -147,10 +171,10 @@ pub exact_done : (done : Done) (o : Outcome) (s : State) → IsExactly done o s 
 exact_done done outcomes.Passed s h = h
 exact_done done outcomes.Skip s h = h
 exact_done done (outcomes.Failed why) s h = h
-exact_done done outcomes.Memory s h = ap (λ o. not done.begun && is_fail o) (sym h.0) ∙ and_false (not done.begun)
+exact_done done outcomes.Memory s h = ap (λ o. not done.part_passed && is_fail o) (sym h.0) ∙ and_false (not done.part_passed)
 
 pub unchanged : (done : Done) (old : SandboxValue) (o : Outcome) → IsExactly done o (state_of old.now) → IsActed done old o old
-unchanged done old o h = record { carried_out = exact_done done o (state_of old.now) h; layers = record { saved = refl; marks = refl }; kept = λ m. refl }
+unchanged done old o h = record { carried_out = exact_done done o (state_of old.now) h; layers = record { layers = refl; marks = refl }; kept = λ m. refl }
 
 -- the text that is held, by its look-up
 pub text_checked : (held looked : Option (List ℕ)) (text : Option (List ℕ)) (o : Outcome) (s : State) → held ≡ looked → IsText held text o
@@ -166,14 +190,14 @@ pub number_checked : (held looked : Option (List ℕ)) (n : ℤ) (o : Outcome) (
 number_checked held looked n o s e h = let P : Option (List ℕ) → Type 0 = λ x. IsNumber x n o in subst P e h s
 
 -- a part that comes after one that passed
-pub went_on : (d : Done) (o : Outcome) (s : State) → IsDone d o s → IsDone (record d { begun = true }) o s
+pub went_on : (d : Done) (o : Outcome) (s : State) → IsDone d o s → IsDone (record d { part_passed = true }) o s
 went_on d outcomes.Passed s h = h
 went_on d outcomes.Skip s h = h
 went_on d (outcomes.Failed why) s h = h
 went_on d outcomes.Memory s h = refl
 
 -- where memory may be refused in the first of two parts, it may be in both
-may_end : (b : Bool) (this next : Done) → is_refused this ≡ false → is_refused (cond b (record next { begun = true }) this) ≡ false
+may_end : (b : Bool) (this next : Done) → is_refused this ≡ false → is_refused (cond b (record next { part_passed = true }) this) ≡ false
 may_end true this next h = refl
 may_end false this next h = h
 
@@ -183,20 +207,22 @@ none_written [] old new same = same
 none_written (file ∷ files) old new same = inl same
 
 -- an action in two parts, of which the first wrote a file and passed
-pub part_passes : (file : List ℕ × List ℕ) (files : List (List ℕ × List ℕ)) (this : Done) (next : State → Done) (old mid new : SandboxValue) (written o : Outcome) → written ≡ outcomes.Passed
-    → IsActed this old written mid → WritesFile file old written mid → IsActedWith files (next (state_of mid.now)) mid o new
-    → IsActedWith (file ∷ files) (and_then this (next this.state)) old o new
+pub part_passes : (file : List ℕ × List ℕ) (files : State → List (List ℕ × List ℕ)) (this : Done) (next : State → Done) (old mid new : SandboxValue) (written o : Outcome) → written ≡ outcomes.Passed
+    → IsActed this old written mid → WritesFile file old written mid → IsActedWith (files (state_of mid.now)) (next (state_of mid.now)) mid o new
+    → IsActedWith (first_file this file (files this.state)) (and_then this (next this.state)) old o new
 part_passes file files this next old mid new written o is h puts k =
     let W : Outcome → Type 0 = λ w. IsActed this old w mid in
     let first : IsActed this old outcomes.Passed mid = subst W is h in
-    let P : State → Type 0 = λ s. IsActedWith files (next s) mid o new in
-    let second : IsActedWith files (next this.state) mid o new = subst P first.carried_out.1 k in
+    let P : State → Type 0 = λ s. IsActedWith (files s) (next s) mid o new in
+    let second : IsActedWith (files this.state) (next this.state) mid o new = subst P first.carried_out.1 k in
     let Q : Done → Type 0 = λ d. IsDone d o (state_of new.now) in
-    let e : record (next this.state) { begun = true } ≡ and_then this (next this.state) = ap (λ p. cond (is_pass p) (record (next this.state) { begun = true }) this) first.carried_out.0 in
+    let R : List (List ℕ × List ℕ) → Type 0 = λ fs. WritesFirst fs old new in
+    let e : record (next this.state) { part_passed = true } ≡ and_then this (next this.state) = ap (λ p. cond (is_pass p) (record (next this.state) { part_passed = true }) this) first.carried_out.0 in
+    let f : file ∷ files this.state ≡ first_file this file (files this.state) = ap (λ p. cond (is_pass p) (file ∷ files this.state) []) first.carried_out.0 in
     record {
       carried_out = subst Q e (went_on (next this.state) o (state_of new.now) second.carried_out);
-      layers = record { saved = second.layers.saved ∙ first.layers.saved; marks = second.layers.marks ∙ first.layers.marks };
-      kept = λ m. inr (mid, puts is, k.kept m);
+      layers = record { layers = second.layers.layers ∙ first.layers.layers; marks = second.layers.marks ∙ first.layers.marks };
+      kept = λ m. subst R f (inr (mid, puts is, second.kept m));
     }
 
 -- an action in two parts, which ended with the first
@@ -204,12 +230,12 @@ pub part_ends : (files : List (List ℕ × List ℕ)) (this next : Done) (old ne
 part_ends files this next old new outcomes.Passed never h = absurd (never refl)
 part_ends files this next old new outcomes.Skip never h =
     let Q : Done → Type 0 = λ d. IsDone d outcomes.Skip (state_of new.now) in
-    let e : this ≡ and_then this next = ap (λ p. cond (is_pass p) (record next { begun = true }) this) h.carried_out.0 in
+    let e : this ≡ and_then this next = ap (λ p. cond (is_pass p) (record next { part_passed = true }) this) h.carried_out.0 in
     record { carried_out = subst Q e h.carried_out; layers = h.layers; kept = λ m. none_written files old new (h.kept m) }
 part_ends files this next old new outcomes.Memory never h = record { carried_out = may_end (is_pass this.outcome) this next h.carried_out; layers = h.layers; kept = λ m. none_written files old new (h.kept m) }
 part_ends files this next old new (outcomes.Failed why) never h =
     let Q : Done → Type 0 = λ d. IsDone d (outcomes.Failed why) (state_of new.now) in
-    let e : this ≡ and_then this next = ap (λ p. cond (is_pass p) (record next { begun = true }) this) h.carried_out.0 in
+    let e : this ≡ and_then this next = ap (λ p. cond (is_pass p) (record next { part_passed = true }) this) h.carried_out.0 in
     record { carried_out = subst Q e h.carried_out; layers = h.layers; kept = λ m. none_written files old new (h.kept m) }
 
 -- a number's text is short
@@ -247,7 +273,7 @@ rows_left rows i row some is =
 
 -- rows in turn, as files that are written
 abbrev pub RowsActed : List RowInMemory → SandboxValue → Outcome → SandboxValue → Type 0
-RowsActed rows old o new = let rs = map (λ (row : RowInMemory). texts row.items) rows in IsActedWith (map row_file rs) (write_rows (state_of old.now) rs) old o new
+RowsActed rows old o new = let rs = map (λ (row : RowInMemory). texts row.items) rows in IsActedWith (rows_files (state_of old.now) rs) (write_rows (state_of old.now) rs) old o new
 
 -- a row that was written, before the others
 pub row_passed : (rows : List RowInMemory) (i : ℕ) (row : RowInMemory) (held : List (String Global)) (old mid new : SandboxValue) (written o : Outcome) → i < length rows → row ≡ get_or rows i row → held ≡ row.items
@@ -258,7 +284,7 @@ row_passed rows i row held old mid new written o some is items passed h puts k =
     let W : List (String Global) → Type 0 = λ cs. WritesFile (row_file (texts cs)) old written mid in
     let left = map (λ (row : RowInMemory). texts row.items) (drop (i + 1) rows) in
     subst (λ (rs : List RowInMemory). RowsActed rs old o new) (sym (rows_left rows i row some is))
-    (part_passes (row_file (cells row)) (map row_file left) (write_row (state_of old.now) (cells row)) (λ s. write_rows s left) old mid new written o passed (subst P items h) (subst W items puts) k)
+    (part_passes (row_file (cells row)) (λ s. rows_files s left) (write_row (state_of old.now) (cells row)) (λ s. write_rows s left) old mid new written o passed (subst P items h) (subst W items puts) k)
 
 -- a row that ended the writing
 pub row_ended : (rows : List RowInMemory) (i : ℕ) (row : RowInMemory) (held : List (String Global)) (old new : SandboxValue) (o : Outcome) → i < length rows → row ≡ get_or rows i row → held ≡ row.items
@@ -266,12 +292,12 @@ pub row_ended : (rows : List RowInMemory) (i : ℕ) (row : RowInMemory) (held : 
 row_ended rows i row held old new o some is items never h =
     let P : List (String Global) → Type 0 = λ cs. IsActed (write_row (state_of old.now) (texts cs)) old o new in
     subst (λ (rs : List RowInMemory). RowsActed rs old o new) (sym (rows_left rows i row some is))
-    (part_ends (map row_file (cells row ∷ map (λ (row : RowInMemory). texts row.items) (drop (i + 1) rows))) (write_row (state_of old.now) (cells row)) (write_rows ((write_row (state_of old.now) (cells row)).state) (map (λ row. texts row.items) (drop (i + 1) rows))) old new o never (subst P items h))
+    (part_ends (rows_files (state_of old.now) (cells row ∷ map (λ (row : RowInMemory). texts row.items) (drop (i + 1) rows))) (write_row (state_of old.now) (cells row)) (write_rows ((write_row (state_of old.now) (cells row)).state) (map (λ row. texts row.items) (drop (i + 1) rows))) old new o never (subst P items h))
 
 -- no row is left
 pub rows_end : (rows : List RowInMemory) (i : ℕ) (s : SandboxValue) → length rows ≤ i → RowsActed (drop i rows) s outcomes.Passed s
 rows_end rows i s none =
-    subst (λ (rs : List RowInMemory). RowsActed rs s outcomes.Passed s) (sym (drop_all i rows none)) (record { carried_out = (refl, refl); layers = record { saved = refl; marks = refl }; kept = λ m. refl })
+    subst (λ (rs : List RowInMemory). RowsActed rs s outcomes.Passed s) (sym (drop_all i rows none)) (record { carried_out = (refl, refl); layers = record { layers = refl; marks = refl }; kept = λ m. refl })
 
 -- a row of two cells, before the others
 pub two_more : (rows : List RowInMemory) (i : ℕ) (row : RowInMemory) → i < length rows → row ≡ get_or rows i row → vec_len row ≡ 2
@@ -296,14 +322,14 @@ pub two_end : (rows : List RowInMemory) (i : ℕ) → length rows ≤ i → have
 two_end rows i none = ap (λ (rs : List RowInMemory). have_two_cells (map (λ row. texts row.items) rs)) (drop_all i rows none)
 
 -- a sum that no `i64` has
-pub not_in_range : (z : ℤ) → (FitsSigned w64 z → ⊥) → is_in_range z ≡ false
-not_in_range z never = not_so (is_in_range z) (FitsSigned w64 z) (in_range_fits z) never
+pub not_in_range : (z : ℤ) → (FitsSigned w64 z → ⊥) → is_i64 z ≡ false
+not_in_range z never = not_so (is_i64 z) (FitsSigned w64 z) (fits_so z) never
 
 abbrev sum_row : State → List ℕ → ℤ → Bool → Option ℤ → Done
 sum_row s name n bad number = let sum = unwrap_or number (pos 0) +ℤ n in
-    unless s ((bad, reasons.BadName) ∷ (false, reasons.Absent) ∷ (is_none number, reasons.NotNumber) ∷ (not (is_in_range sum), reasons.OutOfRange) ∷ []) (with_own s name (signed_decimal sum))
+    unless s ((bad, reasons.BadName) ∷ (false, reasons.Absent) ∷ (is_none number, reasons.NotNumber) ∷ (not (is_i64 sum), reasons.OutOfRange) ∷ []) (with_own s name (signed_decimal sum))
 
-out_of_range_row : (s : State) (name text : List ℕ) (n m : ℤ) → is_bad_name name ≡ false → number_of text ≡ Some m → is_in_range (m +ℤ n) ≡ false
+out_of_range_row : (s : State) (name text : List ℕ) (n m : ℤ) → is_bad_name name ≡ false → number_of text ≡ Some m → is_i64 (m +ℤ n) ≡ false
     → sum_row s name n (is_bad_name name) (number_of text) ≡ fails s reasons.OutOfRange
 out_of_range_row s name text n m good number far =
     let a = ap (λ b. sum_row s name n b (number_of text)) good in
@@ -312,16 +338,16 @@ out_of_range_row s name text n m good number far =
     a ∙ b ∙ c
 
 pub failed_acted : (files : List (List ℕ × List ℕ)) (old : SandboxValue) (why : Reason) → IsActedWith files (fails (state_of old.now) why) old (outcomes.Failed why) old
-failed_acted files old why = record { carried_out = (refl, refl); layers = record { saved = refl; marks = refl }; kept = λ m. none_written files old old refl }
+failed_acted files old why = record { carried_out = (refl, refl); layers = record { layers = refl; marks = refl }; kept = λ m. none_written files old old refl }
 
-pub out_of_range_acted : (old : SandboxValue) (name text : List ℕ) (looked : Option (List ℕ)) (n m : ℤ) → is_bad_name name ≡ false → Some text ≡ looked → number_of text ≡ Some m → is_in_range (m +ℤ n) ≡ false
+pub out_of_range_acted : (old : SandboxValue) (name text : List ℕ) (looked : Option (List ℕ)) (n m : ℤ) → is_bad_name name ≡ false → Some text ≡ looked → number_of text ≡ Some m → is_i64 (m +ℤ n) ≡ false
     → IsActed (add_number (state_of old.now) name looked n) old (outcomes.Failed reasons.OutOfRange) old
 out_of_range_acted old name text looked n m good is number far =
     let P : Option (List ℕ) → Type 0 = λ x. IsActed (add_number (state_of old.now) name x n) old (outcomes.Failed reasons.OutOfRange) old in
     let Q : Done → Type 0 = λ d. IsActed d old (outcomes.Failed reasons.OutOfRange) old in
     subst P is (subst Q (sym (out_of_range_row (state_of old.now) name text n m good number far)) (failed_acted [] old reasons.OutOfRange))
 
-in_range_row : (s : State) (name text : List ℕ) (n m : ℤ) → is_bad_name name ≡ false → number_of text ≡ Some m → is_in_range (m +ℤ n) ≡ true
+in_range_row : (s : State) (name text : List ℕ) (n m : ℤ) → is_bad_name name ≡ false → number_of text ≡ Some m → is_i64 (m +ℤ n) ≡ true
     → sum_row s name n (is_bad_name name) (number_of text) ≡ passes (with_own s name (signed_decimal (m +ℤ n)))
 in_range_row s name text n m good number near =
     let a = ap (λ b. sum_row s name n b (number_of text)) good in
@@ -333,7 +359,7 @@ in_range_row s name text n m good number near =
 pub sum_acted : (old new : SandboxValue) (o : Outcome) (name text : List ℕ) (looked : Option (List ℕ)) (n m sum : ℤ) → is_bad_name name ≡ false → Some text ≡ looked → number_of text ≡ Some m → sum ≡ m +ℤ n → FitsSigned w64 sum
     → IsActed (passes (with_own (state_of old.now) name (signed_decimal sum))) old o new → IsActed (add_number (state_of old.now) name looked n) old o new
 sum_acted old new o name text looked n m sum good is number e fits h =
-    let near : is_in_range (m +ℤ n) ≡ true = ap is_in_range (sym e) ∙ fits_in_range sum fits in
+    let near : is_i64 (m +ℤ n) ≡ true = ap is_i64 (sym e) ∙ fits_test sum fits in
     let S : ℤ → Type 0 = λ z. IsActed (passes (with_own (state_of old.now) name (signed_decimal z))) old o new in
     let P : Option (List ℕ) → Type 0 = λ x. IsActed (add_number (state_of old.now) name x n) old o new in
     let Q : Done → Type 0 = λ d. IsActed d old o new in
@@ -343,13 +369,15 @@ abbrev option_fits : Option ℤ → Type 0
 option_fits None = ⊤
 option_fits (Some z) = FitsSigned w64 z
 
-number_fits_in : (b : Bool) (v m : ℤ) → (b ≡ true → FitsSigned w64 v) → cond b (Some v) None ≡ Some m → FitsSigned w64 m
+number_fits_in : (b : Bool) (v m : ℤ) → (b ≡ true → FitsSigned w64 v) → (if b then Some v else None) ≡ Some m → FitsSigned w64 m
 number_fits_in true v m fits e = let P : Option ℤ → Type 0 = λ x. option_fits x in subst P e (fits refl)
 number_fits_in false v m fits e = let never : ⊥ = cc in absurd never
 
 -- a text that is a number has one in range
 pub number_fits : (text : List ℕ) (m : ℤ) → number_of text ≡ Some m → FitsSigned w64 m
-number_fits text m e = number_fits_in (is_number text) (signed_digits_value 10 text) m (λ yes. in_range_fits (signed_digits_value 10 text) (second_of _ (is_in_range (signed_digits_value 10 text)) yes)) e
+number_fits text m e =
+    let v = signed_digits_value 10 text in
+    number_fits_in (is_number text) v m (λ yes. fits_so v (second_of (is_numeral (without_leading_sign text)) (is_i64 v) yes)) e
 
 -- the row of a step's action
 act_row : (library : LibraryValue) (f : FoundValue) (block : BlockValue) (s : State) (action : Action) (g : Given) → action ≡ action_of library f → g ≡ given library f block → table action g s ≡ carried_out library f block s

@@ -1,6 +1,6 @@
 -- What the loops of a dry run come to.
 use Rattle.std.specs.List.{list_any}
-use Rattle.std.proofs.Common.{Bool, List, [], ap, append_assoc, cond, false, is_some, map, refl, subst, suc, sym, true, ◌++◌, ◌||◌, ◌∙◌, ◌∷◌, ◌≡◌}
+use Rattle.std.proofs.Common.{Bool, List, [], ap, append_assoc, cond, false, inl, inr, is_some, map, refl, subst, suc, sym, true, ◌++◌, ◌||◌, ◌∙◌, ◌∷◌, ◌≡◌}
 use Rattle.std.proofs.lemmas.List.{append-nil}
 use Rattle.gk_gherkin.specs.Feature.{StepValue}
 use Rattle.gk_select.specs.Case.{CaseValue}
@@ -11,9 +11,9 @@ use Rattle.gk_run.specs.declared.results.Outcome.TheVariants as outcomes
 use Rattle.gk_run.specs.declared.results.Status.{Status}
 use Rattle.gk_run.specs.declared.results.Status.TheVariants as statuses
 use Rattle.gk_run.specs.Running.{row_of_case, unrun_row, unselected_row, marks_of}
-use Rattle.gk_run.specs.Walk.{row_of_step}
+use Rattle.gk_run.specs.Walk.{row_of_step, looked_up, IsLookedUp}
 use Rattle.gk_run.specs.Chosen.{ChosenValue, MemberValue}
-use Rattle.gk_run.specs.DryRun.{AreDrySteps, IsDryStep, dry_case_of, dry_cases_of, dry_events, dry_feature_of, dry_mark, dry_row, dry_verdict}
+use Rattle.gk_run.specs.DryRun.{AreDrySteps, IsDryStep, dry_case_of, dry_cases_of, dry_events, dry_feature_of, dry_row, dry_verdict}
 use Rattle.gk_run.specs.Ending.{is_memory_mark}
 use Rattle.gk_run.specs.Features.{FeatureCuts, case_statuses, feature_verdict}
 use Rattle.gk_run.specs.Results.{CaseRow, FeatureRow, StepRow}
@@ -22,17 +22,32 @@ use Rattle.gk_run.proofs.EndingLemmas.{cut_is_memory}
 
 -- ---- the steps of a case
 
-one_more : (library : LibraryValue) (refused next : Bool) (step : StepValue) (steps : List StepValue) (m : Mark) → IsDryStep library refused step m next → (more : List StepRow) (e : Bool) → AreDrySteps library next steps more e →
-    AreDrySteps library refused (step ∷ steps) (row_of_step step m ∷ more) e
-one_more library true next step steps m t more e h =
-    let here = subst (λ (x : Bool). AreDrySteps library x steps more e) t.1 h in
-    (ap (λ x. row_of_step step x ∷ more) t.0 ∙ ap (λ rs. row_of_step step Untested ∷ rs) here.0, here.1)
-one_more library false true step steps m t more e h =
-    let there : AreDrySteps library false (step ∷ steps) (row_of_step step m ∷ more) true = (0, refl, ap (λ x. row_of_step step x ∷ more) t ∙ ap (λ rs. row_of_step step (Acted outcomes.Memory) ∷ rs) h.0) in
-    subst (λ (x : Bool). AreDrySteps library false (step ∷ steps) (row_of_step step m ∷ more) x) (sym h.1) there
-one_more library false false step steps m t more true h =
-    (suc h.0, h.1, ap (λ x. row_of_step step x ∷ more) t ∙ ap (λ rs. row_of_step step (dry_mark library step) ∷ rs) h.2)
-one_more library false false step steps m t more false h = ap (λ x. row_of_step step x ∷ more) t ∙ ap (λ rs. row_of_step step (dry_mark library step) ∷ rs) h
+no_memory_mark : (b : Bool) → is_memory_mark (cond b Untested Undefined) ≡ false
+no_memory_mark true = refl
+no_memory_mark false = refl
+
+looked_more : (library : LibraryValue) (step : StepValue) (steps : List StepValue) (m : Mark) → m ≡ looked_up library Untested step → (more : List StepRow) (e : Bool) → AreDrySteps library false steps more e →
+    AreDrySteps library false (step ∷ steps) (row_of_step step m ∷ more) e
+looked_more library step steps m is more true h =
+    (suc h.0, h.1, ap (λ x. row_of_step step x ∷ more) is ∙ ap (λ rs. row_of_step step (looked_up library Untested step) ∷ rs) h.2)
+looked_more library step steps m is more false h = ap (λ x. row_of_step step x ∷ more) is ∙ ap (λ rs. row_of_step step (looked_up library Untested step) ∷ rs) h
+
+by_look : (library : LibraryValue) (next : Bool) (step : StepValue) (steps : List StepValue) (m : Mark) → IsLookedUp library Untested step m → next ≡ is_memory_mark m → (more : List StepRow) (e : Bool) → AreDrySteps library next steps more e →
+    AreDrySteps library false (step ∷ steps) (row_of_step step m ∷ more) e
+by_look library next step steps m (inl is) n more e h =
+    let here = subst (λ (x : Bool). AreDrySteps library x steps more e) (n ∙ ap is_memory_mark is) h in
+    let there : AreDrySteps library false (step ∷ steps) (row_of_step step m ∷ more) true = (0, refl, ap (λ x. row_of_step step x ∷ more) is ∙ ap (λ rs. row_of_step step (Acted outcomes.Memory) ∷ rs) here.0) in
+    subst (λ (x : Bool). AreDrySteps library false (step ∷ steps) (row_of_step step m ∷ more) x) (sym here.1) there
+by_look library next step steps m (inr is) n more e h =
+    let none = n ∙ ap is_memory_mark is ∙ no_memory_mark (is_some (found library step.step_type step.text)) in
+    looked_more library step steps m is more e (subst (λ (x : Bool). AreDrySteps library x steps more e) none h)
+
+one_more : (library : LibraryValue) (refused next : Bool) (step : StepValue) (steps : List StepValue) (m : Mark) → IsDryStep library refused step m → next ≡ (refused || is_memory_mark m) →
+    (more : List StepRow) (e : Bool) → AreDrySteps library next steps more e → AreDrySteps library refused (step ∷ steps) (row_of_step step m ∷ more) e
+one_more library true next step steps m t n more e h =
+    let here = subst (λ (x : Bool). AreDrySteps library x steps more e) n h in
+    (ap (λ x. row_of_step step x ∷ more) t ∙ ap (λ rs. row_of_step step Untested ∷ rs) here.0, here.1)
+one_more library false next step steps m t n more e h = by_look library next step steps m t n more e h
 
 -- whatever the steps that are left come to, all come to, with these rows before theirs
 abbrev pub GoesDrySteps : LibraryValue → Bool → List StepValue → List StepRow → List StepValue → Type 0
@@ -41,11 +56,11 @@ GoesDrySteps library refused left rows all = (more : List StepRow) (e : Bool) �
 pub dry_steps_first : (library : LibraryValue) (all : List StepValue) → GoesDrySteps library false all [] all
 dry_steps_first library all more e h = h
 
-pub dry_steps_on : (library : LibraryValue) (all : List StepValue) (refused next : Bool) (step : StepValue) (left : List StepValue) (m : Mark) (rows pushed : List StepRow) → IsDryStep library refused step m next →
-    pushed ≡ rows ++ row_of_step step m ∷ [] → GoesDrySteps library refused (step ∷ left) rows all → GoesDrySteps library next left pushed all
-dry_steps_on library all refused next step left m rows pushed t push whole more e h =
+pub dry_steps_on : (library : LibraryValue) (all : List StepValue) (refused next : Bool) (step : StepValue) (left : List StepValue) (m : Mark) (rows pushed : List StepRow) → IsDryStep library refused step m →
+    next ≡ (refused || is_memory_mark m) → pushed ≡ rows ++ row_of_step step m ∷ [] → GoesDrySteps library refused (step ∷ left) rows all → GoesDrySteps library next left pushed all
+dry_steps_on library all refused next step left m rows pushed t n push whole more e h =
     subst (λ rs. AreDrySteps library false all rs e) (sym (ap (λ rs. rs ++ more) push ∙ append_assoc rows (row_of_step step m ∷ []) more))
-    (whole (row_of_step step m ∷ more) e (one_more library refused next step left m t more e h))
+    (whole (row_of_step step m ∷ more) e (one_more library refused next step left m t n more e h))
 
 nothing_left : (library : LibraryValue) (refused : Bool) → AreDrySteps library refused [] [] refused
 nothing_left library true = (refl, refl)
@@ -57,14 +72,10 @@ dry_steps_last library all refused (step ∷ left) rows none whole = let no : �
 
 -- ---- a case
 
-no_memory_mark : (b : Bool) → is_memory_mark (cond b Untested Undefined) ≡ false
-no_memory_mark true = refl
-no_memory_mark false = refl
-
-no_memory : (library : LibraryValue) (steps : List StepValue) → list_any is_memory_mark (map (dry_mark library) steps) ≡ false
+no_memory : (library : LibraryValue) (steps : List StepValue) → list_any is_memory_mark (map (looked_up library Untested) steps) ≡ false
 no_memory library [] = refl
 no_memory library (step ∷ steps) =
-    ap (λ b. b || list_any is_memory_mark (map (dry_mark library) steps)) (no_memory_mark (is_some (found library step.step_type step.text))) ∙ no_memory library steps
+    ap (λ b. b || list_any is_memory_mark (map (looked_up library Untested) steps)) (no_memory_mark (is_some (found library step.step_type step.text))) ∙ no_memory library steps
 
 -- the row of a case with these results of its steps
 abbrev dry_row_by : CaseValue → Status → List StepRow → CaseRow
@@ -77,7 +88,7 @@ verdict_of refused = cond refused statuses.Memory statuses.Untested
 pub dry_is : (library : LibraryValue) (c : CaseValue) (rows : List StepRow) (refused : Bool) (status : Status) → status ≡ cond refused statuses.Memory statuses.Untested → AreDrySteps library false c.steps rows refused →
     (cut : Cut) × (record { keyword = c.keyword; name = c.name; line = c.line; status = status; around = statuses.Passed; cleanups = []; steps = rows } ≡ dry_row library cut c)
 dry_is library c rows false status s h =
-    let marks = map (dry_mark library) c.steps in
+    let marks = map (looked_up library Untested) c.steps in
     (nowhere, ap (λ x. dry_row_by c x rows) (s ∙ ap verdict_of (sym (no_memory library c.steps))) ∙ ap (dry_row_by c (verdict_of (list_any is_memory_mark marks))) h)
 dry_is library c rows true status s h =
     let n = h.0 in

@@ -1,4 +1,3 @@
-pub mod NumbersLemmas
 pub mod ActingLemmas
 pub mod ActingExamples
 pub mod RunningExamples

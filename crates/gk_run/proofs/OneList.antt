@@ -7,15 +7,16 @@ use Rattle.gk_steps.specs.Finding.{LibraryValue}
 use Rattle.gk_world.specs.State.{State, state_of}
 use Rattle.gk_run.specs.declared.ending.Ending.{Ending}
 use Rattle.gk_run.specs.declared.ending.Ending.TheVariants as endings
-use Rattle.gk_run.specs.declared.results.Mark.TheVariants.{Acted}
+use Rattle.gk_run.specs.declared.results.Mark.TheVariants.{Acted, Untested}
 use Rattle.gk_run.specs.declared.results.Status.{Status}
 use Rattle.gk_run.specs.declared.results.Status.TheVariants as statuses
 use Rattle.gk_run.specs.declared.section.Level.{Level}
 use Rattle.gk_run.specs.declared.section.Level.TheVariants as levels
 use Rattle.gk_run.specs.Run.{Run}
 use Rattle.gk_run.specs.Running.{all_marks, alone, reached_row, row_of_case, unreached_row, unselected_row, verdict_of}
+use Rattle.gk_run.specs.Walk.{looked_up}
 use Rattle.gk_run.specs.Chosen.{ChosenValue, MemberValue, has_selected}
-use Rattle.gk_run.specs.DryRun.{dry_case_of, dry_cases_of, dry_events, dry_feature_of, dry_features_of, dry_mark, dry_row, dry_verdict}
+use Rattle.gk_run.specs.DryRun.{dry_case_of, dry_cases_of, dry_events, dry_feature_of, dry_features_of, dry_row, dry_verdict}
 use Rattle.gk_run.specs.Ending.{around_status, ended_of, is_memory_mark, verdict_status}
 use Rattle.gk_run.specs.Features.{FeatureCuts, case_of, cases_of, feature_of, feature_row_of, features_of, first_or, happened_in, later, section_events, section_state, stays_open, uncut_feature}
 use Rattle.gk_run.specs.Judged.{Cuts, OneList, dry_results, has_memory, is_memory_case, is_memory_feature, results_from, uncut}
@@ -162,7 +163,7 @@ steps_uncut true n e place h = absurd (true≢false (sym (cut_is_memory e.steps 
 dry_uncut : (library : LibraryValue) (cut : Cut) (c : CaseValue) → (let es = dry_events library c in let e = happened cut es in list_any is_memory_mark e.steps ≡ false) → (let es = dry_events library c in happened cut es ≡ es)
 dry_uncut library nowhere c h = refl
 dry_uncut library (in_before n) c h = refl
-dry_uncut library (in_steps n) c h = steps_uncut (is_place n (map (dry_mark library) c.steps)) n (dry_events library c) refl h
+dry_uncut library (in_steps n) c h = steps_uncut (is_place n (map (looked_up library Untested) c.steps)) n (dry_events library c) refl h
 dry_uncut library (in_after n) c h = refl
 dry_uncut library (in_cleanups n) c h = refl
 

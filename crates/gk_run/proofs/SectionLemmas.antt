@@ -49,19 +49,19 @@ after_worse library endings.Passed s cs steps m = refl
 after_worse library endings.Failed s cs steps m = sym (after_ends library endings.Failed steps)
 after_worse library endings.Skipped s cs steps m = sym (after_ends library endings.Skipped steps)
 
-left_is : (library : LibraryValue) (b : Ending) (s : State) (cs : List CleanupValue) (steps : List StepValue) (rows : List StepRow) (e : Ending) (last : State) (ls : List CleanupValue) → (b ≡ endings.Memory → ⊥) →
+stepped_is : (library : LibraryValue) (b : Ending) (s : State) (cs : List CleanupValue) (steps : List StepValue) (rows : List StepRow) (e : Ending) (last : State) (ls : List CleanupValue) → (b ≡ endings.Memory → ⊥) →
     AreStepped library b s cs steps rows e last ls → AreStepsRun (steps_after library b s cs steps) b steps rows e last ls
-left_is library endings.Memory s cs steps rows e last ls m h = absurd (m refl)
-left_is library endings.Passed s cs steps rows e last ls m h = h
-left_is library endings.Failed s cs steps rows e last ls m h = h
-left_is library endings.Skipped s cs steps rows e last ls m h = h
+stepped_is library endings.Memory s cs steps rows e last ls m h = absurd (m refl)
+stepped_is library endings.Passed s cs steps rows e last ls m h = h
+stepped_is library endings.Failed s cs steps rows e last ls m h = h
+stepped_is library endings.Skipped s cs steps rows e last ls m h = h
 
-exact_left : (x : Steps) (b : Ending) (steps : List StepValue) (rows : List StepRow) (e : Ending) (last : State) (ls : List CleanupValue) → (e ≡ endings.Memory → ⊥) →
+exact_steps : (x : Steps) (b : Ending) (steps : List StepValue) (rows : List StepRow) (e : Ending) (last : State) (ls : List CleanupValue) → (e ≡ endings.Memory → ⊥) →
     AreStepsRun x b steps rows e last ls → (rows ≡ rows_of_steps steps x.marks) × (e ≡ ended_after b x.marks) × (last ≡ x.state) × (ls ≡ x.cleanups)
-exact_left x b steps rows endings.Memory last ls m h = absurd (m refl)
-exact_left x b steps rows endings.Passed last ls m h = h
-exact_left x b steps rows endings.Failed last ls m h = h
-exact_left x b steps rows endings.Skipped last ls m h = h
+exact_steps x b steps rows endings.Memory last ls m h = absurd (m refl)
+exact_steps x b steps rows endings.Passed last ls m h = h
+exact_steps x b steps rows endings.Failed last ls m h = h
+exact_steps x b steps rows endings.Skipped last ls m h = h
 
 -- the steps of a case in its own terms
 steps_are : (run : Run) (outside : State) (c : CaseValue) (b : Ending) (s : State) (cs : List CleanupValue) (rows : List StepRow) (e : Ending) (last : State) (ls : List CleanupValue) → (b ≡ endings.Memory → ⊥) →
@@ -73,7 +73,7 @@ steps_are run outside c b s cs rows e last ls m walked stepped =
     let lib = run.library in
     subst (λ l. AreStepsRun (steps_after lib (ended_of w.marks) w.state l c.steps) (ended_of w.marks) c.steps rows e last ls) x.2
     (subst (λ t. AreStepsRun (steps_after lib (ended_of w.marks) t cs c.steps) (ended_of w.marks) c.steps rows e last ls) x.1
-    (subst (λ p. AreStepsRun (steps_after lib p s cs c.steps) p c.steps rows e last ls) x.0 (left_is lib b s cs c.steps rows e last ls m stepped)))
+    (subst (λ p. AreStepsRun (steps_after lib p s cs c.steps) p c.steps rows e last ls) x.0 (stepped_is lib b s cs c.steps rows e last ls m stepped)))
 
 -- ---- memory was refused in the before list or in the steps
 
@@ -101,19 +101,19 @@ pub case_in_steps : (run : Run) (outside : State) (c : CaseValue) (b : Ending) (
 case_in_steps run outside c b s cs rows last ls m walked stepped =
     let w = begun run.library run.hooks levels.Scenario c.own_tags outside in
     let es = alone run outside c in
-    let left = steps_are run outside c b s cs rows endings.Memory last ls m walked stepped in
-    let n = left.0 in
+    let known_steps = steps_are run outside c b s cs rows endings.Memory last ls m walked stepped in
+    let n = known_steps.0 in
     let b_is = (exact w b s cs m walked).0 in
     let now : Events = record es { steps = cut_marks n es.steps; after = []; cleanups = [] } in
-    let is : now ≡ happened (in_steps n) es = cut_is (is_place n es.steps) now es left.1 in
-    let ends = memory_later w.marks (cut_marks n es.steps ++ []) (memory_first (cut_marks n es.steps) [] (cut_ends es.steps n left.1)) in
+    let is : now ≡ happened (in_steps n) es = cut_is (is_place n es.steps) now es known_steps.1 in
+    let ends = memory_later w.marks (cut_marks n es.steps ++ []) (memory_first (cut_marks n es.steps) [] (cut_ends es.steps n known_steps.1)) in
     let around : b ≡ ended_of (w.marks ++ []) = b_is ∙ sym (worse_passed (ended_of w.marks)) ∙ sym (ended_append w.marks []) in
     record {
       cut = in_steps n;
       verdict = ap verdict_status (sym ends) ∙ ap verdict_of is;
       hooks = ap around_status around ∙ ap around_of is;
       cleaned = ap (λ (x : Events). x.cleanups) is;
-      stepped = left.2 ∙ ap (λ (x : Events). rows_of_steps c.steps x.steps) is;
+      stepped = known_steps.2 ∙ ap (λ (x : Events). rows_of_steps c.steps x.steps) is;
     }
 
 -- ---- the case was closed
@@ -190,9 +190,9 @@ case_closed run outside c b s cs rows e last ls l reported bm em walked stepped 
     let w = begun run.library run.hooks levels.Scenario c.own_tags outside in
     let es = alone run outside c in
     let b_is = (exact w b s cs bm walked).0 in
-    let left = steps_are run outside c b s cs rows e last ls bm walked stepped in
+    let known_steps = steps_are run outside c b s cs rows e last ls bm walked stepped in
     let x = steps_after run.library (ended_of w.marks) w.state w.cleanups c.steps in
-    let known = exact_left x (ended_of w.marks) c.steps rows e last ls em left in
+    let known = exact_steps x (ended_of w.marks) c.steps rows e last ls em known_steps in
     let not : ended_of w.marks ≡ endings.Memory → ⊥ = λ m. bm (b_is ∙ m) in
     let here : IsClosed (closing run.library run.hooks levels.Scenario c.own_tags x.state x.cleanups) l reported =
     subst (λ k. IsClosed (closing run.library run.hooks levels.Scenario c.own_tags x.state k) l reported) known.3 (subst (λ t. IsClosed (closing run.library run.hooks levels.Scenario c.own_tags t ls) l reported) known.2 closed) in

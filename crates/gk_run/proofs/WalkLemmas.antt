@@ -1,5 +1,6 @@
 -- What the code's steps make of a walk.
-use Rattle.std.proofs.Common.{Bool, List, None, Option, Some, [], ap, cond, drop, false, get_or, length, map, refl, subst, suc, sym, true, ℕ, ◌++◌, ◌+◌, ◌<◌, ◌∙◌, ◌∷◌, ◌≡◌, ◌≤◌}
+use Rattle.std.proofs.Common.{Bool, List, None, Some, [], ap, cond, drop, false, get_or, length, map, refl, subst, sym, true, ℕ, ◌++◌, ◌+◌, ◌<◌, ◌∙◌, ◌∷◌, ◌≡◌, ◌≤◌}
+use Rattle.std.proofs.lemmas.Bool.{true≢false}
 use Rattle.std.proofs.lemmas.List.{at_drop_all, at_drop_more}
 use Rattle.gk_gherkin.specs.declared.hooks.HookKind.TheVariants as kinds
 use Rattle.gk_gherkin.specs.Feature.{StepValue}
@@ -11,93 +12,28 @@ use Rattle.gk_run.specs.declared.acting.Site.TheVariants as sites
 use Rattle.gk_run.specs.declared.ending.Ending.{Ending}
 use Rattle.gk_run.specs.declared.ending.Ending.TheVariants as endings
 use Rattle.gk_run.specs.declared.results.Mark.{Mark}
-use Rattle.gk_run.specs.declared.results.Mark.TheVariants.{Acted}
-use Rattle.gk_run.specs.declared.results.Outcome.{Outcome}
+use Rattle.gk_run.specs.declared.results.Mark.TheVariants.{Acted, Skipped, Undefined, Untested}
 use Rattle.gk_run.specs.declared.results.Outcome.TheVariants as outcomes
 use Rattle.gk_run.specs.declared.section.Level.{Level}
 use Rattle.gk_run.specs.Acting.{CleanupValue}
-use Rattle.gk_run.specs.Ending.{ended_of, ending_of_step, has_passed, worse}
+use Rattle.gk_run.specs.Ending.{ended_of, ending_of, has_passed, worse}
 use Rattle.gk_run.specs.Walk.{IsStepRun, IsWalked, Walked, followed_by, one_step, walk}
 use Rattle.gk_run.specs.Section.{is_place}
 use Rattle.gk_run.specs.SectionHooks.{before_kind, before_list, hook_steps, tag_lists, walk_each}
 use Rattle.gk_run.proofs.EndingLemmas.{ended_append, past, place_before, place_past, worse_assoc, worse_memory, worse_passed}
 
--- the walk of a list whose first step had this outcome and left this state and these cleanups
-abbrev pub from_first : LibraryValue → Site → Option Outcome → State → List CleanupValue → List StepValue → Walked
-from_first library site o s cleanups steps = followed_by o s cleanups steps (walk library site s cleanups steps)
+-- the walk of a list of whose first step this becomes, and which leaves this state and these cleanups
+abbrev pub from_first : LibraryValue → Site → Mark → State → List CleanupValue → List StepValue → Walked
+from_first library site m s cleanups steps = followed_by m s cleanups steps (walk library site s cleanups steps)
 
-pub first_is : (library : LibraryValue) (site : Site) (s new : State) (cleanups left : List CleanupValue) (step : StepValue) (steps : List StepValue) (o : Option Outcome) →
-    (let this = one_step library site s step in (o ≡ this.outcome) × (new ≡ this.state) × (left ≡ cleanups ++ this.registered)) →
-    from_first library site o new left steps ≡ walk library site s cleanups (step ∷ steps)
-first_is library site s new cleanups left step steps o t =
+pub first_is : (library : LibraryValue) (site : Site) (s new : State) (cleanups new_cleanups : List CleanupValue) (step : StepValue) (steps : List StepValue) (m : Mark) →
+    (let this = one_step library site s step in (m ≡ this.mark) × (new ≡ this.state) × (new_cleanups ≡ cleanups ++ this.registered)) →
+    from_first library site m new new_cleanups steps ≡ walk library site s cleanups (step ∷ steps)
+first_is library site s new cleanups new_cleanups step steps m t =
     let this = one_step library site s step in
-    ap (λ p. from_first library site p new left steps) t.0
-    ∙ ap (λ n. from_first library site this.outcome n left steps) t.1
-    ∙ ap (λ l. from_first library site this.outcome this.state l steps) t.2
-
--- after a step that passed
-more : (w : Walked) (e : Ending) (s : State) (cs : List CleanupValue) → IsWalked w e s cs → IsWalked (record w { marks = Acted outcomes.Passed ∷ w.marks }) e s cs
-more w endings.Memory s cs h = (suc h.0, h.1)
-more w endings.Passed s cs h = h
-more w endings.Failed s cs h = h
-more w endings.Skipped s cs h = h
-
-pub walk_on : (library : LibraryValue) (site : Site) (s new : State) (cleanups left : List CleanupValue) (step : StepValue) (steps : List StepValue) →
-    IsStepRun (one_step library site s step) cleanups (Some outcomes.Passed) new left →
-    (e : Ending) (last : State) (cs : List CleanupValue) → IsWalked (walk library site new left steps) e last cs → IsWalked (walk library site s cleanups (step ∷ steps)) e last cs
-walk_on library site s new cleanups left step steps t e last cs h =
-    subst (λ w. IsWalked w e last cs) (first_is library site s new cleanups left step steps (Some outcomes.Passed) t) (more (walk library site new left steps) e last cs h)
-
-a_place : (o : Option Outcome) (s : State) (cs : List CleanupValue) (steps : List StepValue) (next : Walked) → (let w = followed_by o s cs steps next in is_place 0 w.marks ≡ true)
-a_place None s cs steps next = refl
-a_place (Some outcomes.Passed) s cs steps next = refl
-a_place (Some (outcomes.Failed why)) s cs steps next = refl
-a_place (Some outcomes.Skip) s cs steps next = refl
-a_place (Some outcomes.Memory) s cs steps next = refl
-
--- a step that ended the walk
-pub walk_off : (library : LibraryValue) (site : Site) (s new : State) (cleanups left : List CleanupValue) (step : StepValue) (steps : List StepValue) (o : Option Outcome) →
-    IsStepRun (one_step library site s step) cleanups o new left → has_passed (ending_of_step o) ≡ false → IsWalked (walk library site s cleanups (step ∷ steps)) (ending_of_step o) new left
-walk_off library site s new cleanups left step steps None t h =
-    subst (λ w. IsWalked w endings.Failed new left) (first_is library site s new cleanups left step steps None t) (refl, refl, refl)
-walk_off library site s new cleanups left step steps (Some (outcomes.Failed why)) t h =
-    subst (λ w. IsWalked w endings.Failed new left) (first_is library site s new cleanups left step steps (Some (outcomes.Failed why)) t) (refl, refl, refl)
-walk_off library site s new cleanups left step steps (Some outcomes.Skip) t h =
-    subst (λ w. IsWalked w endings.Skipped new left) (first_is library site s new cleanups left step steps (Some outcomes.Skip) t) (refl, refl, refl)
-walk_off library site s new cleanups left step steps (Some outcomes.Memory) t h =
-    let this = one_step library site s step in
-    (0, a_place this.outcome this.state (cleanups ++ this.registered) steps (walk library site this.state (cleanups ++ this.registered) steps))
-walk_off library site s new cleanups left step steps (Some outcomes.Passed) t h = let no : ⊥ = cc in absurd no
-
--- ---- one list after another
-
--- a walk through one list, and then one through another where it passed
-abbrev joined : Walked → List StepValue → Walked → Walked
-joined w ys next = cond (has_passed (ended_of w.marks)) (record next { marks = w.marks ++ next.marks }) (record w { left = w.left ++ ys })
-
-joined_first : (b : Bool) (ms : List Mark) (ls : List StepValue) (s : State) (cs : List CleanupValue) (next : Walked) (ys : List StepValue) →
-    (let x : Walked = cond b (record next { marks = ms ++ next.marks }) (record { marks = ms; left = ls ++ ys; state = s; cleanups = cs }) in
-    record x { marks = Acted outcomes.Passed ∷ x.marks }) ≡
-    cond b (record next { marks = Acted outcomes.Passed ∷ (ms ++ next.marks) }) (record { marks = Acted outcomes.Passed ∷ ms; left = ls ++ ys; state = s; cleanups = cs })
-joined_first true ms ls s cs next ys = refl
-joined_first false ms ls s cs next ys = refl
-
-followed_by_joined : (o : Option Outcome) (s : State) (cs : List CleanupValue) (xs ys : List StepValue) (w : Walked) (f : State → List CleanupValue → Walked) →
-    followed_by o s cs (xs ++ ys) (joined w ys (f w.state w.cleanups)) ≡ (let g = followed_by o s cs xs w in joined g ys (f g.state g.cleanups))
-followed_by_joined None s cs xs ys w f = refl
-followed_by_joined (Some outcomes.Passed) s cs xs ys w f = joined_first (has_passed (ended_of w.marks)) w.marks w.left w.state w.cleanups (f w.state w.cleanups) ys
-followed_by_joined (Some (outcomes.Failed why)) s cs xs ys w f = refl
-followed_by_joined (Some outcomes.Skip) s cs xs ys w f = refl
-followed_by_joined (Some outcomes.Memory) s cs xs ys w f = refl
-
-pub walk_append : (library : LibraryValue) (site : Site) (s : State) (cs : List CleanupValue) (xs ys : List StepValue) →
-    walk library site s cs (xs ++ ys) ≡ (let w = walk library site s cs xs in joined w ys (walk library site w.state w.cleanups ys))
-walk_append library site s cs [] ys = refl
-walk_append library site s cs (x ∷ xs) ys =
-    let this = one_step library site s x in
-    let left = cs ++ this.registered in
-    ap (followed_by this.outcome this.state left (xs ++ ys)) (walk_append library site this.state left xs ys)
-    ∙ followed_by_joined this.outcome this.state left xs ys (walk library site this.state left xs) (λ t ls. walk library site t ls ys)
+    ap (λ x. from_first library site x new new_cleanups steps) t.0
+    ∙ ap (λ n. from_first library site this.mark n new_cleanups steps) t.1
+    ∙ ap (λ l. from_first library site this.mark this.state l steps) t.2
 
 -- after a list that passed
 more_all : (ms : List Mark) (w : Walked) (e : Ending) (s : State) (cs : List CleanupValue) → endings.Passed ≡ ended_of ms → IsWalked w e s cs → IsWalked (record w { marks = ms ++ w.marks }) e s cs
@@ -106,13 +42,74 @@ more_all ms w endings.Passed s cs p h = (h.0 ∙ ap (λ x. worse x (ended_of w.m
 more_all ms w endings.Failed s cs p h = (h.0 ∙ ap (λ x. worse x (ended_of w.marks)) p ∙ sym (ended_append ms w.marks), h.1, h.2)
 more_all ms w endings.Skipped s cs p h = (h.0 ∙ ap (λ x. worse x (ended_of w.marks)) p ∙ sym (ended_append ms w.marks), h.1, h.2)
 
-pub walk_both : (library : LibraryValue) (site : Site) (s new : State) (cleanups left : List CleanupValue) (xs ys : List StepValue) →
-    IsWalked (walk library site s cleanups xs) endings.Passed new left →
-    (e : Ending) (last : State) (cs : List CleanupValue) → IsWalked (walk library site new left ys) e last cs → IsWalked (walk library site s cleanups (xs ++ ys)) e last cs
-walk_both library site s new cleanups left xs ys p e last cs h =
+-- a step that passed
+walk_on : (library : LibraryValue) (site : Site) (s new : State) (cleanups new_cleanups : List CleanupValue) (step : StepValue) (steps : List StepValue) (m : Mark) → endings.Passed ≡ ended_of (m ∷ []) →
+    (let next = walk library site new new_cleanups steps in record next { marks = m ∷ next.marks } ≡ walk library site s cleanups (step ∷ steps)) →
+    (e : Ending) (last : State) (cs : List CleanupValue) → IsWalked (walk library site new new_cleanups steps) e last cs → IsWalked (walk library site s cleanups (step ∷ steps)) e last cs
+walk_on library site s new cleanups new_cleanups step steps m p is e last cs h =
+    subst (λ w. IsWalked w e last cs) is (more_all (m ∷ []) (walk library site new new_cleanups steps) e last cs p h)
+
+-- whether or not a step ends a walk, its mark is the first
+first_place : (b : Bool) (m : Mark) (s : State) (cs : List CleanupValue) (steps : List StepValue) (next : Walked) →
+    (let w : Walked = cond b (record next { marks = m ∷ next.marks }) (record { marks = m ∷ []; left = steps; state = s; cleanups = cs }) in is_place 0 w.marks ≡ true)
+first_place true m s cs steps next = refl
+first_place false m s cs steps next = refl
+
+-- a step that ended the walk
+walk_off : (library : LibraryValue) (site : Site) (s new : State) (cleanups new_cleanups : List CleanupValue) (step : StepValue) (steps : List StepValue) (m : Mark) →
+    IsStepRun (one_step library site s step) cleanups m new new_cleanups → has_passed (ending_of m) ≡ false → IsWalked (walk library site s cleanups (step ∷ steps)) (ending_of m) new new_cleanups
+walk_off library site s new cleanups new_cleanups step steps Undefined t h =
+    subst (λ w. IsWalked w endings.Failed new new_cleanups) (first_is library site s new cleanups new_cleanups step steps Undefined t) (refl, refl, refl)
+walk_off library site s new cleanups new_cleanups step steps (Acted (outcomes.Failed why)) t h =
+    subst (λ w. IsWalked w endings.Failed new new_cleanups) (first_is library site s new cleanups new_cleanups step steps (Acted (outcomes.Failed why)) t) (refl, refl, refl)
+walk_off library site s new cleanups new_cleanups step steps (Acted outcomes.Skip) t h =
+    subst (λ w. IsWalked w endings.Skipped new new_cleanups) (first_is library site s new cleanups new_cleanups step steps (Acted outcomes.Skip) t) (refl, refl, refl)
+walk_off library site s new cleanups new_cleanups step steps (Acted outcomes.Memory) t h =
+    let this = one_step library site s step in
+    (0, first_place (has_passed (ending_of this.mark)) this.mark this.state (cleanups ++ this.registered) steps (walk library site this.state (cleanups ++ this.registered) steps))
+walk_off library site s new cleanups new_cleanups step steps (Acted outcomes.Passed) t h = absurd (true≢false h)
+walk_off library site s new cleanups new_cleanups step steps Skipped t h = absurd (true≢false h)
+walk_off library site s new cleanups new_cleanups step steps Untested t h = absurd (true≢false h)
+
+-- ---- one list after another
+
+-- a walk through one list, and then one through another where it passed
+abbrev joined : Walked → List StepValue → Walked → Walked
+joined w ys next = cond (has_passed (ended_of w.marks)) (record next { marks = w.marks ++ next.marks }) (record w { left = w.left ++ ys })
+
+joined_first : (b : Bool) (m : Mark) (ms : List Mark) (ls : List StepValue) (s : State) (cs : List CleanupValue) (next : Walked) (ys : List StepValue) →
+    (let x : Walked = cond b (record next { marks = ms ++ next.marks }) (record { marks = ms; left = ls ++ ys; state = s; cleanups = cs }) in
+    record x { marks = m ∷ x.marks }) ≡
+    cond b (record next { marks = m ∷ (ms ++ next.marks) }) (record { marks = m ∷ ms; left = ls ++ ys; state = s; cleanups = cs })
+joined_first true m ms ls s cs next ys = refl
+joined_first false m ms ls s cs next ys = refl
+
+followed_by_joined : (m : Mark) (s : State) (cs : List CleanupValue) (xs ys : List StepValue) (w : Walked) (f : State → List CleanupValue → Walked) →
+    followed_by m s cs (xs ++ ys) (joined w ys (f w.state w.cleanups)) ≡ (let g = followed_by m s cs xs w in joined g ys (f g.state g.cleanups))
+followed_by_joined (Acted outcomes.Passed) s cs xs ys w f = joined_first (has_passed (ended_of w.marks)) (Acted outcomes.Passed) w.marks w.left w.state w.cleanups (f w.state w.cleanups) ys
+followed_by_joined Skipped s cs xs ys w f = joined_first (has_passed (ended_of w.marks)) Skipped w.marks w.left w.state w.cleanups (f w.state w.cleanups) ys
+followed_by_joined Untested s cs xs ys w f = joined_first (has_passed (ended_of w.marks)) Untested w.marks w.left w.state w.cleanups (f w.state w.cleanups) ys
+followed_by_joined Undefined s cs xs ys w f = refl
+followed_by_joined (Acted (outcomes.Failed why)) s cs xs ys w f = refl
+followed_by_joined (Acted outcomes.Skip) s cs xs ys w f = refl
+followed_by_joined (Acted outcomes.Memory) s cs xs ys w f = refl
+
+pub walk_append : (library : LibraryValue) (site : Site) (s : State) (cs : List CleanupValue) (xs ys : List StepValue) →
+    walk library site s cs (xs ++ ys) ≡ (let w = walk library site s cs xs in joined w ys (walk library site w.state w.cleanups ys))
+walk_append library site s cs [] ys = refl
+walk_append library site s cs (x ∷ xs) ys =
+    let this = one_step library site s x in
+    let new_cleanups = cs ++ this.registered in
+    ap (followed_by this.mark this.state new_cleanups (xs ++ ys)) (walk_append library site this.state new_cleanups xs ys)
+    ∙ followed_by_joined this.mark this.state new_cleanups xs ys (walk library site this.state new_cleanups xs) (λ t ls. walk library site t ls ys)
+
+pub walk_both : (library : LibraryValue) (site : Site) (s new : State) (cleanups new_cleanups : List CleanupValue) (xs ys : List StepValue) →
+    IsWalked (walk library site s cleanups xs) endings.Passed new new_cleanups →
+    (e : Ending) (last : State) (cs : List CleanupValue) → IsWalked (walk library site new new_cleanups ys) e last cs → IsWalked (walk library site s cleanups (xs ++ ys)) e last cs
+walk_both library site s new cleanups new_cleanups xs ys p e last cs h =
     let w = walk library site s cleanups xs in
     let next : State → List CleanupValue → Walked = λ t ls. walk library site t ls ys in
-    let here : IsWalked (next w.state w.cleanups) e last cs = subst (λ l. IsWalked (next w.state l) e last cs) p.2 (subst (λ t. IsWalked (next t left) e last cs) p.1 h) in
+    let here : IsWalked (next w.state w.cleanups) e last cs = subst (λ l. IsWalked (next w.state l) e last cs) p.2 (subst (λ t. IsWalked (next t new_cleanups) e last cs) p.1 h) in
     let both : IsWalked (record (next w.state w.cleanups) { marks = w.marks ++ (walk library site w.state w.cleanups ys).marks }) e last cs = more_all w.marks (next w.state w.cleanups) e last cs p.0 here in
     let is : record (next w.state w.cleanups) { marks = w.marks ++ (walk library site w.state w.cleanups ys).marks } ≡ joined w ys (next w.state w.cleanups) =
     ap (λ x. cond (has_passed x) (record (next w.state w.cleanups) { marks = w.marks ++ (walk library site w.state w.cleanups ys).marks }) (record w { left = w.left ++ ys })) p.0 in
@@ -131,11 +128,11 @@ short w next ys endings.Failed s cs h p =
 short w next ys endings.Skipped s cs h p =
     subst (λ x. IsWalked (cond (has_passed x) (record next { marks = w.marks ++ next.marks }) (record w { left = w.left ++ ys })) endings.Skipped s cs) h.0 h
 
-pub walk_short : (library : LibraryValue) (site : Site) (s new : State) (cleanups left : List CleanupValue) (xs ys : List StepValue) (e : Ending) →
-    IsWalked (walk library site s cleanups xs) e new left → has_passed e ≡ false → IsWalked (walk library site s cleanups (xs ++ ys)) e new left
-walk_short library site s new cleanups left xs ys e h p =
+pub walk_short : (library : LibraryValue) (site : Site) (s new : State) (cleanups new_cleanups : List CleanupValue) (xs ys : List StepValue) (e : Ending) →
+    IsWalked (walk library site s cleanups xs) e new new_cleanups → has_passed e ≡ false → IsWalked (walk library site s cleanups (xs ++ ys)) e new new_cleanups
+walk_short library site s new cleanups new_cleanups xs ys e h p =
     let w = walk library site s cleanups xs in
-    subst (λ x. IsWalked x e new left) (sym (walk_append library site s cleanups xs ys)) (short w (walk library site w.state w.cleanups ys) ys e new left h p)
+    subst (λ x. IsWalked x e new new_cleanups) (sym (walk_append library site s cleanups xs ys)) (short w (walk library site w.state w.cleanups ys) ys e new new_cleanups h p)
 
 -- ---- lists that are walked each by itself
 
@@ -164,19 +161,19 @@ exact w endings.Passed s cs m h = h
 exact w endings.Failed s cs m h = h
 exact w endings.Skipped s cs m h = h
 
-pub each_on : (library : LibraryValue) (s new : State) (cleanups left : List CleanupValue) (steps : List StepValue) (others : List (List StepValue)) (this : Ending) →
-    IsWalked (walk library sites.Hook s cleanups steps) this new left → (this ≡ endings.Memory → ⊥) →
-    (e : Ending) (last : State) (cs : List CleanupValue) → IsWalked (walk_each library new left others) e last cs → IsWalked (walk_each library s cleanups (steps ∷ others)) (worse this e) last cs
-each_on library s new cleanups left steps others this t m e last cs h =
+pub each_on : (library : LibraryValue) (s new : State) (cleanups new_cleanups : List CleanupValue) (steps : List StepValue) (others : List (List StepValue)) (this : Ending) →
+    IsWalked (walk library sites.Hook s cleanups steps) this new new_cleanups → (this ≡ endings.Memory → ⊥) →
+    (e : Ending) (last : State) (cs : List CleanupValue) → IsWalked (walk_each library new new_cleanups others) e last cs → IsWalked (walk_each library s cleanups (steps ∷ others)) (worse this e) last cs
+each_on library s new cleanups new_cleanups steps others this t m e last cs h =
     let w = walk library sites.Hook s cleanups steps in
-    let x = exact w this new left m t in
-    let here = subst (λ l. IsWalked (walk_each library w.state l others) e last cs) x.2 (subst (λ n. IsWalked (walk_each library n left others) e last cs) x.1 h) in
+    let x = exact w this new new_cleanups m t in
+    let here = subst (λ l. IsWalked (walk_each library w.state l others) e last cs) x.2 (subst (λ n. IsWalked (walk_each library n new_cleanups others) e last cs) x.1 h) in
     both_walked w.marks this (walk_each library w.state w.cleanups others) e last cs x.0 m here
 
 -- a list in which memory was refused
-pub each_off : (library : LibraryValue) (s new : State) (cleanups left : List CleanupValue) (steps : List StepValue) (others : List (List StepValue)) →
-    IsWalked (walk library sites.Hook s cleanups steps) endings.Memory new left → IsWalked (walk_each library s cleanups (steps ∷ others)) endings.Memory new left
-each_off library s new cleanups left steps others t =
+pub each_off : (library : LibraryValue) (s new : State) (cleanups new_cleanups : List CleanupValue) (steps : List StepValue) (others : List (List StepValue)) →
+    IsWalked (walk library sites.Hook s cleanups steps) endings.Memory new new_cleanups → IsWalked (walk_each library s cleanups (steps ∷ others)) endings.Memory new new_cleanups
+each_off library s new cleanups new_cleanups steps others t =
     let w = walk library sites.Hook s cleanups steps in
     let next = walk_each library w.state w.cleanups others in
     (t.0, place_before w.marks next.marks t.0 t.1)
@@ -195,21 +192,28 @@ abbrev pub Goes : LibraryValue → Site → State → List CleanupValue → List
 Goes library site s cleanups left first cleanups_first all =
     (e : Ending) (last : State) (cs : List CleanupValue) → IsWalked (walk library site s cleanups left) e last cs → IsWalked (walk library site first cleanups_first all) e last cs
 
-pub hook_on : (library : LibraryValue) (site : Site) (first : State) (cs0 : List CleanupValue) (all rest steps : List StepValue) (step : StepValue) (s new : State) (cs left : List CleanupValue) (o : Option Outcome) →
-    rest ≡ step ∷ steps → IsStepRun (one_step library site s step) cs o new left → has_passed (ending_of_step o) ≡ true →
-    Goes library site s cs rest first cs0 all → Goes library site new left steps first cs0 all
-hook_on library site first cs0 all rest steps step s new cs left (Some outcomes.Passed) is t p goes e last ls h =
-    goes e last ls (subst (λ xs. IsWalked (walk library site s cs xs) e last ls) (sym is) (walk_on library site s new cs left step steps t e last ls h))
-hook_on library site first cs0 all rest steps step s new cs left None is t p goes e last ls h = let no : ⊥ = cc in absurd no
-hook_on library site first cs0 all rest steps step s new cs left (Some (outcomes.Failed why)) is t p goes e last ls h = let no : ⊥ = cc in absurd no
-hook_on library site first cs0 all rest steps step s new cs left (Some outcomes.Skip) is t p goes e last ls h = let no : ⊥ = cc in absurd no
-hook_on library site first cs0 all rest steps step s new cs left (Some outcomes.Memory) is t p goes e last ls h = let no : ⊥ = cc in absurd no
+pub hook_on : (library : LibraryValue) (site : Site) (first : State) (cs0 : List CleanupValue) (all rest steps : List StepValue) (step : StepValue) (s new : State) (cs new_cleanups : List CleanupValue) (m : Mark) →
+    rest ≡ step ∷ steps → IsStepRun (one_step library site s step) cs m new new_cleanups → has_passed (ending_of m) ≡ true →
+    Goes library site s cs rest first cs0 all → Goes library site new new_cleanups steps first cs0 all
+hook_on library site first cs0 all rest steps step s new cs new_cleanups (Acted outcomes.Passed) is t p goes e last ls h =
+    goes e last ls (subst (λ xs. IsWalked (walk library site s cs xs) e last ls) (sym is)
+    (walk_on library site s new cs new_cleanups step steps (Acted outcomes.Passed) refl (first_is library site s new cs new_cleanups step steps (Acted outcomes.Passed) t) e last ls h))
+hook_on library site first cs0 all rest steps step s new cs new_cleanups Skipped is t p goes e last ls h =
+    goes e last ls (subst (λ xs. IsWalked (walk library site s cs xs) e last ls) (sym is)
+    (walk_on library site s new cs new_cleanups step steps Skipped refl (first_is library site s new cs new_cleanups step steps Skipped t) e last ls h))
+hook_on library site first cs0 all rest steps step s new cs new_cleanups Untested is t p goes e last ls h =
+    goes e last ls (subst (λ xs. IsWalked (walk library site s cs xs) e last ls) (sym is)
+    (walk_on library site s new cs new_cleanups step steps Untested refl (first_is library site s new cs new_cleanups step steps Untested t) e last ls h))
+hook_on library site first cs0 all rest steps step s new cs new_cleanups Undefined is t p goes e last ls h = absurd (true≢false (sym p))
+hook_on library site first cs0 all rest steps step s new cs new_cleanups (Acted (outcomes.Failed why)) is t p goes e last ls h = absurd (true≢false (sym p))
+hook_on library site first cs0 all rest steps step s new cs new_cleanups (Acted outcomes.Skip) is t p goes e last ls h = absurd (true≢false (sym p))
+hook_on library site first cs0 all rest steps step s new cs new_cleanups (Acted outcomes.Memory) is t p goes e last ls h = absurd (true≢false (sym p))
 
-pub hook_off : (library : LibraryValue) (site : Site) (first : State) (cs0 : List CleanupValue) (all rest steps : List StepValue) (step : StepValue) (s new : State) (cs left : List CleanupValue) (o : Option Outcome) →
-    rest ≡ step ∷ steps → IsStepRun (one_step library site s step) cs o new left → has_passed (ending_of_step o) ≡ false →
-    Goes library site s cs rest first cs0 all → IsWalked (walk library site first cs0 all) (ending_of_step o) new left
-hook_off library site first cs0 all rest steps step s new cs left o is t p goes =
-    goes (ending_of_step o) new left (subst (λ xs. IsWalked (walk library site s cs xs) (ending_of_step o) new left) (sym is) (walk_off library site s new cs left step steps o t p))
+pub hook_off : (library : LibraryValue) (site : Site) (first : State) (cs0 : List CleanupValue) (all rest steps : List StepValue) (step : StepValue) (s new : State) (cs new_cleanups : List CleanupValue) (m : Mark) →
+    rest ≡ step ∷ steps → IsStepRun (one_step library site s step) cs m new new_cleanups → has_passed (ending_of m) ≡ false →
+    Goes library site s cs rest first cs0 all → IsWalked (walk library site first cs0 all) (ending_of m) new new_cleanups
+hook_off library site first cs0 all rest steps step s new cs new_cleanups m is t p goes =
+    goes (ending_of m) new new_cleanups (subst (λ xs. IsWalked (walk library site s cs xs) (ending_of m) new new_cleanups) (sym is) (walk_off library site s new cs new_cleanups step steps m t p))
 
 pub hook_done : (library : LibraryValue) (site : Site) (first : State) (cs0 : List CleanupValue) (all rest : List StepValue) (s : State) (cs : List CleanupValue) →
     rest ≡ [] → Goes library site s cs rest first cs0 all → IsWalked (walk library site first cs0 all) endings.Passed s cs
@@ -219,31 +223,31 @@ hook_done library site first cs0 all rest s cs none goes =
 -- ---- the loop over the tags of a before list
 
 -- the walk of a hook's steps, at the site and with the steps that the section has
-pub walked_at : (library : LibraryValue) (x site : Site) (s new : State) (cs left : List CleanupValue) (steps wanted : List StepValue) (this : Ending) → x ≡ site → steps ≡ wanted →
-    IsWalked (walk library x s cs steps) this new left → IsWalked (walk library site s cs wanted) this new left
-walked_at library x site s new cs left steps wanted this e h walked =
-    subst (λ (ys : List StepValue). IsWalked (walk library site s cs ys) this new left) h (subst (λ (y : Site). IsWalked (walk library y s cs steps) this new left) e walked)
+pub walked_at : (library : LibraryValue) (x site : Site) (s new : State) (cs new_cleanups : List CleanupValue) (steps wanted : List StepValue) (this : Ending) → x ≡ site → steps ≡ wanted →
+    IsWalked (walk library x s cs steps) this new new_cleanups → IsWalked (walk library site s cs wanted) this new new_cleanups
+walked_at library x site s new cs new_cleanups steps wanted this e h walked =
+    subst (λ (ys : List StepValue). IsWalked (walk library site s cs ys) this new new_cleanups) h (subst (λ (y : Site). IsWalked (walk library y s cs steps) this new new_cleanups) e walked)
 
 -- the walk of the before list of the tags that are left
 abbrev pub GoesBefore : LibraryValue → Site → List HookValue → Level → State → List CleanupValue → List (List ℕ) → State → List CleanupValue → List (List ℕ) → Type 0
 GoesBefore library site hooks level s cs left first cs0 all = Goes library site s cs (before_list hooks level left) first cs0 (before_list hooks level all)
 
-pub before_on : (library : LibraryValue) (site : Site) (hooks : List HookValue) (level : Level) (first : State) (cs0 : List CleanupValue) (all rest tags : List (List ℕ)) (tag : List ℕ) (s new : State) (cs left : List CleanupValue) (this : Ending) →
-    rest ≡ tag ∷ tags → IsWalked (walk library site s cs (hook_steps hooks kinds.BeforeTag (Some tag))) this new left → has_passed this ≡ true →
-    GoesBefore library site hooks level s cs rest first cs0 all → GoesBefore library site hooks level new left tags first cs0 all
-before_on library site hooks level first cs0 all rest tags tag s new cs left endings.Passed is t p goes e last ls h =
+pub before_on : (library : LibraryValue) (site : Site) (hooks : List HookValue) (level : Level) (first : State) (cs0 : List CleanupValue) (all rest tags : List (List ℕ)) (tag : List ℕ) (s new : State) (cs new_cleanups : List CleanupValue) (this : Ending) →
+    rest ≡ tag ∷ tags → IsWalked (walk library site s cs (hook_steps hooks kinds.BeforeTag (Some tag))) this new new_cleanups → has_passed this ≡ true →
+    GoesBefore library site hooks level s cs rest first cs0 all → GoesBefore library site hooks level new new_cleanups tags first cs0 all
+before_on library site hooks level first cs0 all rest tags tag s new cs new_cleanups endings.Passed is t p goes e last ls h =
     goes e last ls (subst (λ ts. IsWalked (walk library site s cs (before_list hooks level ts)) e last ls) (sym is)
-    (walk_both library site s new cs left (hook_steps hooks kinds.BeforeTag (Some tag)) (before_list hooks level tags) t e last ls h))
-before_on library site hooks level first cs0 all rest tags tag s new cs left endings.Failed is t p goes e last ls h = let no : ⊥ = cc in absurd no
-before_on library site hooks level first cs0 all rest tags tag s new cs left endings.Skipped is t p goes e last ls h = let no : ⊥ = cc in absurd no
-before_on library site hooks level first cs0 all rest tags tag s new cs left endings.Memory is t p goes e last ls h = let no : ⊥ = cc in absurd no
+    (walk_both library site s new cs new_cleanups (hook_steps hooks kinds.BeforeTag (Some tag)) (before_list hooks level tags) t e last ls h))
+before_on library site hooks level first cs0 all rest tags tag s new cs new_cleanups endings.Failed is t p goes e last ls h = let no : ⊥ = cc in absurd no
+before_on library site hooks level first cs0 all rest tags tag s new cs new_cleanups endings.Skipped is t p goes e last ls h = let no : ⊥ = cc in absurd no
+before_on library site hooks level first cs0 all rest tags tag s new cs new_cleanups endings.Memory is t p goes e last ls h = let no : ⊥ = cc in absurd no
 
-pub before_off : (library : LibraryValue) (site : Site) (hooks : List HookValue) (level : Level) (first : State) (cs0 : List CleanupValue) (all rest tags : List (List ℕ)) (tag : List ℕ) (s new : State) (cs left : List CleanupValue) (this : Ending) →
-    rest ≡ tag ∷ tags → IsWalked (walk library site s cs (hook_steps hooks kinds.BeforeTag (Some tag))) this new left → has_passed this ≡ false →
-    GoesBefore library site hooks level s cs rest first cs0 all → IsWalked (walk library site first cs0 (before_list hooks level all)) this new left
-before_off library site hooks level first cs0 all rest tags tag s new cs left this is t p goes =
-    goes this new left (subst (λ ts. IsWalked (walk library site s cs (before_list hooks level ts)) this new left) (sym is)
-    (walk_short library site s new cs left (hook_steps hooks kinds.BeforeTag (Some tag)) (before_list hooks level tags) this t p))
+pub before_off : (library : LibraryValue) (site : Site) (hooks : List HookValue) (level : Level) (first : State) (cs0 : List CleanupValue) (all rest tags : List (List ℕ)) (tag : List ℕ) (s new : State) (cs new_cleanups : List CleanupValue) (this : Ending) →
+    rest ≡ tag ∷ tags → IsWalked (walk library site s cs (hook_steps hooks kinds.BeforeTag (Some tag))) this new new_cleanups → has_passed this ≡ false →
+    GoesBefore library site hooks level s cs rest first cs0 all → IsWalked (walk library site first cs0 (before_list hooks level all)) this new new_cleanups
+before_off library site hooks level first cs0 all rest tags tag s new cs new_cleanups this is t p goes =
+    goes this new new_cleanups (subst (λ ts. IsWalked (walk library site s cs (before_list hooks level ts)) this new new_cleanups) (sym is)
+    (walk_short library site s new cs new_cleanups (hook_steps hooks kinds.BeforeTag (Some tag)) (before_list hooks level tags) this t p))
 
 pub before_done : (library : LibraryValue) (site : Site) (hooks : List HookValue) (level : Level) (first : State) (cs0 : List CleanupValue) (all rest : List (List ℕ)) (s : State) (cs : List CleanupValue) →
     rest ≡ [] → GoesBefore library site hooks level s cs rest first cs0 all →
@@ -257,25 +261,25 @@ abbrev pub GoesEach : LibraryValue → List HookValue → State → List Cleanup
 GoesEach library hooks s cleanups left ended first cleanups_first all =
     (e : Ending) (last : State) (cs : List CleanupValue) → IsWalked (walk_each library s cleanups (tag_lists hooks left)) e last cs → IsWalked (walk_each library first cleanups_first (tag_lists hooks all)) (worse ended e) last cs
 
-pub tags_on : (library : LibraryValue) (hooks : List HookValue) (first : State) (cs0 : List CleanupValue) (all rest tags : List (List ℕ)) (tag : List ℕ) (s new : State) (cs left : List CleanupValue) (ended this : Ending) →
-    rest ≡ tag ∷ tags → IsWalked (walk library sites.Hook s cs (hook_steps hooks kinds.AfterTag (Some tag))) this new left → (this ≡ endings.Memory → ⊥) →
-    GoesEach library hooks s cs rest ended first cs0 all → GoesEach library hooks new left tags (worse ended this) first cs0 all
-tags_on library hooks first cs0 all rest tags tag s new cs left ended this is t m goes e last ls h =
+pub tags_on : (library : LibraryValue) (hooks : List HookValue) (first : State) (cs0 : List CleanupValue) (all rest tags : List (List ℕ)) (tag : List ℕ) (s new : State) (cs new_cleanups : List CleanupValue) (ended this : Ending) →
+    rest ≡ tag ∷ tags → IsWalked (walk library sites.Hook s cs (hook_steps hooks kinds.AfterTag (Some tag))) this new new_cleanups → (this ≡ endings.Memory → ⊥) →
+    GoesEach library hooks s cs rest ended first cs0 all → GoesEach library hooks new new_cleanups tags (worse ended this) first cs0 all
+tags_on library hooks first cs0 all rest tags tag s new cs new_cleanups ended this is t m goes e last ls h =
     let whole = walk_each library first cs0 (tag_lists hooks all) in
     subst (λ x. IsWalked whole x last ls) (sym (worse_assoc ended this e))
     (goes (worse this e) last ls (subst (λ ts. IsWalked (walk_each library s cs (tag_lists hooks ts)) (worse this e) last ls) (sym is)
-    (each_on library s new cs left (hook_steps hooks kinds.AfterTag (Some tag)) (tag_lists hooks tags) this t m e last ls h)))
+    (each_on library s new cs new_cleanups (hook_steps hooks kinds.AfterTag (Some tag)) (tag_lists hooks tags) this t m e last ls h)))
 
-pub tags_off : (library : LibraryValue) (hooks : List HookValue) (first : State) (cs0 : List CleanupValue) (all rest tags : List (List ℕ)) (tag : List ℕ) (s new : State) (cs left : List CleanupValue) (ended this : Ending) →
-    rest ≡ tag ∷ tags → IsWalked (walk library sites.Hook s cs (hook_steps hooks kinds.AfterTag (Some tag))) this new left → this ≡ endings.Memory →
-    GoesEach library hooks s cs rest ended first cs0 all → IsWalked (walk_each library first cs0 (tag_lists hooks all)) this new left
-tags_off library hooks first cs0 all rest tags tag s new cs left ended this is t m goes =
+pub tags_off : (library : LibraryValue) (hooks : List HookValue) (first : State) (cs0 : List CleanupValue) (all rest tags : List (List ℕ)) (tag : List ℕ) (s new : State) (cs new_cleanups : List CleanupValue) (ended this : Ending) →
+    rest ≡ tag ∷ tags → IsWalked (walk library sites.Hook s cs (hook_steps hooks kinds.AfterTag (Some tag))) this new new_cleanups → this ≡ endings.Memory →
+    GoesEach library hooks s cs rest ended first cs0 all → IsWalked (walk_each library first cs0 (tag_lists hooks all)) this new new_cleanups
+tags_off library hooks first cs0 all rest tags tag s new cs new_cleanups ended this is t m goes =
     let whole = walk_each library first cs0 (tag_lists hooks all) in
     let steps = hook_steps hooks kinds.AfterTag (Some tag) in
-    let here = subst (λ x. IsWalked (walk library sites.Hook s cs steps) x new left) m t in
-    subst (λ x. IsWalked whole x new left) (worse_memory ended ∙ sym m)
-    (goes endings.Memory new left (subst (λ ts. IsWalked (walk_each library s cs (tag_lists hooks ts)) endings.Memory new left) (sym is)
-    (each_off library s new cs left steps (tag_lists hooks tags) here)))
+    let here = subst (λ x. IsWalked (walk library sites.Hook s cs steps) x new new_cleanups) m t in
+    subst (λ x. IsWalked whole x new new_cleanups) (worse_memory ended ∙ sym m)
+    (goes endings.Memory new new_cleanups (subst (λ ts. IsWalked (walk_each library s cs (tag_lists hooks ts)) endings.Memory new new_cleanups) (sym is)
+    (each_off library s new cs new_cleanups steps (tag_lists hooks tags) here)))
 
 pub tags_done : (library : LibraryValue) (hooks : List HookValue) (first : State) (cs0 : List CleanupValue) (all rest : List (List ℕ)) (s : State) (cs : List CleanupValue) (ended : Ending) →
     rest ≡ [] → GoesEach library hooks s cs rest ended first cs0 all → IsWalked (walk_each library first cs0 (tag_lists hooks all)) ended s cs

@@ -1,10 +1,12 @@
 -- What an action does to the plain state, what it registers, and its outcome.
-use Rattle.std.specs.Prelude.{◌≡◌, ◌⊎◌, map, Result, Ok, Err, option_copied, ℕ, ℤ, pos, ◌+ℤ◌, Bool, true, false, cond, not, ◌&&◌, ◌==◌, List, [], ◌∷◌, ◌++◌, length, Option, Some, None, codes, bytes_eq, is_some, is_none, unwrap_or, drop}
+use Rattle.std.specs.Prelude.{◌≡◌, ◌⊎◌, Result, Ok, Err, option_copied, ℕ, ℤ, pos, ◌+ℤ◌, Bool, true, false, cond, not, ◌&&◌, ◌||◌, ◌==◌, List, [], ◌∷◌, ◌++◌, length, Option, Some, None, codes, bytes_eq, is_some, is_none, unwrap_or, drop}
 use Rattle.std.specs.Ordering.{int_eq}
 use Rattle.std.specs.Fmt.{signed_decimal}
 use Rattle.std.specs.List.{list_all}
 use Rattle.std.specs.Option.{option_or}
 use Rattle.gk_gherkin.specs.Feature.{BlockValue, Empty, Text, Table, block_value}
+use Rattle.gk_gherkin.specs.Text.{stands_in}
+use Rattle.gk_steps.specs.Decimal.{number_of, is_i64}
 use Rattle.gk_steps.specs.declared.action.Action.{Action}
 use Rattle.gk_steps.specs.declared.action.Action.TheVariants as actions
 use Rattle.gk_gherkin.specs.declared.feature.Block.{Block}
@@ -15,11 +17,10 @@ use Rattle.gk_world.specs.declared.refusals.WorldFault.{WorldFault}
 use Rattle.gk_world.specs.declared.refusals.WorldFault.TheVariants as faults
 use Rattle.gk_world.specs.State.{State, with_text, without, see, state_of}
 use Rattle.gk_world.specs.Refusals.{first_true, is_bad_name, is_too_long, joined}
-use Rattle.gk_world.specs.Sandbox.{SandboxValue, PutsFile}
+use Rattle.gk_world.specs.Sandbox.{SandboxValue, PutsFile, KeepsLayers}
 use Rattle.gk_run.specs.declared.acting.Arguments.{Arguments}
 use Rattle.gk_run.specs.declared.acting.Site.{Site}
 use Rattle.gk_run.specs.declared.acting.Site.TheVariants as sites
-use Rattle.gk_run.specs.Numbers.{number_of, is_in_range, stands_in}
 use Rattle.gk_run.specs.declared.results.Reason.{Reason}
 use Rattle.gk_run.specs.declared.results.Reason.TheVariants as reasons
 use Rattle.gk_run.specs.declared.results.Outcome.{Outcome}
@@ -29,7 +30,7 @@ use Rattle.gk_run.specs.declared.results.Outcome.TheVariants as outcomes
 pub record Done : Type 0 where
   pub state : State
   pub outcome : Outcome
-  pub begun : Bool
+  pub part_passed : Bool
 
 -- What an action is called with: the fields that it uses, T, the text that it works with, and the step's block.
 pub record Given : Type 0 where
@@ -59,18 +60,18 @@ given library found block = record {
 
 -- An action passes, and leaves this state.
 abbrev pub passes : State → Done
-passes s = record { state = s; outcome = outcomes.Passed; begun = true }
+passes s = record { state = s; outcome = outcomes.Passed; part_passed = true }
 
 -- An action fails for a reason, and leaves this state.
 abbrev pub fails : State → Reason → Done
-fails s why = record { state = s; outcome = outcomes.Failed why; begun = false }
+fails s why = record { state = s; outcome = outcomes.Failed why; part_passed = false }
 
 -- An action that fails where there is a reason, and else passes with a new state.
 abbrev pub unless_for : State → Option Reason → State → Done
 unless_for s None new = passes new
 unless_for s (Some why) new = fails s why
 
--- The same of reasons with their tests, of which the first that holds is answered.
+-- The same of reasons with their tests, of which the first that holds is the reason.
 abbrev pub unless : State → List (Bool × Reason) → State → Done
 unless s tests new = unless_for s (first_true tests) new
 
@@ -86,7 +87,7 @@ is_pass _ = false
 
 -- A second part of an action, which counts where the first passed.
 abbrev pub and_then : Done → Done → Done
-and_then this next = cond (is_pass this.outcome) (record next { begun = true }) this
+and_then this next = cond (is_pass this.outcome) (record next { part_passed = true }) this
 
 -- The reason of a name without a byte, or with too many.
 abbrev pub bad_name : List ℕ → Bool × Reason
@@ -136,7 +137,7 @@ sum_held held n = unwrap_or (number_held held) (pos 0) +ℤ n
 
 -- The reason where a sum isn't a signed number of 64 bits.
 abbrev pub out_of_range : ℤ → Bool × Reason
-out_of_range z = (not (is_in_range z), reasons.OutOfRange)
+out_of_range z = (not (is_i64 z), reasons.OutOfRange)
 
 -- Another number than this one, or none.
 abbrev pub is_other_number : Option ℤ → ℤ → Bool
@@ -187,17 +188,17 @@ write_file s name text = unless s (bad_name name ∷ too_long text ∷ []) (with
 abbrev pub remove_file : State → List ℕ → Done
 remove_file s name = unless s (bad_name name ∷ absent (s.files name) ∷ []) (without_file s name)
 
--- A text is written under a new name, and then the old name is removed.
-abbrev pub put_and_remove : State → List ℕ → List ℕ → List ℕ → Done
-put_and_remove s name to text = let written = write_file s to text in and_then written (remove_file written.state name)
+-- The reason where there is no file of a name; a bad name is no file's.
+abbrev pub no_file : State → List ℕ → Bool × Reason
+no_file s name = (is_bad_name name || is_none (s.files name), reasons.Absent)
 
--- A file's text moves to a new name; under its own name it stays.
-abbrev pub moved : State → List ℕ → List ℕ → Done
-moved s name to = cond (bytes_eq name to) (passes s) (put_and_remove s name to (unwrap_or (s.files name) []))
+-- A file's text stands under a new name, and the old name is gone; under its own name it stays.
+abbrev pub moved : State → List ℕ → List ℕ → State
+moved s name to = cond (bytes_eq name to) s (without_file (with_file s to (unwrap_or (s.files name) [])) name)
 
 -- A file under a new name. There has to be one, and the new name has to be a good one.
 abbrev pub rename_file : State → List ℕ → List ℕ → Done
-rename_file s name to = and_then (unless s (absent (s.files name) ∷ bad_name to ∷ []) s) (moved s name to)
+rename_file s name to = unless s (no_file s name ∷ bad_name to ∷ []) (moved s name to)
 
 -- The first row of a table of files: its cells are `name` and `text`.
 abbrev pub is_head : List (List ℕ) → Bool
@@ -298,11 +299,11 @@ may_register sites.Cleanup = false
 
 -- The scenario is skipped. (behave's documentation: skipping scenarios)
 abbrev pub skips : State → Done
-skips s = record { state = s; outcome = outcomes.Skip; begun = true }
+skips s = record { state = s; outcome = outcomes.Skip; part_passed = true }
 
 -- What was looked up is registered with a block, or there is no such step; the look-up is a part that passed. (behave's documentation: cleanups)
 abbrev pub registers : State → BlockValue → Option FoundValue → Acted
-registers s block None = without_cleanups (record (fails s reasons.NoStep) { begun = true })
+registers s block None = without_cleanups (record (fails s reasons.NoStep) { part_passed = true })
 registers s block (Some f) = record { done = passes s; registered = record { found = f; block = block } ∷ [] }
 
 -- A text is looked up and registered where that is allowed.
@@ -346,7 +347,7 @@ is_fail _ = false
 
 -- An action fails before a part of it passed: it is refused, and takes no memory.
 abbrev pub is_refused : Done → Bool
-is_refused done = not done.begun && is_fail done.outcome
+is_refused done = not done.part_passed && is_fail done.outcome
 
 -- An action was carried out, or memory was refused in it, which can't be where the action itself is refused.
 abbrev pub IsDone : Done → Outcome → State → Type 0
@@ -382,15 +383,28 @@ abbrev pub row_file : List (List ℕ) → List ℕ × List ℕ
 row_file (name ∷ text ∷ []) = (name, text)
 row_file _ = ([], [])
 
--- The files of a table of files, in order.
-abbrev pub table_files : BlockValue → List (List ℕ × List ℕ)
-table_files (Table rows) = map row_file (drop 1 rows)
-table_files _ = []
+-- The files that an action of several parts writes, in order, of which the first part writes one: that, and those of the other parts where the first passed; else none.
+abbrev pub first_file : Done → List ℕ × List ℕ → List (List ℕ × List ℕ) → List (List ℕ × List ℕ)
+first_file written file files = cond (is_pass written.outcome) (file ∷ files) []
 
--- The files that an action of more than one change writes, in order: the rows of a table, or the file of the new name before the old one is removed. An action of one change has none.
+-- The files that rows write, in order, up to the first row that is refused.
+abbrev pub rows_files : State → List (List (List ℕ)) → List (List ℕ × List ℕ)
+rows_files s [] = []
+rows_files s (row ∷ rows) = let written = write_row s row in first_file written (row_file row) (rows_files written.state rows)
+
+-- The files that a table of files writes, in order.
+abbrev pub table_files : State → BlockValue → List (List ℕ × List ℕ)
+table_files s (Table rows) = rows_files s (drop 1 rows)
+table_files s _ = []
+
+-- The file of the new name, where it isn't the old one.
+abbrev pub renamed_files : State → List ℕ → List ℕ → List (List ℕ × List ℕ)
+renamed_files s name to = cond (bytes_eq name to) [] ((to, unwrap_or (s.files name) []) ∷ [])
+
+-- The files that an action of more than one change writes, in order. An action of one change has none.
 abbrev pub files_of : Action → Given → State → List (List ℕ × List ℕ)
-files_of actions.RenameFile g s = (g.to, unwrap_or (s.files g.name) []) ∷ []
-files_of actions.WriteFiles g s = table_files g.block
+files_of actions.RenameFile g s = renamed_files s g.name g.to
+files_of actions.WriteFiles g s = table_files s g.block
 files_of _ g s = []
 
 -- The first of some files, some number of them, were written one after another, and nothing else has changed.
@@ -405,11 +419,6 @@ KeepsAtMemory library found block old outcome new =
     let f = found_value found in
     outcome ≡ outcomes.Memory → WritesFirst (files_of (action_of l f) (given l f (block_value block)) (state_of old.now)) old new
 
--- The open layers stay as they are: what the end of each gives back, and how many changes were recorded when each began. (behave's documentation: context layers)
-pub record KeepsLayers (old new : SandboxValue) : Type 0 where
-  pub saved : new.saved ≡ old.saved
-  pub marks : new.marks ≡ old.marks
-
 -- Proof machinery, from here on: what the code's calls do.
 
 -- What an `Arguments` says.
@@ -420,19 +429,14 @@ given_value a = record { name = a.name.now; to = a.to.now; step = a.step.now; nu
 abbrev pub skip_outcome : Site → Outcome
 skip_outcome site = cond (may_skip site) outcomes.Skip (outcomes.Failed reasons.NotHere)
 
--- A refusal of the world as a reason; memory has none, and is never looked up here.
-abbrev pub reason_of : WorldFault → Reason
-reason_of faults.Absent = reasons.Absent
-reason_of faults.TextTooLong = reasons.TextTooLong
-reason_of faults.BadName = reasons.BadName
-reason_of faults.OtherLayer = reasons.OtherLayer
-reason_of faults.Memory = reasons.Absent
-
--- The answer of a change of the world as an outcome.
+-- What a change of the world returns, as an outcome.
 abbrev pub outcome_of : {A : Type 0} → Result A WorldFault → Outcome
 outcome_of (Ok x) = outcomes.Passed
+outcome_of (Err faults.Absent) = outcomes.Failed reasons.Absent
+outcome_of (Err faults.TextTooLong) = outcomes.Failed reasons.TextTooLong
+outcome_of (Err faults.BadName) = outcomes.Failed reasons.BadName
+outcome_of (Err faults.OtherLayer) = outcomes.Failed reasons.OtherLayer
 outcome_of (Err faults.Memory) = outcomes.Memory
-outcome_of (Err fault) = outcomes.Failed (reason_of fault)
 
 -- An action was carried out in a sandbox, or memory was refused in it, after some first of these files were written; the open layers stay as they are.
 pub record IsActedWith (files : List (List ℕ × List ℕ)) (done : Done) (old : SandboxValue) (outcome : Outcome) (new : SandboxValue) : Type 0 where
@@ -443,6 +447,14 @@ pub record IsActedWith (files : List (List ℕ × List ℕ)) (done : Done) (old 
 -- The same of an action of one change.
 abbrev pub IsActed : Done → SandboxValue → Outcome → SandboxValue → Type 0
 IsActed = IsActedWith []
+
+-- A text is written under a new name, and then the old name is removed.
+abbrev pub put_and_remove : State → List ℕ → List ℕ → List ℕ → Done
+put_and_remove s name to text = let written = write_file s to text in and_then written (remove_file written.state name)
+
+-- The file that is written by that.
+abbrev pub put_files : State → List ℕ → List ℕ → List (List ℕ × List ℕ)
+put_files s to text = first_file (write_file s to text) (to, text) []
 
 -- A file was written, if this passed.
 abbrev pub WritesFile : List ℕ × List ℕ → SandboxValue → Outcome → SandboxValue → Type 0

@@ -6,7 +6,7 @@ use Rattle.gk_select.specs.declared.case.Case.{Case}
 use Rattle.gk_select.specs.Case.{CaseValue, case_value}
 use Rattle.gk_run.specs.declared.chosen.Chosen.{Chosen}
 
--- A case, and whether it is selected. (behave's documentation: `--tags`; this project's profile: `--line`)
+-- A case, and whether it is selected. (behave's documentation: `--tags`)
 pub record MemberValue : Type 0 where
   pub scenario : CaseValue
   pub selected : Bool

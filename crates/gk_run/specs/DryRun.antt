@@ -1,29 +1,24 @@
 -- A dry run: the steps of selected cases are only looked up.
-use Rattle.std.specs.Prelude.{◌≡◌, ℕ, Bool, true, false, cond, List, [], ◌∷◌, map, is_some}
+use Rattle.std.specs.Prelude.{◌≡◌, ℕ, Bool, true, false, cond, List, [], ◌∷◌, map}
 use Rattle.std.specs.List.{list_any}
 use Rattle.gk_gherkin.specs.Feature.{StepValue}
 use Rattle.gk_select.specs.Case.{CaseValue}
-use Rattle.gk_steps.specs.Finding.{LibraryValue, found}
+use Rattle.gk_steps.specs.Finding.{LibraryValue}
 use Rattle.gk_run.specs.declared.results.Status.{Status}
 use Rattle.gk_run.specs.declared.results.Status.TheVariants as statuses
-use Rattle.gk_run.specs.declared.results.Outcome.TheVariants as outcomes
 use Rattle.gk_run.specs.declared.results.Mark.{Mark}
-use Rattle.gk_run.specs.declared.results.Mark.TheVariants.{Acted, Undefined, Untested}
+use Rattle.gk_run.specs.declared.results.Mark.TheVariants.{Untested}
 use Rattle.gk_run.specs.Results.{StepRow, CaseRow, FeatureRow}
 use Rattle.gk_run.specs.Ending.{is_memory_mark}
 use Rattle.gk_run.specs.Section.{is_place, cut_marks, Events, Cut, nowhere, happened}
-use Rattle.gk_run.specs.Walk.{rows_of_steps}
+use Rattle.gk_run.specs.Walk.{rows_of_steps, looked_up, IsLookedUp}
 use Rattle.gk_run.specs.Running.{row_of_case, unselected_row}
 use Rattle.gk_run.specs.Chosen.{MemberValue, ChosenValue}
 use Rattle.gk_run.specs.Features.{FeatureCuts, uncut_feature, first_or, later, feature_row_of}
 
--- What becomes of a step of a selected case: it is untested where the library matches it, and undefined where it doesn't. (behave's documentation: `--dry-run`)
-abbrev pub dry_mark : LibraryValue → StepValue → Mark
-dry_mark library step = cond (is_some (found library step.step_type step.text)) Untested Undefined
-
--- The events of a selected case: its steps alone. (behave's documentation: `--dry-run`)
+-- The events of a selected case: its steps alone, which are looked up, and untested where the library matches them. (behave's documentation: `--dry-run`)
 abbrev pub dry_events : LibraryValue → CaseValue → Events
-dry_events library c = record { before = []; steps = map (dry_mark library) c.steps; after = []; cleanups = [] }
+dry_events library c = record { before = []; steps = map (looked_up library Untested) c.steps; after = []; cleanups = [] }
 
 -- The verdict of a selected case in which this happened: memory where memory was refused at a step, else untested.
 abbrev pub dry_verdict : Events → Status
@@ -57,18 +52,13 @@ AreDryFeatures library features rows = (cuts : List FeatureCuts) × (rows ≡ dr
 
 -- Proof machinery, from here on: what the code's calls do.
 
--- A step was looked up, or memory was refused in that.
-abbrev pub IsDryMark : LibraryValue → StepValue → Mark → Bool → Type 0
-IsDryMark library step mark true = mark ≡ Acted outcomes.Memory
-IsDryMark library step mark false = mark ≡ dry_mark library step
-
--- The same, from where memory was refused already or not: where it was, the step is untested.
-abbrev pub IsDryStep : LibraryValue → Bool → StepValue → Mark → Bool → Type 0
-IsDryStep library true step mark refused = (mark ≡ Untested) × (refused ≡ true)
-IsDryStep library false step mark refused = IsDryMark library step mark refused
+-- The next step, where memory was refused before it or not: where it was, the step is untested.
+abbrev pub IsDryStep : LibraryValue → Bool → StepValue → Mark → Type 0
+IsDryStep library true step mark = mark ≡ Untested
+IsDryStep library false step mark = IsLookedUp library Untested step mark
 
 -- Steps were looked up, from where memory was refused already or not, to where it was or not.
 abbrev pub AreDrySteps : LibraryValue → Bool → List StepValue → List StepRow → Bool → Type 0
 AreDrySteps library true steps rows refused = (rows ≡ rows_of_steps steps []) × (refused ≡ true)
-AreDrySteps library false steps rows true = (n : ℕ) × (is_place n (map (dry_mark library) steps) ≡ true) × (rows ≡ rows_of_steps steps (cut_marks n (map (dry_mark library) steps)))
-AreDrySteps library false steps rows false = rows ≡ rows_of_steps steps (map (dry_mark library) steps)
+AreDrySteps library false steps rows true = (n : ℕ) × (is_place n (map (looked_up library Untested) steps) ≡ true) × (rows ≡ rows_of_steps steps (cut_marks n (map (looked_up library Untested) steps)))
+AreDrySteps library false steps rows false = rows ≡ rows_of_steps steps (map (looked_up library Untested) steps)

@@ -1,17 +1,16 @@
 -- How steps, hooks and cleanups end.
-use Rattle.std.specs.Prelude.{Bool, true, false, cond, List, Option, Some, None}
+use Rattle.std.specs.Prelude.{Bool, true, false, cond, List, [], ◌∷◌, Option, Some, None}
 use Rattle.std.specs.List.{list_any}
 use Rattle.gk_run.specs.declared.results.Status.{Status}
 use Rattle.gk_run.specs.declared.results.Status.TheVariants as statuses
 use Rattle.gk_run.specs.declared.results.Reason.{Reason}
-use Rattle.gk_run.specs.declared.results.Outcome.{Outcome}
 use Rattle.gk_run.specs.declared.results.Outcome.TheVariants as outcomes
 use Rattle.gk_run.specs.declared.results.Mark.{Mark}
 use Rattle.gk_run.specs.declared.results.Mark.TheVariants.{Acted, Undefined, Skipped, Untested}
 use Rattle.gk_run.specs.declared.ending.Ending.{Ending}
 use Rattle.gk_run.specs.declared.ending.Ending.TheVariants as endings
 
--- The status that a step has by what became of it. (behave's documentation: the statuses of steps; this project's profile: memory)
+-- The status that a step has by what became of it. (behave's documentation: the statuses of steps)
 abbrev pub status_of_mark : Mark → Status
 status_of_mark (Acted outcomes.Passed) = statuses.Passed
 status_of_mark (Acted (outcomes.Failed why)) = statuses.Failed
@@ -26,30 +25,34 @@ abbrev pub reason_of_mark : Mark → Option Reason
 reason_of_mark (Acted (outcomes.Failed why)) = Some why
 reason_of_mark _ = None
 
--- Failed or undefined.
+-- It failed or is undefined.
 abbrev pub is_bad_mark : Mark → Bool
 is_bad_mark (Acted (outcomes.Failed why)) = true
 is_bad_mark Undefined = true
 is_bad_mark _ = false
 
--- The scenario skipped itself there.
+-- Its action skipped the scenario.
 abbrev pub is_skip_mark : Mark → Bool
 is_skip_mark (Acted outcomes.Skip) = true
 is_skip_mark _ = false
 
--- Memory was refused there.
+-- Memory was refused in it.
 abbrev pub is_memory_mark : Mark → Bool
 is_memory_mark (Acted outcomes.Memory) = true
 is_memory_mark _ = false
 
--- How steps end: memory where memory was refused in one, else failed where one failed or is undefined, else skipped where one skipped the scenario, else passed.
+-- How steps, hooks and cleanups end of which this became: memory where memory was refused in one, else failed where one failed or is undefined, else skipped where one skipped the scenario, else passed; what isn't carried out ends nothing.
 abbrev pub ended_of : List Mark → Ending
 ended_of marks =
     cond (list_any is_memory_mark marks) endings.Memory
     (cond (list_any is_bad_mark marks) endings.Failed
     (cond (list_any is_skip_mark marks) endings.Skipped endings.Passed))
 
--- Each passed.
+-- How one of them ends by itself.
+abbrev pub ending_of : Mark → Ending
+ending_of mark = ended_of (mark ∷ [])
+
+-- None failed, is undefined, skipped the scenario or met refused memory.
 abbrev pub has_passed : Ending → Bool
 has_passed endings.Passed = true
 has_passed endings.Failed = false
@@ -71,14 +74,6 @@ around_status endings.Skipped = statuses.Passed
 around_status endings.Memory = statuses.Memory
 
 -- Proof machinery, from here on: how what comes one after another ends.
-
--- How one step ends that was carried out, or that no entry matches.
-abbrev pub ending_of_step : Option Outcome → Ending
-ending_of_step None = endings.Failed
-ending_of_step (Some outcomes.Passed) = endings.Passed
-ending_of_step (Some (outcomes.Failed why)) = endings.Failed
-ending_of_step (Some outcomes.Skip) = endings.Skipped
-ending_of_step (Some outcomes.Memory) = endings.Memory
 
 -- Memory was refused.
 abbrev pub is_memory_ending : Ending → Bool

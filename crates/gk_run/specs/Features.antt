@@ -125,13 +125,13 @@ features_of run outside is_open cuts (f ∷ fs) =
 abbrev pub IsFeatureResult : Run → State → Bool → ChosenValue → FeatureRow → Type 0
 IsFeatureResult run now is_open f row = (outside : State) → (is_open ≡ true → now ≡ outside) → (cuts : FeatureCuts) × (row ≡ feature_of run outside is_open cuts f)
 
--- Proof machinery, from here on: what the code's calls do.
-
--- What a section beside its cases comes to is that of some cut.
+-- How a section's hooks and cleanups ended, and whether its before list passed whole, is that of some cut.
 pub record IsSectionEnd (run : Run) (level : Level) (tags : List (List ℕ)) (outside : State) (around : Status) (passed : Bool) : Type 0 where
   pub cut : Cut
   pub hooks : around ≡ around_of (happened cut (section_events run level tags outside))
   pub ready : passed ≡ before_passed (happened cut (section_events run level tags outside))
+
+-- Proof machinery, from here on: what the code's calls do.
 
 -- The rows of cases are those of some cuts, from the section's state where they are reached.
 abbrev pub AreCases : Run → State → Bool → List MemberValue → List CaseRow → Type 0

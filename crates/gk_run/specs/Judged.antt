@@ -1,4 +1,4 @@
--- Which results a run may answer.
+-- Which results a run may have.
 use Rattle.std.specs.Prelude.{◌≡◌, Bool, true, false, cond, ◌||◌, List, [], ◌++◌}
 use Rattle.std.specs.List.{list_any}
 use Rattle.gk_world.specs.State.{Contents, State, state_of}

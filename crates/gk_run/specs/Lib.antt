@@ -1,6 +1,5 @@
--- What running feature files answers, in reading order. A definition whose comment names no source is this project's profile, or a word that the others use.
+-- The results of running feature files, in reading order. A definition whose comment names no source is this project's profile, or a word that the others use.
 pub mod Results
-pub mod Numbers
 pub mod Acting
 pub mod Cleanups
 pub mod Ending
@@ -11,8 +10,9 @@ pub mod SectionHooks
 pub mod Closing
 pub mod Running
 pub mod Chosen
-pub mod Reserved
 pub mod Features
 pub mod DryRun
 pub mod Judged
 pub mod OpenRun
+-- Proof machinery: what contracts of private functions cite.
+pub mod Reserved

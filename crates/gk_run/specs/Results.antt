@@ -1,4 +1,4 @@
--- What running answers, without where it lies in memory.
+-- The results of running, without where they lie in memory.
 use Rattle.std.specs.Prelude.{ℕ, Bool, true, false, List, map, Option, string_bytes}
 use Rattle.gk_run.specs.declared.results.Status.{Status}
 use Rattle.gk_run.specs.declared.results.Status.TheVariants as statuses
@@ -52,32 +52,36 @@ case_row r = record { keyword = string_bytes r.keyword; name = string_bytes r.na
 abbrev pub feature_row : FeatureResult → FeatureRow
 feature_row r = record { source = string_bytes r.source; name = string_bytes r.name; line = r.line; status = r.status; around = r.around; cases = map case_row r.cases.items }
 
+-- A status is the one that is asked for, which comes first.
+abbrev pub is_status : Status → Status → Bool
+is_status statuses.Passed statuses.Passed = true
+is_status statuses.Failed statuses.Failed = true
+is_status statuses.Skipped statuses.Skipped = true
+is_status statuses.Undefined statuses.Undefined = true
+is_status statuses.Untested statuses.Untested = true
+is_status statuses.Memory statuses.Memory = true
+is_status _ _ = false
+
 -- The status passed.
 abbrev pub is_passed : Status → Bool
-is_passed statuses.Passed = true
-is_passed _ = false
+is_passed = is_status statuses.Passed
 
 -- The status failed.
 abbrev pub is_failed : Status → Bool
-is_failed statuses.Failed = true
-is_failed _ = false
+is_failed = is_status statuses.Failed
 
 -- The status skipped.
 abbrev pub is_skipped : Status → Bool
-is_skipped statuses.Skipped = true
-is_skipped _ = false
+is_skipped = is_status statuses.Skipped
 
 -- The status undefined.
 abbrev pub is_undefined : Status → Bool
-is_undefined statuses.Undefined = true
-is_undefined _ = false
+is_undefined = is_status statuses.Undefined
 
 -- The status untested.
 abbrev pub is_untested : Status → Bool
-is_untested statuses.Untested = true
-is_untested _ = false
+is_untested = is_status statuses.Untested
 
 -- The status memory.
 abbrev pub is_memory : Status → Bool
-is_memory statuses.Memory = true
-is_memory _ = false
+is_memory = is_status statuses.Memory

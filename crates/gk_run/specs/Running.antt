@@ -35,7 +35,7 @@ alone run section c =
 abbrev pub all_marks : Events → List Mark
 all_marks e = e.before ++ (e.steps ++ (e.after ++ map Acted e.cleanups))
 
--- The verdict of a case in which this happened: memory where memory was refused in it; else failed where one of its steps, hooks or cleanups failed or is undefined; else skipped where it skipped itself; else passed.
+-- The verdict of a case in which this happened: memory where memory was refused in one of its steps, its hooks' steps or its cleanups; else failed where one of these failed or is undefined; else skipped where one skipped the scenario; else passed.
 abbrev pub verdict_of : Events → Status
 verdict_of e = verdict_status (ended_of (all_marks e))
 

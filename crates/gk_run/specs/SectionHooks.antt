@@ -1,8 +1,8 @@
 -- The hooks of a section: of the run, of a feature, of a scenario.
-use Rattle.std.specs.Prelude.{Bool, true, false, cond, List, [], ◌∷◌, ◌++◌, map, Option, String, ◌&&◌, Some, None, bytes_eq, ℕ}
+use Rattle.std.specs.Prelude.{cond, List, [], ◌∷◌, ◌++◌, map, Option, String, Some, None, ℕ}
 use Rattle.std.specs.declared.alloc.Global.{Global}
 use Rattle.gk_gherkin.specs.Feature.{StepValue, texts}
-use Rattle.gk_gherkin.specs.Hooks.{HookValue, hooks_value}
+use Rattle.gk_gherkin.specs.Hooks.{HookValue, hooks_value, is_for}
 use Rattle.gk_gherkin.specs.declared.hooks.HookKind.{HookKind}
 use Rattle.gk_gherkin.specs.declared.hooks.HookKind.TheVariants as kinds
 use Rattle.gk_steps.specs.Finding.{LibraryValue, library_value}
@@ -38,36 +38,10 @@ before_site levels.Run = sites.Hook
 before_site levels.Feature = sites.Hook
 before_site levels.Scenario = sites.CaseHook
 
--- Two kinds of hooks are the same.
-abbrev pub is_same_kind : HookKind → HookKind → Bool
-is_same_kind kinds.BeforeAll kinds.BeforeAll = true
-is_same_kind kinds.AfterAll kinds.AfterAll = true
-is_same_kind kinds.BeforeFeature kinds.BeforeFeature = true
-is_same_kind kinds.AfterFeature kinds.AfterFeature = true
-is_same_kind kinds.BeforeScenario kinds.BeforeScenario = true
-is_same_kind kinds.AfterScenario kinds.AfterScenario = true
-is_same_kind kinds.BeforeTag kinds.BeforeTag = true
-is_same_kind kinds.AfterTag kinds.AfterTag = true
-is_same_kind _ _ = false
-
--- Two tags, or none, are the same.
-abbrev pub is_same_tag : Option (List ℕ) → Option (List ℕ) → Bool
-is_same_tag None None = true
-is_same_tag (Some a) (Some b) = bytes_eq a b
-is_same_tag _ _ = false
-
--- The tag that a hook is for, if any.
-abbrev pub tag_of : HookValue → Option (List ℕ)
-tag_of hook = hook.tag
-
--- A hook is the one of a kind and a tag.
-abbrev pub is_hook : HookKind → Option (List ℕ) → HookValue → Bool
-is_hook kind tag hook = is_same_kind hook.kind kind && is_same_tag (tag_of hook) tag
-
 -- The steps of a hook; one that isn't in the hooks file has none.
 abbrev pub hook_steps : List HookValue → HookKind → Option (List ℕ) → List StepValue
 hook_steps [] kind tag = []
-hook_steps (hook ∷ hooks) kind tag = cond (is_hook kind tag hook) hook.steps (hook_steps hooks kind tag)
+hook_steps (hook ∷ hooks) kind tag = cond (is_for hook kind tag) hook.steps (hook_steps hooks kind tag)
 
 -- The before list of a section: the steps of its before_tag hooks, one for each place in its tag list, and then of its before hook. (behave's documentation: environment file functions)
 abbrev pub before_list : List HookValue → Level → List (List ℕ) → List StepValue
@@ -98,15 +72,15 @@ walk_each library s cleanups (steps ∷ others) =
 
 -- A section's before list was walked through.
 abbrev pub WalksBefore : shared.Run → Section → SandboxValue → Cleanups → Ending → SandboxValue → Cleanups → Type 0
-WalksBefore run section old registered ending new left =
-    IsWalked (walk (library_value run.library.now) (before_site section.level) (state_of old.now) (cleanups_value registered) (before_list (hooks_value run.hooks.now) section.level (texts section.tags.now))) ending (state_of new.now) (cleanups_value left)
+WalksBefore run section old cleanups ending new new_cleanups =
+    IsWalked (walk (library_value run.library.now) (before_site section.level) (state_of old.now) (cleanups_value cleanups) (before_list (hooks_value run.hooks.now) section.level (texts section.tags.now))) ending (state_of new.now) (cleanups_value new_cleanups)
 
 -- Each after_tag hook of some tags was walked through by itself.
 abbrev pub WalksTags : shared.Run → List (String Global) → SandboxValue → Cleanups → Ending → SandboxValue → Cleanups → Type 0
-WalksTags run tags old registered ending new left =
-    IsWalked (walk_each (library_value run.library.now) (state_of old.now) (cleanups_value registered) (tag_lists (hooks_value run.hooks.now) (texts tags))) ending (state_of new.now) (cleanups_value left)
+WalksTags run tags old cleanups ending new new_cleanups =
+    IsWalked (walk_each (library_value run.library.now) (state_of old.now) (cleanups_value cleanups) (tag_lists (hooks_value run.hooks.now) (texts tags))) ending (state_of new.now) (cleanups_value new_cleanups)
 
 -- Each of a section's after lists was walked through by itself.
 abbrev pub WalksAfter : shared.Run → Section → SandboxValue → Cleanups → Ending → SandboxValue → Cleanups → Type 0
-WalksAfter run section old registered ending new left =
-    IsWalked (walk_each (library_value run.library.now) (state_of old.now) (cleanups_value registered) (after_lists (hooks_value run.hooks.now) section.level (texts section.tags.now))) ending (state_of new.now) (cleanups_value left)
+WalksAfter run section old cleanups ending new new_cleanups =
+    IsWalked (walk_each (library_value run.library.now) (state_of old.now) (cleanups_value cleanups) (after_lists (hooks_value run.hooks.now) section.level (texts section.tags.now))) ending (state_of new.now) (cleanups_value new_cleanups)

@@ -3,10 +3,10 @@ ghost use Rattle.std.specs.Prelude.{◌≡◌, ◌<◌, [], true, not, option_co
 ghost use Rattle.gk_gherkin.specs.Feature.{block_value};
 ghost use Rattle.gk_steps.specs.Finding.{library_value, found_value, found_any, text_field};
 ghost use Rattle.gk_world.specs.State.{State, state_of};
-ghost use Rattle.gk_world.specs.Sandbox.{depth};
+ghost use Rattle.gk_world.specs.Sandbox.{depth, KeepsLayers};
 ghost use Rattle.gk_run.specs.Cleanups.{cleanups_value};
 ghost use Rattle.gk_run.specs.Acting as words;
-ghost use Rattle.gk_run.specs.Acting.{given, given_value, table, carried_out_of, registers, act_of, Performs, changes_nothing, may_skip, may_register, IsDone, IsExactly, IsExact, HasRegistered, KeepsAtMemory, KeepsLayers, IsHeld, IsNotHeld, IsText, HasText, NeedsCandidate, CleanupNeedsCandidate};
+ghost use Rattle.gk_run.specs.Acting.{given, given_value, table, carried_out_of, registers, act_of, Performs, changes_nothing, may_skip, may_register, IsDone, IsExactly, IsExact, HasRegistered, KeepsAtMemory, IsHeld, IsNotHeld, IsText, HasText, NeedsCandidate, CleanupNeedsCandidate};
 
 mod file_actions;
 mod number_actions;
@@ -14,13 +14,13 @@ mod value_actions;
 mod variable_actions;
 
 use crate::cleanups::Cleanups;
-use crate::numbers::stands_in;
 use crate::results::{Outcome, Reason};
 use file_actions::{
     append_file, file_absent, file_contains, file_exists, file_is, remove_file, rename_file,
     write_file, write_files,
 };
 use gk_gherkin::Block;
+use gk_gherkin::text::stands_in;
 use gk_steps::{Action, Found, Library};
 use gk_world::{Sandbox, WorldFault};
 use number_actions::{add_number, number_is, set_number};
@@ -208,7 +208,7 @@ pub(crate) fn carry_out(
     found: &Found,
     block: &Block,
 ) -> Outcome
-    requires begun { 0 < depth sandbox.old }
+    requires in_layer { 0 < depth sandbox.old }
     ensures done { IsDone
         (carried_out_of library.now found.now block.now (state_of sandbox.old.now))
         result (state_of sandbox.new.now) }
@@ -312,7 +312,7 @@ pub fn act(
     found: &Found,
     block: &Block,
 ) -> Outcome
-    requires begun { 0 < depth sandbox.old }
+    requires in_layer { 0 < depth sandbox.old }
     ensures done { IsDone (words.done_of
         (act_of library.now site found.now block.now (state_of sandbox.old.now)))
         result (state_of sandbox.new.now) }

@@ -1,14 +1,13 @@
 //! The end of a section: its after hooks, and then its cleanups.
 ghost use Rattle.std.specs.Prelude.{◌≡◌, ◌≤◌, ◌<◌, [], map, length, vec_capacity};
-ghost use Rattle.gk_world.specs.Sandbox.{depth};
-ghost use Rattle.gk_run.specs.Acting.{KeepsLayers};
+ghost use Rattle.gk_world.specs.Sandbox.{depth, KeepsLayers};
 ghost use Rattle.gk_run.specs.Cleanups.{cleanup_value, cleanups_value};
 ghost use Rattle.gk_run.specs.Closing.{CleansOne, Cleans, Closes};
 
 use crate::acting::carry_out;
 use crate::cleanups::{Cleanup, Cleanups};
 use crate::ending::{Ending, ending_of, is_memory, worse};
-use crate::results::Outcome;
+use crate::results::{Mark, Outcome};
 use crate::run::Run;
 use crate::section::Section;
 use crate::section_hooks::walk_after;
@@ -23,7 +22,7 @@ pub struct Closed {
 
 // Carries a cleanup out. One that registers a cleanup or skips fails, as its row of the table says.
 fn clean_one(run: &Run<'_>, sandbox: &mut Sandbox, cleanup: Cleanup) -> Outcome
-    requires begun { 0 < depth sandbox.old }
+    requires in_layer { 0 < depth sandbox.old }
     ensures cleaned { CleansOne run.now cleanup sandbox.old result sandbox.new }
     ensures layers { KeepsLayers sandbox.old sandbox.new }
 {
@@ -43,7 +42,7 @@ fn clean_all(
     list: Vec<Cleanup>,
     outcomes: Vec<Outcome>,
 ) -> Closed
-    requires begun { 0 < depth sandbox.old }
+    requires in_layer { 0 < depth sandbox.old }
     requires empty { outcomes.items ≡ [] }
     requires room { length list.items ≤ vec_capacity outcomes }
     ensures cleaned { Cleans run.now (map cleanup_value list.items) sandbox.old result }
@@ -55,7 +54,7 @@ fn clean_all(
     while let Some(cleanup) = list.pop() {
         let outcome = clean_one(run, sandbox, cleanup);
         outcomes.push_reserved(outcome);
-        let this = ending_of(Some(outcome));
+        let this = ending_of(Mark::Acted(outcome));
         if is_memory(this) {
             return Closed {
                 ending: this,
@@ -69,7 +68,7 @@ fn clean_all(
 
 // Runs registered cleanups, the last first.
 fn clean(run: &Run<'_>, sandbox: &mut Sandbox, cleanups: Cleanups) -> Closed
-    requires begun { 0 < depth sandbox.old }
+    requires in_layer { 0 < depth sandbox.old }
     ensures cleaned { Cleans run.now (cleanups_value cleanups) sandbox.old result }
     ensures layers { KeepsLayers sandbox.old sandbox.new }
 {
@@ -84,7 +83,7 @@ pub fn close(
     cleanups: Cleanups,
     section: &Section<'_>,
 ) -> Closed
-    requires begun { 0 < depth sandbox.old }
+    requires in_layer { 0 < depth sandbox.old }
     ensures closed { Closes run.now section.now cleanups sandbox.old result }
     ensures layers { KeepsLayers sandbox.old sandbox.new }
 {

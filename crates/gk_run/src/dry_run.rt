@@ -12,48 +12,25 @@ ghost use Rattle.gk_run.specs.DryRun.{dry_row, dry_case_of, dry_cases_of, dry_fe
 ghost use Rattle.gk_run.specs.Reserved.{members_in};
 
 use crate::chosen::Chosen;
-use crate::features::feature_status;
+use crate::ending::is_memory_mark;
+use crate::features::{either, feature_status};
 use crate::reserved::{ReservedCase, ReservedCases, ReservedSteps, reserve_case, reserve_cases};
-use crate::results::{CaseResult, FeatureResult, Mark, NoRoom, Outcome, Status, StepResult};
+use crate::results::{CaseResult, FeatureResult, Mark, NoRoom, Status, StepResult};
 use crate::running::{CaseEnd, case_result, unrun_case};
-use crate::walk::row_of;
+use crate::walk::{look_up, row_of};
 use gk_gherkin::Step;
 use gk_select::Case;
 use gk_steps::Library;
-use std::alloc::{AllocError, Global};
-
-/// What becomes of a step, and whether memory was refused at it or at one before it.
-#[derive(Drop)]
-struct DryStep {
-    mark: Mark,
-    is_refused: bool,
-}
+use std::alloc::Global;
 
 // Looks a step up, unless memory was refused before it.
-fn dry_step(alloc: Global, library: &Library, is_refused: bool, step: &Step) -> DryStep
-    ensures { IsDryStep (library_value library.now) is_refused (step_value step.now)
-        result.mark result.is_refused }
+fn dry_step(alloc: Global, library: &Library, is_refused: bool, step: &Step) -> Mark
+    ensures { IsDryStep (library_value library.now) is_refused (step_value step.now) result }
 {
     if is_refused {
-        return DryStep {
-            mark: Mark::Untested,
-            is_refused: true,
-        };
+        return Mark::Untested;
     }
-    match library.knows(alloc, step.step_type, step.text.as_str()) {
-        Ok(true) => DryStep {
-            mark: Mark::Untested,
-            is_refused: false,
-        },
-        Ok(false) => DryStep {
-            mark: Mark::Undefined,
-            is_refused: false,
-        },
-        Err(AllocError) => DryStep {
-            mark: Mark::Acted(Outcome::Memory),
-            is_refused: true,
-        },
-    }
+    look_up(alloc, library, step, Mark::Untested)
 }
 
 /// The results of steps, and whether memory was refused at one.
@@ -71,9 +48,9 @@ fn dry_steps(alloc: Global, library: &Library, steps: ReservedSteps) -> DrySteps
     let ReservedSteps { steps, mut results } = steps;
     let mut is_refused = false;
     for step in steps {
-        let looked = dry_step(alloc, library, is_refused, &step);
-        is_refused = looked.is_refused;
-        results.push_reserved(row_of(step, looked.mark));
+        let mark = dry_step(alloc, library, is_refused, &step);
+        is_refused = either(is_refused, is_memory_mark(mark));
+        results.push_reserved(row_of(step, mark));
     }
     DrySteps {
         results,

@@ -7,7 +7,7 @@ use crate::results::{Mark, Outcome, Reason, Status};
 /// How steps end that come one after another.
 #[derive(Clone, Copy, Debug, PartialEq, Eq)]
 pub enum Ending {
-    /// Each passed.
+    /// None failed, is undefined, skipped the scenario or met refused memory.
     Passed,
     /// One failed or is undefined, and memory was refused in none.
     Failed,
@@ -42,24 +42,30 @@ pub fn is_memory(ending: Ending) -> bool
     matches!(ending, Ending::Memory)
 }
 
-/// Whether each passed.
+/// Whether none failed, is undefined, skipped the scenario or met refused memory.
 pub fn has_passed(ending: Ending) -> bool
     ensures { result ≡ spec.has_passed ending }
 {
     matches!(ending, Ending::Passed)
 }
 
-/// How a step ends that was carried out, or that no entry matches.
-pub fn ending_of(outcome: Option<Outcome>) -> Ending
-    ensures { result ≡ spec.ending_of_step outcome }
+/// How one step, hook step or cleanup ends by itself, by what became of it.
+pub fn ending_of(mark: Mark) -> Ending
+    ensures { result ≡ spec.ending_of mark }
 {
-    match outcome {
-        None => Ending::Failed,
-        Some(Outcome::Passed) => Ending::Passed,
-        Some(Outcome::Failed(_)) => Ending::Failed,
-        Some(Outcome::Skip) => Ending::Skipped,
-        Some(Outcome::Memory) => Ending::Memory,
+    match mark {
+        Mark::Acted(Outcome::Passed) | Mark::Skipped | Mark::Untested => Ending::Passed,
+        Mark::Acted(Outcome::Failed(_)) | Mark::Undefined => Ending::Failed,
+        Mark::Acted(Outcome::Skip) => Ending::Skipped,
+        Mark::Acted(Outcome::Memory) => Ending::Memory,
     }
+}
+
+/// Whether memory was refused in a step.
+pub fn is_memory_mark(mark: Mark) -> bool
+    ensures { result ≡ spec.is_memory_mark mark }
+{
+    matches!(mark, Mark::Acted(Outcome::Memory))
 }
 
 /// The status of a step by what became of it.

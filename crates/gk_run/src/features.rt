@@ -3,8 +3,7 @@ ghost use Rattle.std.specs.Prelude.{◌≡◌, ◌<◌, Bool, true, ◌&&◌, �
 ghost use Rattle.std.specs.List.{list_any};
 ghost use Rattle.gk_gherkin.specs.Feature.{texts};
 ghost use Rattle.gk_world.specs.State.{State, state_of, enter, layers};
-ghost use Rattle.gk_world.specs.Sandbox.{depth};
-ghost use Rattle.gk_run.specs.Acting.{KeepsLayers};
+ghost use Rattle.gk_world.specs.Sandbox.{depth, KeepsLayers};
 ghost use Rattle.gk_run.specs.Ending as endings;
 ghost use Rattle.gk_run.specs.Results as rows;
 ghost use Rattle.gk_run.specs.Results.{case_row, feature_row};
@@ -107,7 +106,7 @@ fn run_cases(
     Ok(results)
 }
 
-// Closes a feature or the run, whose before list ended so, and leaves its layer open. Answers how its hooks
+// Closes a feature or the run, whose before list ended so, and leaves its layer open. Returns how its hooks
 // and cleanups ended.
 pub(crate) fn close_section(
     run: &Run<'_>,
@@ -116,7 +115,7 @@ pub(crate) fn close_section(
     before: Ending,
     cleanups: Cleanups,
 ) -> Status
-    requires begun { 0 < depth sandbox.old }
+    requires in_layer { 0 < depth sandbox.old }
     ensures around { (outside : State) (stop : Bool) →
         IsBegun run.now section.now outside before sandbox.old cleanups →
         IsSectionEnd (run_of run.now.library.now run.now.hooks.now stop) section.now.level
@@ -144,7 +143,7 @@ fn in_feature(
     tags: &[String],
     cases: ReservedCases,
 ) -> Result<FeatureEnd, NoRoom>
-    requires begun { 0 < depth sandbox.old }
+    requires in_layer { 0 < depth sandbox.old }
     requires layer { depth sandbox.old < layers }
     ensures end { IfOk result (λ end. (outside : State) →
         state_of sandbox.old.now ≡ enter outside →
@@ -168,28 +167,11 @@ fn has_selected(selected: &[bool]) -> bool
     selected.iter().any(|s| *s)
 }
 
-fn is_memory_status(status: Status) -> bool
-    ensures { result ≡ rows.is_memory status }
+// Whether a status is this one.
+fn has_status(status: Status, wanted: Status) -> bool
+    ensures { result ≡ rows.is_status wanted status }
 {
-    matches!(status, Status::Memory)
-}
-
-fn is_failed_status(status: Status) -> bool
-    ensures { result ≡ rows.is_failed status }
-{
-    matches!(status, Status::Failed)
-}
-
-fn is_untested_status(status: Status) -> bool
-    ensures { result ≡ rows.is_untested status }
-{
-    matches!(status, Status::Untested)
-}
-
-fn is_passed_status(status: Status) -> bool
-    ensures { result ≡ rows.is_passed status }
-{
-    matches!(status, Status::Passed)
+    status == wanted
 }
 
 fn verdict_by(memory: bool, failed: bool, untested: bool, passed: bool) -> Status
@@ -214,15 +196,15 @@ fn verdict_by(memory: bool, failed: bool, untested: bool, passed: bool) -> Statu
 pub fn feature_status(around: Status, cases: &[CaseResult]) -> Status
     ensures { result ≡ feature_verdict around (case_statuses (map case_row cases.now)) }
 {
-    let mut memory = is_memory_status(around);
-    let mut failed = is_failed_status(around);
+    let mut memory = has_status(around, Status::Memory);
+    let mut failed = has_status(around, Status::Failed);
     let mut untested = false;
     let mut passed = false;
     for case in cases {
-        memory = either(memory, is_memory_status(case.status));
-        failed = either(failed, is_failed_status(case.status));
-        untested = either(untested, is_untested_status(case.status));
-        passed = either(passed, is_passed_status(case.status));
+        memory = either(memory, has_status(case.status, Status::Memory));
+        failed = either(failed, has_status(case.status, Status::Failed));
+        untested = either(untested, has_status(case.status, Status::Untested));
+        passed = either(passed, has_status(case.status, Status::Passed));
     }
     verdict_by(memory, failed, untested, passed)
 }
@@ -309,7 +291,7 @@ pub(crate) fn feature_in(
 /// of its own, its after hooks and its cleanups. The other cases and their steps are skipped. Where its
 /// before hooks don't pass its selected cases are untested; with `stop`, so are those after one that is
 /// failed or memory. A feature without a selected case isn't begun. The sandbox is as it was,
-/// whatever is answered. `NoRoom` comes where results couldn't be reserved; the layers that were begun
+/// whatever is returned. `NoRoom` comes where results couldn't be reserved; the layers that were begun
 /// are ended. (behave's documentation: context layers, environment file functions, cleanups)
 pub fn run_feature(
     alloc: Global,

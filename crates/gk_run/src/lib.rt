@@ -12,7 +12,6 @@ mod dry_run;
 mod ending;
 mod features;
 mod judged;
-mod numbers;
 mod open_run;
 mod reserved;
 mod results;

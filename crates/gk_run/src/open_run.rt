@@ -34,7 +34,8 @@ use std::alloc::Global;
 impl Suite {
     /// Begins a run: its layer, and the before hook of all. Takes no memory but what the hook's steps
     /// take. With `stop`, once a scenario or a feature is failed or memory, later scenarios are untested
-    /// and later features aren't begun; what was begun is ended as always. (behave's documentation: context layers, environment file functions, `--stop`)
+    /// and later features aren't begun; what was begun is ended as always. No feature has failed yet.
+    /// (behave's documentation: context layers, environment file functions, `--stop`)
     pub fn start(
         alloc: Global,
         sandbox: &mut Sandbox,
@@ -72,7 +73,7 @@ impl Suite {
 
     /// Runs a feature of the run, as `run_feature` does, where the before hook of all passed whole and
     /// the run hasn't stopped; else its selected cases are untested. The sandbox is as it was, whatever
-    /// is answered, and after `NoRoom` the run is still open. (behave's documentation: context layers)
+    /// is returned, and after `NoRoom` the run is still open. (behave's documentation: context layers)
     pub fn feature(
         &mut self,
         alloc: Global,
@@ -107,7 +108,7 @@ impl Suite {
         Ok(result)
     }
 
-    /// Ends the run: its after hook, its cleanups and its layer. Answers how its hooks and cleanups
+    /// Ends the run: its after hook, its cleanups and its layer. Returns how its hooks and cleanups
     /// ended: `Passed`, `Failed` or `Memory`. Takes no memory but what the steps take. (behave's
     /// documentation: context layers, environment file functions, cleanups)
     pub fn finish(
@@ -151,7 +152,7 @@ impl Suite {
 }
 
 /// A run that was begun, whose features were run, and that was finished has judged results: the
-/// features' results and what `Suite::finish` answers.
+/// features' results and what `Suite::finish` returns.
 pub fn finished_runs_are_judged()
     ensures { FinishedRunsAreJudged }
 {}

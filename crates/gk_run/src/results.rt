@@ -1,7 +1,7 @@
-//! What running answers.
+//! The results of running.
 
 /// The status of a step, a scenario or a feature. A step has any of them; a scenario or a feature is
-/// never undefined. (behave's documentation: the statuses of steps; this project's profile: memory)
+/// never undefined. (behave's documentation: the statuses of steps)
 #[derive(Clone, Copy, Debug, PartialEq, Eq)]
 pub enum Status {
     /// A step passed; no step of a scenario failed or is undefined; a scenario of a feature passed, and

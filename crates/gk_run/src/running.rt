@@ -3,8 +3,7 @@ ghost use Rattle.std.specs.Prelude.{◌≡◌, ◌<◌, map, IfOk, false};
 ghost use Rattle.gk_gherkin.specs.Feature.{step_value};
 ghost use Rattle.gk_select.specs.Case.{case_value};
 ghost use Rattle.gk_world.specs.State.{State, state_of, enter, layers};
-ghost use Rattle.gk_world.specs.Sandbox.{depth};
-ghost use Rattle.gk_run.specs.Acting.{KeepsLayers};
+ghost use Rattle.gk_world.specs.Sandbox.{depth, KeepsLayers};
 ghost use Rattle.gk_run.specs.Results.{step_row, case_row};
 ghost use Rattle.gk_run.specs.Run.{run_of, run_value};
 ghost use Rattle.gk_run.specs.Running.{unrun_row, IsSame, IsReached, marks_of, EndsCase, row_with};
@@ -62,7 +61,7 @@ pub fn case_result(heading: Heading, end: CaseEnd) -> CaseResult
 
 // Runs a case in the layer that was begun for it.
 fn in_layer(run: &Run<'_>, sandbox: &mut Sandbox, tags: &[String], steps: ReservedSteps) -> CaseEnd
-    requires begun { 0 < depth sandbox.old }
+    requires in_layer { 0 < depth sandbox.old }
     ensures end { (outside : State) → state_of sandbox.old.now ≡ enter outside →
         EndsCase run.now tags.now steps outside result }
     ensures layers { KeepsLayers sandbox.old sandbox.new }
@@ -119,7 +118,7 @@ pub(crate) fn case_in(
 /// Runs a case in a layer of its own: its before hooks, its steps, its after hooks and its cleanups.
 /// Its result is the one that plain maps give it alone from the sandbox's contents; where memory is
 /// refused in one of these, that event is `Memory`, those before it stay, and those after it don't
-/// happen. The sandbox is as it was, whatever is answered. `NoRoom` comes where memory is refused
+/// happen. The sandbox is as it was, whatever is returned. `NoRoom` comes where memory is refused
 /// before the first of them. (behave's documentation: context layers, environment file functions,
 /// cleanups)
 pub fn run_case(

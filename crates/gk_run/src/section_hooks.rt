@@ -1,9 +1,8 @@
 //! The hooks of a section, and the walks through them.
-ghost use Rattle.std.specs.Prelude.{◌≡◌, ◌<◌, None, Some, Option, option_copied, map};
+ghost use Rattle.std.specs.Prelude.{◌≡◌, ◌<◌, option_copied, map};
 ghost use Rattle.gk_gherkin.specs.Feature.{step_value};
-ghost use Rattle.gk_gherkin.specs.Hooks.{hook_value, hooks_value};
-ghost use Rattle.gk_world.specs.Sandbox.{depth};
-ghost use Rattle.gk_run.specs.Acting.{KeepsLayers};
+ghost use Rattle.gk_gherkin.specs.Hooks.{hooks_value};
+ghost use Rattle.gk_world.specs.Sandbox.{depth, KeepsLayers};
 ghost use Rattle.gk_run.specs.SectionHooks as spec;
 ghost use Rattle.gk_run.specs.SectionHooks.{WalksBefore, WalksTags, WalksAfter};
 
@@ -13,7 +12,7 @@ use crate::ending::{Ending, has_passed, is_memory, worse};
 use crate::run::Run;
 use crate::section::{Level, Section};
 use crate::walk::walk_hook;
-use gk_gherkin::{Hook, HookFile, HookKind, Step};
+use gk_gherkin::{HookFile, HookKind, Step};
 use gk_world::Sandbox;
 
 /// The hook before a section.
@@ -49,59 +48,13 @@ pub fn before_site(level: Level) -> Site
     }
 }
 
-// Whether two kinds are the same.
-fn is_same_kind(a: HookKind, b: HookKind) -> bool
-    ensures { result ≡ spec.is_same_kind a b }
-{
-    match a {
-        HookKind::BeforeAll => matches!(b, HookKind::BeforeAll),
-        HookKind::AfterAll => matches!(b, HookKind::AfterAll),
-        HookKind::BeforeFeature => matches!(b, HookKind::BeforeFeature),
-        HookKind::AfterFeature => matches!(b, HookKind::AfterFeature),
-        HookKind::BeforeScenario => matches!(b, HookKind::BeforeScenario),
-        HookKind::AfterScenario => matches!(b, HookKind::AfterScenario),
-        HookKind::BeforeTag => matches!(b, HookKind::BeforeTag),
-        HookKind::AfterTag => matches!(b, HookKind::AfterTag),
-    }
-}
-
-// Whether two tags, or none, are the same.
-fn is_same_tag(a: Option<&str>, b: Option<&str>) -> bool
-    ensures { result ≡ spec.is_same_tag (option_copied a.entry) (option_copied b.entry) }
-{
-    match a {
-        None => b.is_none(),
-        Some(a) => match b {
-            None => false,
-            Some(b) => a == b,
-        },
-    }
-}
-
-// The tag of a hook.
-fn tag_of(hook: &Hook) -> Option<&str>
-    ensures { option_copied result ≡ spec.tag_of (hook_value hook.now) }
-{
-    match &hook.tag {
-        None => None,
-        Some(tag) => Some(tag.as_str()),
-    }
-}
-
-// Whether a hook is the one of a kind and a tag.
-fn is_hook(hook: &Hook, kind: HookKind, tag: Option<&str>) -> bool
-    ensures { result ≡ spec.is_hook kind (option_copied tag.entry) (hook_value hook.now) }
-{
-    is_same_kind(hook.kind, kind) && is_same_tag(tag_of(hook), tag)
-}
-
 /// The steps of the hook of a kind and a tag; one that isn't in the file has none.
 pub fn hook_steps<'a>(hooks: &'a HookFile, kind: HookKind, tag: Option<&str>) -> &'a [Step]
     ensures { map step_value result.now
         ≡ spec.hook_steps (hooks_value hooks.now) kind (option_copied tag.entry) }
 {
     for hook in &hooks.hooks {
-        if is_hook(hook, kind, tag) {
+        if hook.is_for(kind, tag) {
             return hook.steps.as_slice();
         }
     }
@@ -115,7 +68,7 @@ pub fn walk_before(
     cleanups: &mut Cleanups,
     section: &Section<'_>,
 ) -> Ending
-    requires begun { 0 < depth sandbox.old }
+    requires in_layer { 0 < depth sandbox.old }
     ensures walked { WalksBefore run.now section.now
         sandbox.old cleanups.old result sandbox.new cleanups.new }
     ensures layers { KeepsLayers sandbox.old sandbox.new }
@@ -139,7 +92,7 @@ fn walk_tags(
     cleanups: &mut Cleanups,
     tags: &[String],
 ) -> Ending
-    requires begun { 0 < depth sandbox.old }
+    requires in_layer { 0 < depth sandbox.old }
     ensures walked { WalksTags run.now tags.now
         sandbox.old cleanups.old result sandbox.new cleanups.new }
     ensures layers { KeepsLayers sandbox.old sandbox.new }
@@ -163,7 +116,7 @@ pub fn walk_after(
     cleanups: &mut Cleanups,
     section: &Section<'_>,
 ) -> Ending
-    requires begun { 0 < depth sandbox.old }
+    requires in_layer { 0 < depth sandbox.old }
     ensures layers { KeepsLayers sandbox.old sandbox.new }
     ensures walked { WalksAfter run.now section.now
         sandbox.old cleanups.old result sandbox.new cleanups.new }

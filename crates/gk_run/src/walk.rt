@@ -1,50 +1,48 @@
 //! Walking through steps.
 ghost use Rattle.std.specs.Prelude.{◌≡◌, ◌<◌};
 ghost use Rattle.gk_gherkin.specs.Feature.{step_value};
-ghost use Rattle.gk_world.specs.Sandbox.{depth};
-ghost use Rattle.gk_run.specs.Acting.{KeepsLayers};
+ghost use Rattle.gk_steps.specs.Finding.{library_value};
+ghost use Rattle.gk_world.specs.Sandbox.{depth, KeepsLayers};
 ghost use Rattle.gk_run.specs.Results.{step_row};
-ghost use Rattle.gk_run.specs.Walk as spec;
-ghost use Rattle.gk_run.specs.Walk.{row_of_step, RunsStep, WalksHook, LooksUp, TakesNext, RunsSteps};
+ghost use Rattle.gk_run.specs.Walk.{row_of_step, RunsStep, WalksHook, IsLookedUp, TakesNext, RunsSteps};
 
 use crate::acting::{Site, act};
 use crate::cleanups::Cleanups;
-use crate::ending::{Ending, ending_of, has_passed, reason_of, status_of};
+use crate::ending::{Ending, ending_of, has_passed, reason_of, status_of, worse};
 use crate::reserved::ReservedSteps;
 use crate::results::{Mark, Outcome, StepResult};
 use crate::run::Run;
 use gk_gherkin::Step;
+use gk_steps::Library;
 use gk_world::Sandbox;
-use std::alloc::AllocError;
+use std::alloc::{AllocError, Global};
 
-// Carries a step out; none where no entry matches it.
+// Carries a step out, where an entry matches it.
 fn run_step(
     run: &Run<'_>,
     sandbox: &mut Sandbox,
     cleanups: &mut Cleanups,
     site: Site,
     step: &Step,
-) -> Option<Outcome>
-    requires begun { 0 < depth sandbox.old }
+) -> Mark
+    requires in_layer { 0 < depth sandbox.old }
     ensures ran { RunsStep run.now site step.now
         sandbox.old cleanups.old result sandbox.new cleanups.new }
     ensures layers { KeepsLayers sandbox.old sandbox.new }
 {
     let library = run.library;
     match library.find(run.alloc, step.step_type, step.text.as_str()) {
-        Ok(Some(found)) => {
-            Some(act(
-                run.alloc,
-                sandbox,
-                cleanups,
-                library,
-                site,
-                &found,
-                &step.block,
-            ))
-        }
-        Ok(None) => None,
-        Err(AllocError) => Some(Outcome::Memory),
+        Ok(Some(found)) => Mark::Acted(act(
+            run.alloc,
+            sandbox,
+            cleanups,
+            library,
+            site,
+            &found,
+            &step.block,
+        )),
+        Ok(None) => Mark::Undefined,
+        Err(AllocError) => Mark::Acted(Outcome::Memory),
     }
 }
 
@@ -56,7 +54,7 @@ pub fn walk_hook(
     site: Site,
     steps: &[Step],
 ) -> Ending
-    requires begun { 0 < depth sandbox.old }
+    requires in_layer { 0 < depth sandbox.old }
     ensures walked { WalksHook run.now site steps.now
         sandbox.old cleanups.old result sandbox.new cleanups.new }
     ensures layers { KeepsLayers sandbox.old sandbox.new }
@@ -70,73 +68,35 @@ pub fn walk_hook(
     Ending::Passed
 }
 
-/// What becomes of a step, and how the case stands after it.
-#[derive(Drop)]
-struct Next {
-    mark: Mark,
-    ending: Ending,
-}
-
-fn mark_of(outcome: Option<Outcome>) -> Mark
-    ensures { result ≡ spec.mark_of outcome }
+/// Looks a step up that isn't carried out: `matched` becomes of it where an entry matches it.
+pub fn look_up(alloc: Global, library: &Library, step: &Step, matched: Mark) -> Mark
+    ensures { IsLookedUp (library_value library.now) matched (step_value step.now) result }
 {
-    match outcome {
-        None => Mark::Undefined,
-        Some(outcome) => Mark::Acted(outcome),
+    match library.knows(alloc, step.step_type, step.text.as_str()) {
+        Ok(true) => matched,
+        Ok(false) => Mark::Undefined,
+        Err(AllocError) => Mark::Acted(Outcome::Memory),
     }
 }
 
-// Looks a step up that comes after one that failed or is undefined.
-fn look_up(run: &Run<'_>, step: &Step) -> Next
-    ensures { LooksUp run.now step.now result }
-{
-    let library = run.library;
-    match library.knows(run.alloc, step.step_type, step.text.as_str()) {
-        Ok(true) => Next {
-            mark: Mark::Skipped,
-            ending: Ending::Failed,
-        },
-        Ok(false) => Next {
-            mark: Mark::Undefined,
-            ending: Ending::Failed,
-        },
-        Err(AllocError) => Next {
-            mark: Mark::Acted(Outcome::Memory),
-            ending: Ending::Memory,
-        },
-    }
-}
-
-// One step of a case that stands so.
+// What becomes of the next step of a case that stands so.
 fn next_step(
     run: &Run<'_>,
     sandbox: &mut Sandbox,
     cleanups: &mut Cleanups,
-    ending: Ending,
     step: &Step,
-) -> Next
-    requires begun { 0 < depth sandbox.old }
+    ending: Ending,
+) -> Mark
+    requires in_layer { 0 < depth sandbox.old }
     ensures next { TakesNext run.now ending step.now
         sandbox.old cleanups.old result sandbox.new cleanups.new }
     ensures layers { KeepsLayers sandbox.old sandbox.new }
 {
     match ending {
-        Ending::Passed => {
-            let outcome = run_step(run, sandbox, cleanups, Site::Step, step);
-            Next {
-                mark: mark_of(outcome),
-                ending: ending_of(outcome),
-            }
-        }
-        Ending::Failed => look_up(run, step),
-        Ending::Skipped => Next {
-            mark: Mark::Skipped,
-            ending: Ending::Skipped,
-        },
-        Ending::Memory => Next {
-            mark: Mark::Untested,
-            ending: Ending::Memory,
-        },
+        Ending::Passed => run_step(run, sandbox, cleanups, Site::Step, step),
+        Ending::Failed => look_up(run.alloc, run.library, step, Mark::Skipped),
+        Ending::Skipped => Mark::Skipped,
+        Ending::Memory => Mark::Untested,
     }
 }
 
@@ -175,7 +135,7 @@ pub fn run_steps(
     before: Ending,
     steps: ReservedSteps,
 ) -> StepsEnd
-    requires begun { 0 < depth sandbox.old }
+    requires in_layer { 0 < depth sandbox.old }
     ensures stepped { RunsSteps run.now before steps
         sandbox.old cleanups.old result sandbox.new cleanups.new }
     ensures layers { KeepsLayers sandbox.old sandbox.new }
@@ -183,9 +143,9 @@ pub fn run_steps(
     let ReservedSteps { steps, mut results } = steps;
     let mut ending = before;
     for step in steps {
-        let next = next_step(run, sandbox, cleanups, ending, &step);
-        ending = next.ending;
-        results.push_reserved(row_of(step, next.mark));
+        let mark = next_step(run, sandbox, cleanups, &step, ending);
+        ending = worse(ending, ending_of(mark));
+        results.push_reserved(row_of(step, mark));
     }
     StepsEnd { ending, results }
 }

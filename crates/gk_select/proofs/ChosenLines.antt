@@ -11,7 +11,7 @@ use Rattle.std.specs.Ordering.{nat_cmp}
 use Rattle.std.specs.Result.{MatchResult}
 use Rattle.gk_select.specs.Case.{CaseValue}
 use Rattle.gk_select.specs.Choice.{is_chosen}
-use Rattle.gk_select.specs.TagRules.{AlternativeValue}
+use Rattle.gk_select.specs.TagGrammar.{Expression}
 
 same_number : (a b : ℕ) → a ≡ b → (a == b) ≡ true
 same_number a b e = grind (arith, nat_tests)
@@ -43,6 +43,6 @@ same_function : (f g : CaseValue → Bool) → ((case : CaseValue) → f case �
 same_function f g same = λ i case. same case i
 
 -- In any order, lines choose the same cases.
-pub same_choice : (rules : List (List AlternativeValue)) (xs ys : List ℕ) → IsPermutation xs ys → is_chosen rules ys ≡ is_chosen rules xs
+pub same_choice : (rules : List Expression) (xs ys : List ℕ) → IsPermutation xs ys → is_chosen rules ys ≡ is_chosen rules xs
 unfolding is_chosen
 same_choice rules xs ys p = same_function (is_chosen rules ys) (is_chosen rules xs) (λ case. rw (list_any-IsPermutation (λ line. line == case.line) xs ys p, length_permutation xs ys p) refl)

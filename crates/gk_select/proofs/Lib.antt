@@ -3,9 +3,15 @@ pub mod OneCut
 pub mod FillingLoops
 pub mod Rooms
 pub mod Unfilled
-pub mod TagAlternatives
+pub mod AlternativeWords
+pub mod TagMachine
+pub mod TagDepths
+pub mod TagShows
+pub mod TagWords
+pub mod TagReading
 pub mod ReadableRows
 pub mod CaseCounts
 pub mod ChosenLines
 pub mod WorkedOutlines
 pub mod WorkedChoices
+pub mod WorkedExpressions

@@ -3,10 +3,12 @@ use Rattle.std.specs.Prelude.{ℕ, Bool, ◌==◌, ◌||◌, ◌&&◌, List, len
 use Rattle.std.specs.List.{list_any, list_all}
 use Rattle.gk_select.specs.declared.choice.Choice.{Choice}
 use Rattle.gk_select.specs.Case.{CaseValue}
-use Rattle.gk_select.specs.TagRules.{AlternativeValue, tag_rule_value, holds}
+use Rattle.gk_select.specs.TagGrammar.{Expression}
+use Rattle.gk_select.specs.TagValues.{holds}
+use Rattle.gk_select.specs.TagRules.{tag_rule_value}
 
 -- Whether every rule holds of these tags. (behave's documentation: tag expressions)
-abbrev pub all_hold : List (List AlternativeValue) → List (List ℕ) → Bool
+abbrev pub all_hold : List Expression → List (List ℕ) → Bool
 all_hold rules tags = list_all (λ rule. holds rule tags) rules
 
 -- Whether a line is among the lines, or there are none.
@@ -14,7 +16,7 @@ abbrev pub is_at_lines : List ℕ → ℕ → Bool
 is_at_lines lines line = (length lines == 0) || list_any (λ other. other == line) lines
 
 -- A case is chosen where every rule holds of its tags, and its line is among the lines or there are none. (behave's documentation: tag expressions)
-unfoldable pub is_chosen : List (List AlternativeValue) → List ℕ → CaseValue → Bool
+unfoldable pub is_chosen : List Expression → List ℕ → CaseValue → Bool
 is_chosen rules lines case = all_hold rules case.tags && is_at_lines lines case.line
 
 -- Whether a `Choice` chooses a case.

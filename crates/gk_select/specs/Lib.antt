@@ -6,6 +6,13 @@ pub mod Inherited
 pub mod Outline
 pub mod Expansion
 pub mod Counting
+pub mod TagWords
+pub mod TagGrammar
+pub mod TagValues
+pub mod Alternatives
 pub mod TagRules
 pub mod Choice
 pub mod SelectFault
+-- Proof machinery: what the words of an expression build, taken from the last to the first, and how deep it is.
+pub mod TagTrees
+pub mod TagMeasures

@@ -6,7 +6,7 @@ ghost use Rattle.gk_select.specs.Case.{case_value};
 ghost use Rattle.gk_select.specs.TagRules.{tag_rule_value};
 
 use crate::case::Case;
-use crate::tag_rules::TagRule;
+use crate::tag_values::TagRule;
 
 /// Which cases are chosen: those of whose tags every rule holds, and whose line is among the lines where
 /// there are any. (behave's documentation: tag expressions)

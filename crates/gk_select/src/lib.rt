@@ -2,6 +2,7 @@
 //! text comes in; the cases in file order, or a rule of tags, go out.
 #![tactic(auto)]
 
+mod alternatives;
 mod case;
 mod choice;
 mod copies;
@@ -11,7 +12,10 @@ mod filling;
 mod inherited;
 mod outline;
 mod select_fault;
+mod tag_grammar;
 mod tag_rules;
+mod tag_values;
+mod tag_words;
 
 pub use case::Case;
 pub use choice::Choice;
@@ -21,4 +25,5 @@ pub use expansion::{
 };
 pub use filling::texts_have_one_cut;
 pub use select_fault::SelectFault;
-pub use tag_rules::{TagRule, read_tags, texts_have_one_rule};
+pub use tag_rules::{alternatives_are_rules, read_tags, texts_have_one_rule};
+pub use tag_values::TagRule;

@@ -1,13 +1,8 @@
 -- The computed match of a pattern is the preferred one.
-use Rattle.std.proofs.Common.{◌≡◌, ℕ, ℤ, pos, negsuc, ◌+◌, ◌<◌, ◌≤◌, ◌⊎◌, inl, inr, Bool, true, false, ◌&&◌, nat_lt, List, [], ◌∷◌, ◌++◌, length, take, drop, nat_eq, Option, Some, None, option_map, refl, ap, sym, subst, ◌∙◌, arith, append_assoc, length-append}
-use Rattle.std.specs.List.{starts_with, list_all}
-use Rattle.std.specs.Char.{is_digit}
+use Rattle.std.proofs.Common.{◌≡◌, ℕ, ◌+◌, ◌<◌, ◌≤◌, ◌⊎◌, inl, inr, Bool, true, false, nat_lt, List, [], ◌∷◌, ◌++◌, length, take, drop, nat_eq, Option, Some, None, option_map, refl, ap, sym, subst, ◌∙◌, arith, append_assoc, length-append}
+use Rattle.std.specs.List.{starts_with}
 use Rattle.std.specs.Str.{is_utf8}
-use Rattle.std.specs.Prelude.{FitsSigned}
-use Rattle.std.specs.Int.{w64}
-use Rattle.std.specs.Str.Parse.{IsNumeral, AllDigits, without_leading_sign, signed_digits_value}
 use Rattle.std.proofs.lemmas.Str.{IsUtf8-from_is_utf8, is_utf8-from_IsUtf8}
-use Rattle.std.proofs.lemmas.Bool.Decides.{nat_tests}
 use Rattle.std.proofs.lemmas.List.{append-nil, take-append-drop}
 use Rattle.std.proofs.Math.Nat.{eq-or-lt_of_le}
 use Rattle.std.proofs.Math.Seq.{take-append_seam}
@@ -15,60 +10,17 @@ use Rattle.std.proofs.lemmas.Slice.Eq.{bytes_eq-Decides}
 use Rattle.gk_steps.specs.declared.pattern.FieldKind.{FieldKind}
 use Rattle.gk_steps.specs.declared.pattern.FieldKind.TheVariants.{Plain, Decimal}
 use Rattle.gk_steps.specs.Pattern.{PieceValue, Literal, FieldPiece}
-use Rattle.gk_steps.specs.Matching.{IsSpan, woven, Matches, MatchesNot, IsPreferred, IsBestMatch, IsMatchResult, span_values, is_numeral, is_i64, is_span, rest_where, spans_with, shortest_match, longest_match, field_match, best_match, match_of}
+use Rattle.gk_steps.specs.Matching.{IsSpan, woven, Matches, MatchesNot, IsPreferred, IsBestMatch, IsMatchResult, span_values, is_span, rest_where, spans_with, shortest_match, longest_match, field_match, best_match, match_of}
+use Rattle.gk_steps.proofs.DecimalLemmas.{and_left, and_right, both, less_so, less_test, number_so, number_test}
 use Rattle.gk_steps.proofs.MatchingLemmas.{same_prefix, same_back}
-
--- tests
-pub and_left : (a b : Bool) → (a && b) ≡ true → a ≡ true
-and_left true b e = refl
-and_left false b e = let bad : ⊥ = cc in absurd bad
-
-pub and_right : (a b : Bool) → (a && b) ≡ true → b ≡ true
-and_right true b e = e
-and_right false b e = let bad : ⊥ = cc in absurd bad
-
-both : (a b : Bool) → a ≡ true → b ≡ true → (a && b) ≡ true
-both true b e f = f
-both false b e f = let bad : ⊥ = cc in absurd bad
-
-less_so : (a b : ℕ) → nat_lt a b ≡ true → a < b
-less_so a b e = grind (arith, nat_tests)
-
-less_test : (a b : ℕ) → a < b → nat_lt a b ≡ true
-less_test a b e = grind (arith, nat_tests)
-
-digits_so : (ds : List ℕ) → list_all (λ c. is_digit c 10) ds ≡ true → AllDigits 10 ds
-digits_so [] e = tt
-digits_so (c ∷ cs) e = (less_so _ 10 (and_left (is_digit c 10) (list_all (λ d. is_digit d 10) cs) e), digits_so cs (and_right (is_digit c 10) (list_all (λ d. is_digit d 10) cs) e))
-
-digits_test : (ds : List ℕ) → AllDigits 10 ds → list_all (λ c. is_digit c 10) ds ≡ true
-digits_test [] h = refl
-digits_test (c ∷ cs) h = both (is_digit c 10) (list_all (λ d. is_digit d 10) cs) (less_test _ 10 h.0) (digits_test cs h.1)
-
-numeral_so : (ds : List ℕ) → is_numeral ds ≡ true → IsNumeral 10 ds
-numeral_so ds e = (less_so 0 (length ds) (and_left (nat_lt 0 (length ds)) (list_all (λ c. is_digit c 10) ds) e), digits_so ds (and_right (nat_lt 0 (length ds)) (list_all (λ c. is_digit c 10) ds) e))
-
-numeral_test : (ds : List ℕ) → IsNumeral 10 ds → is_numeral ds ≡ true
-numeral_test ds h = both (nat_lt 0 (length ds)) (list_all (λ c. is_digit c 10) ds) (less_test 0 (length ds) h.0) (digits_test ds h.1)
-
-fits_so : (z : ℤ) → is_i64 z ≡ true → FitsSigned w64 z
-fits_so (pos n) e = record { sfits = less_so n 9223372036854775808 e }
-fits_so (negsuc n) e = record { sfits = less_so n 9223372036854775808 e }
-
-fits_test : (z : ℤ) → FitsSigned w64 z → is_i64 z ≡ true
-fits_test (pos n) h = less_test n 9223372036854775808 h.sfits
-fits_test (negsuc n) h = less_test n 9223372036854775808 h.sfits
 
 pub span_so : (kind : FieldKind) (x : List ℕ) → is_span kind x ≡ true → IsSpan kind x
 span_so Plain x e = (IsUtf8-from_is_utf8 x (and_left (is_utf8 x) (nat_lt 0 (length x)) e), less_so 0 (length x) (and_right (is_utf8 x) (nat_lt 0 (length x)) e))
-span_so Decimal x e =
-    let a = is_numeral (without_leading_sign x) in
-    let b = is_i64 (signed_digits_value 10 x) in
-    (numeral_so (without_leading_sign x) (and_left a b e), fits_so (signed_digits_value 10 x) (and_right a b e))
+span_so Decimal x e = number_so x e
 
 pub span_test : (kind : FieldKind) (x : List ℕ) → IsSpan kind x → is_span kind x ≡ true
 span_test Plain x h = both (is_utf8 x) (nat_lt 0 (length x)) (is_utf8-from_IsUtf8 x h.0) (less_test 0 (length x) h.1)
-span_test Decimal x h = both (is_numeral (without_leading_sign x)) (is_i64 (signed_digits_value 10 x)) (numeral_test (without_leading_sign x) h.0) (fits_test (signed_digits_value 10 x) h.1)
+span_test Decimal x h = number_test x h
 
 not_empty : (kind : FieldKind) (x : List ℕ) → IsSpan kind x → 0 < length x
 not_empty Plain x h = h.1

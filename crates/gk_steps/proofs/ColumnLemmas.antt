@@ -16,7 +16,7 @@ use Rattle.std.specs.Str.Parse.{AllDigits}
 use Rattle.std.proofs.lemmas.Bool.Decides.{nat_tests}
 use Rattle.gk_steps.specs.Matching.{IsSpan}
 use Rattle.gk_steps.specs.Places.{ArePlaces}
-use Rattle.gk_steps.specs.Columns.{part, IsStepTo, IsStep, IsNearest}
+use Rattle.gk_steps.specs.Columns.{part, IsAdvanceTo, IsAdvance, IsNearest}
 use Rattle.gk_steps.proofs.TableLemmas.{IsTextPiece, cut_at, part_size}
 
 one_column : (text places : List ℕ) (d e : ℕ) → ArePlaces text places → d < length places → e < length places → get_or places d 0 ≡ get_or places e 0 → d ≡ e
@@ -26,23 +26,23 @@ one_column text places d e h ld le same =
     omega (arith, not_less, not_more)
 
 -- a step over a literal
-pub literal_cut : (literal text places : List ℕ) (row : List Bool) (c d : ℕ) → ArePlaces text places → c < length places → IsStepTo (Literal literal) text places row c d → drop (get_or places c 0) text ≡ literal ++ drop (get_or places d 0) text
+pub literal_cut : (literal text places : List ℕ) (row : List Bool) (c d : ℕ) → ArePlaces text places → c < length places → IsAdvanceTo (Literal literal) text places row c d → drop (get_or places c 0) text ≡ literal ++ drop (get_or places d 0) text
 literal_cut literal text places row c d h l s = cut_at text places c d h l s.within ∙ ap (λ f. f ++ drop (get_or places d 0) text) s.takes
 
-literal_place : (literal text places : List ℕ) (row : List Bool) (c d : ℕ) → ArePlaces text places → c < length places → IsStepTo (Literal literal) text places row c d → get_or places d 0 ≡ get_or places c 0 + length literal
+literal_place : (literal text places : List ℕ) (row : List Bool) (c d : ℕ) → ArePlaces text places → c < length places → IsAdvanceTo (Literal literal) text places row c d → get_or places d 0 ≡ get_or places c 0 + length literal
 literal_place literal text places row c d h l s = part_size text places c d h l s.within ∙ ap (λ n. get_or places c 0 + n) (ap length s.takes)
 
 -- the end of a literal, from the rest after it
 pub literal_end : (literal text rest : List ℕ) (p : ℕ) → p ≤ length text → drop p text ≡ literal ++ rest → length text - length rest ≡ p + length literal
 literal_end literal text rest p within e = let size : length (drop p text) ≡ length literal + length rest = ap length e ∙ length-append literal rest in omega (arith, length-drop p text)
 
-pub literal_some : (literal text rest places : List ℕ) (row : List Bool) (c d : ℕ) → ArePlaces text places → c < length places → drop (get_or places c 0) text ≡ literal ++ rest → d ≤ c → get_or places d 0 ≡ length text - length rest → get_or row d false ≡ true → IsStep (Literal literal) text places row c (Some d)
+pub literal_some : (literal text rest places : List ℕ) (row : List Bool) (c d : ℕ) → ArePlaces text places → c < length places → drop (get_or places c 0) text ≡ literal ++ rest → d ≤ c → get_or places d 0 ≡ length text - length rest → get_or row d false ≡ true → IsAdvance (Literal literal) text places row c (Some d)
 literal_some literal text rest places row c d h l e within at yes_below =
     let end = literal_end literal text rest (get_or places c 0) (h.cuts c l).0 e in
     let size : get_or places d 0 - get_or places c 0 ≡ length literal = omega arith in
     (record { within = within; rest = yes_below; takes = ap (λ n. take n (drop (get_or places c 0) text)) size ∙ ap (take (length literal)) e ∙ take-append_seam literal rest }, λ other s. tt)
 
-pub literal_none_at : (literal text rest places : List ℕ) (row : List Bool) (c d : ℕ) → ArePlaces text places → c < length places → drop (get_or places c 0) text ≡ literal ++ rest → d ≤ c → get_or places d 0 ≡ length text - length rest → get_or row d false ≡ false → IsStep (Literal literal) text places row c None
+pub literal_none_at : (literal text rest places : List ℕ) (row : List Bool) (c d : ℕ) → ArePlaces text places → c < length places → drop (get_or places c 0) text ≡ literal ++ rest → d ≤ c → get_or places d 0 ≡ length text - length rest → get_or row d false ≡ false → IsAdvance (Literal literal) text places row c None
 literal_none_at literal text rest places row c d h l e within at no_below = λ other s.
     let end = literal_end literal text rest (get_or places c 0) (h.cuts c l).0 e in
     let there = literal_place literal text places row c other h l s in
@@ -50,24 +50,24 @@ literal_none_at literal text rest places row c d h l e within at no_below = λ o
     let is_true : get_or row d false ≡ true = ap (λ k. get_or row k false) (sym same) ∙ s.rest in
     let bad : ⊥ = cc in bad
 
-pub literal_none : (literal text rest places : List ℕ) (row : List Bool) (c : ℕ) → ArePlaces text places → c < length places → drop (get_or places c 0) text ≡ literal ++ rest → ((d : ℕ) → d ≤ c → get_or places d 0 ≡ length text - length rest → ⊥) → IsStep (Literal literal) text places row c None
+pub literal_none : (literal text rest places : List ℕ) (row : List Bool) (c : ℕ) → ArePlaces text places → c < length places → drop (get_or places c 0) text ≡ literal ++ rest → ((d : ℕ) → d ≤ c → get_or places d 0 ≡ length text - length rest → ⊥) → IsAdvance (Literal literal) text places row c None
 literal_none literal text rest places row c h l e none = λ other s. none other s.within (literal_place literal text places row c other h l s ∙ sym (literal_end literal text rest (get_or places c 0) (h.cuts c l).0 e))
 
 -- a step over a plain field
-pub plain_takes : (name text places : List ℕ) (row : List Bool) (c d : ℕ) → IsUtf8 text → ArePlaces text places → c < length places → d < c → get_or row d false ≡ true → IsStepTo (FieldPiece name Plain) text places row c d
+pub plain_takes : (name text places : List ℕ) (row : List Bool) (c d : ℕ) → IsUtf8 text → ArePlaces text places → c < length places → d < c → get_or row d false ≡ true → IsAdvanceTo (FieldPiece name Plain) text places row c d
 plain_takes name text places row c d u h l less is =
     let up = h.falling d c less l in
     let size = part_size text places c d h l (omega arith) in
     record { within = omega arith; rest = is; takes = (IsUtf8-between text (get_or places c 0) (get_or places d 0) u (omega arith) (h.cuts c l) (h.cuts d (omega arith)), omega arith) }
 
 -- a field takes something
-pub before : (piece : PieceValue) (text places : List ℕ) (row : List Bool) (c d : ℕ) → ArePlaces text places → c < length places → IsStepTo piece text places row c d → 0 < length (part text places c d) → d < c
+pub before : (piece : PieceValue) (text places : List ℕ) (row : List Bool) (c d : ℕ) → ArePlaces text places → c < length places → IsAdvanceTo piece text places row c d → 0 < length (part text places c d) → d < c
 before piece text places row c d h l s some = elim (eq-or-lt_of_le s.within) [
   | inr less ↦ less
   | inl same ↦ let size = part_size text places c d h l s.within in let at : get_or places d 0 ≡ get_or places c 0 = ap (λ k. get_or places k 0) same in absurd (omega arith)
 ]
 
-pub plain_is : (name text places : List ℕ) (row : List Bool) (c : ℕ) (o : Option ℕ) → IsUtf8 text → ArePlaces text places → c < length places → IsNearest row c o → IsStep (FieldPiece name Plain) text places row c o
+pub plain_is : (name text places : List ℕ) (row : List Bool) (c : ℕ) (o : Option ℕ) → IsUtf8 text → ArePlaces text places → c < length places → IsNearest row c o → IsAdvance (FieldPiece name Plain) text places row c o
 plain_is name text places row c None u h l none = λ d s. let is_false = none d (before (FieldPiece name Plain) text places row c d h l s s.takes.1) in let is_true = s.rest in let bad : ⊥ = cc in bad
 plain_is name text places row c (Some d) u h l near = (
   plain_takes name text places row c d u h l near.0 near.1,
@@ -77,13 +77,13 @@ plain_is name text places row c (Some d) u h l near = (
 )
 
 -- the name of a field says nothing here
-pub rename : (name : List ℕ) (text places : List ℕ) (row : List Bool) (c d : ℕ) → IsStepTo (FieldPiece [] Decimal) text places row c d → IsStepTo (FieldPiece name Decimal) text places row c d
+pub rename : (name : List ℕ) (text places : List ℕ) (row : List Bool) (c d : ℕ) → IsAdvanceTo (FieldPiece [] Decimal) text places row c d → IsAdvanceTo (FieldPiece name Decimal) text places row c d
 rename name text places row c d s = record { within = s.within; rest = s.rest; takes = s.takes }
 
-pub rename_back : (name : List ℕ) (text places : List ℕ) (row : List Bool) (c d : ℕ) → IsStepTo (FieldPiece name Decimal) text places row c d → IsStepTo (FieldPiece [] Decimal) text places row c d
+pub rename_back : (name : List ℕ) (text places : List ℕ) (row : List Bool) (c d : ℕ) → IsAdvanceTo (FieldPiece name Decimal) text places row c d → IsAdvanceTo (FieldPiece [] Decimal) text places row c d
 rename_back name text places row c d s = record { within = s.within; rest = s.rest; takes = s.takes }
 
-pub named : (name : List ℕ) (text places : List ℕ) (row : List Bool) (c : ℕ) (o : Option ℕ) → IsStep (FieldPiece [] Decimal) text places row c o → IsStep (FieldPiece name Decimal) text places row c o
+pub named : (name : List ℕ) (text places : List ℕ) (row : List Bool) (c : ℕ) (o : Option ℕ) → IsAdvance (FieldPiece [] Decimal) text places row c o → IsAdvance (FieldPiece name Decimal) text places row c o
 named name text places row c None none = λ d s. none d (rename_back name text places row c d s)
 named name text places row c (Some d) s = (rename name text places row c d s.0, λ e t. s.1 e (rename_back name text places row c e t))
 

@@ -148,3 +148,25 @@ longest_here most text places below c d s = (s, λ e least t. least)
 pub longest_ends : (low most : ℕ) (text places : List ℕ) (below : List Bool) (c : ℕ) (o : Option ℕ) → ((e : ℕ) → e < low → IsDigitsTo most text places below c e → ⊥) → IsLongestTo low most text places below c o → IsLongest most text places below c o
 longest_ends low most text places below c None none h = λ e least s. let not_less : e < low → ⊥ = λ less. none e less s in h e (omega (arith, not_less)) s
 longest_ends low most text places below c (Some b) none h = (h.0, λ e least s. let not_less : e < low → ⊥ = λ less. none e less s in h.1 e (omega (arith, not_less)) s)
+
+-- the column before which the loop stands, and the byte after it
+pub column_up : (column back : ℕ) → back < column → column - back - 1 + 1 ≡ column - back
+column_up column back less = omega arith
+
+pub byte_at : (text bytes places : List ℕ) (column back : ℕ) → bytes ≡ text → back < column → get_or bytes (get_or places (column - back) 0) 0 ≡ get_or text (get_or places (column - back - 1 + 1) 0) 0
+byte_at text bytes places column back same less = ap (λ bs. get_or bs (get_or places (column - back) 0) 0) same ∙ ap (λ k. get_or text (get_or places k 0) 0) (sym (column_up column back less))
+
+-- a digit that was read there
+pub digit_read : (text bytes places : List ℕ) (column back value value' : ℕ) → IsUtf8 text → ArePlaces text places → column < length places → bytes ≡ text → back < column → 48 ≤ get_or bytes (get_or places (column - back) 0) 0 → get_or bytes (get_or places (column - back) 0) 0 < 58
+    → value' ≡ value * 10 + (get_or bytes (get_or places (column - back) 0) 0 - 48) → AllDigits 10 (part text places column (column - back)) → value ≡ digits_value 10 (part text places column (column - back))
+    → AllDigits 10 (part text places column (column - back - 1)) × (value' ≡ digits_value 10 (part text places column (column - back - 1)))
+digit_read text bytes places column back value value' u h within same less low high more digits value_is =
+    let up = column_up column back less in
+    let is = byte_at text bytes places column back same less in
+    let next = next_place text places (column - back - 1) u h (omega arith) (omega (arith, is)) in
+    one_digit text places column (column - back - 1) (get_or bytes (get_or places (column - back) 0) 0) value value' h within (omega arith) next is low high more (subst (λ k. AllDigits 10 (part text places column k)) (sym up) digits) (value_is ∙ ap (λ k. digits_value 10 (part text places column k)) (sym up))
+
+-- the longest step, where no digits lead past a column of the loop
+pub longest_at : (column back most : ℕ) (text places : List ℕ) (below : List Bool) (o : Option ℕ) → back < column → ((e : ℕ) → e < column - back - 1 + 1 → IsDigitsTo most text places below column e → ⊥) → IsLongestTo (column - back) most text places below column o → IsLongest most text places below column o
+longest_at column back most text places below o less none best =
+    longest_ends (column - back - 1 + 1) most text places below column o none (subst (λ k. IsLongestTo k most text places below column o) (sym (column_up column back less)) best)

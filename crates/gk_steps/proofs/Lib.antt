@@ -1,3 +1,4 @@
+mod DecimalLemmas
 mod MatchingLemmas
 mod BestMatchLemmas
 mod PlacesLemmas
@@ -7,10 +8,14 @@ mod TableRowLemmas
 mod TableReadLemmas
 mod PassingOverLemmas
 mod FindingLemmas
+mod FilledCellsLemmas
 mod SpellingLemmas
 mod ActionLemmas
+mod LineLemmas
 mod LibraryLineLemmas
+mod LibraryStagesLemmas
 mod LibraryFileLemmas
+mod OneLibraryFault
 mod DefaultFileLemmas
 mod WorkedPatterns
 mod DigitLemmas

@@ -1,5 +1,5 @@
 -- The lines of a step library.
-use Rattle.std.proofs.Common.{◌≡◌, ℕ, zero, suc, ◌+◌, ◌<◌, Bool, true, false, cond, not, List, [], ◌∷◌, ◌++◌, length, take, drop, get_or, Option, Some, None, refl, ap, sym, subst, ◌∙◌, arith, append_assoc}
+use Rattle.std.proofs.Common.{◌≡◌, ℕ, zero, suc, ◌+◌, ◌<◌, Bool, true, false, cond, not, List, [], ◌∷◌, ◌++◌, length, take, drop, get_or, Option, Some, refl, ap, sym, subst, ◌∙◌, arith, append_assoc}
 use Rattle.std.specs.Prelude.{filter}
 use Rattle.std.proofs.lemmas.List.Elements.{filter-append}
 use Rattle.gk_gherkin.specs.declared.feature.StepType.{StepType}
@@ -8,21 +8,16 @@ use Rattle.gk_steps.specs.declared.action.Action.{Action}
 use Rattle.gk_steps.specs.declared.library_fault.LibraryFault.{LibraryFault}
 use Rattle.gk_steps.specs.declared.library_fault.LibraryFault.TheVariants as faults
 use Rattle.gk_steps.specs.Pattern.{PieceValue, SpellsPattern}
-use Rattle.gk_steps.specs.Matching.{Matches, MatchesNot}
 use Rattle.gk_steps.specs.Action.{ActionRowValue, action_row}
 use Rattle.gk_steps.specs.Finding.{EntryValue, LibraryValue}
-use Rattle.gk_steps.specs.LibraryFile.{Sides, is_ignored, sides_of, HasNeededFields, HasRightKinds, NoneMatches, SpellsEntry, SpellEntries, ReadsLibrary, IsReadableLibrary, HasPattern, IsBadType, IsBadPattern, IsUnknownAction, IsMissingField, IsOtherKind, IsAmbiguous, StopsLibraryAt, LibraryReadingIsUnique}
+use Rattle.gk_steps.specs.LibraryFile.{Sides, is_ignored, SpellsEntry, SpellEntries, ReadsLibrary, IsReadableLibrary, IsBadType, IsBadPattern, IsUnknownAction, IsMissingField, IsOtherKind, IsAmbiguous, StopsLibraryAt, LibraryReadingIsUnique, EntryNeedsMemory, LibraryNeedsMemory}
 use Rattle.gk_steps.specs.LibraryFault.{LibraryFaultSays}
 use Rattle.gk_steps.specs.LibraryLine.{EntryFaultSays, AddsLine, Ignored, Spelled, LineFaultSays, LibraryLinesFaultSays}
 use Rattle.gk_steps.proofs.SpellingLemmas.{spelling}
+use Rattle.gk_steps.proofs.LibraryStagesLemmas.{some_same, never_spelled}
+use Rattle.gk_steps.proofs.LibraryLineLemmas.{entry_needs}
 
 -- what a line spells is determined
-some_same : {A : Type 0} (x y : A) → ◌≡◌ {A = Option A} (Some x) (Some y) → x ≡ y
-some_same x y e = cc
-
-some_not : {A : Type 0} (x : A) → ◌≡◌ {A = Option A} (Some x) None → ⊥
-some_not x e = let bad : ⊥ = cc in bad
-
 abbrev entry_from : Option StepType → List PieceValue → Action → EntryValue
 entry_from step_type ps action = record { step_type = step_type; pattern = ps; action = action }
 
@@ -152,56 +147,28 @@ stop_at Fault n ls i x es l e counts h number fault never = record {
   fault = fault;
 }
 
--- no line with a fault spells an entry
-never_type : (es : LibraryValue) (l : LineValue) → IsBadType es l → (e : EntryValue) → SpellsEntry es l e → ⊥
-never_type es l f e s = some_not e.step_type (sym s.is_type ∙ f)
+-- a line with a fault is where a library stops
+-- lines that ask for memory
+first_needs : (kept_before kept_after : Lines) (x : LineValue) (es : LibraryValue) → SpellEntries [] kept_before es → EntryNeedsMemory x → (line : LineValue) × (rest : Lines) × (kept_before ++ x ∷ kept_after ≡ line ∷ rest) × EntryNeedsMemory line
+first_needs [] after x es h needs = (x, after, refl, needs)
+first_needs (y ∷ ys) after x [] h needs = absurd h
+first_needs (y ∷ ys) after x (e ∷ es) h needs = (y, ys ++ x ∷ after, refl, entry_needs [] y e h.0)
 
-never_pattern : (es : LibraryValue) (l : LineValue) → IsBadPattern es l → (e : EntryValue) → SpellsEntry es l e → ⊥
-never_pattern es l f e s = f.bad s.sides e.pattern s.is_cut s.is_pattern
-
-sides_same : (l : LineValue) (step_type : Option StepType) (a b : Sides) (ps : List PieceValue) → HasPattern l step_type a ps → sides_of l ≡ Some b → a ≡ b
-sides_same l step_type a b ps g cut = some_same a b (sym g.is_cut ∙ cut)
-
-never_action : (es : LibraryValue) (l : LineValue) → IsUnknownAction es l → (e : EntryValue) → SpellsEntry es l e → ⊥
-never_action es l f e s = some_not s.row (sym s.is_action ∙ ap (λ (x : Sides). action_row x.action) (sym (sides_same l f.step_type f.sides s.sides f.ps f.good s.is_cut)) ∙ f.bad)
-
-pattern_same : (l : LineValue) (step_type : Option StepType) (a b : Sides) (ps qs : List PieceValue) → HasPattern l step_type a ps → sides_of l ≡ Some b → SpellsPattern b.pattern qs → qs ≡ ps
-pattern_same l step_type a b ps qs g cut s = spelling a.pattern qs ps (subst (λ (x : Sides). SpellsPattern x.pattern qs) (sym (sides_same l step_type a b ps g cut)) s) g.is_pattern
-
-row_same : (l : LineValue) (step_type : Option StepType) (a b : Sides) (ps : List PieceValue) (r q : ActionRowValue) → HasPattern l step_type a ps → sides_of l ≡ Some b → action_row a.action ≡ Some r → action_row b.action ≡ Some q → q ≡ r
-row_same l step_type a b ps r q g cut h k = sym (same_row a b r q (sides_same l step_type a b ps g cut) h k)
-
-never_needs : (es : LibraryValue) (l : LineValue) → IsMissingField es l → (e : EntryValue) → SpellsEntry es l e → ⊥
-never_needs es l f e s =
-    let ps = pattern_same l f.step_type f.sides s.sides f.ps e.pattern f.good s.is_cut s.is_pattern in
-    let row = row_same l f.step_type f.sides s.sides f.ps f.row s.row f.good s.is_cut f.is_action s.is_action in
-    f.bad (subst (λ (q : List PieceValue). HasNeededFields f.row q) ps (subst (λ (r : ActionRowValue). HasNeededFields r e.pattern) row s.needs))
-
-never_kinds : (es : LibraryValue) (l : LineValue) → IsOtherKind es l → (e : EntryValue) → SpellsEntry es l e → ⊥
-never_kinds es l f e s =
-    let ps = pattern_same l f.step_type f.sides s.sides f.ps e.pattern f.good s.is_cut s.is_pattern in
-    let row = row_same l f.step_type f.sides s.sides f.ps f.row s.row f.good s.is_cut f.is_action s.is_action in
-    f.bad (subst (λ (q : List PieceValue). HasRightKinds f.row q) ps (subst (λ (r : ActionRowValue). HasRightKinds r e.pattern) row s.kinds))
-
-none_there : (before : LibraryValue) (x : EntryValue) (after : LibraryValue) (step_type : Option StepType) (text : List ℕ) → NoneMatches (before ++ x ∷ after) step_type text → x.step_type ≡ step_type → MatchesNot x.pattern text
-none_there [] x after step_type text h = h.0
-none_there (b ∷ before) x after step_type text h = none_there before x after step_type text h.1
-
-never_ambiguous : (es : LibraryValue) (l : LineValue) → IsAmbiguous es l → (e : EntryValue) → SpellsEntry es l e → ⊥
-never_ambiguous es l f e s =
-    let sides = sides_same l f.step_type f.sides s.sides f.ps f.good s.is_cut in
-    let types : e.step_type ≡ f.step_type = some_same e.step_type f.step_type (sym s.is_type ∙ f.good.is_type) in
-    let none : NoneMatches (f.before ++ f.entry ∷ f.after) e.step_type s.sides.pattern = subst (λ (q : LibraryValue). NoneMatches q e.step_type s.sides.pattern) f.whole s.unambiguous in
-    none_there f.before f.entry f.after e.step_type s.sides.pattern none (f.same ∙ sym types) f.spans (subst (λ (x : Sides). Matches f.entry.pattern x.pattern f.spans) sides f.matches)
+needs_at : (ls : Lines) (i : ℕ) (x : LineValue) (es : LibraryValue) → i < length ls → x ≡ get_or ls i x → is_ignored x ≡ false → ReadsLibrary (take i ls) es → EntryNeedsMemory x → LibraryNeedsMemory ls
+needs_at ls i x es l e counts h needs =
+    let whole : filter (λ line. not (is_ignored line)) ls ≡ filter (λ line. not (is_ignored line)) (take i ls) ++ x ∷ filter (λ line. not (is_ignored line)) (drop (suc i) ls) =
+    ap (filter (λ line. not (is_ignored line))) (cut_at ls i x l e).whole ∙ kept_rest (take i ls) x (drop (suc i) ls) counts in
+    let first = first_needs (filter (λ line. not (is_ignored line)) (take i ls)) (filter (λ line. not (is_ignored line)) (drop (suc i) ls)) x es h needs in
+    record { line = first.0; rest = first.1; first = whole ∙ first.2; needs = first.3 }
 
 pub fault_at : (f : LibraryFault) (ls : Lines) (i : ℕ) (x : LineValue) (es : LibraryValue) → i < length ls → x ≡ get_or ls i x → is_ignored x ≡ false → ReadsLibrary (take i ls) es → EntryFaultSays f es x → LibraryLinesFaultSays f (ls)
-fault_at faults.Memory ls i x es l e counts h f = tt
-fault_at (faults.BadType n) ls i x es l e counts h f = stop_at IsBadType n ls i x es l e counts h f.0 f.1 (never_type es x f.1)
-fault_at (faults.BadPattern n) ls i x es l e counts h f = stop_at IsBadPattern n ls i x es l e counts h f.0 f.1 (never_pattern es x f.1)
-fault_at (faults.UnknownAction n) ls i x es l e counts h f = stop_at IsUnknownAction n ls i x es l e counts h f.0 f.1 (never_action es x f.1)
-fault_at (faults.MissingField n) ls i x es l e counts h f = stop_at IsMissingField n ls i x es l e counts h f.0 f.1 (never_needs es x f.1)
-fault_at (faults.FieldKind n) ls i x es l e counts h f = stop_at IsOtherKind n ls i x es l e counts h f.0 f.1 (never_kinds es x f.1)
-fault_at (faults.Ambiguous n) ls i x es l e counts h f = stop_at IsAmbiguous n ls i x es l e counts h f.0 f.1 (never_ambiguous es x f.1)
+fault_at faults.Memory ls i x es l e counts h f = needs_at ls i x es l e counts h f
+fault_at (faults.BadType n) ls i x es l e counts h f = stop_at IsBadType n ls i x es l e counts h f.0 f.1 (never_spelled 0 es x (omega arith) f.1)
+fault_at (faults.BadPattern n) ls i x es l e counts h f = stop_at IsBadPattern n ls i x es l e counts h f.0 f.1 (never_spelled 1 es x (omega arith) f.1)
+fault_at (faults.UnknownAction n) ls i x es l e counts h f = stop_at IsUnknownAction n ls i x es l e counts h f.0 f.1 (never_spelled 2 es x (omega arith) f.1)
+fault_at (faults.MissingField n) ls i x es l e counts h f = stop_at IsMissingField n ls i x es l e counts h f.0 f.1 (never_spelled 3 es x (omega arith) f.1)
+fault_at (faults.FieldKind n) ls i x es l e counts h f = stop_at IsOtherKind n ls i x es l e counts h f.0 f.1 (never_spelled 4 es x (omega arith) f.1)
+fault_at (faults.Ambiguous n) ls i x es l e counts h f = stop_at IsAmbiguous n ls i x es l e counts h f.0 f.1 (never_spelled 5 es x (omega arith) f.1)
 fault_at (faults.NotUtf8 n) ls i x es l e counts h f = absurd f
 fault_at faults.TooLong ls i x es l e counts h f = absurd f
 
@@ -221,7 +188,7 @@ only_memory (faults.NotUtf8 n) ls es f h = absurd f
 only_memory faults.TooLong ls es f h = absurd f
 
 pub says_so : (f : LibraryFault) (bytes : List ℕ) → IsText bytes → LibraryLinesFaultSays f (lines_of bytes) → LibraryFaultSays f bytes
-says_so faults.Memory bytes is f = is
+says_so faults.Memory bytes is f = (is, f)
 says_so (faults.BadType n) bytes is f = (is, f)
 says_so (faults.BadPattern n) bytes is f = (is, f)
 says_so (faults.UnknownAction n) bytes is f = (is, f)

@@ -9,7 +9,7 @@ use Rattle.gk_gherkin.specs.declared.feature.StepType.{StepType}
 use Rattle.gk_steps.specs.declared.library.Entry.{Entry}
 use Rattle.gk_steps.specs.Finding.{EntryValue, LibraryValue, FoundValue, HasCandidate, IsFoundOf, entry_value}
 use Rattle.gk_steps.specs.Library.{are_for_each_from}
-use Rattle.gk_steps.proofs.BestMatchLemmas.{and_left, and_right}
+use Rattle.gk_steps.proofs.DecimalLemmas.{and_left, and_right}
 
 -- elements before a place
 get_before : {X : Type 0} (xs : List X) (n i : ℕ) → i < n → slice_get (take n xs) i ≡ slice_get xs i

@@ -1,7 +1,7 @@
 -- One line of a step library.
 use Rattle.std.proofs.Common.{◌≡◌, ℕ, zero, suc, ◌+◌, ◌-◌, ◌<◌, ◌≤◌, Bool, true, false, cond, ◌&&◌, nat_eq, List, [], ◌∷◌, ◌++◌, length, take, drop, get_or, codes, Option, Some, None, refl, ap, sym, subst, ◌∙◌, arith}
 use Rattle.std.proofs.Common.{Bor}
-use Rattle.std.specs.Prelude.{is_some, IsSome, slice_get}
+use Rattle.std.specs.Prelude.{is_some, IsSome, slice_get, Result, Ok, Err, IfErr, IsErrAnd}
 use Rattle.std.specs.List.{AllByRecursion, list_all}
 use Rattle.std.specs.Str.{IsUtf8, IsCharBoundary}
 use Rattle.std.proofs.lemmas.Bool.Decides.{nat_tests}
@@ -19,8 +19,9 @@ use Rattle.gk_steps.specs.declared.library_fault.LibraryFault.TheVariants as fau
 use Rattle.gk_steps.specs.Pattern.{PieceValue, SpellsPattern, field_kind}
 use Rattle.gk_steps.specs.Action.{ActionRowValue, action_row, kind_of_field, words_said}
 use Rattle.gk_steps.specs.Finding.{EntryValue, LibraryValue, FoundValue, NoneFound, IsFirstFound, IsFoundOf}
-use Rattle.gk_steps.specs.LibraryFile.{Sides, into_sides, last_arrow, NoneMatches, SpellsEntry, HasPattern, IsAmbiguous}
-use Rattle.gk_steps.specs.LibraryLine.{is_same_kind, is_none_or_kind, has_needed, has_right_kinds, FitsAction, LacksField, HasOtherKind, ActionFaultSays, PatternFaultSays, IsCut, CutFaultSays, EntryFaultSays}
+use Rattle.gk_steps.specs.LibraryFile.{Sides, into_sides, last_arrow, NoneMatches, SpellsEntry, HasPattern, IsAmbiguous, EntryNeedsMemory}
+use Rattle.gk_steps.specs.LibraryLine.{is_same_kind, is_none_or_kind, has_needed, has_right_kinds, FitsAction, LacksField, HasOtherKind, ActionFaultSays, PatternFaultSays, IsEntryText, EntryTextFaultSays, EntryFaultSays}
+use Rattle.gk_steps.proofs.SpellingLemmas.{pattern_begins}
 
 -- the last arrow
 arrow_not_here : (b : ℕ) (bs : List ℕ) (o : Option Sides) → o ≡ None → begins (b ∷ bs) (codes "=>") ≡ false → into_sides (b ∷ bs) o ≡ None
@@ -124,7 +125,7 @@ same_sides a b e = cc
 no_sides : (a : Sides) → ◌≡◌ {A = Option Sides} None (Some a) → ⊥
 no_sides a e = let bad : ⊥ = cc in bad
 
-pub cut_fault : (f : LibraryFault) (earlier : LibraryValue) (line : LineValue) → CutFaultSays f line → EntryFaultSays f earlier line
+pub cut_fault : (f : LibraryFault) (earlier : LibraryValue) (line : LineValue) → EntryTextFaultSays f line → EntryFaultSays f earlier line
 cut_fault (faults.BadType n) earlier line h = h
 cut_fault (faults.BadPattern n) earlier line h = (h.0, record { step_type = h.1; is_type = h.2; bad = λ sides ps cut s. no_sides sides (sym h.3 ∙ cut) })
 cut_fault (faults.NotUtf8 n) earlier line h = absurd h
@@ -135,7 +136,7 @@ cut_fault (faults.Ambiguous n) earlier line h = absurd h
 cut_fault faults.TooLong earlier line h = absurd h
 cut_fault faults.Memory earlier line h = absurd h
 
-pub pattern_fault : (f : LibraryFault) (earlier : LibraryValue) (line : LineValue) (step_type : Option StepType) (text name : List ℕ) → IsCut line step_type text name → PatternFaultSays f line.line text → EntryFaultSays f earlier line
+pub pattern_fault : (f : LibraryFault) (earlier : LibraryValue) (line : LineValue) (step_type : Option StepType) (text name : List ℕ) → IsEntryText line step_type text name → PatternFaultSays f line.line text → EntryFaultSays f earlier line
 pattern_fault (faults.BadPattern n) earlier line step_type text name c h =
     (h.0, record { step_type = step_type; is_type = c.is_type; bad = λ sides ps cut s. h.1 ps (subst (λ (t : Sides). SpellsPattern t.pattern ps) (same_sides sides (record { pattern = text; action = name }) (sym cut ∙ c.is_cut)) s) })
 pattern_fault (faults.BadType n) earlier line step_type text name c h = absurd h
@@ -145,12 +146,12 @@ pattern_fault (faults.MissingField n) earlier line step_type text name c h = abs
 pattern_fault (faults.FieldKind n) earlier line step_type text name c h = absurd h
 pattern_fault (faults.Ambiguous n) earlier line step_type text name c h = absurd h
 pattern_fault faults.TooLong earlier line step_type text name c h = absurd h
-pattern_fault faults.Memory earlier line step_type text name c h = tt
+pattern_fault faults.Memory earlier line step_type text name c h = record { step_type = step_type; sides = record { pattern = text; action = name }; is_type = c.is_type; is_cut = c.is_cut; needs = h }
 
-good_so : (line : LineValue) (step_type : Option StepType) (text name : List ℕ) (ps : List PieceValue) → IsCut line step_type text name → SpellsPattern text ps → HasPattern line step_type (record { pattern = text; action = name }) ps
+good_so : (line : LineValue) (step_type : Option StepType) (text name : List ℕ) (ps : List PieceValue) → IsEntryText line step_type text name → SpellsPattern text ps → HasPattern line step_type (record { pattern = text; action = name }) ps
 good_so line step_type text name ps c s = record { is_type = c.is_type; is_cut = c.is_cut; is_pattern = s }
 
-pub action_fault : (f : LibraryFault) (earlier : LibraryValue) (line : LineValue) (step_type : Option StepType) (text name : List ℕ) (ps : List PieceValue) → IsCut line step_type text name → SpellsPattern text ps → ActionFaultSays f line.line name ps → EntryFaultSays f earlier line
+pub action_fault : (f : LibraryFault) (earlier : LibraryValue) (line : LineValue) (step_type : Option StepType) (text name : List ℕ) (ps : List PieceValue) → IsEntryText line step_type text name → SpellsPattern text ps → ActionFaultSays f line.line name ps → EntryFaultSays f earlier line
 action_fault (faults.UnknownAction n) earlier line step_type text name ps c s h = (h.0, record { step_type = step_type; sides = record { pattern = text; action = name }; ps = ps; good = good_so line step_type text name ps c s; bad = h.1 })
 action_fault (faults.MissingField n) earlier line step_type text name ps c s h = (h.0, record { step_type = step_type; sides = record { pattern = text; action = name }; ps = ps; row = h.1.row; good = good_so line step_type text name ps c s; is_action = h.1.is_action; bad = h.1.bad })
 action_fault (faults.FieldKind n) earlier line step_type text name ps c s h = (h.0, record { step_type = step_type; sides = record { pattern = text; action = name }; ps = ps; row = h.1.row; good = good_so line step_type text name ps c s; is_action = h.1.is_action; needs = h.1.needs; bad = h.1.bad })
@@ -172,7 +173,7 @@ at_place [] i x e = let bad : ⊥ = cc in absurd bad
 at_place (y ∷ ys) zero x e = let same : y ≡ x = cc in record { before = []; after = ys; whole = ap (λ (z : EntryValue). z ∷ ys) same }
 at_place (y ∷ ys) (suc i) x e = let more = at_place ys i x e in record { before = y ∷ more.before; after = more.after; whole = ap (λ (zs : LibraryValue). y ∷ zs) more.whole }
 
-pub ambiguous : (earlier : LibraryValue) (line : LineValue) (step_type : Option StepType) (text name : List ℕ) (ps : List PieceValue) (action : Action) (f : FoundValue) → IsCut line step_type text name → SpellsPattern text ps → FitsAction name ps action → IsFirstFound earlier step_type text f → IsAmbiguous earlier line
+pub ambiguous : (earlier : LibraryValue) (line : LineValue) (step_type : Option StepType) (text name : List ℕ) (ps : List PieceValue) (action : Action) (f : FoundValue) → IsEntryText line step_type text name → SpellsPattern text ps → FitsAction name ps action → IsFirstFound earlier step_type text f → IsAmbiguous earlier line
 ambiguous earlier line step_type text name ps action f c s a first =
     let place = at_place earlier f.entry first.entry first.place in
     record {
@@ -197,7 +198,7 @@ none_matches : (earlier : LibraryValue) (step_type : Option StepType) (text : Li
 none_matches [] step_type text h = tt
 none_matches (e ∷ es) step_type text h = (λ same. h 0 e refl same, none_matches es step_type text (λ place entry is same. h (suc place) entry is same))
 
-pub spells_entry : (earlier : LibraryValue) (line : LineValue) (step_type : Option StepType) (text name : List ℕ) (ps : List PieceValue) (action : Action) → IsCut line step_type text name → SpellsPattern text ps → FitsAction name ps action → NoneFound earlier step_type text
+pub spells_entry : (earlier : LibraryValue) (line : LineValue) (step_type : Option StepType) (text name : List ℕ) (ps : List PieceValue) (action : Action) → IsEntryText line step_type text name → SpellsPattern text ps → FitsAction name ps action → NoneFound earlier step_type text
     → SpellsEntry earlier line (record { step_type = step_type; pattern = ps; action = action })
 spells_entry earlier line step_type text name ps action c s a none = record {
   sides = record { pattern = text; action = name };
@@ -275,8 +276,19 @@ pub whole_rest : (xs : List ℕ) (p : ℕ) → take (length xs - p) (drop p xs) 
 whole_rest xs p = take_all (length xs - p) (drop p xs) (omega (arith, length-drop p xs))
 
 -- what was found among the earlier entries
-pub ambiguous_with : (earlier : LibraryValue) (line : LineValue) (step_type : Option StepType) (text name : List ℕ) (ps : List PieceValue) (action : Action) (o : Option FoundValue) (f : FoundValue) → o ≡ Some f → IsCut line step_type text name → SpellsPattern text ps → FitsAction name ps action → IsFoundOf earlier step_type text o → IsAmbiguous earlier line
+pub ambiguous_with : (earlier : LibraryValue) (line : LineValue) (step_type : Option StepType) (text name : List ℕ) (ps : List PieceValue) (action : Action) (o : Option FoundValue) (f : FoundValue) → o ≡ Some f → IsEntryText line step_type text name → SpellsPattern text ps → FitsAction name ps action → IsFoundOf earlier step_type text o → IsAmbiguous earlier line
 ambiguous_with earlier line step_type text name ps action o f e c s a h = ambiguous earlier line step_type text name ps action f c s a (subst (λ (x : Option FoundValue). IsFoundOf earlier step_type text x) e h)
 
-pub entry_with : (earlier : LibraryValue) (line : LineValue) (step_type : Option StepType) (text name : List ℕ) (ps : List PieceValue) (action : Action) (o : Option FoundValue) → o ≡ None → IsCut line step_type text name → SpellsPattern text ps → FitsAction name ps action → IsFoundOf earlier step_type text o → SpellsEntry earlier line (record { step_type = step_type; pattern = ps; action = action })
+pub entry_with : (earlier : LibraryValue) (line : LineValue) (step_type : Option StepType) (text name : List ℕ) (ps : List PieceValue) (action : Action) (o : Option FoundValue) → o ≡ None → IsEntryText line step_type text name → SpellsPattern text ps → FitsAction name ps action → IsFoundOf earlier step_type text o → SpellsEntry earlier line (record { step_type = step_type; pattern = ps; action = action })
 entry_with earlier line step_type text name ps action o e c s a h = spells_entry earlier line step_type text name ps action c s a (subst (λ (x : Option FoundValue). IsFoundOf earlier step_type text x) e h)
+
+-- refused memory
+pub memory_fault : {T : Type 0} (r : Result T LibraryFault) (earlier : LibraryValue) (line : LineValue) → IsErrAnd r (λ f. f ≡ faults.Memory) → EntryNeedsMemory line → IfErr r (λ f. EntryFaultSays f earlier line)
+memory_fault (Ok x) earlier line e needs = tt
+memory_fault (Err f) earlier line e needs = subst (λ g. EntryFaultSays g earlier line) (sym e) needs
+
+pub pattern_needs : (line : LineValue) (step_type : Option StepType) (text name : List ℕ) (ps : List PieceValue) → IsEntryText line step_type text name → SpellsPattern text ps → EntryNeedsMemory line
+pattern_needs line step_type text name ps c s = record { step_type = step_type; sides = record { pattern = text; action = name }; is_type = c.is_type; is_cut = c.is_cut; needs = pattern_begins text ps s }
+
+pub entry_needs : (earlier : LibraryValue) (line : LineValue) (entry : EntryValue) → SpellsEntry earlier line entry → EntryNeedsMemory line
+entry_needs earlier line entry s = record { step_type = entry.step_type; sides = s.sides; is_type = s.is_type; is_cut = s.is_cut; needs = pattern_begins s.sides.pattern entry.pattern s.is_pattern }

@@ -11,7 +11,7 @@ use Rattle.gk_steps.specs.declared.pattern.FieldKind.TheVariants.{Decimal}
 use Rattle.gk_steps.specs.Pattern.{FieldPiece}
 use Rattle.gk_steps.specs.Matching.{IsSpan}
 use Rattle.gk_steps.specs.Places.{ArePlaces}
-use Rattle.gk_steps.specs.Columns.{part, IsStepTo, IsStep, IsDigitsTo, HasDigits, IsLongest}
+use Rattle.gk_steps.specs.Columns.{part, IsAdvanceTo, IsAdvance, IsDigitsTo, HasDigits, IsLongest}
 use Rattle.gk_steps.specs.Digits.{HasNumber}
 use Rattle.gk_steps.proofs.TableLemmas.{part_size}
 use Rattle.gk_steps.proofs.ColumnLemmas.{before, decimal_some}
@@ -118,7 +118,7 @@ signed_part : (text places : List ℕ) (below : List Bool) (c d sign : ℕ) → 
 signed_part text places below c d sign h l next is within = part_prefix text places c d h l within next ∙ ap (λ b. b ∷ part text places c d) is
 
 -- the longest step over a number, from the longest one over its digits
-longest_step : (most : ℕ) (text places : List ℕ) (below : List Bool) (c c' : ℕ) (o : Option ℕ) → ((d : ℕ) → IsDigitsTo most text places below c d → IsStepTo (FieldPiece [] Decimal) text places below c' d) → ((d : ℕ) → IsStepTo (FieldPiece [] Decimal) text places below c' d → IsDigitsTo most text places below c d) → IsLongest most text places below c o → IsStep (FieldPiece [] Decimal) text places below c' o
+longest_step : (most : ℕ) (text places : List ℕ) (below : List Bool) (c c' : ℕ) (o : Option ℕ) → ((d : ℕ) → IsDigitsTo most text places below c d → IsAdvanceTo (FieldPiece [] Decimal) text places below c' d) → ((d : ℕ) → IsAdvanceTo (FieldPiece [] Decimal) text places below c' d → IsDigitsTo most text places below c d) → IsLongest most text places below c o → IsAdvance (FieldPiece [] Decimal) text places below c' o
 longest_step most text places below c c' None to from best = λ d s. best d (omega arith) (from d s)
 longest_step most text places below c c' (Some b) to from best = (to b best.0, λ d s. best.1 d (omega arith) (from d s))
 
@@ -140,14 +140,14 @@ pub record IsSignAt (sign : ℕ) (text : List ℕ) (places : List ℕ) (c : ℕ)
   pub next : get_or places c 0 ≡ get_or places (c + 1) 0 + 1
   pub is : get_or text (get_or places (c + 1) 0) 0 ≡ sign
 
-signed_to : (sign most : ℕ) (text places : List ℕ) (below : List Bool) (c d : ℕ) → IsSign sign most → ArePlaces text places → IsSignAt sign text places c → IsDigitsTo most text places below c d → IsStepTo (FieldPiece [] Decimal) text places below (c + 1) d
+signed_to : (sign most : ℕ) (text places : List ℕ) (below : List Bool) (c d : ℕ) → IsSign sign most → ArePlaces text places → IsSignAt sign text places c → IsDigitsTo most text places below c d → IsAdvanceTo (FieldPiece [] Decimal) text places below (c + 1) d
 signed_to sign most text places below c d k h a s = record {
   within = let w = s.within in omega arith;
   rest = s.rest;
   takes = subst (IsSpan Decimal) (sym (signed_part text places below c d sign h a.known a.next a.is s.within)) (k.span (part text places c d) s.numeral s.value);
 }
 
-signed_from : (sign most : ℕ) (text places : List ℕ) (below : List Bool) (c d : ℕ) → IsSign sign most → ArePlaces text places → IsSignAt sign text places c → IsStepTo (FieldPiece [] Decimal) text places below (c + 1) d → IsDigitsTo most text places below c d
+signed_from : (sign most : ℕ) (text places : List ℕ) (below : List Bool) (c d : ℕ) → IsSign sign most → ArePlaces text places → IsSignAt sign text places c → IsAdvanceTo (FieldPiece [] Decimal) text places below (c + 1) d → IsDigitsTo most text places below c d
 signed_from sign most text places below c d k h a s =
     let less = before (FieldPiece [] Decimal) text places below (c + 1) d h a.known s (decimal_some (part text places (c + 1) d) s.takes) in
     let digits = k.digits (part text places c d) (subst (IsSpan Decimal) (signed_part text places below c d sign h a.known a.next a.is (omega arith)) s.takes) in
@@ -169,14 +169,14 @@ number_signed sign most text places below (suc c) b k u h some l is has =
     let at = sign_at sign most text places c k u h (omega arith) (ap (λ n. get_or text (get_or places n 0) 0) up ∙ is) in
     subst (λ n. HasNumber text places below n b) up (signed_at sign most text places below c b k h at (subst (λ n. HasDigits most text places below n b) here has))
 
-pub step_signed : (sign most : ℕ) (text places : List ℕ) (below : List Bool) (c : ℕ) (o : Option ℕ) → IsSign sign most → IsUtf8 text → ArePlaces text places → 0 < c → c < length places → get_or text (get_or places c 0) 0 ≡ sign → IsLongest most text places below (c - 1) o → IsStep (FieldPiece [] Decimal) text places below c o
+pub step_signed : (sign most : ℕ) (text places : List ℕ) (below : List Bool) (c : ℕ) (o : Option ℕ) → IsSign sign most → IsUtf8 text → ArePlaces text places → 0 < c → c < length places → get_or text (get_or places c 0) 0 ≡ sign → IsLongest most text places below (c - 1) o → IsAdvance (FieldPiece [] Decimal) text places below c o
 step_signed sign most text places below zero o k u h some l is best = absurd (omega arith)
 step_signed sign most text places below (suc c) o k u h some l is best =
     let up : c + 1 ≡ suc c = omega arith in
     let here : suc c - 1 ≡ c = omega arith in
     let at = sign_at sign most text places c k u h (omega arith) (ap (λ n. get_or text (get_or places n 0) 0) up ∙ is) in
     let from : IsLongest most text places below c o = subst (λ n. IsLongest most text places below n o) here best in
-    subst (λ n. IsStep (FieldPiece [] Decimal) text places below n o) up
+    subst (λ n. IsAdvance (FieldPiece [] Decimal) text places below n o) up
     (longest_step most text places below c (c + 1) o (λ d s. signed_to sign most text places below c d k h at s) (λ d s. signed_from sign most text places below c d k h at s) from)
 
 first_byte : (text places : List ℕ) (c d : ℕ) → ArePlaces text places → c < length places → d < c → get_or (part text places c d) 0 0 ≡ get_or text (get_or places c 0) 0
@@ -185,7 +185,7 @@ first_byte text places c d h l less =
     let same : get_or places c 0 + 0 ≡ get_or places c 0 = omega arith in
     get_or-take (get_or places d 0 - get_or places c 0) (drop (get_or places c 0) text) 0 0 (omega arith) ∙ get_or-drop (get_or places c 0) text 0 0 ∙ ap (λ k. get_or text k 0) same
 
-bare_to : (text places : List ℕ) (below : List Bool) (c d : ℕ) → ArePlaces text places → c < length places → (get_or text (get_or places c 0) 0 == 45) ≡ false → (get_or text (get_or places c 0) 0 == 43) ≡ false → IsDigitsTo 9223372036854775807 text places below c d → IsStepTo (FieldPiece [] Decimal) text places below c d
+bare_to : (text places : List ℕ) (below : List Bool) (c d : ℕ) → ArePlaces text places → c < length places → (get_or text (get_or places c 0) 0 == 45) ≡ false → (get_or text (get_or places c 0) 0 == 43) ≡ false → IsDigitsTo 9223372036854775807 text places below c d → IsAdvanceTo (FieldPiece [] Decimal) text places below c d
 bare_to text places below c d h l m p s =
     let first = first_byte text places c d h l (digits_before 9223372036854775807 text places below c d s) in
     record {
@@ -194,7 +194,7 @@ bare_to text places below c d h l m p s =
       takes = digits_bare (part text places c d) (ap (λ k. k == 45) first ∙ m) (ap (λ k. k == 43) first ∙ p) s.numeral s.value;
     }
 
-bare_from : (text places : List ℕ) (below : List Bool) (c d : ℕ) → ArePlaces text places → c < length places → (get_or text (get_or places c 0) 0 == 45) ≡ false → (get_or text (get_or places c 0) 0 == 43) ≡ false → IsStepTo (FieldPiece [] Decimal) text places below c d → IsDigitsTo 9223372036854775807 text places below c d
+bare_from : (text places : List ℕ) (below : List Bool) (c d : ℕ) → ArePlaces text places → c < length places → (get_or text (get_or places c 0) 0 == 45) ≡ false → (get_or text (get_or places c 0) 0 == 43) ≡ false → IsAdvanceTo (FieldPiece [] Decimal) text places below c d → IsDigitsTo 9223372036854775807 text places below c d
 bare_from text places below c d h l m p s =
     let less = before (FieldPiece [] Decimal) text places below c d h l s (decimal_some (part text places c d) s.takes) in
     let first = first_byte text places c d h l less in
@@ -205,7 +205,7 @@ pub bare_at : (text places : List ℕ) (below : List Bool) (c : ℕ) (b : Bool) 
 bare_at text places below c true h l m p has = (has.0, bare_to text places below c has.0 h l m p has.1)
 bare_at text places below c false h l m p has = λ d s. has d (bare_from text places below c d h l m p s)
 
-pub bare_longest : (text places : List ℕ) (below : List Bool) (c : ℕ) (o : Option ℕ) → ArePlaces text places → c < length places → (get_or text (get_or places c 0) 0 == 45) ≡ false → (get_or text (get_or places c 0) 0 == 43) ≡ false → IsLongest 9223372036854775807 text places below c o → IsStep (FieldPiece [] Decimal) text places below c o
+pub bare_longest : (text places : List ℕ) (below : List Bool) (c : ℕ) (o : Option ℕ) → ArePlaces text places → c < length places → (get_or text (get_or places c 0) 0 == 45) ≡ false → (get_or text (get_or places c 0) 0 == 43) ≡ false → IsLongest 9223372036854775807 text places below c o → IsAdvance (FieldPiece [] Decimal) text places below c o
 bare_longest text places below c o h l m p best = longest_step 9223372036854775807 text places below c c o (λ d s. bare_to text places below c d h l m p s) (λ d s. bare_from text places below c d h l m p s) best
 
 pub not_byte : (a b : ℕ) → (a ≡ b → ⊥) → (a == b) ≡ false

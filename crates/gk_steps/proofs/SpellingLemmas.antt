@@ -1,17 +1,19 @@
 -- What a text spells, taken apart from its start.
 use Rattle.std.proofs.Common.{◌≡◌, ℕ, zero, suc, ◌+◌, ◌-◌, ◌<◌, ◌≤◌, ◌⊎◌, inl, inr, Bool, true, false, cond, not, ◌||◌, ◌&&◌, List, [], ◌∷◌, ◌++◌, length, take, drop, get_or, codes, flat_map, IsTrue, Option, Some, None, refl, ap, sym, subst, ◌∙◌, arith, append_assoc}
-use Rattle.std.specs.Prelude.{is_some, Result, Err, nat_lt}
+use Rattle.std.specs.Prelude.{is_some, Result, Err, nat_lt, nat_eq}
 use Rattle.std.specs.Str.{bytes_eq}
 use Rattle.std.proofs.lemmas.Slice.Eq.{bytes_eq-Decides}
 use Rattle.std.specs.List.{AllByRecursion, list_all, prefix_len, position_or_len}
 use Rattle.std.specs.Str.{IsUtf8, IsCharBoundary}
+use Rattle.std.proofs.Common.{eq-eqb}
+use Rattle.std.proofs.lemmas.Bool.{eqb-true}
 use Rattle.std.proofs.lemmas.Bool.Decides.{nat_tests}
 use Rattle.std.proofs.lemmas.List.Sums.{prefix_len_passes, prefix_len-le-length, passes_at_first}
 use Rattle.std.proofs.lemmas.Str.{IsCharBoundary-start, IsCharBoundary-after_ascii, IsCharBoundary-before_ascii}
 use Rattle.gk_steps.specs.declared.pattern.FieldKind.{FieldKind}
 use Rattle.gk_steps.specs.declared.pattern.FieldKind.TheVariants.{Plain, Decimal}
-use Rattle.gk_steps.specs.Pattern.{PieceValue, Literal, FieldPiece, spelled_literal, spelled_piece, is_name_letter, is_name_byte, is_field_name, field_names, AreDistinctNames, AreLongestRuns, SpellsPattern, field_kind}
-use Rattle.gk_steps.specs.Spelling.{is_brace, BeginsAtBrace, EndsLiteral, EndsName, field_tail, literal_pieces, IsSpelled, HasLiteral, HasField, HasNoField, AddsLiteral, AddsField, BeginWithField, IsLeft, IsReadTo, are_distinct, is_pattern}
+use Rattle.gk_steps.specs.Pattern.{PieceValue, Literal, FieldPiece, spelled_literal, spelled_piece, is_name_letter, is_name_byte, is_field_name, BeginsWithPiece, field_names, AreDistinctNames, AreLongestRuns, SpellsPattern, field_kind}
+use Rattle.gk_steps.specs.Spelling.{is_brace, BeginsAtBrace, EndsLiteral, EndsName, field_tail, literal_pieces, IsSpelled, HasLiteral, HasField, HasNoField, AddsLiteral, AddsField, BeginWithField, ArePiecesLeft, IsReadTo, are_distinct, is_pattern}
 use Rattle.gk_steps.specs.declared.pattern.Pattern.{Pattern}
 use Rattle.gk_steps.specs.declared.pattern.PatternFault.{PatternFault}
 use Rattle.gk_steps.specs.declared.pattern.PatternFault.TheVariants.{BadPattern, Memory}
@@ -217,7 +219,7 @@ as_pieces : (l : List ℕ) → 0 < length l → Literal l ∷ [] ≡ literal_pie
 as_pieces [] h = absurd (omega arith)
 as_pieces (b ∷ bs) h = refl
 
-after_field_first : (literal text rest : List ℕ) (ps : List PieceValue) → HasLiteral text literal rest → IsSpelled text ps → BeginWithField ps → IsLeft (literal_pieces literal) rest ps
+after_field_first : (literal text rest : List ℕ) (ps : List PieceValue) → HasLiteral text literal rest → IsSpelled text ps → BeginWithField ps → ArePiecesLeft (literal_pieces literal) rest ps
 after_field_first literal text rest ps h s f =
     let one = one_literal literal [] rest text (sym h.whole) h.end (no_literal_ends text ps s f) in
     record {
@@ -227,7 +229,7 @@ after_field_first literal text rest ps h s f =
       field = f;
     }
 
-pub take_literal : (literal text rest : List ℕ) (ps : List PieceValue) → HasLiteral text literal rest → IsSpelled text ps → IsLeft (literal_pieces literal) rest ps
+pub take_literal : (literal text rest : List ℕ) (ps : List PieceValue) → HasLiteral text literal rest → IsSpelled text ps → ArePiecesLeft (literal_pieces literal) rest ps
 take_literal literal text rest [] h s = after_field_first literal text rest [] h s tt
 take_literal literal text rest (FieldPiece name kind ∷ ps) h s = after_field_first literal text rest (FieldPiece name kind ∷ ps) h s tt
 take_literal literal text rest (Literal l ∷ ps) h s =
@@ -245,7 +247,7 @@ take_literal literal text rest (Literal l ∷ ps) h s =
 pub read_first : (text rest : List ℕ) (after : List PieceValue) → AddsLiteral text [] after rest → IsReadTo text after rest
 read_first text rest after a = record {
   build = λ ps s f. subst (λ (q : List PieceValue). IsSpelled text (q ++ ps)) (sym a.added) (with_literal a.literal text rest ps a.has.whole s f);
-  take = λ ps s. subst (λ (q : List PieceValue). IsLeft q rest ps) (sym a.added) (take_literal a.literal text rest ps a.has s);
+  take = λ ps s. subst (λ (q : List PieceValue). ArePiecesLeft q rest ps) (sym a.added) (take_literal a.literal text rest ps a.has s);
 }
 
 -- a field more, and the literal after it
@@ -281,7 +283,7 @@ read_more text rest middle last done with_one all r a b = record { build = built
   built : (ps : List PieceValue) → IsSpelled last ps → BeginWithField ps → IsSpelled text (all ++ ps)
   built ps s f = subst (IsSpelled text) (sym (whole ps)) (r.build (FieldPiece a.name a.kind ∷ (literal_pieces b.literal ++ ps)) (with_field rest middle a.name a.kind (literal_pieces b.literal ++ ps) a.has (with_literal b.literal middle last ps b.has.whole s f)) tt)
 
-  taken : (ps : List PieceValue) → IsSpelled text ps → IsLeft all last ps
+  taken : (ps : List PieceValue) → IsSpelled text ps → ArePiecesLeft all last ps
   taken ps s =
       let first = r.take ps s in
       let second = take_field rest middle a.name a.kind first.left a.has first.spelled first.field in
@@ -431,3 +433,43 @@ no_field text body name end whole only none = λ n kind r h.
 pub empty_so : (xs : List ℕ) → length xs ≡ 0 → xs ≡ []
 empty_so [] e = refl
 empty_so (x ∷ xs) e = absurd (omega arith)
+
+-- texts that begin with a piece
+plain_begins : (v : Bool) (b : ℕ) (bs : List ℕ) → is_brace b ≡ v → (is_brace b ≡ true → BeginsWithPiece (b ∷ bs)) → BeginsWithPiece (b ∷ bs)
+plain_begins true b bs e more = more e
+plain_begins false b bs e more = record { piece = Literal (b ∷ []); rest = bs; is_piece = omega arith; whole = sym (ap (λ v. (cond v (b ∷ b ∷ []) (b ∷ []) ++ []) ++ bs) e) }
+
+doubled_begins : (v : Bool) (b c : ℕ) (bs : List ℕ) → nat_eq c b ≡ v → is_brace b ≡ true → (EndsLiteral (b ∷ c ∷ bs) → ⊥) → BeginsWithPiece (b ∷ c ∷ bs)
+doubled_begins true b c bs same e more = record { piece = Literal (b ∷ []); rest = bs; is_piece = omega arith; whole = ap (λ x. b ∷ x ∷ bs) (eqb-true c b same) ∙ sym (ap (λ v. (cond v (b ∷ b ∷ []) (b ∷ []) ++ []) ++ bs) e) }
+doubled_begins false b c bs other e more = absurd (more (e, λ same. let no : true ≡ false = sym (eq-eqb c b same) ∙ other in let bad : ⊥ = cc in bad))
+
+pub literal_begins : (text : List ℕ) → (EndsLiteral text → ⊥) → BeginsWithPiece text
+literal_begins [] more = absurd (more tt)
+literal_begins (b ∷ []) more = plain_begins (is_brace b) b [] refl (λ e. absurd (more e))
+literal_begins (b ∷ c ∷ bs) more = plain_begins (is_brace b) b (c ∷ bs) refl (λ e. doubled_begins (nat_eq c b) b c bs refl e more)
+
+pub field_begins : (text name : List ℕ) (kind : FieldKind) (rest : List ℕ) → HasField text name kind rest → BeginsWithPiece text
+field_begins text name kind rest h = record { piece = FieldPiece name kind; rest = rest; is_piece = h.is_name; whole = h.whole }
+
+pub pattern_begins : (text : List ℕ) (ps : List PieceValue) → SpellsPattern text ps → BeginsWithPiece text
+pattern_begins text [] s = absurd (omega (arith, s.some))
+pattern_begins text (Literal l ∷ ps) s = record { piece = Literal l; rest = flat_map spelled_piece ps; is_piece = (literal_or_none ps l s.runs).0; whole = s.spelled }
+pattern_begins text (FieldPiece name kind ∷ ps) s = record { piece = FieldPiece name kind; rest = flat_map spelled_piece ps; is_piece = s.names.0; whole = s.spelled }
+
+-- nothing of the text was read, or it begins with a piece
+abbrev pub IsBegun : List ℕ → List ℕ → Type 0
+IsBegun text rest = (rest ≡ text) ⊎ BeginsWithPiece text
+
+begun_by : (text literal rest : List ℕ) → HasLiteral text literal rest → IsBegun text rest
+begun_by text [] rest h = inl (sym h.whole)
+begun_by text (b ∷ bs) rest h = inr (record { piece = Literal (b ∷ bs); rest = rest; is_piece = omega arith; whole = h.whole })
+
+pub begun_first : (text rest : List ℕ) (before after : List PieceValue) → AddsLiteral text before after rest → IsBegun text rest
+begun_first text rest before after a = begun_by text a.literal rest a.has
+
+pub begun_whole : (text rest : List ℕ) → IsBegun text rest → BeginsWithPiece rest → BeginsWithPiece text
+begun_whole text rest (inl same) h = subst BeginsWithPiece same h
+begun_whole text rest (inr already) h = already
+
+pub begun_field : (text rest middle : List ℕ) (before after : List PieceValue) → IsBegun text rest → AddsField rest before after middle → BeginsWithPiece text
+begun_field text rest middle before after h a = begun_whole text rest h (field_begins rest a.name a.kind middle a.has)

@@ -14,7 +14,7 @@ use Rattle.gk_steps.specs.declared.pattern.FieldKind.TheVariants.{Plain, Decimal
 use Rattle.gk_steps.specs.Pattern.{PieceValue, Literal, FieldPiece}
 use Rattle.gk_steps.specs.Matching.{IsSpan, Matches, MatchesNot, IsPreferred, IsBestMatch}
 use Rattle.gk_steps.specs.Places.{ArePlaces}
-use Rattle.gk_steps.specs.Columns.{part, Takes, IsStepTo, IsNotAfter, IsStep}
+use Rattle.gk_steps.specs.Columns.{part, Takes, IsAdvanceTo, IsNotAfter, IsAdvance}
 use Rattle.gk_steps.specs.TableRows.{IsCell, IsRowTo, IsRow}
 use Rattle.gk_steps.proofs.MatchingLemmas.{same_prefix, same_back, with_span, IsSplit, split, join}
 
@@ -108,7 +108,7 @@ true_cell ps text true h e = h
 true_cell ps text false h e = let bad : ⊥ = cc in absurd bad
 
 -- each match steps so
-pub stepped : (piece : PieceValue) (ps : List PieceValue) (text places : List ℕ) (row : List Bool) (c : ℕ) (x rest : List ℕ) (xs : List (List ℕ)) → IsRow ps text places row → (to : Lands text places c x rest) → Takes piece x → Matches ps rest xs → IsStepTo piece text places row c to.d
+pub stepped : (piece : PieceValue) (ps : List PieceValue) (text places : List ℕ) (row : List Bool) (c : ℕ) (x rest : List ℕ) (xs : List (List ℕ)) → IsRow ps text places row → (to : Lands text places c x rest) → Takes piece x → Matches ps rest xs → IsAdvanceTo piece text places row c to.d
 stepped piece ps text places row c x rest xs r to takes m = record {
   within = to.within;
   rest = no_cell ps (drop (get_or places to.d 0) text) (get_or row to.d false) xs (r.cells to.d to.known) (subst (λ t. Matches ps t xs) (sym to.is_rest) m);
@@ -116,24 +116,24 @@ stepped piece ps text places row c x rest xs r to takes m = record {
 }
 
 -- a column's cell, from the step over the piece
-pub step_cell : (piece : PieceValue) (ps : List PieceValue) (text places : List ℕ) (row : List Bool) (c d : ℕ) → ArePlaces text places → IsRow ps text places row → c < length places → IsStepTo piece text places row c d → (spans : List (List ℕ)) × Matches (piece ∷ ps) (drop (get_or places c 0) text) spans
+pub step_cell : (piece : PieceValue) (ps : List PieceValue) (text places : List ℕ) (row : List Bool) (c d : ℕ) → ArePlaces text places → IsRow ps text places row → c < length places → IsAdvanceTo piece text places row c d → (spans : List (List ℕ)) × Matches (piece ∷ ps) (drop (get_or places c 0) text) spans
 step_cell piece ps text places row c d h r l s =
     let known : d < length places = omega (arith, s.within) in
     let m = true_cell ps (drop (get_or places d 0) text) (get_or row d false) (r.cells d known) s.rest in
     (with_span piece (part text places c d) m.0, join piece ps (drop (get_or places c 0) text) (part text places c d) (drop (get_or places d 0) text) m.0 s.takes (cut_at text places c d h l s.within) m.1)
 
-pub no_step_cell : (piece : PieceValue) (ps : List PieceValue) (text places : List ℕ) (row : List Bool) (c : ℕ) → IsUtf8 text → IsTextPiece piece → ArePlaces text places → IsRow ps text places row → c < length places → ((d : ℕ) → IsStepTo piece text places row c d → ⊥) → MatchesNot (piece ∷ ps) (drop (get_or places c 0) text)
+pub no_step_cell : (piece : PieceValue) (ps : List PieceValue) (text places : List ℕ) (row : List Bool) (c : ℕ) → IsUtf8 text → IsTextPiece piece → ArePlaces text places → IsRow ps text places row → c < length places → ((d : ℕ) → IsAdvanceTo piece text places row c d → ⊥) → MatchesNot (piece ∷ ps) (drop (get_or places c 0) text)
 no_step_cell piece ps text places row c u t h r l none = λ spans m. by (split piece ps (drop (get_or places c 0) text) spans m) where
   by : {spans : List (List ℕ)} → IsSplit piece ps (drop (get_or places c 0) text) spans → ⊥
   by s = let to = lands text places c s.x s.rest u h l s.whole (taken_utf8 piece s.x t s.takes) in
       none to.d (stepped piece ps text places row c s.x s.rest s.xs r to s.takes s.after)
 
-pub cell_of_step : (piece : PieceValue) (ps : List PieceValue) (text places : List ℕ) (row : List Bool) (c : ℕ) (o : Option ℕ) → IsUtf8 text → IsTextPiece piece → ArePlaces text places → IsRow ps text places row → c < length places → IsStep piece text places row c o → IsCell (piece ∷ ps) (drop (get_or places c 0) text) (is_some o)
+pub cell_of_step : (piece : PieceValue) (ps : List PieceValue) (text places : List ℕ) (row : List Bool) (c : ℕ) (o : Option ℕ) → IsUtf8 text → IsTextPiece piece → ArePlaces text places → IsRow ps text places row → c < length places → IsAdvance piece text places row c o → IsCell (piece ∷ ps) (drop (get_or places c 0) text) (is_some o)
 cell_of_step piece ps text places row c None u t h r l s = no_step_cell piece ps text places row c u t h r l s
 cell_of_step piece ps text places row c (Some d) u t h r l s = step_cell piece ps text places row c d h r l s.0
 
 -- there is a step where there is a match
-pub is_step : (piece : PieceValue) (ps : List PieceValue) (text places : List ℕ) (row : List Bool) (c : ℕ) (o : Option ℕ) → IsUtf8 text → IsTextPiece piece → ArePlaces text places → IsRow ps text places row → c < length places → IsStep piece text places row c o → (spans : List (List ℕ)) × Matches (piece ∷ ps) (drop (get_or places c 0) text) spans → is_some o ≡ true
+pub is_step : (piece : PieceValue) (ps : List PieceValue) (text places : List ℕ) (row : List Bool) (c : ℕ) (o : Option ℕ) → IsUtf8 text → IsTextPiece piece → ArePlaces text places → IsRow ps text places row → c < length places → IsAdvance piece text places row c o → (spans : List (List ℕ)) × Matches (piece ∷ ps) (drop (get_or places c 0) text) spans → is_some o ≡ true
 is_step piece ps text places row c None u t h r l s m = absurd (no_step_cell piece ps text places row c u t h r l s m.0 m.1)
 is_step piece ps text places row c (Some d) u t h r l s m = refl
 
@@ -167,7 +167,7 @@ part_size text places c d h l within =
     let end : get_or places d 0 ≤ length text = (h.cuts d (omega arith)).0 in
     omega (arith, length-take (get_or places d 0 - get_or places c 0) (drop (get_or places c 0) text), length-drop (get_or places c 0) text)
 
-pub best_step : (piece : PieceValue) (ps : List PieceValue) (text places : List ℕ) (row : List Bool) (c d : ℕ) (xs : List (List ℕ)) → IsUtf8 text → IsTextPiece piece → ArePlaces text places → IsRow ps text places row → c < length places → IsStep piece text places row c (Some d)
+pub best_step : (piece : PieceValue) (ps : List PieceValue) (text places : List ℕ) (row : List Bool) (c d : ℕ) (xs : List (List ℕ)) → IsUtf8 text → IsTextPiece piece → ArePlaces text places → IsRow ps text places row → c < length places → IsAdvance piece text places row c (Some d)
     → IsBestMatch ps (drop (get_or places d 0) text) xs → IsBestMatch (piece ∷ ps) (drop (get_or places c 0) text) (with_span piece (part text places c d) xs)
 best_step piece ps text places row c d xs u t h r l s b = record {
   matches = join piece ps (drop (get_or places c 0) text) (part text places c d) (drop (get_or places d 0) text) xs s.0.takes (cut_at text places c d h l s.0.within) b.matches;

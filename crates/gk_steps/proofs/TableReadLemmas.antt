@@ -9,7 +9,7 @@ use Rattle.gk_steps.specs.declared.pattern.Piece.{Piece}
 use Rattle.gk_steps.specs.Pattern.{PieceValue, Literal, FieldPiece, piece_value}
 use Rattle.gk_steps.specs.Matching.{Matches, MatchesNot, IsBestMatch, FieldValue, span_values}
 use Rattle.gk_steps.specs.Places.{ArePlaces}
-use Rattle.gk_steps.specs.Columns.{IsStep, IsReadTo, part, values_of}
+use Rattle.gk_steps.specs.Columns.{IsAdvance, IsMatchedTo, part, values_of}
 use Rattle.gk_steps.specs.TableRows.{IsCell, IsRow, IsTable}
 use Rattle.gk_steps.proofs.MatchingLemmas.{with_span, best_nothing, nothing_left}
 use Rattle.gk_steps.proofs.TableLemmas.{IsTextPiece, best_step, true_cell, last_cell}
@@ -60,7 +60,7 @@ pub row_at : (ps : List PieceValue) (text places : List ℕ) (rows : List (Vec B
 row_at ps text places rows size k row h l e = subst (λ (v : Vec Bool Global). IsRow (drop (length ps - k) ps) text places v.items) (sym e) (h.each k row l)
 
 -- nothing read yet
-pub read_start : (ps : List PieceValue) (text places : List ℕ) → IsUtf8 text → ArePlaces text places → (spans : List (List ℕ)) × Matches ps text spans → IsReadTo 0 (length places - 1) ps text places []
+pub read_start : (ps : List PieceValue) (text places : List ℕ) → IsUtf8 text → ArePlaces text places → (spans : List (List ℕ)) × Matches ps text spans → IsMatchedTo 0 (length places - 1) ps text places []
 read_start ps text places u h m =
     let whole : drop (get_or places (length places - 1) 0) text ≡ text = ap (λ n. drop n text) (last_cell text places u h) in
     record {
@@ -81,7 +81,7 @@ span_more (Literal literal) x rest = refl
 span_more (FieldPiece name kind) x rest = refl
 
 pub read_more : (ps qs : List PieceValue) (piece : PieceValue) (text places : List ℕ) (row : List Bool) (taken c d : ℕ) (fields fields' : List FieldValue) → IsUtf8 text → IsTextPiece piece → ArePlaces text places → drop taken ps ≡ piece ∷ qs → drop (taken + 1) ps ≡ qs → IsRow qs text places row
-    → IsStep piece text places row c (Some d) → fields' ≡ fields ++ values_of piece (part text places c d) → IsReadTo taken c ps text places fields → IsReadTo (taken + 1) d ps text places fields'
+    → IsAdvance piece text places row c (Some d) → fields' ≡ fields ++ values_of piece (part text places c d) → IsMatchedTo taken c ps text places fields → IsMatchedTo (taken + 1) d ps text places fields'
 read_more ps qs piece text places row taken c d fields fields' u t h here next r s e so_far = record {
   spans = so_far.spans ++ with_span piece x [];
   known = known;
@@ -102,7 +102,7 @@ read_more ps qs piece text places row taken c d fields fields' u t h here next r
   joined rest = append_assoc so_far.spans (with_span piece (part text places c d) []) rest ∙ ap (λ s. so_far.spans ++ s) (span_more piece (part text places c d) rest)
 
 -- all read
-pub read_end : (ps : List PieceValue) (text places : List ℕ) (c : ℕ) (fields : List FieldValue) → IsReadTo (length ps) c ps text places fields → (spans : List (List ℕ)) × IsBestMatch ps text spans × (fields ≡ span_values ps spans)
+pub read_end : (ps : List PieceValue) (text places : List ℕ) (c : ℕ) (fields : List FieldValue) → IsMatchedTo (length ps) c ps text places fields → (spans : List (List ℕ)) × IsBestMatch ps text spans × (fields ≡ span_values ps spans)
 read_end ps text places c fields so_far =
     let none : drop (length ps) ps ≡ [] = drop-length ps in
     let m : Matches [] (drop (get_or places c 0) text) so_far.matched.0 = subst (λ ws. Matches ws (drop (get_or places c 0) text) so_far.matched.0) none so_far.matched.1 in

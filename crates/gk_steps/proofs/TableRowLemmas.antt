@@ -7,7 +7,7 @@ use Rattle.std.proofs.lemmas.List.{get_or_append_left, get_or_push}
 use Rattle.gk_steps.specs.declared.pattern.FieldKind.TheVariants.{Plain, Decimal}
 use Rattle.gk_steps.specs.Pattern.{PieceValue, FieldPiece}
 use Rattle.gk_steps.specs.Places.{ArePlaces}
-use Rattle.gk_steps.specs.Columns.{IsStep}
+use Rattle.gk_steps.specs.Columns.{IsAdvance}
 use Rattle.gk_steps.specs.TableRows.{IsCell, IsRow, IsRowTo, IsAnyBefore, IsPlainRow}
 use Rattle.gk_steps.proofs.TableLemmas.{IsTextPiece, cell_more, end_cell, step_cell, no_step_cell, cell_of_step}
 use Rattle.gk_steps.specs.Digits.{HasNumber, IsNumberRow}
@@ -16,7 +16,7 @@ use Rattle.gk_steps.proofs.ColumnLemmas.{plain_takes, before, rename, rename_bac
 pub end_more : (text places : List ℕ) (c : ℕ) (row row' : List Bool) → ArePlaces text places → c < length places → row' ≡ row ++ (c == 0) ∷ [] → IsRowTo c [] text places row → IsRowTo (c + 1) [] text places row'
 end_more text places c row row' h l e r = subst (IsRowTo (c + 1) [] text places) (sym e) (cell_more c [] text places row (c == 0) r (end_cell text places c (c == 0) h l (eqb-true c 0) (eq-eqb c 0)))
 
-pub step_more : (piece : PieceValue) (ps : List PieceValue) (text places : List ℕ) (below : List Bool) (c : ℕ) (o : Option ℕ) (b : Bool) (row row' : List Bool) → IsUtf8 text → IsTextPiece piece → ArePlaces text places → IsRow ps text places below → c < length places → IsStep piece text places below c o → b ≡ is_some o
+pub step_more : (piece : PieceValue) (ps : List PieceValue) (text places : List ℕ) (below : List Bool) (c : ℕ) (o : Option ℕ) (b : Bool) (row row' : List Bool) → IsUtf8 text → IsTextPiece piece → ArePlaces text places → IsRow ps text places below → c < length places → IsAdvance piece text places below c o → b ≡ is_some o
     → row' ≡ row ++ b ∷ [] → IsRowTo c (piece ∷ ps) text places row → IsRowTo (c + 1) (piece ∷ ps) text places row'
 step_more piece ps text places below c o b row row' u t h r l s is e done = subst (IsRowTo (c + 1) (piece ∷ ps) text places) (sym e)
     (cell_more c (piece ∷ ps) text places row b done (subst (IsCell (piece ∷ ps) (drop (get_or places c 0) text)) (sym is) (cell_of_step piece ps text places below c o u t h r l s)))

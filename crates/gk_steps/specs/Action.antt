@@ -12,7 +12,7 @@ use Rattle.gk_steps.specs.declared.action.Action.TheVariants as actions
 abbrev pub words_said : List (Bor (List ℕ)) → List (List ℕ)
 words_said words = map (λ word. word.now) words
 
--- A row of the table of actions: a name, its action, the fields that it needs, and all that it uses. (this project's profile)
+-- A row of the table of actions: a name, its action, the fields that it needs, and all that it uses.
 pub record ActionRowValue : Type 0 where
   pub name : List ℕ
   pub action : Action
@@ -23,39 +23,39 @@ pub record ActionRowValue : Type 0 where
 abbrev pub action_row_value : ActionRow → ActionRowValue
 action_row_value row = record { name = row.name.now; action = row.action; needs = words_said row.needs.now; uses = words_said row.uses.now }
 
--- The field for a name. (this project's profile)
+-- The field for a name.
 abbrev pub name_word : List ℕ
 name_word = codes "name"
 
--- The field for a new name. (this project's profile)
+-- The field for a new name.
 abbrev pub to_word : List ℕ
 to_word = codes "to"
 
--- The field for a text. (this project's profile)
+-- The field for a text.
 abbrev pub text_word : List ℕ
 text_word = codes "text"
 
--- The field for a number. (this project's profile)
+-- The field for a number.
 abbrev pub number_word : List ℕ
 number_word = codes "n"
 
--- The field for the text of a step. (this project's profile)
+-- The field for the text of a step.
 abbrev pub step_word : List ℕ
 step_word = codes "step"
 
--- The kind that a field of this name has to have: `n` is a number, any other is plain. (this project's profile)
+-- The kind that a field of this name has to have: `n` is a number, any other is plain.
 abbrev pub kind_of_field : List ℕ → FieldKind
 kind_of_field name = if bytes_eq name number_word then Decimal else Plain
 
--- The row of an action that uses the fields that it needs, and no other. (this project's profile)
+-- The row of an action that uses the fields that it needs, and no other.
 abbrev pub plain_row : List ℕ → Action → List (List ℕ) → ActionRowValue
 plain_row name action needs = record { name = name; action = action; needs = needs; uses = needs }
 
--- The row of an action that needs `name`, and uses `text` where the pattern has it. (this project's profile)
+-- The row of an action that needs `name`, and uses `text` where the pattern has it.
 abbrev pub text_row : List ℕ → Action → ActionRowValue
 text_row name action = record { name = name; action = action; needs = name_word ∷ []; uses = name_word ∷ text_word ∷ [] }
 
--- The table of actions: a name, its action, the fields that it needs, and those that it uses. (this project's profile)
+-- The table of actions: a name, its action, the fields that it needs, and those that it uses.
 abbrev pub action_table : List ActionRowValue
 action_table =
     text_row (codes "write_file") actions.WriteFile

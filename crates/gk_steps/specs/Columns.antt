@@ -1,4 +1,4 @@
--- Proof machinery: steps over a piece, from a column of the table to another. A column is a number of characters,
+-- Proof machinery: advances over a piece, from a column of the table to another. A column is a number of characters,
 -- those that stand after a place.
 use Rattle.std.specs.Prelude.{◌≡◌, ◌<◌, ◌≤◌, ◌-◌, ℕ, Bool, true, false, List, [], ◌∷◌, ◌++◌, length, take, drop, slice_index, slice_index_or, Option, Some, None}
 use Rattle.std.specs.Str.Parse.{IsNumeral, AllDigits, digits_value}
@@ -15,22 +15,22 @@ abbrev pub Takes : PieceValue → List ℕ → Type 0
 Takes (Literal literal) x = x ≡ literal
 Takes (FieldPiece name kind) x = IsSpan kind x
 
--- A step over a piece from one column to another, after which the row below says that the rest matches.
-pub record IsStepTo (piece : PieceValue) (text : List ℕ) (places : List ℕ) (below : List Bool) (c : ℕ) (d : ℕ) : Type 0 where
+-- An advance over a piece from one column to another, after which the row below says that the rest matches.
+pub record IsAdvanceTo (piece : PieceValue) (text : List ℕ) (places : List ℕ) (below : List Bool) (c : ℕ) (d : ℕ) : Type 0 where
   pub within : d ≤ c
   pub rest : slice_index_or below d false ≡ true
   pub takes : Takes piece (part text places c d)
 
--- A step that is not after another: a plain field takes as little as it can, the other kind as much as it can.
+-- An advance that is not after another: a plain field takes as little as it can, the other kind as much as it can.
 abbrev pub IsNotAfter : PieceValue → ℕ → ℕ → Type 0
 IsNotAfter (Literal literal) d e = Unit {0}
 IsNotAfter (FieldPiece name Plain) d e = e ≤ d
 IsNotAfter (FieldPiece name Decimal) d e = d ≤ e
 
--- The preferred step over a piece, or that there is none.
-abbrev pub IsStep : PieceValue → List ℕ → List ℕ → List Bool → ℕ → Option ℕ → Type 0
-IsStep piece text places below c None = (d : ℕ) → IsStepTo piece text places below c d → ⊥
-IsStep piece text places below c (Some d) = IsStepTo piece text places below c d × ((e : ℕ) → IsStepTo piece text places below c e → IsNotAfter piece d e)
+-- The preferred advance over a piece, or that there is none.
+abbrev pub IsAdvance : PieceValue → List ℕ → List ℕ → List Bool → ℕ → Option ℕ → Type 0
+IsAdvance piece text places below c None = (d : ℕ) → IsAdvanceTo piece text places below c d → ⊥
+IsAdvance piece text places below c (Some d) = IsAdvanceTo piece text places below c d × ((e : ℕ) → IsAdvanceTo piece text places below c e → IsNotAfter piece d e)
 
 -- The nearest cell before a column that is true, or that there is none.
 abbrev pub IsNearest : List Bool → ℕ → Option ℕ → Type 0
@@ -43,21 +43,21 @@ values_of (Literal literal) x = []
 values_of (FieldPiece name kind) x = span_value kind x ∷ []
 
 -- The spans that were read so far: with the preferred match of what is left they are the preferred match.
-pub record IsReadTo (taken : ℕ) (column : ℕ) (ps : List PieceValue) (text : List ℕ) (places : List ℕ) (fields : List FieldValue) : Type 0 where
+pub record IsMatchedTo (taken : ℕ) (column : ℕ) (ps : List PieceValue) (text : List ℕ) (places : List ℕ) (fields : List FieldValue) : Type 0 where
   pub spans : List (List ℕ)
   pub known : column < length places
   pub matched : (rest : List (List ℕ)) × Matches (drop taken ps) (drop (slice_index places column) text) rest
   pub best : (rest : List (List ℕ)) → IsBestMatch (drop taken ps) (drop (slice_index places column) text) rest → IsBestMatch ps text (spans ++ rest)
   pub values : (rest : List (List ℕ)) → span_values ps (spans ++ rest) ≡ fields ++ span_values (drop taken ps) rest
 
--- A step over digits alone, with a value up to a limit, after which the row below says that the rest matches.
+-- An advance over digits alone, with a value up to a limit, after which the row below says that the rest matches.
 pub record IsDigitsTo (most : ℕ) (text : List ℕ) (places : List ℕ) (below : List Bool) (c : ℕ) (d : ℕ) : Type 0 where
   pub within : d ≤ c
   pub rest : slice_index_or below d false ≡ true
   pub numeral : IsNumeral 10 (part text places c d)
   pub value : digits_value 10 (part text places c d) ≤ most
 
--- Whether there is such a step from a column.
+-- Whether there is such an advance from a column.
 abbrev pub HasDigits : ℕ → List ℕ → List ℕ → List Bool → ℕ → Bool → Type 0
 HasDigits most text places below c true = (d : ℕ) × IsDigitsTo most text places below c d
 HasDigits most text places below c false = (d : ℕ) → IsDigitsTo most text places below c d → ⊥
@@ -68,7 +68,7 @@ pub record IsRunTo (low : ℕ) (most : ℕ) (text : List ℕ) (places : List ℕ
   pub value_is : value ≡ digits_value 10 (part text places c low)
   pub none : (d : ℕ) → low ≤ d → IsDigitsTo most text places below c d → ⊥
 
--- The longest step over such digits, of those down to a column or past it, or that there is none.
+-- The longest advance over such digits, of those down to a column or past it, or that there is none.
 abbrev pub IsLongestTo : ℕ → ℕ → List ℕ → List ℕ → List Bool → ℕ → Option ℕ → Type 0
 IsLongestTo low most text places below c None = (d : ℕ) → low ≤ d → IsDigitsTo most text places below c d → ⊥
 IsLongestTo low most text places below c (Some d) = IsDigitsTo most text places below c d × ((e : ℕ) → low ≤ e → IsDigitsTo most text places below c e → d ≤ e)
@@ -77,7 +77,7 @@ IsLongestTo low most text places below c (Some d) = IsDigitsTo most text places 
 abbrev pub IsLongest : ℕ → List ℕ → List ℕ → List Bool → ℕ → Option ℕ → Type 0
 IsLongest most text places below c o = IsLongestTo 0 most text places below c o
 
--- Digits that were read from a column down to another, and the longest step over some of them.
+-- Digits that were read from a column down to another, and the longest advance over some of them.
 pub record IsReachTo (low : ℕ) (most : ℕ) (text : List ℕ) (places : List ℕ) (below : List Bool) (c : ℕ) (value : ℕ) (longest : Option ℕ) : Type 0 where
   pub digits : AllDigits 10 (part text places c low)
   pub value_is : value ≡ digits_value 10 (part text places c low)

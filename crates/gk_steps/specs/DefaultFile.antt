@@ -6,7 +6,7 @@ use Rattle.gk_steps.specs.declared.pattern.FieldKind.TheVariants.{Plain, Decimal
 use Rattle.gk_steps.specs.Pattern.{PieceValue, Literal, FieldPiece}
 use Rattle.gk_steps.specs.Finding.{EntryValue, LibraryValue}
 
--- Its text, by lines. (this project's profile)
+-- Its text, by lines.
 unfoldable pub default_text : List ℕ
 default_text =
     codes "step a file named \"{name}\" with: => write_file\n"
@@ -42,7 +42,7 @@ default_text =
 abbrev pub any_entry : List PieceValue → Action → EntryValue
 any_entry ps action = record { step_type = None; pattern = ps; action = action }
 
--- Its entries. (this project's profile)
+-- Its entries.
 abbrev pub default_entries : LibraryValue
 default_entries =
     any_entry (Literal (codes "a file named \"") ∷ FieldPiece (codes "name") Plain ∷ Literal (codes "\" with:") ∷ []) actions.WriteFile

@@ -14,7 +14,7 @@ use Rattle.gk_steps.specs.Pattern.{PieceValue, Literal, FieldPiece, pattern_valu
 use Rattle.gk_steps.specs.PassingOver.{FitsStart, FitsEnd}
 use Rattle.gk_steps.specs.Matching.{FieldValue, TextField, NumberField, field_value, MatchesNot, IsMatchResult, match_of}
 
--- An entry: the type of the steps that it is for, or none for steps of each type; its pattern; its action. (behave's documentation: step implementations; this project's profile)
+-- An entry: the type of the steps that it is for, or none for steps of each type; its pattern; its action. (behave's documentation: step implementations)
 pub record EntryValue : Type 0 where
   pub step_type : Option StepType
   pub pattern : List PieceValue
@@ -62,7 +62,7 @@ HasCandidateFor entries step_type text = HasCandidate entries (Some step_type) t
 abbrev pub NoneFound : LibraryValue → Option StepType → List ℕ → Type 0
 NoneFound entries step_type text = (place : ℕ) (entry : EntryValue) → slice_get entries place ≡ Some entry → entry.step_type ≡ step_type → MatchesNot entry.pattern text
 
--- The preferred match of the first entry of this type that has one, in library order. (this project's profile)
+-- The preferred match of the first entry of this type that has one, in library order.
 pub record IsFirstFound (entries : LibraryValue) (step_type : Option StepType) (text : List ℕ) (found : FoundValue) : Type 0 where
   pub entry : EntryValue
   pub place : slice_get entries found.entry ≡ Some entry
@@ -75,17 +75,17 @@ abbrev pub IsFoundOf : LibraryValue → Option StepType → List ℕ → Option 
 IsFoundOf entries step_type text None = NoneFound entries step_type text
 IsFoundOf entries step_type text (Some found) = IsFirstFound entries step_type text found
 
--- What a step finds: over the entries of its type in library order, and then over those of type `step`. (behave's documentation: step implementations; this project's profile)
+-- What a step finds: over the entries of its type in library order, and then over those of type `step`. (behave's documentation: step implementations)
 abbrev pub IsFound : LibraryValue → StepType → List ℕ → Option FoundValue → Type 0
 IsFound entries step_type text None = NoneFound entries (Some step_type) text × NoneFound entries None text
 IsFound entries step_type text (Some found) = IsFirstFound entries (Some step_type) text found ⊎ (NoneFound entries (Some step_type) text × IsFirstFound entries None text found)
 
--- The same over the entries of type `step` alone. (this project's profile)
+-- The same over the entries of type `step` alone.
 abbrev pub IsFoundAny : LibraryValue → List ℕ → Option FoundValue → Type 0
 IsFoundAny entries text None = NoneFound entries None text
 IsFoundAny entries text (Some found) = IsFirstFound entries None text found
 
--- A step that finds an entry. (this project's profile)
+-- A step that finds an entry.
 abbrev pub IsKnown : LibraryValue → StepType → List ℕ → Type 0
 IsKnown entries step_type text = (found : FoundValue) × IsFound entries step_type text (Some found)
 
@@ -116,11 +116,11 @@ abbrev pub found_from : ℕ → LibraryValue → Option StepType → List ℕ �
 found_from place [] step_type text = None
 found_from place (e ∷ es) step_type text = elim (match_where (is_of_type e.step_type step_type) e.pattern text) [ Some fields ↦ Some (found_at place fields) | None ↦ found_from (suc place) es step_type text ]
 
--- What a text finds among the entries of type `step`, computed. (this project's profile)
+-- What a text finds among the entries of type `step`, computed.
 unfoldable pub found_any : LibraryValue → List ℕ → Option FoundValue
 found_any library text = found_from 0 library None text
 
--- What a step finds, computed: an entry of its own type is looked for first, then one of type `step`. (behave's documentation: step implementations; this project's profile)
+-- What a step finds, computed: an entry of its own type is looked for first, then one of type `step`. (behave's documentation: step implementations)
 unfoldable pub found : LibraryValue → StepType → List ℕ → Option FoundValue
 found library step_type text = option_or (found_from 0 library (Some step_type) text) (found_from 0 library None text)
 
@@ -132,7 +132,7 @@ HaveKindsOf (FieldPiece name Plain ∷ ps) (TextField text ∷ fields) = HaveKin
 HaveKindsOf (FieldPiece name Decimal ∷ ps) (NumberField n ∷ fields) = HaveKindsOf ps fields
 HaveKindsOf _ fields = ⊥
 
--- What was found fits a library: its entry is a place there, and its fields have that pattern's number and kinds. (this project's profile)
+-- What was found fits a library: its entry is a place there, and its fields have that pattern's number and kinds.
 pub record FitsLibrary (entries : LibraryValue) (found : FoundValue) : Type 0 where
   pub entry : EntryValue
   pub place : slice_get entries found.entry ≡ Some entry
@@ -147,7 +147,7 @@ pub record FindsWhatIsFound : Type 0 where
   pub fits : (library : LibraryValue) (step_type : StepType) (text : List ℕ) (f : FoundValue) → IsFound library step_type text (Some f) → FitsLibrary library f
   pub fits_any : (library : LibraryValue) (text : List ℕ) (f : FoundValue) → IsFoundAny library text (Some f) → FitsLibrary library f
 
--- The action of a found entry; what a text finds has one. (this project's profile)
+-- The action of a found entry; what a text finds has one.
 abbrev pub action_of : LibraryValue → FoundValue → Action
 action_of library f = option_map_or (λ (e : EntryValue). e.action) (slice_get library f.entry) actions.Pass
 

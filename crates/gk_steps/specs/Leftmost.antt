@@ -47,14 +47,14 @@ DependsOnMore (FieldPiece name Plain) (Literal literal ∷ FieldPiece other Deci
 DependsOnMore (FieldPiece name Plain) (Literal literal ∷ Literal other ∷ ps) = Unit {0}
 
 -- What is known of the first piece: what it takes, or that the pattern has no match. Nothing is said only where that depends on more.
-abbrev pub IsKnown : PieceValue → List PieceValue → List ℕ → Cut → Type 0
-IsKnown piece ps text (At place) = IsCut piece ps text place
-IsKnown piece ps text Nowhere = MatchesNot (piece ∷ ps) text
-IsKnown piece ps text Unknown = DependsOnMore piece ps
+abbrev pub IsCutOf : PieceValue → List PieceValue → List ℕ → Cut → Type 0
+IsCutOf piece ps text (At place) = IsCut piece ps text place
+IsCutOf piece ps text Nowhere = MatchesNot (piece ∷ ps) text
+IsCutOf piece ps text Unknown = DependsOnMore piece ps
 
 -- What is known of a plain field before a literal and other pieces, whatever the field is called.
-abbrev pub IsKnownBefore : List ℕ → List PieceValue → List ℕ → Cut → Type 0
-IsKnownBefore literal ps text cut = (name : List ℕ) → IsKnown (FieldPiece name Plain) (Literal literal ∷ ps) text cut
+abbrev pub IsCutBefore : List ℕ → List PieceValue → List ℕ → Cut → Type 0
+IsCutBefore literal ps text cut = (name : List ℕ) → IsCutOf (FieldPiece name Plain) (Literal literal ∷ ps) text cut
 
 -- What the rest of a pattern finds in the rest of a text, with the fields so far before it, is what the whole finds.
 abbrev pub IsLeft : List PieceValue → List ℕ → List FieldValue → List PieceValue → List ℕ → Type 0

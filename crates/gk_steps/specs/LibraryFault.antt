@@ -1,13 +1,13 @@
 -- What the faults of a library file say.
-use Rattle.std.specs.Prelude.{codes, ℕ, List, Option, Some, None}
+use Rattle.std.specs.Prelude.{codes, ◌≡◌, ◌≢◌, ℕ, List, Option, Some, None}
 use Rattle.gk_gherkin.specs.Lines.{lines_of, IsText, IsTooLong, IsNotUtf8At}
 use Rattle.gk_steps.specs.declared.library_fault.LibraryFault.{LibraryFault}
 use Rattle.gk_steps.specs.declared.library_fault.LibraryFault.TheVariants as faults
-use Rattle.gk_steps.specs.LibraryFile.{StopsLibraryAt, IsBadType, IsBadPattern, IsUnknownAction, IsMissingField, IsOtherKind, IsAmbiguous}
+use Rattle.gk_steps.specs.LibraryFile.{StopsLibraryAt, IsBadType, IsBadPattern, IsUnknownAction, IsMissingField, IsOtherKind, IsAmbiguous, LibraryNeedsMemory}
 
--- What a fault says of the bytes: too many before no UTF-8, and both before any fault of the lines. (this project's profile)
+-- What a fault says of the bytes: too many before no UTF-8, and both before any fault of the lines; refused memory, that the lines ask for some.
 abbrev pub LibraryFaultSays : LibraryFault → List ℕ → Type 0
-LibraryFaultSays faults.Memory bytes = IsText bytes
+LibraryFaultSays faults.Memory bytes = IsText bytes × LibraryNeedsMemory (lines_of bytes)
 LibraryFaultSays faults.TooLong bytes = IsTooLong bytes
 LibraryFaultSays (faults.NotUtf8 n) bytes = IsNotUtf8At bytes n
 LibraryFaultSays (faults.BadType n) bytes = IsText bytes × StopsLibraryAt (lines_of bytes) n IsBadType
@@ -16,6 +16,10 @@ LibraryFaultSays (faults.UnknownAction n) bytes = IsText bytes × StopsLibraryAt
 LibraryFaultSays (faults.MissingField n) bytes = IsText bytes × StopsLibraryAt (lines_of bytes) n IsMissingField
 LibraryFaultSays (faults.FieldKind n) bytes = IsText bytes × StopsLibraryAt (lines_of bytes) n IsOtherKind
 LibraryFaultSays (faults.Ambiguous n) bytes = IsText bytes × StopsLibraryAt (lines_of bytes) n IsAmbiguous
+
+-- No bytes have two faults as a library file, neither of two kinds nor on two lines; refused memory aside, which is no fault of theirs.
+abbrev pub LibraryFaultIsUnique : Type 0
+LibraryFaultIsUnique = (bytes : List ℕ) (one other : LibraryFault) → one ≢ faults.Memory → other ≢ faults.Memory → LibraryFaultSays one bytes → LibraryFaultSays other bytes → one ≡ other
 
 -- The line that a fault names.
 abbrev pub line_of_library_fault : LibraryFault → Option ℕ
@@ -29,7 +33,7 @@ line_of_library_fault (faults.Ambiguous n) = Some n
 line_of_library_fault faults.TooLong = None
 line_of_library_fault faults.Memory = None
 
--- The text of a fault, as it is printed after the name and the line. (this project's profile)
+-- The text of a fault, as it is printed after the name and the line.
 abbrev pub library_fault_text : LibraryFault → List ℕ
 library_fault_text (faults.NotUtf8 n) = codes "not UTF-8"
 library_fault_text (faults.BadType n) = codes "bad step type"

@@ -11,16 +11,16 @@ use Rattle.gk_steps.specs.declared.pattern.FieldKind.{FieldKind}
 use Rattle.gk_steps.specs.declared.library.Library.{Library}
 use Rattle.gk_steps.specs.declared.library_fault.LibraryFault.{LibraryFault}
 use Rattle.gk_steps.specs.declared.library_fault.LibraryFault.TheVariants.{Memory}
-use Rattle.gk_steps.specs.Pattern.{PieceValue, SpellsPattern, field_kind}
+use Rattle.gk_steps.specs.Pattern.{PieceValue, BeginsWithPiece, SpellsPattern, field_kind}
 use Rattle.gk_steps.specs.Matching.{Matches, MatchesNot}
 use Rattle.gk_steps.specs.Finding.{EntryValue, LibraryValue, library_value}
 use Rattle.gk_steps.specs.Action.{ActionRowValue, action_row, kind_of_field}
 
--- Lines that are ignored: blank ones, and those that begin with `#`. (this project's profile)
+-- Lines that are ignored: blank ones, and those that begin with `#`.
 abbrev pub is_ignored : LineValue → Bool
 is_ignored line = (length (trim line.text) == 0) || begins (trim line.text) (codes "#")
 
--- The type that a word says: none inside for `step`, none at all for any other word. (this project's profile)
+-- The type that a word says: none inside for `step`, none at all for any other word.
 abbrev pub entry_type : List ℕ → Option (Option StepType)
 entry_type word =
     if bytes_eq word (codes "given") then Some (Some Given) else
@@ -28,11 +28,11 @@ entry_type word =
     (if bytes_eq word (codes "then") then Some (Some Then) else
     (if bytes_eq word (codes "step") then Some None else None)))
 
--- The type of a line: the word before its first blank. (this project's profile)
+-- The type of a line: the word before its first blank.
 unfoldable pub type_of : LineValue → Option (Option StepType)
 type_of line = entry_type (before_first is_blank (trim line.text))
 
--- The two sides of an `=>`: a pattern's text and an action's name. (this project's profile)
+-- The two sides of an `=>`: a pattern's text and an action's name.
 pub record Sides : Type 0 where
   pub pattern : List ℕ
   pub action : List ℕ
@@ -43,32 +43,32 @@ into_sides (b ∷ bs) (Some sides) = Some (record { pattern = b ∷ sides.patter
 into_sides (b ∷ bs) None = if begins (b ∷ bs) (codes "=>") then Some (record { pattern = []; action = drop 1 bs }) else None
 into_sides [] sides = None
 
--- The two sides of the last `=>` in a text; none where there is no `=>`. (this project's profile)
+-- The two sides of the last `=>` in a text; none where there is no `=>`.
 unfoldable pub last_arrow : List ℕ → Option Sides
 last_arrow [] = None
 last_arrow (b ∷ bs) = into_sides (b ∷ bs) (last_arrow bs)
 
--- Both sides trimmed. (this project's profile)
+-- Both sides trimmed.
 abbrev pub trimmed_sides : Sides → Sides
 trimmed_sides sides = record { pattern = trim sides.pattern; action = trim sides.action }
 
--- The pattern's text and the action's name, which stand after the type on the two sides of the last `=>`; none where no `=>` stands there. (this project's profile)
+-- The pattern's text and the action's name, which stand after the type on the two sides of the last `=>`; none where no `=>` stands there.
 unfoldable pub sides_of : LineValue → Option Sides
 sides_of line = option_map trimmed_sides (last_arrow (after_first is_blank (trim line.text)))
 
--- The pattern has each field that the action needs. (this project's profile)
+-- The pattern has each field that the action needs.
 abbrev pub HasNeededFields : ActionRowValue → List PieceValue → Type 0
 HasNeededFields row ps = AllByRecursion (λ name. IsSome (field_kind ps name)) row.needs
 
--- Each field that the action uses is of its kind. (this project's profile)
+-- Each field that the action uses is of its kind.
 abbrev pub HasRightKinds : ActionRowValue → List PieceValue → Type 0
 HasRightKinds row ps = AllByRecursion (λ name. (kind : FieldKind) → field_kind ps name ≡ Some kind → kind ≡ kind_of_field name) row.uses
 
--- No earlier entry of a type matches a text. (behave's documentation: ambiguous steps; this project's profile)
+-- No earlier entry of a type matches a text. (behave's documentation: ambiguous steps)
 abbrev pub NoneMatches : List EntryValue → Option StepType → List ℕ → Type 0
 NoneMatches earlier step_type text = AllByRecursion (λ (e : EntryValue). e.step_type ≡ step_type → MatchesNot e.pattern text) earlier
 
--- A line that spells an entry, after earlier ones: a type, a pattern, an action with the fields that it needs and of the kinds that it uses, and no earlier entry of the type that matches the pattern's text as written. (this project's profile)
+-- A line that spells an entry, after earlier ones: a type, a pattern, an action with the fields that it needs and of the kinds that it uses, and no earlier entry of the type that matches the pattern's text as written.
 pub record SpellsEntry (earlier : List EntryValue) (line : LineValue) (entry : EntryValue) : Type 0 where
   pub sides : Sides
   pub row : ActionRowValue
@@ -87,7 +87,7 @@ SpellEntries earlier [] [] = Unit {0}
 SpellEntries earlier (line ∷ ls) (entry ∷ entries) = SpellsEntry earlier line entry × SpellEntries (earlier ++ entry ∷ []) ls entries
 SpellEntries earlier _ _ = ⊥
 
--- What the lines of a library file say: each that isn't ignored spells an entry. (this project's profile)
+-- What the lines of a library file say: each that isn't ignored spells an entry.
 abbrev pub ReadsLibrary : Lines → List EntryValue → Type 0
 ReadsLibrary ls entries = SpellEntries [] (filter (λ line. not (is_ignored line)) ls) entries
 
@@ -95,7 +95,7 @@ ReadsLibrary ls entries = SpellEntries [] (filter (λ line. not (is_ignored line
 abbrev pub IsReadableLibrary : Lines → Type 0
 IsReadableLibrary ls = (entries : List EntryValue) × ReadsLibrary ls entries
 
--- The fault of a line whose first word is no type. (this project's profile)
+-- The fault of a line whose first word is no type.
 abbrev pub IsBadType : List EntryValue → LineValue → Type 0
 IsBadType earlier line = type_of line ≡ None
 
@@ -171,7 +171,22 @@ pub record StopsLibraryAt (ls : Lines) (n : ℕ) (Fault : List EntryValue → Li
   pub stops : (more : Lines) → IsReadableLibrary (before ++ line ∷ more) → ⊥
   pub fault : Fault entries line
 
--- A library that was answered has these entries, or memory was refused. (this project's profile)
+-- A line with a type, an `=>` and a pattern's text that begins with a piece. To read any other line asks for no memory.
+pub record EntryNeedsMemory (line : LineValue) : Type 0 where
+  pub step_type : Option StepType
+  pub sides : Sides
+  pub is_type : type_of line ≡ Some step_type
+  pub is_cut : sides_of line ≡ Some sides
+  pub needs : BeginsWithPiece sides.pattern
+
+-- The first line that isn't ignored asks for memory. No line before it does, and no other line that stands first.
+pub record LibraryNeedsMemory (ls : Lines) : Type 0 where
+  pub line : LineValue
+  pub rest : Lines
+  pub first : filter (λ line. not (is_ignored line)) ls ≡ line ∷ rest
+  pub needs : EntryNeedsMemory line
+
+-- A library that was answered has these entries, or memory was refused.
 abbrev pub AnswersLibrary : Result Library LibraryFault → LibraryValue → Type 0
 AnswersLibrary (Ok library) entries = library_value library ≡ entries
 AnswersLibrary (Err fault) entries = fault ≡ Memory

@@ -8,10 +8,10 @@ use Rattle.gk_steps.specs.declared.pattern.FieldKind.{FieldKind}
 use Rattle.gk_steps.specs.declared.pattern.FieldKind.TheVariants.{Plain, Decimal}
 use Rattle.gk_steps.specs.declared.library_fault.LibraryFault.{LibraryFault}
 use Rattle.gk_steps.specs.declared.library_fault.LibraryFault.TheVariants as faults
-use Rattle.gk_steps.specs.Pattern.{PieceValue, SpellsPattern, field_kind}
+use Rattle.gk_steps.specs.Pattern.{PieceValue, BeginsWithPiece, SpellsPattern, field_kind}
 use Rattle.gk_steps.specs.Action.{ActionRowValue, action_row, kind_of_field}
 use Rattle.gk_steps.specs.Finding.{EntryValue}
-use Rattle.gk_steps.specs.LibraryFile.{Sides, SpellsEntry, is_ignored, type_of, sides_of, HasNeededFields, HasRightKinds, IsBadType, IsBadPattern, IsUnknownAction, IsMissingField, IsOtherKind, IsAmbiguous, StopsLibraryAt}
+use Rattle.gk_steps.specs.LibraryFile.{Sides, SpellsEntry, is_ignored, type_of, sides_of, HasNeededFields, HasRightKinds, IsBadType, IsBadPattern, IsUnknownAction, IsMissingField, IsOtherKind, IsAmbiguous, StopsLibraryAt, EntryNeedsMemory, LibraryNeedsMemory}
 
 -- The texts on the two sides of an arrow: a pattern, and the name of an action.
 abbrev pub sides : List ℕ → List ℕ → Sides
@@ -68,26 +68,26 @@ ActionFaultSays (faults.MissingField n) line name ps = (n ≡ line) × LacksFiel
 ActionFaultSays (faults.FieldKind n) line name ps = (n ≡ line) × HasOtherKind name ps
 ActionFaultSays _ line name ps = ⊥
 
--- Why a text spells no pattern.
+-- Why a text spells no pattern, or that it asks for memory.
 abbrev pub PatternFaultSays : LibraryFault → ℕ → List ℕ → Type 0
 PatternFaultSays (faults.BadPattern n) line text = (n ≡ line) × ((ps : List PieceValue) → SpellsPattern text ps → ⊥)
-PatternFaultSays faults.Memory line text = Unit {0}
+PatternFaultSays faults.Memory line text = BeginsWithPiece text
 PatternFaultSays _ line text = ⊥
 
 -- A line's type and the two sides of its arrow.
-pub record IsCut (line : LineValue) (step_type : Option StepType) (pattern : List ℕ) (action : List ℕ) : Type 0 where
+pub record IsEntryText (line : LineValue) (step_type : Option StepType) (pattern : List ℕ) (action : List ℕ) : Type 0 where
   pub is_type : type_of line ≡ Some step_type
   pub is_cut : sides_of line ≡ Some (record { pattern = pattern; action = action })
 
--- Why a line can't be cut.
-abbrev pub CutFaultSays : LibraryFault → LineValue → Type 0
-CutFaultSays (faults.BadType n) line = (n ≡ line.line) × (type_of line ≡ None)
-CutFaultSays (faults.BadPattern n) line = (n ≡ line.line) × (step_type : Option StepType) × (type_of line ≡ Some step_type) × (sides_of line ≡ None)
-CutFaultSays _ line = ⊥
+-- Why a line says nothing of an entry.
+abbrev pub EntryTextFaultSays : LibraryFault → LineValue → Type 0
+EntryTextFaultSays (faults.BadType n) line = (n ≡ line.line) × (type_of line ≡ None)
+EntryTextFaultSays (faults.BadPattern n) line = (n ≡ line.line) × (step_type : Option StepType) × (type_of line ≡ Some step_type) × (sides_of line ≡ None)
+EntryTextFaultSays _ line = ⊥
 
--- Why a line spells no entry.
+-- Why a line spells no entry, or that it asks for memory.
 abbrev pub EntryFaultSays : LibraryFault → List EntryValue → LineValue → Type 0
-EntryFaultSays faults.Memory earlier line = Unit {0}
+EntryFaultSays faults.Memory earlier line = EntryNeedsMemory line
 EntryFaultSays (faults.BadType n) earlier line = (n ≡ line.line) × IsBadType earlier line
 EntryFaultSays (faults.BadPattern n) earlier line = (n ≡ line.line) × IsBadPattern earlier line
 EntryFaultSays (faults.UnknownAction n) earlier line = (n ≡ line.line) × IsUnknownAction earlier line
@@ -96,9 +96,9 @@ EntryFaultSays (faults.FieldKind n) earlier line = (n ≡ line.line) × IsOtherK
 EntryFaultSays (faults.Ambiguous n) earlier line = (n ≡ line.line) × IsAmbiguous earlier line
 EntryFaultSays _ earlier line = ⊥
 
--- What a fault of the lines says.
+-- What a fault of the lines says; refused memory, that they ask for some.
 abbrev pub LibraryLinesFaultSays : LibraryFault → Lines → Type 0
-LibraryLinesFaultSays faults.Memory ls = Unit {0}
+LibraryLinesFaultSays faults.Memory ls = LibraryNeedsMemory ls
 LibraryLinesFaultSays (faults.BadType n) ls = StopsLibraryAt ls n IsBadType
 LibraryLinesFaultSays (faults.BadPattern n) ls = StopsLibraryAt ls n IsBadPattern
 LibraryLinesFaultSays (faults.UnknownAction n) ls = StopsLibraryAt ls n IsUnknownAction
@@ -118,7 +118,7 @@ pub data AddsLine (before : List EntryValue) (line : LineValue) (after : List En
   Ignored : is_ignored line ≡ true → after ≡ before → AddsLine before line after
   Spelled : is_ignored line ≡ false → AddsEntry before line after → AddsLine before line after
 
--- Why a line that counts spells no entry, or memory was refused.
+-- Why a line that counts spells no entry, or that it asks for memory.
 pub record LineFaultSays (fault : LibraryFault) (earlier : List EntryValue) (line : LineValue) : Type 0 where
   pub counts : is_ignored line ≡ false
   pub fault_is : EntryFaultSays fault earlier line

@@ -1,21 +1,20 @@
 -- Which texts a pattern matches, and how.
-use Rattle.std.specs.Prelude.{◌≡◌, ◌<◌, ◌⊎◌, ◌&&◌, nat_lt, nat_eq, ℕ, ℤ, pos, negsuc, Bool, true, false, List, [], ◌∷◌, ◌++◌, length, drop, map, string_bytes, Vec, IsUtf8, FitsSigned, Option, Some, None, option_map}
-use Rattle.std.specs.List.{list_all, starts_with}
+use Rattle.std.specs.Prelude.{◌≡◌, ◌<◌, ◌⊎◌, ◌&&◌, nat_lt, nat_eq, ℕ, ℤ, Bool, true, false, List, [], ◌∷◌, ◌++◌, length, drop, map, string_bytes, Vec, IsUtf8, Option, Some, None, option_map}
+use Rattle.std.specs.List.{starts_with}
 use Rattle.std.specs.declared.alloc.Global.{Global}
-use Rattle.std.specs.Char.{is_digit}
 use Rattle.std.specs.Str.{is_utf8}
-use Rattle.std.specs.Int.{w64}
-use Rattle.std.specs.Str.Parse.{IsNumeral, without_leading_sign, signed_digits_value}
+use Rattle.std.specs.Str.Parse.{signed_digits_value}
 use Rattle.gk_steps.specs.declared.pattern.FieldKind.{FieldKind}
 use Rattle.gk_steps.specs.declared.pattern.FieldKind.TheVariants.{Plain, Decimal}
 use Rattle.gk_steps.specs.declared.pattern.Field.{Field}
 use Rattle.gk_steps.specs.declared.pattern.Field.TheVariants as fields
+use Rattle.gk_steps.specs.Decimal.{IsNumber, is_number}
 use Rattle.gk_steps.specs.Pattern.{PieceValue, Literal, FieldPiece}
 
--- What a field can take: `{name}` one character or more, `{name:d}` an optional sign and ASCII digits with a value in i64. (behave's documentation: step parameters; this project's profile)
+-- What a field can take: `{name}` one character or more, `{name:d}` an optional sign and ASCII digits with a value in i64. (behave's documentation: step parameters)
 abbrev pub IsSpan : FieldKind → List ℕ → Type 0
 IsSpan Plain span = IsUtf8 span × (0 < length span)
-IsSpan Decimal span = IsNumeral 10 (without_leading_sign span) × FitsSigned w64 (signed_digits_value 10 span)
+IsSpan Decimal span = IsNumber span
 
 -- The spans of a pattern: one for each field, in the pattern's order. (behave's documentation: step parameters)
 abbrev pub AreSpans : List PieceValue → List (List ℕ) → Type 0
@@ -32,7 +31,7 @@ woven (Literal text ∷ ps) spans = text ++ woven ps spans
 woven (FieldPiece name kind ∷ ps) [] = []
 woven (FieldPiece name kind ∷ ps) (span ∷ spans) = span ++ woven ps spans
 
--- A match: literals and spans concatenate to the whole text. (behave's documentation: step parameters; this project's profile)
+-- A match: literals and spans concatenate to the whole text. (behave's documentation: step parameters)
 pub record Matches (ps : List PieceValue) (text : List ℕ) (spans : List (List ℕ)) : Type 0 where
   pub spans_fit : AreSpans ps spans
   pub whole : text ≡ woven ps spans
@@ -41,12 +40,12 @@ pub record Matches (ps : List PieceValue) (text : List ℕ) (spans : List (List 
 abbrev pub MatchesNot : List PieceValue → List ℕ → Type 0
 MatchesNot ps text = (spans : List (List ℕ)) → Matches ps text spans → ⊥
 
--- Of two spans of a field the shorter is preferred for `{name}`, the longer for `{name:d}`. (this project's profile)
+-- Of two spans of a field the shorter is preferred for `{name}`, the longer for `{name:d}`.
 abbrev pub IsPreferredSpan : FieldKind → List ℕ → List ℕ → Type 0
 IsPreferredSpan Plain a b = length a < length b
 IsPreferredSpan Decimal a b = length b < length a
 
--- Of two matches that is preferred which has the preferred span at the first field where the lengths differ. (this project's profile)
+-- Of two matches that is preferred which has the preferred span at the first field where the lengths differ.
 abbrev pub IsPreferred : List PieceValue → List (List ℕ) → List (List ℕ) → Type 0
 IsPreferred (Literal text ∷ ps) xs ys = IsPreferred ps xs ys
 IsPreferred (FieldPiece name kind ∷ ps) (x ∷ xs) (y ∷ ys) = IsPreferredSpan kind x y ⊎ ((length x ≡ length y) × IsPreferred ps xs ys)
@@ -87,19 +86,10 @@ abbrev pub IsMatchResult : List PieceValue → List ℕ → Option (List FieldVa
 IsMatchResult ps text None = MatchesNot ps text
 IsMatchResult ps text (Some found) = (spans : List (List ℕ)) × IsBestMatch ps text spans × (found ≡ span_values ps spans)
 
--- A numeral: one ASCII digit or more, and nothing else.
-abbrev pub is_numeral : List ℕ → Bool
-is_numeral digits = nat_lt 0 (length digits) && list_all (λ c. is_digit c 10) digits
-
--- A number that an i64 holds.
-abbrev pub is_i64 : ℤ → Bool
-is_i64 (pos n) = nat_lt n 9223372036854775808
-is_i64 (negsuc n) = nat_lt n 9223372036854775808
-
--- What a field can take, as a test. (behave's documentation: step parameters; this project's profile)
+-- What a field can take, as a test. (behave's documentation: step parameters)
 abbrev pub is_span : FieldKind → List ℕ → Bool
 is_span Plain span = is_utf8 span && nat_lt 0 (length span)
-is_span Decimal span = is_numeral (without_leading_sign span) && is_i64 (signed_digits_value 10 span)
+is_span Decimal span = is_number span
 
 -- What the rest of a pattern takes from the rest of a text, where the test before them holds.
 abbrev pub rest_where : Bool → (List ℕ → Option (List (List ℕ))) → List ℕ → Option (List (List ℕ))
@@ -120,7 +110,7 @@ abbrev pub longest_match : (List ℕ → Option (List (List ℕ))) → FieldKind
 longest_match rest_match kind taken [] = None
 longest_match rest_match kind taken (b ∷ rest) = elim (longest_match rest_match kind (taken ++ b ∷ []) rest) [ Some spans ↦ Some spans | None ↦ spans_with rest_match kind (taken ++ b ∷ []) rest ]
 
--- The match that a field prefers. (this project's profile)
+-- The match that a field prefers.
 abbrev pub field_match : FieldKind → (List ℕ → Option (List (List ℕ))) → List ℕ → Option (List (List ℕ))
 field_match Plain rest_match text = shortest_match rest_match Plain [] text
 field_match Decimal rest_match text = longest_match rest_match Decimal [] text

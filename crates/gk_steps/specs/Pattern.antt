@@ -26,7 +26,7 @@ pieces_said pieces = map piece_value pieces
 abbrev pub pattern_value : Pattern → List PieceValue
 pattern_value p = map piece_value p.pieces.items
 
--- How a literal character is spelled: braces are doubled. (this project's profile; Python's format strings)
+-- How a literal character is spelled: braces are doubled. (Python's format strings)
 abbrev pub spelled_literal : ℕ → List ℕ
 spelled_literal b = if (b == 123) || (b == 125) then b ∷ b ∷ [] else b ∷ []
 
@@ -44,10 +44,22 @@ is_name_letter b = (nat_le 65 b && nat_le b 90) || ((nat_le 97 b && nat_le b 122
 abbrev pub is_name_byte : ℕ → Bool
 is_name_byte b = is_name_letter b || (nat_le 48 b && nat_le b 57)
 
--- A field's name: an ASCII letter or `_`, and then ASCII letters, digits and `_`. (this project's profile)
+-- A field's name: an ASCII letter or `_`, and then ASCII letters, digits and `_`.
 abbrev pub is_field_name : List ℕ → Bool
 is_field_name [] = false
 is_field_name (b ∷ bs) = is_name_letter b && list_all is_name_byte bs
+
+-- A piece that can stand in a pattern: a literal that isn't empty, or a field whose name is one.
+abbrev pub IsPiece : PieceValue → Type 0
+IsPiece (Literal text) = 0 < length text
+IsPiece (FieldPiece name kind) = IsTrue (is_field_name name)
+
+-- A text that begins with a piece. To read any other text as a pattern asks for no memory.
+pub record BeginsWithPiece (text : List ℕ) : Type 0 where
+  pub piece : PieceValue
+  pub rest : List ℕ
+  pub is_piece : IsPiece piece
+  pub whole : text ≡ spelled_piece piece ++ rest
 
 -- The names of the fields.
 abbrev pub field_names : List PieceValue → List (List ℕ)
@@ -55,7 +67,7 @@ field_names [] = []
 field_names (Literal text ∷ ps) = field_names ps
 field_names (FieldPiece name kind ∷ ps) = name ∷ field_names ps
 
--- No name stands twice. (this project's profile)
+-- No name stands twice.
 abbrev pub AreDistinctNames : List (List ℕ) → Type 0
 AreDistinctNames [] = Unit {0}
 AreDistinctNames (name ∷ names) = AllByRecursion (λ other. other ≢ name) names × AreDistinctNames names
@@ -67,7 +79,7 @@ AreLongestRuns (Literal text ∷ Literal text' ∷ ps) = ⊥
 AreLongestRuns (Literal text ∷ ps) = (0 < length text) × AreLongestRuns ps
 AreLongestRuns (FieldPiece name kind ∷ ps) = AreLongestRuns ps
 
--- A text spells these pieces: it is theirs joined, names are names and none stands twice, and there is a piece. (behave's documentation: step parameters; this project's profile)
+-- A text spells these pieces: it is theirs joined, names are names and none stands twice, and there is a piece. (behave's documentation: step parameters)
 pub record SpellsPattern (text : List ℕ) (ps : List PieceValue) : Type 0 where
   pub spelled : text ≡ flat_map spelled_piece ps
   pub names : AllByRecursion (λ name. IsTrue (is_field_name name)) (field_names ps)

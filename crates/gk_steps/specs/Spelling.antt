@@ -91,7 +91,7 @@ BeginWithField (Literal text ∷ ps) = ⊥
 BeginWithField (FieldPiece name kind ∷ ps) = Unit {0}
 
 -- The pieces of a text that are left after some were read.
-pub record IsLeft (done : List PieceValue) (rest : List ℕ) (ps : List PieceValue) : Type 0 where
+pub record ArePiecesLeft (done : List PieceValue) (rest : List ℕ) (ps : List PieceValue) : Type 0 where
   pub left : List PieceValue
   pub whole : ps ≡ done ++ left
   pub spelled : IsSpelled rest left
@@ -100,7 +100,7 @@ pub record IsLeft (done : List PieceValue) (rest : List ℕ) (ps : List PieceVal
 -- Pieces that were read, and the text that is left.
 pub record IsReadTo (text : List ℕ) (done : List PieceValue) (rest : List ℕ) : Type 0 where
   pub build : (ps : List PieceValue) → IsSpelled rest ps → BeginWithField ps → IsSpelled text (done ++ ps)
-  pub take : (ps : List PieceValue) → IsSpelled text ps → IsLeft done rest ps
+  pub take : (ps : List PieceValue) → IsSpelled text ps → ArePiecesLeft done rest ps
 
 -- Pieces that were answered are these, or memory was refused.
 abbrev pub AnswersPieces : Result (Vec Piece Global) PatternFault → List PieceValue → Type 0

@@ -3,8 +3,7 @@ ghost use Rattle.std.specs.Prelude.{◌≡◌, find, map, option_copied, option_
 ghost use Rattle.std.specs.Str.{bytes_eq};
 ghost use Rattle.gk_steps.specs.Action.{action_row, action_row_value, row_among};
 
-/// What a step does that finds an entry. What each does to the sandbox stands in the guide. (this
-/// project's profile)
+/// What a step does that finds an entry. What each does to the sandbox stands in the guide.
 #[derive(Clone, Copy, Debug, PartialEq, Eq)]
 pub enum Action {
     WriteFile,
@@ -34,7 +33,7 @@ pub enum Action {
 }
 
 /// A row of the table of actions: a name, its action, the fields of a pattern that it needs, and all
-/// that it uses. (this project's profile)
+/// that it uses.
 #[derive(Clone, Copy, Debug)]
 pub(crate) struct ActionRow {
     pub name: &'static str,
@@ -43,152 +42,44 @@ pub(crate) struct ActionRow {
     pub uses: &'static [&'static str],
 }
 
-/// The table of actions. (this project's profile)
+// A row of the table: the name, the action, the fields that it needs, and all that it uses.
+macro_rules! row {
+    ($name:literal, $action:ident, $needs:expr, $uses:expr) => {
+        ActionRow {
+            name: $name,
+            action: Action::$action,
+            needs: &$needs,
+            uses: &$uses,
+        }
+    };
+}
+
+/// The table of actions.
 static ACTIONS: [ActionRow; 24] = [
-    ActionRow {
-        name: "write_file",
-        action: Action::WriteFile,
-        needs: &["name"],
-        uses: &["name", "text"],
-    },
-    ActionRow {
-        name: "append_file",
-        action: Action::AppendFile,
-        needs: &["name"],
-        uses: &["name", "text"],
-    },
-    ActionRow {
-        name: "remove_file",
-        action: Action::RemoveFile,
-        needs: &["name"],
-        uses: &["name"],
-    },
-    ActionRow {
-        name: "rename_file",
-        action: Action::RenameFile,
-        needs: &["name", "to"],
-        uses: &["name", "to"],
-    },
-    ActionRow {
-        name: "write_files",
-        action: Action::WriteFiles,
-        needs: &[],
-        uses: &[],
-    },
-    ActionRow {
-        name: "file_exists",
-        action: Action::FileExists,
-        needs: &["name"],
-        uses: &["name"],
-    },
-    ActionRow {
-        name: "file_absent",
-        action: Action::FileAbsent,
-        needs: &["name"],
-        uses: &["name"],
-    },
-    ActionRow {
-        name: "file_is",
-        action: Action::FileIs,
-        needs: &["name"],
-        uses: &["name", "text"],
-    },
-    ActionRow {
-        name: "file_contains",
-        action: Action::FileContains,
-        needs: &["name"],
-        uses: &["name", "text"],
-    },
-    ActionRow {
-        name: "set_env",
-        action: Action::SetEnv,
-        needs: &["name"],
-        uses: &["name", "text"],
-    },
-    ActionRow {
-        name: "remove_env",
-        action: Action::RemoveEnv,
-        needs: &["name"],
-        uses: &["name"],
-    },
-    ActionRow {
-        name: "env_is",
-        action: Action::EnvIs,
-        needs: &["name"],
-        uses: &["name", "text"],
-    },
-    ActionRow {
-        name: "env_absent",
-        action: Action::EnvAbsent,
-        needs: &["name"],
-        uses: &["name"],
-    },
-    ActionRow {
-        name: "set_value",
-        action: Action::SetValue,
-        needs: &["name"],
-        uses: &["name", "text"],
-    },
-    ActionRow {
-        name: "delete_value",
-        action: Action::DeleteValue,
-        needs: &["name"],
-        uses: &["name"],
-    },
-    ActionRow {
-        name: "value_is",
-        action: Action::ValueIs,
-        needs: &["name"],
-        uses: &["name", "text"],
-    },
-    ActionRow {
-        name: "value_absent",
-        action: Action::ValueAbsent,
-        needs: &["name"],
-        uses: &["name"],
-    },
-    ActionRow {
-        name: "set_number",
-        action: Action::SetNumber,
-        needs: &["name", "n"],
-        uses: &["name", "n"],
-    },
-    ActionRow {
-        name: "add_number",
-        action: Action::AddNumber,
-        needs: &["name", "n"],
-        uses: &["name", "n"],
-    },
-    ActionRow {
-        name: "number_is",
-        action: Action::NumberIs,
-        needs: &["name", "n"],
-        uses: &["name", "n"],
-    },
-    ActionRow {
-        name: "at_cleanup",
-        action: Action::AtCleanup,
-        needs: &["step"],
-        uses: &["step"],
-    },
-    ActionRow {
-        name: "skip_scenario",
-        action: Action::SkipScenario,
-        needs: &[],
-        uses: &[],
-    },
-    ActionRow {
-        name: "pass",
-        action: Action::Pass,
-        needs: &[],
-        uses: &[],
-    },
-    ActionRow {
-        name: "fail",
-        action: Action::Fail,
-        needs: &[],
-        uses: &[],
-    },
+    row!("write_file", WriteFile, ["name"], ["name", "text"]),
+    row!("append_file", AppendFile, ["name"], ["name", "text"]),
+    row!("remove_file", RemoveFile, ["name"], ["name"]),
+    row!("rename_file", RenameFile, ["name", "to"], ["name", "to"]),
+    row!("write_files", WriteFiles, [], []),
+    row!("file_exists", FileExists, ["name"], ["name"]),
+    row!("file_absent", FileAbsent, ["name"], ["name"]),
+    row!("file_is", FileIs, ["name"], ["name", "text"]),
+    row!("file_contains", FileContains, ["name"], ["name", "text"]),
+    row!("set_env", SetEnv, ["name"], ["name", "text"]),
+    row!("remove_env", RemoveEnv, ["name"], ["name"]),
+    row!("env_is", EnvIs, ["name"], ["name", "text"]),
+    row!("env_absent", EnvAbsent, ["name"], ["name"]),
+    row!("set_value", SetValue, ["name"], ["name", "text"]),
+    row!("delete_value", DeleteValue, ["name"], ["name"]),
+    row!("value_is", ValueIs, ["name"], ["name", "text"]),
+    row!("value_absent", ValueAbsent, ["name"], ["name"]),
+    row!("set_number", SetNumber, ["name", "n"], ["name", "n"]),
+    row!("add_number", AddNumber, ["name", "n"], ["name", "n"]),
+    row!("number_is", NumberIs, ["name", "n"], ["name", "n"]),
+    row!("at_cleanup", AtCleanup, ["step"], ["step"]),
+    row!("skip_scenario", SkipScenario, [], []),
+    row!("pass", Pass, [], []),
+    row!("fail", Fail, [], []),
 ];
 
 fn is_named(row: &ActionRow, name: &str) -> bool

@@ -1,13 +1,12 @@
-//! Steps over a piece, from a column of the table to another.
-ghost use Rattle.std.specs.Prelude.{◌≡◌, ◌<◌, ◌++◌, ℕ, List, [], length, string_bytes, Option, Some, None, false, slice_index_or, IfSome, IsSomeAnd, MatchOption};
-ghost use Rattle.std.specs.Str.Parse.{signed_digits_value};
+//! Advances over a piece, from a column of the table to another.
+ghost use Rattle.std.specs.Prelude.{◌≡◌, ◌<◌, ◌++◌, ℕ, List, [], length, string_bytes, Option, Some, None, false, slice_index_or, IfSome, IsSomeAnd};
 ghost use Rattle.gk_steps.specs.declared.pattern.FieldKind.TheVariants.{Decimal};
 ghost use Rattle.gk_steps.specs.Pattern.{Literal, FieldPiece, piece_value};
-ghost use Rattle.gk_steps.specs.Matching.{IsSpan};
 ghost use Rattle.gk_steps.specs.Places.{ArePlaces};
-ghost use Rattle.gk_steps.specs.Columns.{IsStep, IsNearest};
+ghost use Rattle.gk_steps.specs.Columns.{IsAdvance, IsNearest};
 
-use crate::digits::{LARGEST, longest_digits};
+use crate::decimal::LARGEST;
+use crate::digits::longest_digits;
 use crate::pattern::{FieldKind, Piece};
 use crate::places::RowBelow;
 
@@ -24,12 +23,12 @@ pub(crate) fn rest_after<'a>(text: &'a str, prefix: &str) -> Option<&'a str>
     }
 }
 
-/// The step over a literal.
-fn literal_step(literal: &str, text: &str, below: &RowBelow<'_>, column: usize) -> Option<usize>
+/// The advance over a literal.
+fn literal_advance(literal: &str, text: &str, below: &RowBelow<'_>, column: usize) -> Option<usize>
     requires places { ArePlaces text.now below.now.places.now }
     requires column { column < length below.now.places.now }
     requires width { length below.now.cells.now ≡ length below.now.places.now }
-    ensures { IsStep (Literal literal.now)
+    ensures { IsAdvance (Literal literal.now)
         text.now below.now.places.now below.now.cells.now column result }
 {
     let rest = rest_after(&text[below.places[column]..], literal)?;
@@ -46,8 +45,8 @@ fn literal_step(literal: &str, text: &str, below: &RowBelow<'_>, column: usize) 
     None
 }
 
-/// The shortest step over one character or more.
-fn plain_step(below: &[bool], column: usize) -> Option<usize>
+/// The shortest advance over one character or more.
+fn plain_advance(below: &[bool], column: usize) -> Option<usize>
     requires { column < length below.now }
     ensures { IsNearest below.now column result }
 {
@@ -59,20 +58,12 @@ fn plain_step(below: &[bool], column: usize) -> Option<usize>
     None
 }
 
-/// The number that a span of digits spells.
-pub(crate) fn number_of(span: &str) -> Option<i64>
-    ensures { MatchOption result (IsSpan Decimal span.now → ⊥) (λ n.
-        IsSpan Decimal span.now × (n ≡ signed_digits_value 10 span.now)) }
-{
-    span.parse::<i64>().ok()
-}
-
-/// The longest step over a number. Looks along a run of digits once.
-fn decimal_step(text: &str, below: &RowBelow<'_>, column: usize) -> Option<usize>
+/// The longest advance over a number. Looks along a run of digits once.
+fn decimal_advance(text: &str, below: &RowBelow<'_>, column: usize) -> Option<usize>
     requires places { ArePlaces text.now below.now.places.now }
     requires column { column < length below.now.places.now }
     requires width { length below.now.cells.now ≡ length below.now.places.now }
-    ensures { IsStep (FieldPiece [] Decimal)
+    ensures { IsAdvance (FieldPiece [] Decimal)
         text.now below.now.places.now below.now.cells.now column result }
 {
     if column == 0 {
@@ -88,19 +79,24 @@ fn decimal_step(text: &str, below: &RowBelow<'_>, column: usize) -> Option<usize
     longest_digits(LARGEST, text, below, column)
 }
 
-/// The preferred step over a piece.
-pub(crate) fn step(piece: &Piece, text: &str, below: &RowBelow<'_>, column: usize) -> Option<usize>
+/// The preferred advance over a piece.
+pub(crate) fn advance(
+    piece: &Piece,
+    text: &str,
+    below: &RowBelow<'_>,
+    column: usize,
+) -> Option<usize>
     requires places { ArePlaces text.now below.now.places.now }
     requires column { column < length below.now.places.now }
     requires width { length below.now.cells.now ≡ length below.now.places.now }
-    ensures { IsStep (piece_value piece.now)
+    ensures { IsAdvance (piece_value piece.now)
         text.now below.now.places.now below.now.cells.now column result }
 {
     match piece {
-        Piece::Literal(literal) => literal_step(literal, text, below, column),
+        Piece::Literal(literal) => literal_advance(literal, text, below, column),
         Piece::Field { kind, .. } => match kind {
-            FieldKind::Plain => plain_step(below.cells, column),
-            FieldKind::Decimal => decimal_step(text, below, column),
+            FieldKind::Plain => plain_advance(below.cells, column),
+            FieldKind::Decimal => decimal_advance(text, below, column),
         },
     }
 }

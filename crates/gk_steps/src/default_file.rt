@@ -11,7 +11,7 @@ use crate::library_fault::LibraryFault;
 use crate::library_file::read_library;
 use std::alloc::{AllocError, Global};
 
-/// The text of the default library, as a library file has it. (this project's profile)
+/// The text of the default library, as a library file has it.
 pub const DEFAULT_TEXT: &str = "step a file named \"{name}\" with: => write_file\n\
 step a file named \"{name}\" containing \"{text}\" => write_file\n\
 step the file \"{name}\" is extended with: => append_file\n\
@@ -49,7 +49,7 @@ fn as_alloc_error(fault: LibraryFault) -> AllocError
     AllocError
 }
 
-/// The library that `DEFAULT_TEXT` spells. (this project's profile)
+/// The library that `DEFAULT_TEXT` spells.
 pub fn default_library(alloc: Global) -> Result<Library, AllocError>
     // What is answered is what the text says.
     ensures read { IfOk result (λ l. ReadsLibrary (lines_of default_text) (library_value l)) }
@@ -62,7 +62,7 @@ pub fn default_library(alloc: Global) -> Result<Library, AllocError>
     }
 }
 
-/// The default library's text reads as its entries, whatever memory there is. (this project's profile)
+/// The default library's text reads as its entries, whatever memory there is.
 pub fn default_text_reads_as_its_entries()
     ensures { ReadsLibrary (lines_of default_text) default_entries }
 {}

@@ -4,6 +4,7 @@ ghost use Rattle.gk_steps.specs.Places.{ArePlaces};
 ghost use Rattle.gk_steps.specs.Columns.{HasDigits, IsLongest};
 ghost use Rattle.gk_steps.specs.Digits.{KnowsDigits, HasNumber};
 
+use crate::decimal::LARGEST;
 use crate::places::RowBelow;
 
 // A value with one digit more, up to a limit.
@@ -41,7 +42,7 @@ pub(crate) fn has_digits(most: u64, text: &str, below: &RowBelow<'_>, column: us
     false
 }
 
-/// The longest step over digits with a value up to a limit, after which the rest matches.
+/// The longest advance over digits with a value up to a limit, after which the rest matches.
 pub(crate) fn longest_digits(
     most: u64,
     text: &str,
@@ -72,9 +73,6 @@ pub(crate) fn longest_digits(
     }
     longest
 }
-
-/// The largest value of digits with no minus before them.
-pub(crate) const LARGEST: u64 = 9_223_372_036_854_775_807;
 
 /// What is known at a column of the digits that stand there: whether the rest matches after some that
 /// spell a number with a plus, and with a minus.
@@ -119,7 +117,7 @@ impl Digits {
     }
 }
 
-/// Whether there is a step over a number from a column, with a sign or none.
+/// Whether there is an advance over a number from a column, with a sign or none.
 pub(crate) fn has_number(
     text: &str,
     below: &RowBelow<'_>,

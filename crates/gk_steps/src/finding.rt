@@ -1,12 +1,14 @@
 //! What a step's text finds in a library.
-ghost use Rattle.std.specs.Prelude.{◌≡◌, map, IfOk, IfErr, MatchBool, MatchOption, option_map, is_some, Option, Some, None};
+ghost use Rattle.std.specs.Prelude.{◌≡◌, ◌≤◌, ◌+◌, map, IfOk, IfErr, MatchBool, MatchOption, option_map, is_some, Option, Some, None};
 ghost use Rattle.gk_steps.specs.Pattern.{pieces_said};
 ghost use Rattle.gk_steps.specs.Matching.{field_value};
 ghost use Rattle.gk_steps.specs.Finding as spec;
 ghost use Rattle.gk_steps.specs.Finding.{IsFoundOf, HasCandidate, HasCandidateFor, FindsWhatIsFound};
 ghost use Rattle.gk_steps.specs.Finding.{entries_said, library_value, found_value};
+ghost use Rattle.gk_steps.specs.FilledCells.{cells_of_type, cells_of_step};
 
 use crate::action::Action;
+use crate::filled_cells::Cells;
 use crate::library::{Entry, Library};
 use crate::matching::match_from_left;
 use crate::pattern::{Field, Piece};
@@ -36,6 +38,7 @@ fn is_same(a: Option<StepType>, b: Option<StepType>) -> bool
 // What a text finds among the entries of one type. An entry whose ends the text doesn't have is passed over here,
 // before a match begins.
 pub(crate) fn find_of(
+    cells: &mut Cells,
     alloc: Global,
     entries: &[Entry],
     step_type: Option<StepType>,
@@ -45,11 +48,13 @@ pub(crate) fn find_of(
         IsFoundOf (entries_said entries.now) step_type text.now (option_map found_value found)) }
     ensures memory { IfErr result (λ e.
         HasCandidate (entries_said entries.now) step_type text.now) }
+    ensures most { cells.new.filled
+        ≤ cells.old.filled + cells_of_type (entries_said entries.now) step_type text.now }
 {
     for place in 0..entries.len() {
         let entry = &entries[place];
         if is_same(entry.step_type, step_type) && entry.pattern.can_match(text) {
-            match match_from_left(alloc, &entry.pattern.pieces, text)? {
+            match match_from_left(cells, alloc, &entry.pattern.pieces, text)? {
                 Some(fields) => return Ok(Some(Found {
                     entry: place,
                     fields,
@@ -82,8 +87,8 @@ fn field_named<'a>(pieces: &[Piece], fields: &'a [Field], name: &str) -> Option<
 impl Library {
     /// What a step finds: the preferred match of the first entry of its type that has one, in library
     /// order, or else of the first entry of type `step`. An entry whose ends the text doesn't have is
-    /// passed over without a table. (behave's documentation: step implementations; this project's
-    /// profile)
+    /// passed over without a table. At most one whole table is filled for each entry of these two types.
+    /// (behave's documentation: step implementations)
     pub fn find(
         &self,
         alloc: Global,
@@ -96,24 +101,64 @@ impl Library {
         ensures memory { IfErr result (λ e.
             HasCandidateFor (library_value self.now) step_type text.now) }
     {
-        let typed = &self.entries[..self.typed];
-        if let Some(found) = find_of(alloc, typed, Some(step_type), text)? {
-            return Ok(Some(found));
-        }
-        self.find_any(alloc, text)
+        let mut cells = Cells::new();
+        self.find_counting(alloc, &mut cells, step_type, text)
     }
 
-    /// The same among the entries of type `step` alone. (this project's profile)
+    /// What `find` returns, with the cells that it fills counted.
+    pub fn find_counting(
+        &self,
+        alloc: Global,
+        cells: &mut Cells,
+        step_type: StepType,
+        text: &str,
+    ) -> Result<Option<Found>, AllocError>
+        ensures found { IfOk result (λ found.
+            option_map found_value found ≡ spec.found (library_value self.now) step_type text.now) }
+        // Memory is refused only where the text has the ends of an entry.
+        ensures memory { IfErr result (λ e.
+            HasCandidateFor (library_value self.now) step_type text.now) }
+        // No more cells are counted than the tables of all entries that are asked have.
+        ensures most { cells.new.filled
+            ≤ cells.old.filled + cells_of_step (library_value self.now) step_type text.now }
+    {
+        let typed = &self.entries[..self.typed];
+        if let Some(found) = find_of(cells, alloc, typed, Some(step_type), text)? {
+            return Ok(Some(found));
+        }
+        self.find_any_counting(alloc, cells, text)
+    }
+
+    /// The same among the entries of type `step` alone.
     pub fn find_any(&self, alloc: Global, text: &str) -> Result<Option<Found>, AllocError>
         ensures found { IfOk result (λ found.
             option_map found_value found ≡ spec.found_any (library_value self.now) text.now) }
         // The same of memory.
         ensures memory { IfErr result (λ e. HasCandidate (library_value self.now) None text.now) }
     {
-        find_of(alloc, &self.entries, None, text)
+        let mut cells = Cells::new();
+        self.find_any_counting(alloc, &mut cells, text)
     }
 
-    /// Whether a step finds an entry. (this project's profile)
+    /// What `find_any` returns, with the cells that it fills counted.
+    pub fn find_any_counting(
+        &self,
+        alloc: Global,
+        cells: &mut Cells,
+        text: &str,
+    ) -> Result<Option<Found>, AllocError>
+        ensures found { IfOk result (λ found.
+            option_map found_value found ≡ spec.found_any (library_value self.now) text.now) }
+        // The same of memory.
+        ensures memory { IfErr result (λ e. HasCandidate (library_value self.now) None text.now) }
+        // The same of cells.
+        ensures most { cells.new.filled
+            ≤ cells.old.filled + cells_of_type (library_value self.now) None text.now }
+    {
+        find_of(cells, alloc, &self.entries, None, text)
+    }
+
+    /// Whether a step finds an entry.
     pub fn knows(&self, alloc: Global, step_type: StepType, text: &str) -> Result<bool, AllocError>
         ensures known { IfOk result (λ known.
             known ≡ is_some (spec.found (library_value self.now) step_type text.now)) }
@@ -122,6 +167,26 @@ impl Library {
             HasCandidateFor (library_value self.now) step_type text.now) }
     {
         Ok(self.find(alloc, step_type, text)?.is_some())
+    }
+
+    /// What `knows` returns, with the cells that it fills counted.
+    pub fn knows_counting(
+        &self,
+        alloc: Global,
+        cells: &mut Cells,
+        step_type: StepType,
+        text: &str,
+    ) -> Result<bool, AllocError>
+        ensures known { IfOk result (λ known.
+            known ≡ is_some (spec.found (library_value self.now) step_type text.now)) }
+        // The same of cells.
+        ensures most { cells.new.filled
+            ≤ cells.old.filled + cells_of_step (library_value self.now) step_type text.now }
+        // The same of memory.
+        ensures memory { IfErr result (λ e.
+            HasCandidateFor (library_value self.now) step_type text.now) }
+    {
+        Ok(self.find_counting(alloc, cells, step_type, text)?.is_some())
     }
 
     /// The action of what was found in this library. Takes no memory.

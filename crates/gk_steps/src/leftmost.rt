@@ -2,7 +2,7 @@
 ghost use Rattle.std.specs.Prelude.{◌≤◌, [], ◌∷◌, ℕ, List, map, length, MatchBool};
 ghost use Rattle.gk_steps.specs.declared.pattern.FieldKind.TheVariants as kinds;
 ghost use Rattle.gk_steps.specs.Pattern.{Literal, FieldPiece, piece_value, pieces_said};
-ghost use Rattle.gk_steps.specs.Leftmost.{CanStandAt, IsFirstPlace, IsKnown, IsKnownBefore};
+ghost use Rattle.gk_steps.specs.Leftmost.{CanStandAt, IsFirstPlace, IsCutOf, IsCutBefore};
 
 use crate::columns::rest_after;
 use crate::passing_over::{begins_with_bytes, ends_with};
@@ -42,7 +42,7 @@ fn first_place(literal: &str, text: &str) -> Option<usize>
 
 // What a literal takes.
 fn literal_cut(literal: &str, after: &[Piece], text: &str) -> Cut
-    ensures { IsKnown (Literal literal.now) (pieces_said after.now) text.now result }
+    ensures { IsCutOf (Literal literal.now) (pieces_said after.now) text.now result }
 {
     match rest_after(text, literal) {
         Some(_) => Cut::At(literal.len()),
@@ -52,7 +52,7 @@ fn literal_cut(literal: &str, after: &[Piece], text: &str) -> Cut
 
 // What a plain field takes before a literal that is the last piece.
 fn cut_before_last(literal: &str, text: &str) -> Cut
-    ensures { IsKnownBefore literal.now [] text.now result }
+    ensures { IsCutBefore literal.now [] text.now result }
 {
     if literal.len() < text.len() && ends_with(text, literal) {
         Cut::At(text.len() - literal.len())
@@ -65,7 +65,7 @@ fn cut_before_last(literal: &str, text: &str) -> Cut
 // the more is left for the other.
 fn cut_before_field(literal: &str, other: &str, after: &[Piece], text: &str) -> Cut
     ensures { let left = FieldPiece other.now kinds.Plain ∷ pieces_said after.now in
-        IsKnownBefore literal.now left text.now result }
+        IsCutBefore literal.now left text.now result }
 {
     match first_place(literal, text) {
         Some(place) => Cut::At(place),
@@ -75,7 +75,7 @@ fn cut_before_field(literal: &str, other: &str, after: &[Piece], text: &str) -> 
 
 // What a plain field takes before a literal.
 fn cut_before(literal: &str, after: &[Piece], text: &str) -> Cut
-    ensures { IsKnownBefore literal.now (pieces_said after.now) text.now result }
+    ensures { IsCutBefore literal.now (pieces_said after.now) text.now result }
 {
     match after.split_first() {
         None => cut_before_last(literal, text),
@@ -92,7 +92,7 @@ fn cut_before(literal: &str, after: &[Piece], text: &str) -> Cut
 // What a plain field takes.
 fn plain_cut(after: &[Piece], text: &str) -> Cut
     ensures { (name : List ℕ)
-        → IsKnown (FieldPiece name kinds.Plain) (pieces_said after.now) text.now result }
+        → IsCutOf (FieldPiece name kinds.Plain) (pieces_said after.now) text.now result }
 {
     match after.split_first() {
         None => {
@@ -111,7 +111,7 @@ fn plain_cut(after: &[Piece], text: &str) -> Cut
 
 /// What the first piece of a pattern takes, where that is known without a table.
 pub(crate) fn cut_of(piece: &Piece, after: &[Piece], text: &str) -> Cut
-    ensures { IsKnown (piece_value piece.now) (pieces_said after.now) text.now result }
+    ensures { IsCutOf (piece_value piece.now) (pieces_said after.now) text.now result }
 {
     match piece {
         Piece::Literal(literal) => literal_cut(literal, after, text),

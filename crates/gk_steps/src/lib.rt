@@ -1,11 +1,13 @@
 //! Patterns and step libraries. A pattern's or a library's text comes in; what matches a step's text,
-//! with its fields, goes out.
+//! with its fields, goes out. Where a comment names no source, what it says is this project's profile.
 #![tactic(auto)]
 
 mod action;
 mod columns;
+mod decimal;
 mod default_file;
 mod digits;
+mod filled_cells;
 mod finding;
 mod leftmost;
 mod library;
@@ -20,10 +22,12 @@ mod spelling;
 mod table_rows;
 
 pub use action::Action;
+pub use decimal::number_of;
 pub use default_file::{DEFAULT_TEXT, default_library, default_text_reads_as_its_entries};
+pub use filled_cells::Cells;
 pub use finding::{Found, finding_is_determined};
 pub use library::{Entry, Library};
-pub use library_fault::LibraryFault;
+pub use library_fault::{LibraryFault, library_fault_is_unique};
 pub use library_file::{library_reading_is_unique, read_library};
 pub use matching::matches_are_determined;
 pub use pattern::{Field, FieldKind, Pattern, PatternFault, Piece};

@@ -7,7 +7,7 @@ use crate::pattern::Pattern;
 use gk_gherkin::StepType;
 
 /// A pattern and the action of the steps that it matches. An entry is for steps of one type, or with
-/// none for steps of each type. (behave's documentation: step implementations; this project's profile)
+/// none for steps of each type. (behave's documentation: step implementations)
 #[derive(Debug, Drop)]
 pub struct Entry {
     pub step_type: Option<StepType>,

@@ -1,15 +1,18 @@
 //! Why a step library could not be read.
 ghost use Rattle.std.specs.Prelude.{◌≡◌};
 ghost use Rattle.gk_steps.specs.LibraryFault.{line_of_library_fault, library_fault_text};
+ghost use Rattle.gk_steps.specs.LibraryFault.{LibraryFaultIsUnique};
 ghost use Rattle.gk_steps.specs.declared.library_fault.LibraryFault.TheVariants.{Memory};
 
-use std::alloc::{AllocError, AllocFailed};
+use gk_gherkin::Refused;
 
 /// Why a step library could not be read. Lines are counted from 1. Of more faults than one in a line,
 /// the first of `BadType`, `BadPattern`, `UnknownAction`, `MissingField`, `FieldKind` and `Ambiguous`
-/// comes; of faulty lines the first. (this project's profile)
+/// comes; of faulty lines the first.
 #[derive(Clone, Copy, Debug, PartialEq, Eq)]
 pub enum LibraryFault {
+    /// More bytes than a file may have, whatever they spell.
+    TooLong,
     /// The bytes aren't UTF-8. The line is that of the first byte after the longest prefix that is.
     NotUtf8 { line: u32 },
     /// A line whose first word is not `given`, `when`, `then` or `step`.
@@ -24,8 +27,6 @@ pub enum LibraryFault {
     FieldKind { line: u32 },
     /// A line whose pattern's text, as written, is matched by an earlier entry of its type.
     Ambiguous { line: u32 },
-    /// More bytes than a file may have, whatever they spell.
-    TooLong,
     /// A growth of memory was refused.
     Memory,
 }
@@ -47,7 +48,7 @@ impl LibraryFault {
         }
     }
 
-    /// The fault's text, as it is printed after the file's name and the line. (this project's profile)
+    /// The fault's text, as it is printed after the file's name and the line.
     pub fn text(&self) -> &'static str
         ensures { result.now ≡ library_fault_text self.now }
     {
@@ -65,18 +66,16 @@ impl LibraryFault {
     }
 }
 
-impl From<AllocError> for LibraryFault {
+impl<E: Refused> From<E> for LibraryFault {
     ghost from_gives = { λ _ e. e ≡ Memory };
 
-    fn from(_e: AllocError) -> LibraryFault {
+    fn from(_refused: E) -> LibraryFault {
         LibraryFault::Memory
     }
 }
 
-impl<T: Drop> From<AllocFailed<T>> for LibraryFault {
-    ghost from_gives = { λ _ e. e ≡ Memory };
-
-    fn from(_e: AllocFailed<T>) -> LibraryFault {
-        LibraryFault::Memory
-    }
-}
+/// No bytes have two faults as a library file, neither of two kinds nor on two lines. Refused memory is no
+/// fault of the bytes.
+pub fn library_fault_is_unique()
+    ensures { LibraryFaultIsUnique }
+{}

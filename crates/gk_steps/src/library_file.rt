@@ -1,7 +1,7 @@
 //! Reading a step library file.
-ghost use Rattle.std.specs.Prelude.{◌≡◌, ◌≤◌, ℕ, List, length, IfOk, IfErr, OnOk};
-ghost use Rattle.gk_steps.specs.declared.library_fault.LibraryFault.TheVariants.{Memory};
+ghost use Rattle.std.specs.Prelude.{◌≡◌, ◌≢◌, ◌≤◌, ℕ, List, length, IfOk, IfErr, OnOk};
 ghost use Rattle.gk_gherkin.specs.ReadFault.{LinesFaultSays};
+ghost use Rattle.gk_gherkin.specs.declared.read_fault.ReadFault.TheVariants.{Memory as ReadMemory};
 ghost use Rattle.gk_gherkin.specs.Lines.{borrowed_value, numbered_from, lines_of, IsText};
 ghost use Rattle.std.specs.Str.Lines.{lines};
 ghost use Rattle.gk_steps.specs.Finding.{LibraryValue, entries_said, library_value};
@@ -18,8 +18,9 @@ use std::alloc::Global;
 
 // The fault of the bytes, of those that come where lines alone are read.
 fn lines_fault(fault: ReadFault) -> LibraryFault
+    requires { fault ≢ ReadMemory }
     ensures says { (bytes : List ℕ) → LinesFaultSays fault bytes → LibraryFaultSays result bytes }
-    ensures only { (bytes : List ℕ) → IsText bytes → LinesFaultSays fault bytes → result ≡ Memory }
+    ensures none { (bytes : List ℕ) → LinesFaultSays fault bytes → IsText bytes → ⊥ }
 {
     match fault {
         ReadFault::TooLong => LibraryFault::TooLong,
@@ -93,8 +94,9 @@ fn read_entries(alloc: Global, text: &str) -> Result<Vec<Entry>, LibraryFault>
 /// action's name. The cut is at the last `=>`, and both sides are trimmed.
 ///
 /// `TooLong` and `NotUtf8` come before any fault of a line. `Memory` comes only where a growth was
-/// refused. A refusal answers nothing of what was read before it. (behave's documentation: step
-/// implementations; this project's profile)
+/// refused, and only where the first line that isn't ignored has a type, an `=>` and a pattern's text that
+/// begins with a piece: nothing else asks for memory. A refusal returns nothing of what was read before it.
+/// (behave's documentation: step implementations)
 pub fn read_library(alloc: Global, bytes: &[u8]) -> Result<Library, LibraryFault>
     // What is answered is what the lines say.
     ensures found { IfOk result (λ l.
@@ -114,7 +116,7 @@ pub fn read_library(alloc: Global, bytes: &[u8]) -> Result<Library, LibraryFault
     }
 }
 
-/// No list of lines says two libraries. (this project's profile)
+/// No list of lines says two libraries.
 pub fn library_reading_is_unique()
     ensures { LibraryReadingIsUnique }
 {}

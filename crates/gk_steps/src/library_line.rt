@@ -11,9 +11,10 @@ ghost use Rattle.gk_steps.specs.Action as actions;
 ghost use Rattle.gk_steps.specs.LibraryLine as machinery;
 ghost use Rattle.std.specs.List.{list_all};
 ghost use Rattle.gk_steps.specs.LibraryLine.{FitsAction, ActionFaultSays, PatternFaultSays};
-ghost use Rattle.gk_steps.specs.LibraryLine.{IsCut, CutFaultSays, EntryFaultSays};
+ghost use Rattle.gk_steps.specs.LibraryLine.{IsEntryText, EntryTextFaultSays, EntryFaultSays};
 
 use crate::action::{Action, row_named};
+use crate::filled_cells::Cells;
 use crate::finding::find_of;
 use crate::library::Entry;
 use crate::library_fault::LibraryFault;
@@ -81,10 +82,10 @@ struct EntryText<'a> {
 
 // What a line says of its entry.
 #[tactic(auto, unfolding(crate::specs::LibraryFile::type_of, crate::specs::LibraryFile::sides_of))]
-fn cut<'a>(line: &BorrowedLine<'a>) -> Result<EntryText<'a>, LibraryFault>
-    ensures cut { IfOk result (λ said.
-        IsCut (borrowed_value line.now) said.step_type said.pattern.now said.action.now) }
-    ensures fault { IfErr result (λ f. CutFaultSays f (borrowed_value line.now)) }
+fn entry_text<'a>(line: &BorrowedLine<'a>) -> Result<EntryText<'a>, LibraryFault>
+    ensures said { IfOk result (λ said.
+        IsEntryText (borrowed_value line.now) said.step_type said.pattern.now said.action.now) }
+    ensures fault { IfErr result (λ f. EntryTextFaultSays f (borrowed_value line.now)) }
 {
     let number = line.place.line;
     let (word, rest) = split_word(trim(line.text));
@@ -193,14 +194,14 @@ fn action_at(line: u32, name: &str, pieces: &[Piece]) -> Result<Action, LibraryF
     }
 }
 
-// The entry of a line that was cut.
+// The entry of a line from what it says of it.
 fn entry_from(
     alloc: Global,
     earlier: &[Entry],
     line: &BorrowedLine<'_>,
     said: &EntryText<'_>,
 ) -> Result<Entry, LibraryFault>
-    requires { IsCut (borrowed_value line.now)
+    requires { IsEntryText (borrowed_value line.now)
         said.now.step_type said.now.pattern.now said.now.action.now }
     ensures entry { IfOk result (λ e.
         SpellsEntry (entries_said earlier.now) (borrowed_value line.now) (entry_value e)) }
@@ -216,7 +217,8 @@ fn entry_from(
         Ok(action) => action,
         Err(fault) => return Err(fault),
     };
-    match find_of(alloc, earlier, said.step_type, said.pattern)? {
+    let mut cells = Cells::new();
+    match find_of(&mut cells, alloc, earlier, said.step_type, said.pattern)? {
         Some(_) => Err(LibraryFault::Ambiguous { line: number }),
         None => Ok(Entry {
             step_type: said.step_type,
@@ -237,7 +239,7 @@ pub(crate) fn read_entry(
     ensures fault { IfErr result (λ f.
         EntryFaultSays f (entries_said earlier.now) (borrowed_value line.now)) }
 {
-    match cut(line) {
+    match entry_text(line) {
         Ok(said) => entry_from(alloc, earlier, line, &said),
         Err(fault) => Err(fault),
     }

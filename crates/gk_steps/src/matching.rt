@@ -10,12 +10,15 @@ ghost use Rattle.gk_steps.specs.Columns.{Takes, values_of};
 ghost use Rattle.gk_steps.specs.TableRows.{IsWholeTable};
 ghost use Rattle.gk_steps.specs.Leftmost.{FindsRest};
 ghost use Rattle.gk_steps.specs.PassingOver.{FitsStart, FitsEnd};
+ghost use Rattle.gk_steps.specs.FilledCells.{GoesOnBy, table_cells};
 
-use crate::columns::{number_of, step};
+use crate::columns::advance;
+use crate::decimal::number_of;
+use crate::filled_cells::Cells;
 use crate::leftmost::{Cut, cut_of};
 use crate::pattern::{Field, FieldKind, Pattern, Piece};
 use crate::places::{RowBelow, places_of};
-use crate::table_rows::{Counter, first_row, row_over};
+use crate::table_rows::{first_row, row_over};
 use std::alloc::{AllocError, Global};
 
 // What a field says that took a span.
@@ -46,35 +49,36 @@ fn push_taken(
     Ok(())
 }
 
-// Whether so many cells can be counted.
-fn can_count(pieces: usize, width: usize) -> bool
-    ensures fits { IsTrue result → (pieces + 1) * width ≤ 18446744073709551615 }
-    ensures only { result ≡ false → 0 < width → 18446744073709551615 < (pieces + 1) * width }
+// Whether the cells of a whole table can be counted in 64 bits.
+fn can_count(pieces: &[Piece], places: &[usize]) -> bool
+    ensures fits { IsTrue result
+        → (length pieces.now + 1) * length places.now ≤ 18446744073709551615 }
+    ensures only { result ≡ false → 0 < length places.now
+        → 18446744073709551615 < (length pieces.now + 1) * length places.now }
 {
-    match pieces.checked_add(1) {
-        Some(rows) => rows.checked_mul(width).is_some(),
+    match pieces.len().checked_add(1) {
+        Some(rows) => rows.checked_mul(places.len()).is_some(),
         None => false,
     }
 }
 
-// The rows for the last pieces, from none to all of them, and how many cells were filled.
+// The rows for the last pieces, from none to all of them.
 fn table_of(
+    cells: &mut Cells,
     alloc: Global,
     pieces: &[Piece],
     text: &str,
     places: &[usize],
-) -> Result<(Vec<Vec<bool>>, u64), AllocError>
+) -> Result<Vec<Vec<bool>>, AllocError>
     requires { ArePlaces text.now places.now }
-    ensures table { IfOk result (λ r.
-        IsWholeTable pieces.now text.now places.now r.0.items) }
-    ensures count { IfOk result (λ r. r.1 ≡ (length pieces.now + 1) * length places.now) }
+    ensures table { IfOk result (λ rows. IsWholeTable pieces.now text.now places.now rows.items) }
+    ensures most { cells.new.filled
+        ≤ cells.old.filled + (length pieces.now + 1) * length places.now }
+    ensures filled { OnOk result
+        (GoesOnBy ((length pieces.now + 1) * length places.now) cells.old.filled cells.new.filled) }
 {
-    if !can_count(pieces.len(), places.len()) {
-        return Err(AllocError);
-    }
-    let mut counter = Counter { filled: 0 };
     let mut rows = Vec::new(alloc);
-    let first = first_row(&mut counter, alloc, places)?;
+    let first = first_row(cells, alloc, places)?;
     rows.push(first)?;
     for below in 0..pieces.len() {
         let piece = &pieces[pieces.len() - 1 - below];
@@ -82,10 +86,10 @@ fn table_of(
             places,
             cells: &rows[below],
         };
-        let row = row_over(&mut counter, alloc, piece, text, &below)?;
+        let row = row_over(cells, alloc, piece, text, &below)?;
         rows.push(row)?;
     }
-    Ok((rows, counter.filled))
+    Ok(rows)
 }
 
 // Reads the preferred match from the table.
@@ -110,7 +114,7 @@ fn read(
             places,
             cells: &rows[pieces.len() - 1 - taken],
         };
-        let next = step(piece, text, &below, column).unwrap();
+        let next = advance(piece, text, &below, column).unwrap();
         push_taken(
             &mut fields,
             alloc,
@@ -124,27 +128,32 @@ fn read(
 
 // A match by a table of these places.
 fn match_pieces(
+    cells: &mut Cells,
     alloc: Global,
     pieces: &[Piece],
     text: &str,
     places: &[usize],
-) -> Result<(Option<Vec<Field>>, u64), AllocError>
+) -> Result<Option<Vec<Field>>, AllocError>
     requires { ArePlaces text.now places.now }
-    ensures found { IfOk result (λ r.
-        IsMatchResult (pieces_said pieces.now) text.now (fields_said r.0)) }
-    ensures count { IfOk result (λ r. r.1 ≡ (length pieces.now + 1) * length places.now) }
+    ensures found { IfOk result (λ found.
+        IsMatchResult (pieces_said pieces.now) text.now (fields_said found)) }
+    ensures most { cells.new.filled
+        ≤ cells.old.filled + (length pieces.now + 1) * length places.now }
+    ensures filled { OnOk result
+        (GoesOnBy ((length pieces.now + 1) * length places.now) cells.old.filled cells.new.filled) }
 {
-    let (rows, filled) = table_of(alloc, pieces, text, places)?;
+    let rows = table_of(cells, alloc, pieces, text, places)?;
     if !rows[pieces.len()][places.len() - 1] {
-        return Ok((None, filled));
+        return Ok(None);
     }
     let fields = read(alloc, pieces, text, places, &rows)?;
-    Ok((Some(fields), filled))
+    Ok(Some(fields))
 }
 
 impl Pattern {
     /// The fields of the preferred match of a text, where there is one, and how many cells of the table
-    /// were filled.
+    /// were filled. All of them are, however little the match needs. Memory is refused, too, where the
+    /// table has more cells than 64 bits can count.
     pub fn matches_counted(
         &self,
         alloc: Global,
@@ -156,30 +165,38 @@ impl Pattern {
             r.1 ≡ (length self.now.pieces.items + 1) * (length (chars text.now) + 1)) }
     {
         let places = places_of(alloc, text)?;
-        match_pieces(alloc, &self.pieces, text, &places)
+        if !can_count(&self.pieces, &places) {
+            return Err(AllocError);
+        }
+        let mut cells = Cells::new();
+        let found = match_pieces(&mut cells, alloc, &self.pieces, text, &places)?;
+        Ok((found, cells.filled))
     }
 }
 
 // The match of the pieces that are left by a table, after the fields so far.
 fn match_rest(
+    cells: &mut Cells,
     alloc: Global,
     fields: Vec<Field>,
     left: &[Piece],
     rest: &str,
 ) -> Result<Option<Vec<Field>>, AllocError>
-    ensures { let before = map field_value fields.items in
+    ensures found { let before = map field_value fields.items in
         IfOk result (λ found.
         FindsRest before (pieces_said left.now) rest.now (fields_said found)) }
+    ensures most { cells.new.filled
+        ≤ cells.old.filled + table_cells (pieces_said left.now) rest.now }
 {
     let places = places_of(alloc, rest)?;
-    match match_pieces(alloc, left, rest, &places)? {
-        (Some(others), _) => {
+    match match_pieces(cells, alloc, left, rest, &places)? {
+        Some(others) => {
             let mut fields = fields;
             let mut others = others;
             fields.append(&mut others)?;
             Ok(Some(fields))
         }
-        (None, _) => Ok(None),
+        None => Ok(None),
     }
 }
 
@@ -187,12 +204,15 @@ fn match_rest(
 // Apart, so that an entry that is passed over costs little.
 #[inline(never)]
 pub(crate) fn match_from_left(
+    cells: &mut Cells,
     alloc: Global,
     pieces: &[Piece],
     text: &str,
 ) -> Result<Option<Vec<Field>>, AllocError>
-    ensures { IfOk result (λ found.
+    ensures found { IfOk result (λ found.
         IsMatchResult (pieces_said pieces.now) text.now (fields_said found)) }
+    ensures most { cells.new.filled
+        ≤ cells.old.filled + table_cells (pieces_said pieces.now) text.now }
 {
     let mut fields = Vec::new(alloc);
     let mut left = pieces;
@@ -205,7 +225,7 @@ pub(crate) fn match_from_left(
                 rest = &rest[place..];
             }
             Cut::Nowhere => return Ok(None),
-            Cut::Unknown => return match_rest(alloc, fields, left, rest),
+            Cut::Unknown => return match_rest(cells, alloc, fields, left, rest),
         }
     }
     if rest.is_empty() {
@@ -218,7 +238,8 @@ pub(crate) fn match_from_left(
 impl Pattern {
     /// The fields of the preferred match of a text, where there is one. A text that the ends of the pattern
     /// refuse is passed over. A table is made only from the first field on whose share depends on more than the
-    /// literal and the plain field after it.
+    /// literal and the plain field after it. At most one whole table is filled: (pieces + 1) times
+    /// (characters + 1) cells.
     pub fn matches(&self, alloc: Global, text: &str) -> Result<Option<Vec<Field>>, AllocError>
         ensures found { IfOk result (λ found.
             IsMatchResult (pattern_value self.now) text.now (fields_said found)) }
@@ -226,10 +247,30 @@ impl Pattern {
         ensures memory { IfErr result (λ e. FitsStart (pattern_value self.now) text.now
             × FitsEnd (pattern_value self.now) text.now) }
     {
+        let mut cells = Cells::new();
+        self.matches_counting(alloc, &mut cells, text)
+    }
+
+    /// The match that `matches` returns, with the cells that it fills counted.
+    pub fn matches_counting(
+        &self,
+        alloc: Global,
+        cells: &mut Cells,
+        text: &str,
+    ) -> Result<Option<Vec<Field>>, AllocError>
+        ensures found { IfOk result (λ found.
+            IsMatchResult (pattern_value self.now) text.now (fields_said found)) }
+        // Memory is refused to no text that is passed over.
+        ensures memory { IfErr result (λ e. FitsStart (pattern_value self.now) text.now
+            × FitsEnd (pattern_value self.now) text.now) }
+        // No more cells are counted than one whole table has.
+        ensures most { cells.new.filled
+            ≤ cells.old.filled + table_cells (pattern_value self.now) text.now }
+    {
         if !self.can_match(text) {
             return Ok(None);
         }
-        match_from_left(alloc, &self.pieces, text)
+        match_from_left(cells, alloc, &self.pieces, text)
     }
 }
 

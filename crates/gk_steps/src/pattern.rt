@@ -2,7 +2,7 @@
 ghost use Rattle.std.specs.Prelude.{◌≡◌};
 ghost use Rattle.gk_steps.specs.declared.pattern.PatternFault.TheVariants.{Memory};
 
-use std::alloc::{AllocError, AllocFailed};
+use gk_gherkin::Refused;
 
 /// The kind of a field: `{name}` or `{name:d}`. (behave's documentation: step parameters)
 #[derive(Clone, Copy, Debug, PartialEq, Eq)]
@@ -42,18 +42,10 @@ pub enum PatternFault {
     Memory,
 }
 
-impl From<AllocError> for PatternFault {
+impl<E: Refused> From<E> for PatternFault {
     ghost from_gives = { λ _ e. e ≡ Memory };
 
-    fn from(_e: AllocError) -> PatternFault {
-        PatternFault::Memory
-    }
-}
-
-impl<T: Drop> From<AllocFailed<T>> for PatternFault {
-    ghost from_gives = { λ _ e. e ≡ Memory };
-
-    fn from(_e: AllocFailed<T>) -> PatternFault {
+    fn from(_refused: E) -> PatternFault {
         PatternFault::Memory
     }
 }

@@ -1,12 +1,12 @@
 //! Reading a pattern from its text.
 ghost use Rattle.std.specs.Prelude.{◌≡◌, ◌≤◌, ◌<◌, ◌++◌, ℕ, List, length, flat_map, string_bytes};
-ghost use Rattle.std.specs.Prelude.{IfOk, IfSome, IsSomeAnd, MatchOption, None, Err};
+ghost use Rattle.std.specs.Prelude.{IfOk, IfErr, IfSome, IsSomeAnd, MatchBool, MatchOption, None, Err};
 ghost use Rattle.std.specs.List.{prefix_len, position_or_len, list_all};
 ghost use Rattle.gk_steps.specs.declared.pattern.FieldKind.{FieldKind as Kind};
-ghost use Rattle.gk_steps.specs.declared.pattern.PatternFault.TheVariants.{BadPattern};
+ghost use Rattle.gk_steps.specs.declared.pattern.PatternFault.TheVariants.{BadPattern, Memory};
 ghost use Rattle.gk_steps.specs.Pattern as spec;
 ghost use Rattle.gk_steps.specs.Pattern.{PieceValue, pieces_said, pattern_value, spelled_literal};
-ghost use Rattle.gk_steps.specs.Pattern.{SpellsPattern, SpellingIsUnique};
+ghost use Rattle.gk_steps.specs.Pattern.{BeginsWithPiece, SpellsPattern, SpellingIsUnique};
 ghost use Rattle.gk_steps.specs.Spelling as machinery;
 ghost use Rattle.gk_steps.specs.Spelling.{BeginsAtBrace, EndsLiteral, IsOnlyName, HasLiteral};
 ghost use Rattle.gk_steps.specs.Spelling.{HasField, HasNoField, PushesLiteral, PushesField};
@@ -90,6 +90,7 @@ fn doubled_brace<'a>(text: &'a str) -> Option<(&'a str, &'a str)>
     ensures found { IfSome result (λ p.
         text.entry.now ≡ flat_map spelled_literal p.0.now ++ p.1.now) }
     ensures shorter { IfSome result (λ p. length p.1.now < length text.entry.now) }
+    ensures some { IfSome result (λ p. EndsLiteral text.entry.now → ⊥) }
     ensures none { result ≡ None → BeginsAtBrace text.entry.now → EndsLiteral text.entry.now }
 {
     if let Some(rest) = rest_after(text, "{{") {
@@ -97,6 +98,16 @@ fn doubled_brace<'a>(text: &'a str) -> Option<(&'a str, &'a str)>
     }
     let rest = rest_after(text, "}}")?;
     Some(("}", rest))
+}
+
+// Whether a text begins with a literal: with a byte that is no brace, or with a brace twice.
+fn begins_with_literal(text: &str) -> bool
+    ensures { MatchBool result (EndsLiteral text.now → ⊥) (EndsLiteral text.now) }
+{
+    match text.as_bytes().first() {
+        Some(byte) => !is_brace(*byte) || doubled_brace(text).is_some(),
+        None => false,
+    }
 }
 
 // The literal that a text begins with, which may be empty, and the rest.
@@ -163,11 +174,13 @@ fn push_literal<'a>(
     ensures added { IfOk result (λ rest.
         PushesLiteral text.entry.now pieces.old.items pieces.new.items rest.now) }
     ensures within { IfOk result (λ rest. length rest.now ≤ length text.entry.now) }
+    ensures memory { IfErr result (λ e. BeginsWithPiece text.entry.now) }
 {
-    let (literal, rest) = literal_run(alloc, text)?;
-    if !literal.is_empty() {
-        pieces.push(Piece::Literal(literal))?;
+    if !begins_with_literal(text) {
+        return Ok(text);
     }
+    let (literal, rest) = literal_run(alloc, text)?;
+    pieces.push(Piece::Literal(literal))?;
     Ok(rest)
 }
 
@@ -181,6 +194,7 @@ fn push_field<'a>(
         PushesField text.entry.now pieces.old.items pieces.new.items rest.now)) }
     ensures shorter { IfOk result (λ o.
         IfSome o (λ rest. length rest.now < length text.entry.now)) }
+    ensures memory { IfErr result (λ e. BeginsWithPiece text.entry.now) }
 {
     match field_at(text) {
         Some((name, kind, rest)) => {
@@ -196,6 +210,7 @@ fn push_field<'a>(
 fn read_pieces(alloc: Global, text: &str) -> Result<Vec<Piece>, PatternFault>
     ensures found { IfOk result (λ ps. IsSpelled text.now (pieces_said ps.items)) }
     ensures only { (ps : List PieceValue) → IsSpelled text.now ps → AnswersPieces result ps }
+    ensures memory { result ≡ Err Memory → BeginsWithPiece text.now }
 {
     let mut pieces = Vec::new(alloc);
     let mut rest = push_literal(&mut pieces, alloc, text)?;
@@ -249,14 +264,16 @@ fn is_pattern(pieces: &[Piece]) -> bool
 /// right; otherwise `{` opens a field: a name (an ASCII letter or `_`, then ASCII letters, digits and
 /// `_`), optionally `:d`, and `}`.
 ///
-/// `BadPattern` comes exactly where the text spells none: an empty text, a lone `}`, anything else in
-/// braces, or a name that stands twice. `Memory` comes only where a growth was refused. (behave's
-/// documentation: step parameters; this project's profile)
+/// `BadPattern` comes only where the text spells none: an empty text, a lone `}`, anything else in braces,
+/// or a name that stands twice. `Memory` comes only where a growth was refused, and only where the text
+/// begins with a literal or a field: any other text asks for none. (behave's documentation: step parameters)
 pub fn read_pattern(alloc: Global, text: &str) -> Result<Pattern, PatternFault>
     // What is answered is what the text spells.
     ensures found { IfOk result (λ p. SpellsPattern text.now (pattern_value p)) }
     // A text that spells a pattern is no fault of the pattern.
     ensures bad { (ps : List PieceValue) → SpellsPattern text.now ps → result ≡ Err BadPattern → ⊥ }
+    // Memory is refused to no text that needs none.
+    ensures memory { result ≡ Err Memory → BeginsWithPiece text.now }
 {
     let pieces = read_pieces(alloc, text)?;
     if !is_pattern(&pieces) {

@@ -35,23 +35,24 @@ fn features_are_expanded(rt: HostRuntime) -> Result<(), Fail> {
 }
 
 // Texts, and the rules of tags that they spell.
-const RULES: [(&str, &str); 11] = [
+const RULES: [(&str, &str); 25] = [
     (
         "slow,~@db",
-        "Ok(TagRule { alternatives: [Alternative { negated: false, tag: \"@slow\" }, Alternative { negated: true, tag: \"@db\" }] })",
+        "Ok(TagRule { words: [Tag(\"@slow\"), Or, Not, Tag(\"@db\")] })",
+    ),
+    ("~slow", "Ok(TagRule { words: [Not, Tag(\"@slow\")] })"),
+    ("~@slow", "Ok(TagRule { words: [Not, Tag(\"@slow\")] })"),
+    ("@~x", "Ok(TagRule { words: [Tag(\"@~x\")] })"),
+    (
+        "@slow or not @db",
+        "Ok(TagRule { words: [Tag(\"@slow\"), Or, Not, Tag(\"@db\")] })",
     ),
     (
-        "~slow",
-        "Ok(TagRule { alternatives: [Alternative { negated: true, tag: \"@slow\" }] })",
+        "\t(@slow)and((@db)) ",
+        "Ok(TagRule { words: [Open, Tag(\"@slow\"), Close, And, Open, Open, Tag(\"@db\"), Close, Close] })",
     ),
-    (
-        "~@slow",
-        "Ok(TagRule { alternatives: [Alternative { negated: true, tag: \"@slow\" }] })",
-    ),
-    (
-        "@~x",
-        "Ok(TagRule { alternatives: [Alternative { negated: false, tag: \"@~x\" }] })",
-    ),
+    ("and", "Ok(TagRule { words: [Tag(\"@and\")] })"),
+    ("@not ", "Ok(TagRule { words: [Tag(\"@not\")] })"),
     ("", "Err(BadTagText)"),
     ("@", "Err(BadTagText)"),
     ("~", "Err(BadTagText)"),
@@ -59,6 +60,16 @@ const RULES: [(&str, &str); 11] = [
     ("-x", "Err(BadTagText)"),
     ("a,,b", "Err(BadTagText)"),
     ("a b", "Err(BadTagText)"),
+    (" ", "Err(BadTagText)"),
+    ("@a or", "Err(BadTagText)"),
+    ("or @a", "Err(BadTagText)"),
+    ("@a @b", "Err(BadTagText)"),
+    ("(@a", "Err(BadTagText)"),
+    ("@a)", "Err(BadTagText)"),
+    ("()", "Err(BadTagText)"),
+    ("not (", "Err(BadTagText)"),
+    ("a or @b", "Err(BadTagText)"),
+    ("@a, @b", "Err(BadTagText)"),
 ];
 
 #[test]
@@ -90,11 +101,7 @@ fn both_hold(
     second: &TagRule,
     set: &[&str],
 ) -> Result<bool, AllocError> {
-    let mut tags = Vec::new(alloc);
-    for tag in set {
-        tags.push(String::from_str(alloc, tag)?)?;
-    }
-    Ok(first.selects(&tags) && second.selects(&tags))
+    Ok(holds_of(alloc, first, set)? && holds_of(alloc, second, set)?)
 }
 
 #[test]
@@ -104,6 +111,142 @@ fn rules_select_sets_of_tags(rt: HostRuntime) -> Result<(), Fail> {
     for (set, wanted) in SETS {
         let holds = both_hold(rt.alloc(), &first, &second, set)?;
         assert_eq!(rt; holds, wanted);
+    }
+    Ok(())
+}
+
+// Expressions of the tags `@a`, `@b` and `@c`, and whether each holds of the sets of them: none, a, b, c, ab,
+// ac, bc and abc.
+const EXPRESSIONS: [(&str, [bool; 8]); 12] = [
+    (
+        "@a or @b and not @c",
+        [false, true, true, false, true, true, false, true],
+    ),
+    (
+        "(@a or @b) and not @c",
+        [false, true, true, false, true, false, false, false],
+    ),
+    (
+        "not @a or @b",
+        [true, false, true, true, true, false, true, true],
+    ),
+    (
+        "not @a and @b",
+        [false, false, true, false, false, false, true, false],
+    ),
+    (
+        "not (@a or @b)",
+        [true, false, false, true, false, false, false, false],
+    ),
+    (
+        "not (@a and @b)",
+        [true, true, true, true, false, true, true, false],
+    ),
+    (
+        "@a and @b or @c",
+        [false, false, false, true, true, true, true, true],
+    ),
+    (
+        "@a and (@b or @c)",
+        [false, false, false, false, true, true, false, true],
+    ),
+    (
+        "not not @a",
+        [false, true, false, false, true, true, false, true],
+    ),
+    (
+        "((@a)or(@b))",
+        [false, true, true, false, true, true, true, true],
+    ),
+    (
+        "@a and not @a",
+        [false, false, false, false, false, false, false, false],
+    ),
+    (
+        "~@a,@b",
+        [true, false, true, true, true, false, true, true],
+    ),
+];
+
+const TAG_SETS: [&[&str]; 8] = [
+    &[],
+    &["@a"],
+    &["@b"],
+    &["@c"],
+    &["@a", "@b"],
+    &["@a", "@c"],
+    &["@b", "@c"],
+    &["@a", "@b", "@c"],
+];
+
+// Whether a rule holds of a set of tags.
+fn holds_of(alloc: Global, rule: &TagRule, set: &[&str]) -> Result<bool, AllocError> {
+    let mut tags = Vec::new(alloc);
+    for tag in set {
+        tags.push(String::from_str(alloc, tag)?)?;
+    }
+    Ok(rule.selects(&tags))
+}
+
+#[test]
+fn expressions_select_sets_of_tags(rt: HostRuntime) -> Result<(), Fail> {
+    for (text, values) in EXPRESSIONS {
+        let rule = read_tags(rt.alloc(), text)?;
+        for (set, wanted) in TAG_SETS.iter().zip(values.iter()) {
+            let holds = holds_of(rt.alloc(), &rule, set)?;
+            assert_eq!(rt; holds, *wanted);
+        }
+    }
+    Ok(())
+}
+
+// A text so many times, and then another.
+fn repeated(alloc: Global, part: &str, times: u64, end: &str) -> Result<String, AllocError> {
+    let mut text = String::new(alloc);
+    for _ in 0..times {
+        text.push_str(part)?;
+    }
+    text.push_str(end)?;
+    Ok(text)
+}
+
+// Many terms, which no recursion goes over, and whether their expression holds of `@a` and `@b`.
+const LONG: [(&str, &str, bool); 4] = [
+    ("@c or ", "@b", true),
+    ("@c or ", "@c", false),
+    ("@b and ", "@a", true),
+    ("@b and not @c and ", "@c", false),
+];
+
+#[test]
+fn long_expressions_are_read(rt: HostRuntime) -> Result<(), Fail> {
+    for (part, end, wanted) in LONG {
+        let text = repeated(rt.alloc(), part, 25_000, end)?;
+        let rule = read_tags(rt.alloc(), text.as_str())?;
+        let holds = holds_of(rt.alloc(), &rule, &["@a", "@b"])?;
+        assert_eq!(rt; holds, wanted);
+    }
+    Ok(())
+}
+
+// So many `not` and `(` round one place, and whether such a text is read.
+const DEEP: [(&str, &str, u64, bool); 6] = [
+    ("(", ")", 100, true),
+    ("(", ")", 101, false),
+    ("not ", "", 100, true),
+    ("not ", "", 101, false),
+    ("not (", ")", 50, true),
+    ("not (", ")", 51, false),
+];
+
+#[test]
+fn expressions_are_no_deeper_than_the_limit(rt: HostRuntime) -> Result<(), AllocError> {
+    for (front, back, times, wanted) in DEEP {
+        let closing = repeated(rt.alloc(), back, times, "")?;
+        let inner = format!(in rt.alloc(); "@a{closing}")?;
+        let text = repeated(rt.alloc(), front, times, inner.as_str())?;
+        let is_read = read_tags(rt.alloc(), text.as_str()).is_ok();
+        assert_eq!(rt; is_read, wanted);
     }
     Ok(())
 }

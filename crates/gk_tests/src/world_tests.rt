@@ -233,9 +233,9 @@ fn three_layers_give_back(world: &mut Sandbox, alloc: Global) -> Result<bool, Wo
 {
     let names = forty_names(alloc)?;
     fill(world, &names)?;
-    let before = world.listing()?;
+    let before = world.listing(alloc)?;
     let is_enough = three_layers_end(world, &names, 9);
-    let after = world.listing()?;
+    let after = world.listing(alloc)?;
     Ok(is_enough && is_same(&before, &after))
 }
 

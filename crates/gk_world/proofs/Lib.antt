@@ -7,5 +7,6 @@ pub mod RemovedLemmas
 pub mod SlotsLemmas
 pub mod UndoLemmas
 pub mod WorldLemmas
+pub mod TextsLemmas
 pub mod StateLemmas
 pub mod SandboxLaws

@@ -1,6 +1,7 @@
 -- How a sandbox keeps what is seen of it.
 use Rattle.std.proofs.Common.{◌≡◌, ◌≢◌, ◌⊎◌, inl, inr, ℕ, zero, suc, ◌+◌, ◌-◌, ◌<◌, ◌≤◌, None, Result, Ok, Err, OnOk, OnErr, IfErr, List, [], ◌∷◌, ◌++◌, length, drop, take, set, get_or, get_or-set_other, get_or-set_same, refl, sym, ap, subst, ◌∙◌, arith}
 use Rattle.std.proofs.lemmas.List.{length-take-le, length-append, take-append-drop}
+use Rattle.std.specs.List.{AllByRecursion}
 use Rattle.std.proofs.Math.Seq.{drop-length}
 use Rattle.gk_world.specs.Journal.{rewound, FitAll, StaysFit}
 use Rattle.gk_world.proofs.UndoLemmas.{length-layers_of}
@@ -16,7 +17,8 @@ use Rattle.gk_world.specs.State.{state_of, layers}
 use Rattle.gk_world.specs.Values.{state_at, IsLayer}
 use Rattle.gk_world.specs.World.{contents_of, Fits, undone, Steps, Refuses, CanApply, IsHere, changed, refusal, IsClear, NamesDiffer}
 use Rattle.gk_world.proofs.WorldLemmas.{contents_changed, contents_allow, contents_refuse, clear_still, here_applies}
-use Rattle.gk_world.specs.Sandbox.{SandboxValue, depth, begun, Ends, EndsByUndos, Becomes, Records, seen_undo, seen_undos, open_marks, saved_of, value_of, AreMarks, IsSound}
+use Rattle.gk_world.specs.Sandbox.{SandboxValue, depth, begun, Ends, EndsByUndos, Becomes, Records, NoneTooLong, HasShortTexts, TextsAreShort, seen_undo, seen_undos, open_marks, saved_of, value_of, AreMarks, IsSound}
+use Rattle.gk_world.proofs.TextsLemmas.{short_empty, short_changed, short_begun, short_ended}
 use Rattle.gk_world.proofs.ReversibleLemmas.{contents_undone, contents_rewound, AllKept, all_kept, kept_back, seen_kept, seen_undos-append}
 
 -- ---- lengths
@@ -58,6 +60,19 @@ marks-more : (ms : List ℕ) (n k : ℕ) (us : List WorldUndo) (w : World) → 0
 marks-more [] n k us w lt le h = absurd (omega arith)
 marks-more (m ∷ ms) n k us w lt le h = (omega (arith, h.0), h.1, h.2)
 
+-- ---- a new sandbox
+pub new_sound : (w : World) (us : List WorldUndo) → w.files ≡ [] → w.env ≡ [] → w.values ≡ [] → us ≡ [] → IsSound w us []
+new_sound w us files env values none = record {
+  room = omega arith;
+  clear = λ k le. ap (map_at k) values;
+  ordered = ap length none;
+  fit = subst (λ us. FitAll undone Fits us w) (sym none) tt;
+  texts = record {
+    now = record { files = subst NoneTooLong (sym (ap (map_at 0) files)) short_empty; env = subst NoneTooLong (sym (ap (map_at 0) env)) short_empty; values = tt };
+    saved = tt;
+  };
+}
+
 -- ---- a layer begins
 open_marks-set : (d i : ℕ) (marks : List ℕ) (n : ℕ) → d ≤ i → open_marks d (set marks i n) ≡ open_marks d marks
 open_marks-set zero i marks n le = refl
@@ -74,20 +89,21 @@ module _ (w : World) (us : List WorldUndo) (ms : List ℕ) (h : IsSound w us ms)
   nothing_since : rewound undone (drop (length us) us) w ≡ w
   nothing_since = ap (λ us. rewound undone us w) (drop-length us)
 
-  sound_inside : length ms < layers → IsSound w us (length us ∷ ms)
-  sound_inside lt = record {
-    room = omega arith;
-    clear = λ k le. h.clear k (omega arith);
-    ordered = (omega arith, subst (IsClear (length ms)) (sym nothing_since) h.clear, h.ordered);
-    fit = h.fit;
-  }
-
   value_inside : value_of w us (length us ∷ ms) ≡ begun (value_of w us ms)
   value_inside = λ i. record {
     now = record { files = map_at 0 w.files; env = map_at 0 w.env; values = h.clear (length ms) (omega arith) i ∷ layers_of (length ms) w.values };
     saved = contents_of (length ms) (nothing_since i) ∷ saved_of ms us w;
     entries = seen_undos w us;
     marks = sym (length-seen_undos w us) i ∷ ms;
+  }
+
+  sound_inside : length ms < layers → IsSound w us (length us ∷ ms)
+  sound_inside lt = record {
+    room = omega arith;
+    clear = λ k le. h.clear k (omega arith);
+    ordered = (omega arith, subst (IsClear (length ms)) (sym nothing_since) h.clear, h.ordered);
+    fit = h.fit;
+    texts = subst TextsAreShort (sym value_inside) (short_begun (value_of w us ms) h.texts);
   }
 
 module _ (w : World) (us : List WorldUndo) (d n : ℕ) (marks : List ℕ) (v : SandboxValue) (is : value_of w us (open_marks d marks) ≡ v) (few : depth v < layers) (room : length marks ≡ layers) (all : n ≡ length us) (h : IsSound w us (open_marks d marks)) where
@@ -107,18 +123,19 @@ module _ (w : World) (us : List WorldUndo) (m : ℕ) (ms : List ℕ) (h : IsSoun
   left_are : length vs ≡ m
   left_are = ap length left ∙ length-take-le m us h.ordered.0
 
+  ends_outside : Ends (value_of w us (m ∷ ms)) (value_of t vs ms)
+  ends_outside = record {
+    given_back = λ i. contents_of (length ms) (sym back i) ∷ sym (saved_of-same ms m us vs w t h.ordered.2 same) i;
+    forgotten = λ i. (sym left_are ∙ sym (length-seen_undos t vs)) i ∷ ms;
+  }
+
   sound_outside : IsSound t vs ms
   sound_outside = record {
     room = omega (arith, h.room);
     clear = subst (IsClear (length ms)) (sym back) h.ordered.1;
     ordered = subst (λ n. AreMarks ms n vs t) (sym left_are) (marks-same ms m us vs w t h.ordered.2 same);
     fit = older 0 (omega arith) h.fit;
-  }
-
-  ends_outside : Ends (value_of w us (m ∷ ms)) (value_of t vs ms)
-  ends_outside = record {
-    given_back = λ i. contents_of (length ms) (sym back i) ∷ sym (saved_of-same ms m us vs w t h.ordered.2 same) i;
-    forgotten = λ i. (sym left_are ∙ sym (length-seen_undos t vs)) i ∷ ms;
+    texts = short_ended (value_of w us (m ∷ ms)) (value_of t vs ms) ends_outside h.texts;
   }
 
   -- the undos since the mark give back the contents, with an empty map for the layer
@@ -173,11 +190,6 @@ records d (m ∷ ms) us vs w t u e fit fits back names is lt = (
   sym (contents_undone (length (m ∷ ms)) u t names fits) ∙ ap (contents_of (length (m ∷ ms))) back,
 )
 
-records_none : (ms : List ℕ) (us vs : List WorldUndo) (w t : World) → vs ≡ us → AreMarks ms (length us) us w → length ms ≡ 0 → Records (saved_of ms us w) (value_of w us ms) (value_of t vs ms)
-records_none [] [] vs w t e h z = ap (seen_undos t) e
-records_none [] (u ∷ us) vs w t e h z = absurd (omega (arith, h))
-records_none (m ∷ ms) us vs w t e h z = absurd (omega arith)
-
 -- ---- changes
 module _ (c : WorldChange) (w : World) (us : List WorldUndo) (ms : List ℕ) (v : SandboxValue) (is : value_of w us ms ≡ v) (here : IsHere c (depth v)) (h : IsSound w us ms) where
   here_now : IsHere c (length ms)
@@ -197,6 +209,12 @@ module _ (c : WorldChange) (w : World) (us : List WorldUndo) (ms : List ℕ) (v 
   allows t s = subst (λ (v : SandboxValue). refusal c v.now ≡ None) is (contents_allow c (length ms) w t here_now s)
 
   module _ (t : World) (vs : List WorldUndo) (s : Steps c w t) (same : Same (length us) us vs w t) where
+    short_still : TextsAreShort (value_of t vs ms)
+    short_still = record {
+      now = subst HasShortTexts (sym (contents_changed c (length ms) w t here_now s)) (short_changed c (contents_of (length ms) w) (contents_allow c (length ms) w t here_now s) h.texts.now);
+      saved = subst (AllByRecursion HasShortTexts) (sym (saved_of-same ms (length us) us vs w t h.ordered same)) h.texts.saved;
+    }
+
     becomes : Records (saved_of ms us w) (value_of w us ms) (value_of t vs ms) → Becomes (changed c v.now) v (value_of t vs ms)
     becomes more = subst (λ (v : SandboxValue). Becomes (changed c v.now) v (value_of t vs ms)) is (record {
       contents = contents_changed c (length ms) w t here_now s;
@@ -208,16 +226,33 @@ module _ (c : WorldChange) (w : World) (us : List WorldUndo) (ms : List ℕ) (v 
     pub becomes_recorded : (u : WorldUndo) → vs ≡ us ++ u ∷ [] → Fits u t → undone u t ≡ w → NamesDiffer t → 0 < length ms → Becomes (changed c v.now) v (value_of t vs ms)
     becomes_recorded u e fits back names lt = becomes (records (length ms) ms us vs w t u e h.fit fits back names refl lt)
 
-    pub becomes_unrecorded : vs ≡ us → length ms ≡ 0 → Becomes (changed c v.now) v (value_of t vs ms)
-    becomes_unrecorded e z = becomes (records_none ms us vs w t e h.ordered z)
-
     pub sound_still : (u : WorldUndo) → vs ≡ us ++ u ∷ [] → (0 < length ms) → FitAll undone Fits vs t → IsSound t vs ms
     sound_still u is lt fit = record {
       room = h.room;
       clear = clear_still c (length ms) w t here_now s h.clear;
       ordered = marks-more ms (length us) (length vs) vs t lt (omega (arith, ap length is, length-append us (u ∷ []))) (marks-same ms (length us) us vs w t h.ordered same);
       fit = fit;
+      texts = short_still;
     }
+
+-- a change where no layer is open, whether it is refused or not
+outside_sound : (c : WorldChange) (us : List WorldUndo) (w t : World) → IsHere c 0 → IsSound w us [] → Steps c w t → IsSound t us []
+outside_sound c [] w t here h s = record {
+  room = h.room;
+  clear = clear_still c 0 w t here s h.clear;
+  ordered = h.ordered;
+  fit = tt;
+  texts = record {
+    now = subst HasShortTexts (sym (contents_changed c 0 w t here s)) (short_changed c (contents_of 0 w) (contents_allow c 0 w t here s) h.texts.now);
+    saved = tt;
+  };
+}
+outside_sound c (u ∷ us) w t here h s = absurd (omega (arith, h.ordered))
+
+pub unrecorded_sound : {A : Type 0} (c : WorldChange) (w t : World) (us : List WorldUndo) (d : ℕ) (marks : List ℕ) → d ≡ 0 → (r : Result A WorldFault) → IsHere c d → IsSound w us (open_marks d marks) → OnOk r (Steps c w t) → OnErr r (t ≡ w) → IsSound t us (open_marks d marks)
+unrecorded_sound c w t us zero marks e (Ok x) here h s err = outside_sound c us w t here h s
+unrecorded_sound c w t us zero marks e (Err f) here h s err = subst (λ t. IsSound t us []) (sym err) h
+unrecorded_sound c w t us (suc d) marks e r here h s err = absurd (omega arith)
 
 -- a change of an open layer, whether it is refused or not
 module _ {A : Type 0} (c : WorldChange) (w : World) (us : List WorldUndo) (ms : List ℕ) (v : SandboxValue) (is : value_of w us ms ≡ v) (here : IsHere c (depth v)) (h : IsSound w us ms) (lt : 0 < length ms) (t : World) (vs : List WorldUndo) where

@@ -1,19 +1,19 @@
 -- A row's cells.
 use Rattle.std.specs.Prelude.{◌≡◌, ◌≢◌, ℕ, List, Option, None, slice_index_or}
 
--- A cell has a text, or is absent. (this project's profile)
+-- A cell has a text, or is absent.
 abbrev pub Cell : Type 0
 Cell = Option (List ℕ)
 
--- A slot: a name, and its cells. (this project's profile)
+-- A slot: a name, and its cells.
 abbrev pub Slot : Type 0
 Slot = List ℕ × List (Option (List ℕ))
 
--- The cell at k; after the last, cells are absent. (this project's profile)
+-- The cell at k; after the last, cells are absent.
 abbrev pub cell_at : ℕ → List Cell → Cell
 cell_at k cells = slice_index_or cells k None
 
--- Of these cells one alone has something. (this project's profile)
+-- Of these cells one alone has something.
 pub record IsOnly (cell : ℕ) (text : Cell) (cells : List Cell) : Type 0 where
   pub here : cell_at cell cells ≡ text
   pub others : (k : ℕ) → k ≢ cell → cell_at k cells ≡ None

@@ -2,32 +2,32 @@
 use Rattle.std.specs.Prelude.{◌≡◌, ◌≤◌, ℕ, List, [], ◌∷◌, ◌++◌, length, drop}
 
 module _ {U S : Type 0} (undone : U → S → S) where
-  -- The contents before these changes: the newest, which is the last, is undone first. (this project's profile)
+  -- The contents before these changes: the newest, which is the last, is undone first.
   abbrev pub rewound : List U → S → S
   rewound [] s = s
   rewound (u ∷ us) s = undone u (rewound us s)
 
-  -- Each undo fits where its turn comes, from the newest on. (this project's profile)
+  -- Each undo fits where its turn comes, from the newest on.
   abbrev pub FitAll : (U → S → Type 0) → List U → S → Type 0
   FitAll fits [] s = Unit {0}
   FitAll fits (u ∷ us) s = FitAll fits us s × fits u (rewound us s)
 
-  -- One undo more is recorded, as the newest: it fits, and gives back what was there before. (this project's profile)
+  -- One undo more is recorded, as the newest: it fits, and gives back what was there before.
   abbrev pub Records : (U → S → Type 0) → List U → S → List U → S → Type 0
   Records fits old before new after = (u : U) × (new ≡ old ++ u ∷ []) × fits u after × (undone u after ≡ before)
 
-  -- For each mark up to this one, the undos since then give the same contents from here as others did from there. (this project's profile)
+  -- For each mark up to this one, the undos since then give the same contents from here as others did from there.
   abbrev pub RewindsTheSameTo : ℕ → List U → S → List U → S → Type 0
   RewindsTheSameTo mark old before new after = (m : ℕ) → m ≤ mark → rewound (drop m new) after ≡ rewound (drop m old) before
 
-  -- For each mark up to this one, the undos since then fit here where others fitted there. (this project's profile)
+  -- For each mark up to this one, the undos since then fit here where others fitted there.
   abbrev pub StaysFitTo : (U → S → Type 0) → ℕ → List U → S → List U → S → Type 0
   StaysFitTo fits mark old before new after = (m : ℕ) → m ≤ mark → FitAll fits (drop m old) before → FitAll fits (drop m new) after
 
-  -- For every mark of the older undos, the undos since then give the same contents. (this project's profile)
+  -- For every mark of the older undos, the undos since then give the same contents.
   abbrev pub RewindsTheSame : List U → S → List U → S → Type 0
   RewindsTheSame old before new after = RewindsTheSameTo (length old) old before new after
 
-  -- For every mark of the older undos, the undos since then stay fit. (this project's profile)
+  -- For every mark of the older undos, the undos since then stay fit.
   abbrev pub StaysFit : (U → S → Type 0) → List U → S → List U → S → Type 0
   StaysFit fits old before new after = StaysFitTo fits (length old) old before new after

@@ -1,27 +1,28 @@
 -- A sandbox, as contracts see it.
-use Rattle.std.specs.Prelude.{◌≡◌, ℕ, zero, suc, ◌<◌, ◌≤◌, List, [], ◌∷◌, ◌++◌, length, drop, slice_index, Option, Some, None, refl}
+use Rattle.std.specs.Prelude.{◌≡◌, ℕ, zero, suc, ◌<◌, ◌≤◌, List, [], ◌∷◌, ◌++◌, length, drop, slice_index, Option, Some, None, IfSome, false, refl}
 use Rattle.std.specs.FinMap as finite
+use Rattle.std.specs.List.{AllByRecursion}
 use Rattle.std.specs.Coded.{Coded, code_by, coded×, coded_list, coded_option, coded_ℕ}
 use Rattle.std.proofs.Common.{ap}
 use Rattle.gk_world.specs.declared.world.World.{World}
 use Rattle.gk_world.specs.declared.world.WorldUndo.{WorldUndo}
 use Rattle.gk_world.specs.declared.world.WorldUndo.TheVariants.{File, Env, Value}
-use Rattle.gk_world.specs.State.{layers, Contents, with_layer, with_innermost, nothing_yet, contents_code, with_text, without, state_of}
-use Rattle.gk_world.specs.Refusals.{joined}
+use Rattle.gk_world.specs.State.{layers, Texts, Contents, with_layer, with_innermost, nothing_yet, contents_code, with_text, without, state_of}
+use Rattle.gk_world.specs.Refusals.{joined, is_too_long}
 use Rattle.gk_world.specs.Reversible.{Which, of_files, of_env, of_layer, UndoValue, undone, rewind}
 use Rattle.gk_world.specs.Slots.{name_of, cell_of, old_of}
 use Rattle.gk_world.specs.Journal.{rewound, FitAll}
 use Rattle.gk_world.specs.World as world
 use Rattle.gk_world.specs.World.{contents_of, Fits, IsClear}
 
--- The contents; for each open layer, the innermost first, what its end gives; the undos that are recorded, the oldest first; and how many there were when each layer began. (this project's profile)
+-- The contents; for each open layer, the innermost first, what its end gives; the undos that are recorded, the oldest first; and how many there were when each layer began.
 pub record SandboxValue : Type 0 where
   pub now : Contents
   pub saved : List Contents
   pub entries : List UndoValue
   pub marks : List ℕ
 
--- A new sandbox: nothing in it, and no layer open. (this project's profile)
+-- A new sandbox: nothing in it, and no layer open.
 abbrev pub new_sandbox : SandboxValue
 new_sandbox = record { now = nothing_yet; saved = []; entries = []; marks = [] }
 
@@ -38,28 +39,33 @@ pub record Ends (old new : SandboxValue) : Type 0 where
   pub given_back : old.saved ≡ new.now ∷ new.saved
   pub forgotten : old.marks ≡ length new.entries ∷ new.marks
 
--- A layer ends: what is recorded since its beginning, undone from the newest on, gives its contents with an empty map for the layer. What was recorded before stays. (this project's profile)
+-- A layer ends: what is recorded since its beginning, undone from the newest on, gives its contents with an empty map for the layer. What was recorded before stays.
 pub record EndsByUndos (old new : SandboxValue) : Type 0 where
   pub since : List UndoValue
   pub older : old.entries ≡ new.entries ++ since
   pub given_back : rewind since old.now ≡ with_layer new.now
 
--- A change is recorded as the newest undo, which gives back the contents before it, and the older ones stay. With no layer open it isn't recorded. (this project's profile)
+-- A change is recorded as the newest undo, which gives back the contents before it, and the older ones stay. With no layer open it isn't recorded.
 abbrev pub Records : List Contents → SandboxValue → SandboxValue → Type 0
 Records [] old new = new.entries ≡ old.entries
 Records (c ∷ cs) old new = (u : UndoValue) × (new.entries ≡ old.entries ++ u ∷ []) × (undone u new.now ≡ old.now)
 
--- The contents have become these by one change, and what each layer's end gives stays. With no layer open the change isn't recorded, and stays. (this project's profile)
+-- The contents have become these by one change, and what each layer's end gives stays. With no layer open the change isn't recorded, and stays.
 pub record Becomes (now : Contents) (old new : SandboxValue) : Type 0 where
   pub contents : new.now ≡ now
   pub layers : new.saved ≡ old.saved
   pub marks : new.marks ≡ old.marks
   pub recorded : Records old.saved old new
 
+-- What each layer's end gives and the marks stay, as they do at every change. (behave's documentation: context layers)
+pub record KeepsLayers (old new : SandboxValue) : Type 0 where
+  pub layers : new.saved ≡ old.saved
+  pub marks : new.marks ≡ old.marks
+
 -- What changes and inner layers, each of them ended, make of a sandbox; a refused change makes nothing of it. (behave's documentation: context layers)
 pub data Works : SandboxValue → SandboxValue → Type 0 where
   done : {s : SandboxValue} → Works s s
-  change : {s t u : SandboxValue} {now : Contents} → Becomes now s t → Works t u → Works s u
+  change : {s t u : SandboxValue} → KeepsLayers s t → Works t u → Works s u
   layer : {s t u v : SandboxValue} → Works (begun s) t → Ends t u → Works u v → Works s v
 
 -- The contents, what each open layer's end gives, the marks and the number of entries are what they were. (behave's documentation: context layers)
@@ -78,65 +84,80 @@ abbrev pub with_layers : ℕ → Contents → Contents
 with_layers zero c = c
 with_layers (suc n) c = with_layer (with_layers n c)
 
--- For each open layer: the contents, rewound by the undos recorded since its mark, are those that its end gives, with an empty map for that layer and each inner one. The lists have the innermost layer first, and so many layers are inside the first of them. (this project's profile)
+-- For each open layer: the contents, rewound by the undos recorded since its mark, are those that its end gives, with an empty map for that layer and each inner one. The lists have the innermost layer first, and so many layers are inside the first of them.
 abbrev pub Rewinds : ℕ → List Contents → List ℕ → List UndoValue → Contents → Type 0
 Rewinds inside [] [] entries now = Unit {0}
 Rewinds inside (c ∷ cs) (mark ∷ marks) entries now = (rewind (drop mark entries) now ≡ with_layers (suc inside) c) × Rewinds (suc inside) cs marks entries now
 Rewinds inside [] (mark ∷ marks) entries now = ⊥
 Rewinds inside (c ∷ cs) [] entries now = ⊥
 
--- What holds of a sandbox at any moment: its undos give back what its layers have saved. (this project's profile)
+-- What holds of a sandbox at any moment: its undos give back what its layers have saved.
 abbrev pub UndosGiveBack : SandboxValue → Type 0
 UndosGiveBack s = Rewinds 0 s.saved s.marks s.entries s.now
 
--- A map of the contents as an option, in which a program's value keeps it. (this project's profile)
+-- No text of a map is too long.
+abbrev pub NoneTooLong : Texts → Type 0
+NoneTooLong m = (name : List ℕ) → IfSome (finite.get m name) (λ text. is_too_long text ≡ false)
+
+-- No text of contents is too long, be it of a file, a variable or a value.
+pub record HasShortTexts (c : Contents) : Type 0 where
+  pub files : NoneTooLong c.files
+  pub env : NoneTooLong c.env
+  pub values : AllByRecursion NoneTooLong c.values
+
+-- What holds of a sandbox at any moment: no text is too long, now or after the end of a layer.
+pub record TextsAreShort (s : SandboxValue) : Type 0 where
+  pub now : HasShortTexts s.now
+  pub saved : AllByRecursion HasShortTexts s.saved
+
+-- A map of the contents as an option, in which a program's value keeps it.
 abbrev pub which_as_option : Which → Option (Option ℕ)
 which_as_option of_files = None
 which_as_option of_env = Some None
 which_as_option (of_layer number) = Some (Some number)
 
--- The map that such an option names. (this project's profile)
+-- The map that such an option names.
 abbrev pub which_of_option : Option (Option ℕ) → Which
 which_of_option None = of_files
 which_of_option (Some None) = of_env
 which_of_option (Some (Some number)) = of_layer number
 
--- The way there and back. (this project's profile)
+-- The way there and back.
 abbrev pub which_again : (w : Which) → which_of_option (which_as_option w) ≡ w
 which_again of_files = refl
 which_again of_env = refl
 which_again (of_layer number) = refl
 
--- How a program's value keeps an undo. (this project's profile)
+-- How a program's value keeps an undo.
 abbrev pub undo_code : Coded UndoValue
 undo_code = code_by (Option (Option ℕ) × (List ℕ × Option (List ℕ)))
     (coded× (coded_option (coded_option coded_ℕ)) (coded× (coded_list coded_ℕ) (coded_option (coded_list coded_ℕ))))
     (λ u. (which_as_option u.which, (u.name, u.old))) (λ p. record { which = which_of_option p.0; name = p.1.0; old = p.1.1 })
     (λ u. ap (λ w. record { which = w; name = u.name; old = u.old }) (which_again u.which))
 
--- How a program's value keeps a sandbox. (this project's profile)
+-- How a program's value keeps a sandbox.
 abbrev pub sandbox_code : Coded SandboxValue
 sandbox_code = code_by (Contents × (List Contents × (List UndoValue × List ℕ)))
     (coded× contents_code (coded× (coded_list contents_code) (coded× (coded_list undo_code) (coded_list coded_ℕ))))
     (λ s. (s.now, (s.saved, (s.entries, s.marks)))) (λ p. record { now = p.0; saved = p.1.0; entries = p.1.1.0; marks = p.1.1.1 }) (λ _. refl)
 
--- A file has a text. (this project's profile)
+-- A file has a text.
 abbrev pub with_file : Contents → List ℕ → List ℕ → Contents
 with_file c name text = record c { files = finite.insert c.files name text }
 
--- A file's text has more at its end. (this project's profile)
+-- A file's text has more at its end.
 abbrev pub with_more : Contents → List ℕ → List ℕ → Contents
 with_more c name more = with_file c name (joined (finite.get c.files) name more)
 
--- A file is gone. (this project's profile)
+-- A file is gone.
 abbrev pub without_file : Contents → List ℕ → Contents
 without_file c name = record c { files = finite.remove c.files name }
 
--- A variable has a text. (this project's profile)
+-- A variable has a text.
 abbrev pub with_env : Contents → List ℕ → List ℕ → Contents
 with_env c name text = record c { env = finite.insert c.env name text }
 
--- A variable is gone. (this project's profile)
+-- A variable is gone.
 abbrev pub without_env : Contents → List ℕ → Contents
 without_env c name = record c { env = finite.remove c.env name }
 
@@ -148,23 +169,23 @@ with_value c name text = record c { values = with_innermost (λ v. finite.insert
 abbrev pub without_value : Contents → List ℕ → Contents
 without_value c name = record c { values = with_innermost (λ v. finite.remove v name) c.values }
 
--- A file has a text by one change, and what each layer's end gives stays. (this project's profile)
+-- A file has a text by one change, and what each layer's end gives stays.
 abbrev pub PutsFile : SandboxValue → List ℕ → List ℕ → SandboxValue → Type 0
 PutsFile old name text new = Becomes (with_file old.now name text) old new
 
--- A file has more at its end by one change, and what each layer's end gives stays. (this project's profile)
+-- A file has more at its end by one change, and what each layer's end gives stays.
 abbrev pub AppendsToFile : SandboxValue → List ℕ → List ℕ → SandboxValue → Type 0
 AppendsToFile old name more new = Becomes (with_more old.now name more) old new
 
--- A file is removed by one change, and what each layer's end gives stays. (this project's profile)
+-- A file is removed by one change, and what each layer's end gives stays.
 abbrev pub RemovesFile : SandboxValue → List ℕ → SandboxValue → Type 0
 RemovesFile old name new = Becomes (without_file old.now name) old new
 
--- A variable is set by one change, and what each layer's end gives stays. (this project's profile)
+-- A variable is set by one change, and what each layer's end gives stays.
 abbrev pub SetsEnv : SandboxValue → List ℕ → List ℕ → SandboxValue → Type 0
 SetsEnv old name text new = Becomes (with_env old.now name text) old new
 
--- A variable is removed by one change, and what each layer's end gives stays. (this project's profile)
+-- A variable is removed by one change, and what each layer's end gives stays.
 abbrev pub RemovesEnv : SandboxValue → List ℕ → SandboxValue → Type 0
 RemovesEnv old name new = Becomes (without_env old.now name) old new
 
@@ -185,39 +206,40 @@ pub record ChangesAreOfState : Type 0 where
   pub value : (c : Contents) (name text : List ℕ) → 0 < length c.values → state_of (with_value c name text) ≡ record (state_of c) { own = with_text (state_of c).own name text }
   pub no_value : (c : Contents) (name : List ℕ) → 0 < length c.values → state_of (without_value c name) ≡ record (state_of c) { own = without (state_of c).own name }
 
--- An undo, as it is seen where the world is this: slots keep their names. (this project's profile)
+-- An undo, as it is seen where the world is this: slots keep their names.
 abbrev pub seen_undo : World → WorldUndo → UndoValue
 seen_undo w (File u) = record { which = of_files; name = name_of w.files u; old = old_of u }
 seen_undo w (Env u) = record { which = of_env; name = name_of w.env u; old = old_of u }
 seen_undo w (Value u) = record { which = of_layer (suc (cell_of u)); name = name_of w.values u; old = old_of u }
 
--- Undos, as they are seen. (this project's profile)
+-- Undos, as they are seen.
 abbrev pub seen_undos : World → List WorldUndo → List UndoValue
 seen_undos w [] = []
 seen_undos w (u ∷ us) = seen_undo w u ∷ seen_undos w us
 
--- The marks of the open layers, the innermost first. (this project's profile)
+-- The marks of the open layers, the innermost first.
 abbrev pub open_marks : ℕ → List ℕ → List ℕ
 open_marks zero marks = []
 open_marks (suc d) marks = slice_index marks d ∷ open_marks d marks
 
--- What rewinding to each mark would give. (this project's profile)
+-- What rewinding to each mark would give.
 abbrev pub saved_of : List ℕ → List WorldUndo → World → List Contents
 saved_of [] us w = []
 saved_of (m ∷ ms) us w = contents_of (length ms) (rewound world.undone (drop m us) w) ∷ saved_of ms us w
 
--- What is seen of a world, its undos and its marks. (this project's profile)
+-- What is seen of a world, its undos and its marks.
 abbrev pub value_of : World → List WorldUndo → List ℕ → SandboxValue
 value_of w us ms = record { now = contents_of (length ms) w; saved = saved_of ms us w; entries = seen_undos w us; marks = ms }
 
--- No mark is above n or an inner mark, with no open layer there are no entries, and no layer had values before it began. (this project's profile)
+-- No mark is above n or an inner mark, with no open layer there are no entries, and no layer had values before it began.
 abbrev pub AreMarks : List ℕ → ℕ → List WorldUndo → World → Type 0
 AreMarks [] n us w = n ≡ 0
 AreMarks (m ∷ ms) n us w = (m ≤ n) × IsClear (length ms) (rewound world.undone (drop m us) w) × AreMarks ms m us w
 
--- What holds of a sandbox between its calls. (this project's profile)
+-- What holds of a sandbox between its calls.
 pub record IsSound (w : World) (us : List WorldUndo) (ms : List ℕ) : Type 0 where
   pub room : length ms ≤ layers
   pub clear : IsClear (length ms) w
   pub ordered : AreMarks ms (length us) us w
   pub fit : FitAll world.undone Fits us w
+  pub texts : TextsAreShort (value_of w us ms)

@@ -9,20 +9,20 @@ use Rattle.gk_world.specs.Cells.{Slot, Cell, cell_at}
 
 -- A row as a slot, and rows as slots: names and texts, without where they lie in memory.
 module _ {C : Type 0} (cells : C → List Cell) where
-  -- A row as a slot. (this project's profile)
+  -- A row as a slot.
   abbrev pub seen : String Global × C → Slot
   seen r = (string_bytes r.0, cells r.1)
 
-  -- Rows as slots, in their order. (this project's profile)
+  -- Rows as slots, in their order.
   abbrev pub slots_of : List (String Global × C) → List Slot
   slots_of rows = map seen rows
 
--- The first slot of a name counts, and an absent cell is no text. (this project's profile)
+-- The first slot of a name counts, and an absent cell is no text.
 abbrev pub map_at : ℕ → List Slot → Texts
 map_at k [] = finite.empty
 map_at k (s ∷ ss) = with_entry (map_at k ss) s.0 (cell_at k s.1)
 
--- The text that each name has in the cell k. (this project's profile)
+-- The text that each name has in the cell k.
 abbrev pub text_at : ℕ → List Slot → Map
 text_at k s = finite.get (map_at k s)
 
@@ -31,102 +31,102 @@ abbrev pub layers_of : ℕ → List Slot → List Texts
 layers_of zero s = []
 layers_of (suc d) s = map_at d s ∷ layers_of d s
 
--- One cell of one name has another text, or none, and all else stays. (this project's profile)
+-- One cell of one name has another text, or none, and all else stays.
 pub record Writes (name : List ℕ) (cell : ℕ) (text : Cell) (old new : List Slot) : Type 0 where
   pub here : map_at cell new ≡ with_entry (map_at cell old) name text
   pub others : (k : ℕ) → k ≢ cell → map_at k new ≡ map_at k old
 
--- A cell of a name has this text, and all else stays. (this project's profile)
+-- A cell of a name has this text, and all else stays.
 abbrev pub Puts : {Y Z : Type 0} → String Y → ℕ → String Z → List Slot → List Slot → Type 0
 Puts name cell text old new = Writes (string_bytes name) cell (Some (string_bytes text)) old new
 
--- The slots, with these cells in the slot at i. (this project's profile)
+-- The slots, with these cells in the slot at i.
 abbrev pub with_cells : List Slot → ℕ → List Cell → List Slot
 with_cells [] i c = []
 with_cells (s ∷ ss) zero c = (s.0, c) ∷ ss
 with_cells (s ∷ ss) (suc i) c = s ∷ with_cells ss i c
 
--- The name of the slot at i. (this project's profile)
+-- The name of the slot at i.
 abbrev pub name_at : List Slot → ℕ → List ℕ
 name_at s i = let w : Slot = slice_index_or s i ([], []) in w.0
 
--- The cells of the slot at i. (this project's profile)
+-- The cells of the slot at i.
 abbrev pub cells_of : List Slot → ℕ → List Cell
 cells_of s i = let w : Slot = slice_index_or s i ([], []) in w.1
 
--- The slots, with this in the cell k of the slot at i. (this project's profile)
+-- The slots, with this in the cell k of the slot at i.
 abbrev pub with_cell : List Slot → ℕ → ℕ → Cell → List Slot
 with_cell s i k c = with_cells s i (slice_set (cells_of s i) k c)
 
--- The first slot of this name is at i. (this project's profile)
+-- The first slot of this name is at i.
 abbrev pub IsPlace : List ℕ → List Slot → ℕ → Type 0
 IsPlace name [] i = ⊥
 IsPlace name (s ∷ ss) zero = bytes_eq name s.0 ≡ true
 IsPlace name (s ∷ ss) (suc i) = (bytes_eq name s.0 ≡ false) × IsPlace name ss i
 
--- In the slot at i, the first of its name, this cell has this text or none, and all else stays. (this project's profile)
+-- In the slot at i, the first of its name, this cell has this text or none, and all else stays.
 abbrev pub WritesAt : ℕ → ℕ → Cell → List Slot → List Slot → Type 0
 WritesAt i cell text old new = (name : List ℕ) → IsPlace name old i → Writes name cell text old new
 
--- There is no slot of this name. (this project's profile)
+-- There is no slot of this name.
 abbrev pub IsMissing : List ℕ → List Slot → Type 0
 IsMissing name [] = Unit {0}
 IsMissing name (s ∷ ss) = (bytes_eq name s.0 ≡ false) × IsMissing name ss
 
--- The slot at i is the first of this name, and has the name's texts. (this project's profile)
+-- The slot at i is the first of this name, and has the name's texts.
 pub record IsAt (name : List ℕ) (s : List Slot) (i : ℕ) : Type 0 where
   pub within : i < length s
   pub found : IsPlace name s i
   pub first : IsPlace (name_at s i) s i
   pub holds : (k : ℕ) → finite.get (map_at k s) name ≡ cell_at k (cells_of s i)
 
--- The name has no slot, and so no text. (this project's profile)
+-- The name has no slot, and so no text.
 pub record IsNew (name : List ℕ) (s : List Slot) : Type 0 where
   pub missing : IsMissing name s
   pub absent : (k : ℕ) → finite.get (map_at k s) name ≡ None
 
--- No two slots have the same name. (this project's profile)
+-- No two slots have the same name.
 abbrev pub NamesDiffer : List Slot → Type 0
 NamesDiffer [] = Unit {0}
 NamesDiffer (s ∷ ss) = IsMissing s.0 ss × NamesDiffer ss
 
--- There is a slot at this place, and it has this cell, one of so many. (this project's profile)
+-- There is a slot at this place, and it has this cell, one of so many.
 pub record HasCell (width : ℕ) (s : List Slot) (place cell : ℕ) : Type 0 where
   pub there : place < length s
   pub within : cell < length (cells_of s place)
   pub allowed : cell < width
 
--- The slot at this place is the last, and has nothing but in this cell, one of so many. (this project's profile)
+-- The slot at this place is the last, and has nothing but in this cell, one of so many.
 pub record IsNewest (width : ℕ) (s : List Slot) (place cell : ℕ) : Type 0 where
   pub last : length s ≡ place + 1
   pub others : (k : ℕ) → k ≢ cell → cell_at k (cells_of s place) ≡ None
   pub allowed : cell < width
 
--- Whether an undo fits these slots: the slot that it names is there and, for a creation, is the last, with its other cells absent. (this project's profile)
+-- Whether an undo fits these slots: the slot that it names is there and, for a creation, is the last, with its other cells absent.
 abbrev pub Fits : ℕ → SlotUndo → List Slot → Type 0
 Fits width (Restore place cell old) s = HasCell width s place cell
 Fits width (Created place cell) s = IsNewest width s place cell
 
--- The slots before a change: the cell has its old text again, or the new slot is gone. (this project's profile)
+-- The slots before a change: the cell has its old text again, or the new slot is gone.
 abbrev pub undone : SlotUndo → List Slot → List Slot
 undone (Restore place cell old) s = with_cell s place cell (option_map string_bytes old)
 undone (Created place cell) s = take place s
 
--- The name of an undo, as it is seen where it is in slots. (this project's profile)
+-- The name of an undo, as it is seen where it is in slots.
 abbrev pub name_of : List Slot → SlotUndo → List ℕ
 name_of s (Restore place cell old) = name_at s place
 name_of s (Created place cell) = name_at s place
 
--- The cell of an undo. (this project's profile)
+-- The cell of an undo.
 abbrev pub cell_of : SlotUndo → ℕ
 cell_of (Restore place cell old) = cell
 cell_of (Created place cell) = cell
 
--- The old text of an undo, or none. (this project's profile)
+-- The old text of an undo, or none.
 abbrev pub old_of : SlotUndo → Cell
 old_of (Restore place cell old) = option_map string_bytes old
 old_of (Created place cell) = None
 
--- An undo, on maps: the cell of its name has the old text again, or none, and all else stays. (this project's profile)
+-- An undo, on maps: the cell of its name has the old text again, or none, and all else stays.
 abbrev pub Undoes : SlotUndo → List Slot → List Slot → Type 0
 Undoes u old new = Writes (name_of old u) (cell_of u) (old_of u) old new

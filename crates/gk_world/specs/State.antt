@@ -10,22 +10,22 @@ use Rattle.std.specs.FinMap as finite
 abbrev pub layers : ℕ
 layers = 3
 
--- A finite map from names to texts. (this project's profile)
+-- A finite map from names to texts.
 abbrev pub Texts : Type 0
 Texts = finite.FinMap {K = List ℕ} (slice_cmp nat_cmp) (List ℕ)
 
--- A map with this text at a name, or without the name where there is no text. (this project's profile)
+-- A map with this text at a name, or without the name where there is no text.
 abbrev pub with_entry : Texts → List ℕ → Option (List ℕ) → Texts
 with_entry m name None = finite.remove m name
 with_entry m name (Some text) = finite.insert m name text
 
--- Files, variables, and one map of values for each open layer, that of the innermost first. (behave's documentation: context layers; this project's profile: files and variables)
+-- Files, variables, and one map of values for each open layer, that of the innermost first. (behave's documentation: context layers)
 pub record Contents : Type 0 where
   pub files : Texts
   pub env : Texts
   pub values : List Texts
 
--- Nothing at all: no file, no variable, no open layer. (this project's profile)
+-- Nothing at all: no file, no variable, no open layer.
 abbrev pub nothing_yet : Contents
 nothing_yet = record { files = finite.empty; env = finite.empty; values = [] }
 
@@ -33,24 +33,24 @@ nothing_yet = record { files = finite.empty; env = finite.empty; values = [] }
 abbrev pub with_layer : Contents → Contents
 with_layer c = record c { values = finite.empty ∷ c.values }
 
--- The first of these maps changed. (this project's profile)
+-- The first of these maps changed.
 abbrev pub with_innermost : (Texts → Texts) → List Texts → List Texts
 with_innermost f [] = []
 with_innermost f (v ∷ vs) = f v ∷ vs
 
--- A map from names to texts, as what it has at each name. (this project's profile)
+-- A map from names to texts, as what it has at each name.
 abbrev pub Map : Type 0
 Map = List ℕ → Option (List ℕ)
 
--- The map without names. (this project's profile)
+-- The map without names.
 abbrev pub nothing : Map
 nothing name = None
 
--- The map with this text at a name. (this project's profile)
+-- The map with this text at a name.
 abbrev pub with_text : Map → List ℕ → List ℕ → Map
 with_text m name text = λ other. cond (bytes_eq other name) (Some text) (m other)
 
--- The map without a name. (this project's profile)
+-- The map without a name.
 abbrev pub without : Map → List ℕ → Map
 without m name = λ other. cond (bytes_eq other name) None (m other)
 
@@ -92,11 +92,11 @@ outer_of (v ∷ vs) = laid vs
 abbrev pub state_of : Contents → State
 state_of c = record { files = finite.get c.files; env = finite.get c.env; outer = outer_of c.values; own = own_of c.values }
 
--- A text put into a finite map is there at its name, and all else stays. (this project's profile)
+-- A text put into a finite map is there at its name, and all else stays.
 abbrev pub PutsText : Type 0
 PutsText = (m : Texts) (name text : List ℕ) → finite.get (finite.insert m name text) ≡ with_text (finite.get m) name text
 
--- A name taken out of a finite map is gone, and all else stays. (this project's profile)
+-- A name taken out of a finite map is gone, and all else stays.
 abbrev pub TakesName : Type 0
 TakesName = (m : Texts) (name : List ℕ) → finite.get (finite.remove m name) ≡ without (finite.get m) name
 
@@ -104,11 +104,11 @@ TakesName = (m : Texts) (name : List ℕ) → finite.get (finite.remove m name) 
 abbrev pub Enters : Type 0
 Enters = (c : Contents) → state_of (with_layer c) ≡ enter (state_of c)
 
--- How a program's value keeps a map. (this project's profile)
+-- How a program's value keeps a map.
 abbrev pub texts_code : Coded Texts
 texts_code = finite.code (coded_list coded_ℕ) (coded_list coded_ℕ)
 
--- How a program's value keeps contents. (this project's profile)
+-- How a program's value keeps contents.
 abbrev pub contents_code : Coded Contents
 contents_code = code_by (Texts × (Texts × List Texts)) (coded× texts_code (coded× texts_code (coded_list texts_code)))
     (λ c. (c.files, (c.env, c.values))) (λ p. record { files = p.0; env = p.1.0; values = p.1.1 }) (λ _. refl)

@@ -9,23 +9,23 @@ use Rattle.gk_world.specs.State.{Texts}
 use Rattle.gk_world.specs.Refusals.{put_refusal, append_refusal, remove_refusal, joined, IsFault}
 use Rattle.gk_world.specs.Slots.{map_at}
 
--- Why a change of a map is refused, if it is. (this project's profile)
+-- Why a change of a map is refused, if it is.
 abbrev pub refusal : TableChange → Texts → Option WorldFault
 refusal (Put name text) m = put_refusal (string_bytes name) (string_bytes text)
 refusal (Append name more) m = append_refusal (finite.get m) (string_bytes name) (string_bytes more)
 refusal (Remove name) m = remove_refusal (finite.get m) (string_bytes name)
 
--- The map after a change. (this project's profile)
+-- The map after a change.
 abbrev pub changed : TableChange → Texts → Texts
 changed (Put name text) m = finite.insert m (string_bytes name) (string_bytes text)
 changed (Append name more) m = finite.insert m (string_bytes name) (joined (finite.get m) (string_bytes name) (string_bytes more))
 changed (Remove name) m = finite.remove m (string_bytes name)
 
--- Nothing refuses the change at slots s, and t has its outcome. (this project's profile)
+-- Nothing refuses the change at slots s, and t has its outcome.
 pub record Steps (change : TableChange) (s t : List Slot) : Type 0 where
   pub allowed : refusal change (map_at 0 s) ≡ None
   pub done : map_at 0 t ≡ changed change (map_at 0 s)
 
--- The change may be refused at slots s by this fault. (this project's profile)
+-- The change may be refused at slots s by this fault.
 abbrev pub Refuses : TableChange → List Slot → WorldFault → Type 0
 Refuses change s fault = IsFault (refusal change (map_at 0 s)) fault

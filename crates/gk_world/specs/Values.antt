@@ -28,21 +28,21 @@ abbrev pub refusal : ValueChange → State → Option WorldFault
 refusal (Set layer name text) s = put_refusal (string_bytes name) (string_bytes text)
 refusal (Delete layer name) s = delete_refusal s (string_bytes name)
 
--- The name that a change is of. (this project's profile)
+-- The name that a change is of.
 abbrev pub name_of : ValueChange → List ℕ
 name_of (Set layer name text) = string_bytes name
 name_of (Delete layer name) = string_bytes name
 
--- The text that the name has after a change, or none. (this project's profile)
+-- The text that the name has after a change, or none.
 abbrev pub text_of : ValueChange → Cell
 text_of (Set layer name text) = Some (string_bytes text)
 text_of (Delete layer name) = None
 
--- Nothing refuses the change at slots s, and t has its outcome. (this project's profile)
+-- Nothing refuses the change at slots s, and t has its outcome.
 pub record Steps (change : ValueChange) (s t : List Slot) : Type 0 where
   pub allowed : refusal change (state_at (layer_of change) s) ≡ None
   pub done : Writes (name_of change) (layer_of change - 1) (text_of change) s t
 
--- The change may be refused at slots s by this fault. (this project's profile)
+-- The change may be refused at slots s by this fault.
 abbrev pub Refuses : ValueChange → List Slot → WorldFault → Type 0
 Refuses change s fault = IsFault (refusal change (state_at (layer_of change) s)) fault

@@ -17,37 +17,37 @@ use Rattle.gk_world.specs.Values as value
 abbrev pub contents_of : ℕ → World → Contents
 contents_of d w = record { files = map_at 0 w.files; env = map_at 0 w.env; values = layers_of d w.values }
 
--- Whether an undo fits the part that it is of. (this project's profile)
+-- Whether an undo fits the part that it is of.
 abbrev pub Fits : WorldUndo → World → Type 0
 Fits (undos.File u) w = slot.Fits 1 u w.files
 Fits (undos.Env u) w = slot.Fits 1 u w.env
 Fits (undos.Value u) w = slot.Fits layers u w.values
 
--- The world before a change. (this project's profile)
+-- The world before a change.
 abbrev pub undone : WorldUndo → World → World
 undone (undos.File u) w = record w { files = slot.undone u w.files }
 undone (undos.Env u) w = record w { env = slot.undone u w.env }
 undone (undos.Value u) w = record w { values = slot.undone u w.values }
 
--- One part's undo, on maps; the other parts stay. (this project's profile)
+-- One part's undo, on maps; the other parts stay.
 abbrev pub Undoes : WorldUndo → World → World → Type 0
 Undoes (undos.File u) v w = slot.Undoes u v.files w.files × (w.env ≡ v.env) × (w.values ≡ v.values)
 Undoes (undos.Env u) v w = slot.Undoes u v.env w.env × (w.files ≡ v.files) × (w.values ≡ v.values)
 Undoes (undos.Value u) v w = slot.Undoes u v.values w.values × (w.files ≡ v.files) × (w.env ≡ v.env)
 
--- No part has a name twice. (this project's profile)
+-- No part has a name twice.
 pub record NamesDiffer (w : World) : Type 0 where
   pub files : slot.NamesDiffer w.files
   pub env : slot.NamesDiffer w.env
   pub values : slot.NamesDiffer w.values
 
--- One part has the change's outcome, and the others stay. (this project's profile)
+-- One part has the change's outcome, and the others stay.
 abbrev pub Steps : WorldChange → World → World → Type 0
 Steps (changes.File c) v w = table.Steps c v.files w.files × (w.env ≡ v.env) × (w.values ≡ v.values)
 Steps (changes.Env c) v w = table.Steps c v.env w.env × (w.files ≡ v.files) × (w.values ≡ v.values)
 Steps (changes.Value c) v w = value.Steps c v.values w.values × (w.files ≡ v.files) × (w.env ≡ v.env)
 
--- The change may be refused by this fault. (this project's profile)
+-- The change may be refused by this fault.
 abbrev pub Refuses : WorldChange → World → WorldFault → Type 0
 Refuses (changes.File c) w e = table.Refuses c w.files e
 Refuses (changes.Env c) w e = table.Refuses c w.env e
@@ -65,13 +65,13 @@ IsHere (changes.File c) d = Unit {0}
 IsHere (changes.Env c) d = Unit {0}
 IsHere (changes.Value c) d = (value.layer_of c ≡ d) × (0 < d)
 
--- What a change does to the contents. (this project's profile)
+-- What a change does to the contents.
 abbrev pub changed : WorldChange → Contents → Contents
 changed (changes.File c) m = record m { files = table.changed c m.files }
 changed (changes.Env c) m = record m { env = table.changed c m.env }
 changed (changes.Value c) m = record m { values = with_innermost (λ v. with_entry v (value.name_of c) (value.text_of c)) m.values }
 
--- Why a change is refused, if it is. (this project's profile)
+-- Why a change is refused, if it is.
 abbrev pub refusal : WorldChange → Contents → Option WorldFault
 refusal (changes.File c) m = table.refusal c m.files
 refusal (changes.Env c) m = table.refusal c m.env

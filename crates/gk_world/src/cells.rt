@@ -25,7 +25,7 @@ pub trait Cells: Drop {
         requires { cell < width }
         ensures { option_copied result ≡ cell_at cell (cells self.now) };
 
-    /// Puts a text, or none, into a cell, and answers what was there.
+    /// Puts a text, or none, into a cell, and returns what was there.
     fn replace(&mut self, cell: usize, text: Option<String>) -> Option<String>
         requires { cell < width }
         ensures within { cell < length (cells self.old) }
@@ -56,7 +56,7 @@ impl Cells for Option<String> {
     }
 }
 
-/// Puts a cell's new content in, and answers the old one.
+/// Puts a cell's new content in, and returns the old one.
 fn exchange(cells: &mut [Option<String>], cell: usize, text: Option<String>) -> Option<String>
     requires { cell < length cells.old }
     ensures after { cells.new ≡ slice_set cells.old cell text }

@@ -8,7 +8,7 @@ use crate::reversible::Reversible;
 use std::alloc::Global;
 use std::marker::Model;
 
-/// The undos of the changes made so far, the oldest first. (this project's profile)
+/// The undos of the changes made so far, the oldest first.
 #[derive(Drop)]
 pub struct Journal<T: Reversible> {
     entries: Vec<T::Undo>,
@@ -39,7 +39,7 @@ impl<T: Reversible> Journal<T> {
 
     /// Makes a change and records its undo, as the newest entry. The entry's place comes before the
     /// change, so `Memory` may stand in place of another fault. A refusal changes nothing and keeps
-    /// every entry. (this project's profile)
+    /// every entry.
     pub fn change(&mut self, on: &mut T, change: T::Change) -> Result<(), WorldFault>
         requires { T.can_apply change }
         ensures recorded { OnOk result (Records T.undone T.fits

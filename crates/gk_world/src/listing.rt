@@ -6,7 +6,6 @@ use std::alloc::{AllocError, Global};
 use std::collections::BTreeMap;
 
 /// Files, variables and seen values with their names, each list sorted by name in byte order.
-/// (this project's profile)
 #[derive(Drop)]
 pub struct Listing {
     pub files: Vec<(String, String)>,

@@ -5,7 +5,7 @@ ghost use Rattle.gk_world.specs.Refusals as refusals;
 use std::alloc::{AllocError, Global};
 
 /// Why a change is refused. A refused change changes nothing. Of several reasons the first in the order
-/// `BadName`, `Absent`, `OtherLayer`, `TextTooLong` is answered. (this project's profile)
+/// `BadName`, `Absent`, `OtherLayer`, `TextTooLong` is returned.
 #[derive(Clone, Copy, Debug, PartialEq, Eq)]
 pub enum WorldFault {
     /// What is to be extended, removed or deleted isn't there.
@@ -31,10 +31,10 @@ impl From<AllocError> for WorldFault {
     }
 }
 
-/// The bytes that a name may have; it has one at least. (this project's profile)
+/// The bytes that a name may have; it has one at least.
 pub const LONGEST_NAME: usize = 255;
 
-/// The bytes that a text may have. (this project's profile)
+/// The bytes that a text may have.
 pub const LONGEST_TEXT: usize = 1_048_576;
 
 /// Whether a name has no byte, or more than `LONGEST_NAME`. It takes no memory.

@@ -5,7 +5,7 @@ ghost use Rattle.gk_world.specs.declared.refusals.WorldFault.{WorldFault};
 use crate::refusals::WorldFault;
 
 /// Slots whose changes can be undone, the newest first. An undo is an ordinary value: to drop it is to
-/// give its change up for good. (this project's profile)
+/// give its change up for good.
 pub trait Reversible {
     type Change: Drop;
 
@@ -35,7 +35,7 @@ pub trait Reversible {
     /// Whether a change may be asked for.
     ghost can_apply: { Self.Change → Type 0 } = { λ _. Unit {0} };
 
-    /// Makes a change, and answers its undo, which gives back the slots before it: so each older undo
+    /// Makes a change, and returns its undo, which gives back the slots before it: so each older undo
     /// that fitted then fits again after it. A refusal changes nothing.
     fn apply(&mut self, change: Self::Change) -> Result<Self::Undo, WorldFault>
         requires { can_apply change }

@@ -6,7 +6,7 @@ ghost use Rattle.gk_world.specs.State.{see, state_of, layers};
 ghost use Rattle.gk_world.specs.Refusals as refusals;
 ghost use Rattle.gk_world.specs.Refusals.{append_refusal, remove_refusal, delete_refusal, IsAnswer};
 ghost use Rattle.gk_world.specs.World.{IsHere, changed, refusal};
-ghost use Rattle.gk_world.specs.Sandbox.{PutsFile, AppendsToFile, RemovesFile, SetsEnv, RemovesEnv, SetsValue, DeletesValue, new_sandbox, depth, begun, Ends, EndsByUndos, Becomes, UndosGiveBack, LayersGiveBack, ChangesAreOfState};
+ghost use Rattle.gk_world.specs.Sandbox.{PutsFile, AppendsToFile, RemovesFile, SetsEnv, RemovesEnv, SetsValue, DeletesValue, new_sandbox, depth, begun, Ends, EndsByUndos, Becomes, UndosGiveBack, TextsAreShort, LayersGiveBack, ChangesAreOfState};
 
 use crate::cells::LAYERS;
 use crate::journal::Journal;
@@ -81,7 +81,7 @@ impl Sandbox {
         self.depth
     }
 
-    /// How many changes are recorded in the open layers. It takes no memory. (this project's profile)
+    /// How many changes are recorded in the open layers. It takes no memory.
     pub fn recorded(&self) -> usize
         ensures { result ≡ length self.now.entries }
     {
@@ -90,13 +90,20 @@ impl Sandbox {
 
     /// For each open layer, the contents, rewound by the changes recorded since it began, are those
     /// that its end gives. Each open layer has a map of values, and with no layer open nothing is
-    /// recorded. (this project's profile)
+    /// recorded.
     pub fn undos_give_back(&self)
         ensures undos { UndosGiveBack self.now }
         ensures values { length self.now.now.values ≡ depth self.now }
         ensures outside { depth self.now ≡ 0 → length self.now.entries ≡ 0 }
     {
         self.world.names_differ();
+    }
+
+    /// No text has more bytes than `LONGEST_TEXT`, now or after the end of an open layer.
+    pub fn texts_are_short(&self)
+        ensures { TextsAreShort self.now }
+    {
+        let _ = &self.world;
     }
 
     /// Begins a layer inside the open ones. Its number is then the depth, and it has no values yet. It
@@ -149,7 +156,7 @@ impl Sandbox {
     }
 
     /// Puts a file. Refusals come in the order `BadName`, `TextTooLong`. A refusal changes nothing; `Memory`
-    /// is answered only where nothing else refuses. (this project's profile)
+    /// is returned only where nothing else refuses.
     pub fn put_file(&mut self, name: &str, text: &str) -> Result<(), WorldFault>
         ensures ok { OnOk result (PutsFile self.old name.now text.now self.new) }
         ensures answer { IsAnswer (refusals.put_refusal name.now text.now) result }
@@ -160,7 +167,7 @@ impl Sandbox {
     }
 
     /// Puts more at the end of a file. Refusals come in the order `BadName`, `Absent`, `TextTooLong`.
-    /// A refusal changes nothing; `Memory` is answered only where nothing else refuses. (this project's profile)
+    /// A refusal changes nothing; `Memory` is returned only where nothing else refuses.
     pub fn append_file(&mut self, name: &str, more: &str) -> Result<(), WorldFault>
         ensures ok { OnOk result (AppendsToFile self.old name.now more.now self.new) }
         ensures answer { IsAnswer
@@ -170,13 +177,13 @@ impl Sandbox {
         if let Some(fault) = self.world.files.append_refusal(name, more) {
             return Err(fault);
         }
+        let text = self.world.files.extended(name, more)?;
         let name = String::from_str(self.alloc, name)?;
-        let more = String::from_str(self.alloc, more)?;
-        self.change(WorldChange::File(TableChange::Append(name, more)))
+        self.change(WorldChange::File(TableChange::Put(name, text)))
     }
 
     /// Sets a variable. Refusals come in the order `BadName`, `TextTooLong`. A refusal changes nothing; `Memory`
-    /// is answered only where nothing else refuses. (this project's profile)
+    /// is returned only where nothing else refuses.
     pub fn put_env(&mut self, name: &str, text: &str) -> Result<(), WorldFault>
         ensures ok { OnOk result (SetsEnv self.old name.now text.now self.new) }
         ensures answer { IsAnswer (refusals.put_refusal name.now text.now) result }
@@ -188,7 +195,7 @@ impl Sandbox {
 
     /// Sets a value of the innermost layer, which hides outer ones of its name while the layer lasts.
     /// Refusals come in the order `BadName`, `TextTooLong`. A refusal changes nothing; `Memory`
-    /// is answered only where nothing else refuses.
+    /// is returned only where nothing else refuses.
     /// (behave's documentation: context layers)
     pub fn set_value(&mut self, name: &str, text: &str) -> Result<(), WorldFault>
         requires { 0 < depth self.old }
@@ -202,7 +209,7 @@ impl Sandbox {
     }
 
     /// Removes a file. Refusals come in the order `BadName`, `Absent`. A refusal changes nothing; `Memory`
-    /// is answered only where nothing else refuses. (this project's profile)
+    /// is returned only where nothing else refuses.
     pub fn remove_file(&mut self, name: &str) -> Result<(), WorldFault>
         ensures ok { OnOk result (RemovesFile self.old name.now self.new) }
         ensures answer { IsAnswer (remove_refusal (finite.get self.old.now.files) name.now) result }
@@ -216,7 +223,7 @@ impl Sandbox {
     }
 
     /// Removes a variable. Refusals come in the order `BadName`, `Absent`. A refusal changes nothing; `Memory`
-    /// is answered only where nothing else refuses. (this project's profile)
+    /// is returned only where nothing else refuses.
     pub fn remove_env(&mut self, name: &str) -> Result<(), WorldFault>
         ensures ok { OnOk result (RemovesEnv self.old name.now self.new) }
         ensures answer { IsAnswer (remove_refusal (finite.get self.old.now.env) name.now) result }
@@ -231,7 +238,7 @@ impl Sandbox {
 
     /// Deletes a value of the innermost layer. Refusals come in the order `BadName`, `Absent` (no layer
     /// has it), `OtherLayer` (outer layers alone have it). A refusal changes nothing; `Memory`
-    /// is answered only where nothing else refuses.
+    /// is returned only where nothing else refuses.
     /// (behave's documentation: context layers)
     pub fn delete_value(&mut self, name: &str) -> Result<(), WorldFault>
         requires { 0 < depth self.old }
@@ -269,11 +276,11 @@ impl Sandbox {
         self.world.values.get(self.depth, name)
     }
 
-    /// Files, variables and seen values, sorted by name.
-    pub fn listing(&self) -> Result<Listing, AllocError>
+    /// Files, variables and seen values, sorted by name. An error comes only where a growth was refused.
+    pub fn listing(&self, alloc: Global) -> Result<Listing, AllocError>
         ensures { IfOk result (IsListing (state_of self.now.now)) }
     {
-        self.world.listing(self.alloc, self.depth)
+        self.world.listing(alloc, self.depth)
     }
 }
 

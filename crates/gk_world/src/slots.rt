@@ -9,7 +9,7 @@ use indexmap::IndexMap;
 use std::alloc::Global;
 use std::marker::Model;
 
-/// The inverse of one change of one row. (this project's profile)
+/// The inverse of one change of one row.
 #[derive(Drop)]
 pub enum SlotUndo {
     /// The row at a place had this in a cell.
@@ -135,13 +135,16 @@ impl<C: Cells> Slots<C> {
         ensures writes { OnOk result (Puts name cell text self.old self.new) }
         ensures fits { IfOk result (λ u. Fits C.width u self.new) }
         ensures before { IfOk result (λ u. undone u self.new ≡ self.old) }
+        ensures names { NamesDiffer self.new }
         ensures err { OnErr result (self.new ≡ self.old) }
         ensures memory { IfErr result (λ e. e ≡ WorldFault.Memory) }
     {
-        match self.place(name.as_str()) {
+        let answer = match self.place(name.as_str()) {
             Some(place) => Ok(self.write(place, cell, Some(text))),
             None => self.push(name, cell, text),
-        }
+        };
+        self.names_differ();
+        answer
     }
 
     /// Takes the text out of a cell of a name, if there is one. The row stays.
@@ -150,16 +153,19 @@ impl<C: Cells> Slots<C> {
         ensures writes { IfSome result (λ _. Writes name.now cell None self.old self.new) }
         ensures fits { IfSome result (λ u. Fits C.width u self.new) }
         ensures before { IfSome result (λ u. undone u self.new ≡ self.old) }
+        ensures names { NamesDiffer self.new }
         ensures found { IfSome result (λ _. is_none (text_at cell self.old name.now) ≡ false) }
         ensures absent { IfNone result (is_none (text_at cell self.old name.now) ≡ true) }
         ensures none { IfNone result (self.new ≡ self.old) }
     {
-        match self.place(name) {
+        let undo = match self.place(name) {
             Some(place) if self.cell(place, cell).is_some() => {
                 Some(self.write(place, cell, None))
             }
             _ => None,
-        }
+        };
+        self.names_differ();
+        undo
     }
 
     /// Takes a change back. It takes no memory.

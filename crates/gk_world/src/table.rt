@@ -14,7 +14,7 @@ use std::alloc::{AllocError, Global};
 use std::collections::BTreeMap;
 use std::marker::Model;
 
-/// A change of a table. (this project's profile)
+/// A change of a table.
 #[derive(Drop)]
 pub enum TableChange {
     /// This name has this text.
@@ -25,7 +25,7 @@ pub enum TableChange {
     Remove(String),
 }
 
-/// Texts by name, as of files or of variables. A removed name keeps its place. (this project's profile)
+/// Texts by name, as of files or of variables. A removed name keeps its place.
 #[derive(Drop)]
 pub struct Table {
     alloc: Global,
@@ -100,8 +100,9 @@ impl Table {
         sorted(alloc, texts)
     }
 
-    /// The text of a name, with more at its end.
-    fn extended(&self, name: &str, more: &str) -> Result<String, AllocError>
+    /// The text of a name, or the empty one where it has none, with more at its end. It takes memory once,
+    /// and an error comes only where that growth was refused.
+    pub fn extended(&self, name: &str, more: &str) -> Result<String, AllocError>
         ensures { IfOk result (λ text.
             string_bytes text ≡ refusals.joined (text_at 0 self.now) name.now more.now) }
     {
@@ -153,6 +154,7 @@ impl Reversible for Table {
 
     fn apply(&mut self, change: TableChange) -> Result<SlotUndo, WorldFault>
         ensures fits { IfOk result (λ u. Fits 1 u self.new) }
+        ensures names { OnOk result (NamesDiffer self.new) }
         ensures before { IfOk result (λ u. undone u self.new ≡ self.old) }
         ensures done { OnOk result (Steps change self.old self.new) }
         ensures err { OnErr result (self.new ≡ self.old) }

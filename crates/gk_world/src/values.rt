@@ -144,6 +144,7 @@ impl Reversible for Values {
     fn apply(&mut self, change: ValueChange) -> Result<SlotUndo, WorldFault>
         requires { IsLayer (layer_of change) }
         ensures fits { IfOk result (λ u. Fits layers u self.new) }
+        ensures names { OnOk result (NamesDiffer self.new) }
         ensures before { IfOk result (λ u. undone u self.new ≡ self.old) }
         ensures done { OnOk result (Steps change self.old self.new) }
         ensures err { OnErr result (self.new ≡ self.old) }

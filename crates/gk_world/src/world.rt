@@ -29,7 +29,7 @@ pub enum WorldUndo {
     Value(SlotUndo),
 }
 
-/// Files, variables and values. (this project's profile)
+/// Files, variables and values.
 #[derive(Drop)]
 pub struct World {
     pub files: Table,

@@ -1,5 +1,5 @@
 //! Actions on files.
-ghost use Rattle.std.specs.Prelude.{◌≡◌, [], ◌∷◌, bytes_eq, map};
+ghost use Rattle.std.specs.Prelude.{◌≡◌, bytes_eq, map};
 ghost use Rattle.std.specs.String.{string_bytes};
 ghost use Rattle.gk_gherkin.specs.Feature.{texts};
 ghost use Rattle.gk_steps.specs.declared.action.Action.TheVariants as actions;
@@ -56,7 +56,7 @@ pub fn remove_file(sandbox: &mut Sandbox, arguments: &Arguments<'_>) -> Outcome
 
 // A text is written under the new name, and then the old name is removed.
 fn put_and_remove(sandbox: &mut Sandbox, name: &str, to: &str, text: &str) -> Outcome
-    ensures { IsActedWith ((to.now, text.now) ∷ [])
+    ensures { IsActedWith (words.put_files (state_of sandbox.old.now) to.now text.now)
         (words.put_and_remove (state_of sandbox.old.now) name.now to.now text.now)
         sandbox.old result sandbox.new }
 {
@@ -70,6 +70,12 @@ fn put_and_remove(sandbox: &mut Sandbox, name: &str, to: &str, text: &str) -> Ou
 pub fn rename_file(alloc: Global, sandbox: &mut Sandbox, arguments: &Arguments<'_>) -> Outcome
     ensures { Performs actions.RenameFile arguments.now sandbox.old result sandbox.new }
 {
+    // A bad name is no file's.
+    if is_bad_name(arguments.name) {
+        return Outcome::Failed(Reason::Absent);
+    }
+    // The text that moves isn't too long.
+    sandbox.texts_are_short();
     let Some(held) = sandbox.file(arguments.name) else {
         return Outcome::Failed(Reason::Absent);
     };
@@ -128,7 +134,8 @@ fn write_row(sandbox: &mut Sandbox, row: &[String]) -> Outcome
 
 // Each row in turn as a file that is written.
 fn write_rows(sandbox: &mut Sandbox, rows: &[Vec<String>]) -> Outcome
-    ensures { IsActedWith (map words.row_file (map (λ row. texts row.items) rows.now))
+    ensures { IsActedWith
+        (words.rows_files (state_of sandbox.old.now) (map (λ row. texts row.items) rows.now))
         (words.write_rows (state_of sandbox.old.now) (map (λ row. texts row.items) rows.now))
         sandbox.old result sandbox.new }
 {

@@ -9,8 +9,8 @@ ghost use Rattle.gk_run.specs.Acting.{passes, with_own, IsNumber, IsActed, Perfo
 
 use crate::acting::Arguments;
 use crate::acting::value_actions::set;
-use crate::numbers::number_of;
 use crate::results::{Outcome, Reason};
+use gk_steps::number_of;
 use gk_world::{Sandbox, is_bad_name};
 use std::alloc::{AllocError, Global};
 

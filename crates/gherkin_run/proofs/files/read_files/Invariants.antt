@@ -1,7 +1,8 @@
 use Rattle.std.proofs.Common.{◌≡◌, ◌++◌, length, map, string_bytes}
 use Rattle.std.specs.List.{Any}
 use Rattle.std.specs.Vec.Iter.{into_iter_items, into_iter_len}
-use Rattle.gherkin_run.specs.Files.{IsFileFault, name_of}
+use Rattle.gk_cli.specs.Source.{source_value}
+use Rattle.gherkin_run.specs.Files.{AreRead, IsFileFault, name_of}
 use Rattle.gherkin_run.specs.declared.fault.Fault.{Fault}
 use Rattle.gherkin_run.proofs.files.read_files.Given as goal
 
@@ -9,6 +10,7 @@ use Rattle.gherkin_run.proofs.files.read_files.Given as goal
 abbrev pub invariant-loop-name : goal.invariant-loop-name
 invariant-loop-name g l = record {
   named : map name_of l.sources.items ++ map string_bytes (into_iter_items l.name-iterator) ≡ map string_bytes l.fn.names.items;
+  read : AreRead g.S.System.reads l.fn.system (map source_value l.sources.items) l.system;
   among : (fault : Fault) → Any (λ name. IsFileFault (string_bytes name) fault) (into_iter_items l.name-iterator) → Any (λ name. IsFileFault (string_bytes name) fault) l.fn.names.items;
   counted : length (into_iter_items l.name-iterator) ≡ into_iter_len l.name-iterator;
 }

@@ -35,4 +35,4 @@ returns-clause-fault g c =
 
 pub returns-clause-calls : goal.returns-clause-calls
 returns-clause-calls g c =
-    calls_of_run _ _ _ _ (files_value c.args.files) c.in-Err.fault c.fault_of_run.result c.requires.room c.fault_of_run.ensures c.in-Err.ensures.fault
+    calls_of_run _ _ _ _ (files_value c.args.files) c.in-Err.fault c.fault_of_run.result c.requires.room.0.0 c.fault_of_run.ensures c.in-Err.ensures.fault

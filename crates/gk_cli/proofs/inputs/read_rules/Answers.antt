@@ -3,7 +3,8 @@ use Rattle.std.proofs.Common.{◌≡◌, ◌⊎◌, ◌∷◌, [], ◌++◌, Lis
 use Rattle.std.specs.String.{string_bytes}
 use Rattle.std.proofs.lemmas.List.{map_push}
 use Rattle.gk_gherkin.specs.Feature.{texts}
-use Rattle.gk_select.specs.TagRules.{AlternativeValue, ReadsTags, tag_rule_value}
+use Rattle.gk_select.specs.TagGrammar.{Expression}
+use Rattle.gk_select.specs.TagRules.{ReadsTags, tag_rule_value}
 use Rattle.gk_cli.specs.Inputs.{AreRules}
 use Rattle.gk_cli.proofs.InputsLemmas.{at_place, take_one, rules_one, tags_said}
 use Rattle.gk_cli.proofs.inputs.read_rules.Goals as goal
@@ -15,7 +16,7 @@ returns-in-Err c =
     record {
       rules = tt;
       fault = tags_said tags c.loop-text.text-index (string_bytes c.text-item.result) (map tag_rule_value c.loop-text.rules.items) c.in-Err.fault place c.loop-text.invariant
-          (subst (λ b. (c.in-Err.fault ≡ Memory) ⊎ ((c.in-Err.fault ≡ BadTagText) × ((rule : List AlternativeValue) → ReadsTags b rule → ⊥))) c.as_str.ensures.value c.in-Err.ensures.fault);
+          (subst (λ b. (c.in-Err.fault ≡ Memory) ⊎ ((c.in-Err.fault ≡ BadTagText) × ((rule : Expression) → ReadsTags b rule → ⊥))) c.as_str.ensures.value c.in-Err.ensures.fault);
     }
 
 pub loop-text-preserved : goal.loop-text-preserved

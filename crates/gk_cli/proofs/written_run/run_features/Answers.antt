@@ -28,6 +28,7 @@ loop-feature-init g c =
       same = record { contents = refl; saved = refl; marks = refl; recorded = refl };
       kept = record { layer = refl; before = refl; cleanups = refl; stops = refl };
       earlier = λ h. h;
+      room = c.requires.room;
       paired = subst (AllByRecursion IsPaired) (sym here) c.requires.paired;
       counted = let l = c.into_iter-feature-iterator.ensures.into_iter_gives.1 in let v = c.args.features.ok.0 in let f = ap length here in omega arith;
     }
@@ -67,6 +68,7 @@ loop-feature-preserved g c =
       same = same_on _ _ _ c.loop-feature.invariant.same c.run_next.ensures.same;
       kept = kept_on c.args.so_far.now.suite c.loop-feature.so_far.suite c.run_next.new.so_far.suite c.loop-feature.invariant.kept c.run_next.ensures.kept;
       earlier = λ h. c.loop-feature.invariant.earlier (and_left is_open (stays_open_by c.args.so_far.now.suite.stop one.row.status) (sym one.opens ∙ h));
+      room = c.in_ok-run_next.ensures.room;
       paired = paired.1;
       counted = omega arith;
     }

@@ -1,4 +1,4 @@
-use Rattle.gk_gherkin.proofs.ReaderComplete.{one_reading}
+use Rattle.gk_gherkin.proofs.FeaturePlaceComplete.{one_reading}
 use Rattle.gk_gherkin.proofs.grammar.reading_is_unique.Goals as goal
 
 pub returns : goal.returns

@@ -37,7 +37,7 @@ loop-cleanup-preserved c =
           (clean_on library first all (state_of c.loop-cleanup.sandbox.now) new (map cleanup_value c.loop-cleanup.list.items) left (cleanup_value c.in-Some.cleanup) c.clean_one-outcome.result
           c.loop-cleanup.ending c.loop-cleanup.outcomes.items c.push_reserved.new.self.items (popped c.loop-cleanup.list.items c.pop.new.self.items c.in-Some.cleanup c.in-Some.ensures.items) c.clean_one-outcome.ensures.cleaned
           (let a = c.ending_of-this.ensures in let b = c.is_memory.ensures in let d = c.if-is_memory.false in cc) c.push_reserved.ensures.items c.loop-cleanup.invariant.goes);
-      layers = record { saved = c.clean_one-outcome.ensures.layers.saved ∙ c.loop-cleanup.invariant.layers.saved; marks = c.clean_one-outcome.ensures.layers.marks ∙ c.loop-cleanup.invariant.layers.marks };
+      layers = record { layers = c.clean_one-outcome.ensures.layers.layers ∙ c.loop-cleanup.invariant.layers.layers; marks = c.clean_one-outcome.ensures.layers.marks ∙ c.loop-cleanup.invariant.layers.marks };
       room = let a = c.push_reserved.ensures.capacity in let o = c.push_reserved.new.self.ok.0 in let p = c.pop.new.self.ok.0 in let q = c.loop-cleanup.list.ok.0 in let r = c.loop-cleanup.outcomes.ok.0 in omega (arith, c.push_reserved.ensures.len, c.in-Some.ensures.len, c.loop-cleanup.invariant.room);
     }
 

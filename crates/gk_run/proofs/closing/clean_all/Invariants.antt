@@ -1,7 +1,7 @@
 use Rattle.std.proofs.Common.{◌≤◌, ◌+◌, length, map, vec_capacity}
 use Rattle.gk_steps.specs.Finding.{library_value}
 use Rattle.gk_world.specs.State.{state_of}
-use Rattle.gk_run.specs.Acting.{KeepsLayers}
+use Rattle.gk_world.specs.Sandbox.{KeepsLayers}
 use Rattle.gk_run.specs.Cleanups.{cleanup_value}
 use Rattle.gk_run.proofs.CleanLemmas.{GoesClean}
 use Rattle.gk_run.proofs.closing.clean_all.Given as goal

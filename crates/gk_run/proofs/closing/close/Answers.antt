@@ -57,11 +57,11 @@ returns-clause-closed c =
     let cs = cleanups_value c.args.cleanups in
     let this = c.walk_after-after.result in
     let new = state_of c.walk_after-after.new.sandbox.now in
-    let left = cleanups_value c.walk_after-after.new.cleanups in
+    let new_cleanups = cleanups_value c.walk_after-after.new.cleanups in
     let each = walk_each library s cs (after_lists hooks c.args.section.now.level tags) in
     let e = c.clean-ending.result.ending in
     let os = c.clean-ending.result.outcomes.items in
     let m = not_memory this (sym c.is_memory.ensures ∙ c.if-is_memory.false) in
-    let w = exact each this new left m c.walk_after-after.ensures.walked in
+    let w = exact each this new new_cleanups m c.walk_after-after.ensures.walked in
     let cleaned = subst (λ (x : State). IsCleaned (cleaned library x each.cleanups) e os) w.1 (subst (λ (x : List CleanupValue). IsCleaned (cleaned library new x) e os) w.2 c.clean-ending.ensures.cleaned) in
     subst (λ (x : Ending). IsClosed (closing library hooks c.args.section.now.level tags s cs) x os) (sym c.worse.ensures) (closed_both (closing library hooks c.args.section.now.level tags s cs) this e os m w.0 cleaned)

@@ -1,4 +1,4 @@
-use Rattle.std.proofs.Common.{◌≡◌, ◌∷◌, [], ◌++◌, List, length, map, arith, ap, sym, subst, ◌∙◌, false}
+use Rattle.std.proofs.Common.{◌≡◌, ◌∷◌, [], ◌++◌, List, length, map, arith, ap, sym, subst, ◌∙◌, Bool, false, ◌||◌}
 use Rattle.std.specs.Vec.Iter.{into_iter_items}
 use Rattle.std.proofs.lemmas.List.{map_push}
 use Rattle.gk_gherkin.specs.Feature.{StepValue, step_value}
@@ -31,13 +31,14 @@ loop-step-preserved c =
     let step = step_value c.in-Some.step in
     let left = map step_value (into_iter_items c.next.new.self) in
     let rows = map step_row c.loop-step.results.items in
-    let mark = c.dry_step-looked.result.mark in
+    let mark = c.dry_step-mark.result in
+    let refused = c.either-is_refused.ensures ∙ ap (λ (b : Bool). c.loop-step.is_refused || b) c.is_memory_mark.ensures in
     let more : map step_row c.push_reserved.new.self.items ≡ rows ++ row_of_step step mark ∷ [] =
     ap (map step_row) c.push_reserved.ensures.items ∙ map_push step_row c.loop-step.results.items c.row_of.result ∙ ap (λ (row : StepRow). rows ++ row ∷ []) c.row_of.ensures in
     let whole : GoesDrySteps library c.loop-step.is_refused (step ∷ left) rows all =
     subst (λ (xs : List StepValue). GoesDrySteps library c.loop-step.is_refused xs rows all) (ap (map step_value) s.0) c.loop-step.invariant.goes in
     record {
-      goes = dry_steps_on library all c.loop-step.is_refused c.dry_step-looked.result.is_refused step left mark rows (map step_row c.push_reserved.new.self.items) c.dry_step-looked.ensures more whole;
+      goes = dry_steps_on library all c.loop-step.is_refused c.either-is_refused.result step left mark rows (map step_row c.push_reserved.new.self.items) c.dry_step-mark.ensures refused more whole;
       room = omega arith;
       counted = omega arith;
     }

@@ -7,8 +7,8 @@ use Rattle.gk_run.proofs.features.feature_status.Goals as goal
 
 pub loop-case-init : goal.loop-case-init
 loop-case-init c = record {
-  memory = ap (λ (b : Bool). b || list_any (λ x. is_memory x.status) c.args.cases.now) c.is_memory_status-memory.ensures;
-  failed = ap (λ (b : Bool). b || list_any (λ x. is_failed x.status) c.args.cases.now) c.is_failed_status-failed.ensures;
+  memory = ap (λ (b : Bool). b || list_any (λ x. is_memory x.status) c.args.cases.now) c.has_status-memory.ensures;
+  failed = ap (λ (b : Bool). b || list_any (λ x. is_failed x.status) c.args.cases.now) c.has_status-failed.ensures;
   untested = refl;
   passed = refl;
 }
@@ -21,10 +21,10 @@ loop-case-preserved c =
     let lt = c.loop-case-test.true in
     let is = c.case-item.is in
     record {
-      memory = any_on is_memory cases i x c.loop-case.memory c.is_memory_status.result c.either-memory.result _ lt is c.is_memory_status.ensures c.either-memory.ensures c.loop-case.invariant.memory;
-      failed = any_on is_failed cases i x c.loop-case.failed c.is_failed_status.result c.either-failed.result _ lt is c.is_failed_status.ensures c.either-failed.ensures c.loop-case.invariant.failed;
-      untested = any_on is_untested cases i x c.loop-case.untested c.is_untested_status.result c.either-untested.result _ lt is c.is_untested_status.ensures c.either-untested.ensures c.loop-case.invariant.untested;
-      passed = any_on is_passed cases i x c.loop-case.passed c.is_passed_status.result c.either-passed.result _ lt is c.is_passed_status.ensures c.either-passed.ensures c.loop-case.invariant.passed;
+      memory = any_on is_memory cases i x c.loop-case.memory c.has_status.result c.either-memory.result _ lt is c.has_status.ensures c.either-memory.ensures c.loop-case.invariant.memory;
+      failed = any_on is_failed cases i x c.loop-case.failed c.has_status-in-loop-case.result c.either-failed.result _ lt is c.has_status-in-loop-case.ensures c.either-failed.ensures c.loop-case.invariant.failed;
+      untested = any_on is_untested cases i x c.loop-case.untested c.has_status-in-loop-case-2.result c.either-untested.result _ lt is c.has_status-in-loop-case-2.ensures c.either-untested.ensures c.loop-case.invariant.untested;
+      passed = any_on is_passed cases i x c.loop-case.passed c.has_status-in-loop-case-3.result c.either-passed.result _ lt is c.has_status-in-loop-case-3.ensures c.either-passed.ensures c.loop-case.invariant.passed;
     }
 
 pub returns : goal.returns

@@ -21,13 +21,13 @@ returns-then-is_memory-clause-walked c =
     let cs = cleanups_value c.args.cleanups.now in
     let this = c.walk_hook-first.result in
     let new = state_of c.walk_hook-first.new.sandbox.now in
-    let left = cleanups_value c.walk_hook-first.new.cleanups in
+    let new_cleanups = cleanups_value c.walk_hook-first.new.cleanups in
     let steps = hook_steps hooks (after_kind c.args.section.now.level) None in
     let is : map step_value c.hook_steps-steps.result.now ≡ steps = c.hook_steps-steps.ensures ∙ rw c.after_kind.ensures refl in
-    let walked = subst (λ (xs : List StepValue). IsWalked (walk library sites.Hook s cs xs) this new left) is c.walk_hook-first.ensures.walked in
+    let walked = subst (λ (xs : List StepValue). IsWalked (walk library sites.Hook s cs xs) this new new_cleanups) is c.walk_hook-first.ensures.walked in
     let m = is_memory this (sym c.is_memory.ensures ∙ c.if-is_memory.true) in
-    subst (λ (e : Ending). IsWalked (walk_each library s cs (after_lists hooks c.args.section.now.level tags)) e new left) (sym m)
-    (each_off library s new cs left steps (tag_lists hooks tags) (subst (λ (e : Ending). IsWalked (walk library sites.Hook s cs steps) e new left) m walked))
+    subst (λ (e : Ending). IsWalked (walk_each library s cs (after_lists hooks c.args.section.now.level tags)) e new new_cleanups) (sym m)
+    (each_off library s new cs new_cleanups steps (tag_lists hooks tags) (subst (λ (e : Ending). IsWalked (walk library sites.Hook s cs steps) e new new_cleanups) m walked))
 
 pub returns-clause-walked : goal.returns-clause-walked
 returns-clause-walked c =
@@ -38,12 +38,12 @@ returns-clause-walked c =
     let cs = cleanups_value c.args.cleanups.now in
     let this = c.walk_hook-first.result in
     let new = state_of c.walk_hook-first.new.sandbox.now in
-    let left = cleanups_value c.walk_hook-first.new.cleanups in
+    let new_cleanups = cleanups_value c.walk_hook-first.new.cleanups in
     let last = state_of c.walk_tags-others.new.sandbox.now in
     let ls = cleanups_value c.walk_tags-others.new.cleanups in
     let steps = hook_steps hooks (after_kind c.args.section.now.level) None in
     let is : map step_value c.hook_steps-steps.result.now ≡ steps = c.hook_steps-steps.ensures ∙ rw c.after_kind.ensures refl in
-    let walked = subst (λ (xs : List StepValue). IsWalked (walk library sites.Hook s cs xs) this new left) is c.walk_hook-first.ensures.walked in
+    let walked = subst (λ (xs : List StepValue). IsWalked (walk library sites.Hook s cs xs) this new new_cleanups) is c.walk_hook-first.ensures.walked in
     subst (λ (e : Ending). IsWalked (walk_each library s cs (after_lists hooks c.args.section.now.level tags)) e last ls) (sym c.worse.ensures)
-    (each_on library s new cs left steps (tag_lists hooks tags) this walked (not_memory this (sym c.is_memory.ensures ∙ c.if-is_memory.false))
+    (each_on library s new cs new_cleanups steps (tag_lists hooks tags) this walked (not_memory this (sym c.is_memory.ensures ∙ c.if-is_memory.false))
     c.walk_tags-others.result last ls c.walk_tags-others.ensures.walked)

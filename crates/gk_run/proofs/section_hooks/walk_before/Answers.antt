@@ -35,7 +35,7 @@ loop-tag-preserved c =
       goes = before_on _ _ hooks level _ _ (texts tags) (texts (drop i tags)) (texts (drop (i + 1) tags)) (string_bytes tag) _ _ _ _ _
           (drop_next string_bytes tags i tag c.loop-tag-test.true c.tag-item.is) (walked_at _ _ _ _ _ _ _ _ _ _ c.before_site-site.ensures steps c.walk_hook-ending.ensures.walked)
           (sym c.has_passed.ensures ∙ c.if-not-has_passed.false) c.loop-tag.invariant.goes;
-      layers = record { saved = c.walk_hook-ending.ensures.layers.saved ∙ c.loop-tag.invariant.layers.saved; marks = c.walk_hook-ending.ensures.layers.marks ∙ c.loop-tag.invariant.layers.marks };
+      layers = record { layers = c.walk_hook-ending.ensures.layers.layers ∙ c.loop-tag.invariant.layers.layers; marks = c.walk_hook-ending.ensures.layers.marks ∙ c.loop-tag.invariant.layers.marks };
     }
 
 pub returns-clause-walked : goal.returns-clause-walked
@@ -48,10 +48,10 @@ returns-clause-walked c =
     let cs = cleanups_value c.loop-tag.cleanups in
     let e = c.walk_hook.result in
     let new = state_of c.walk_hook.new.sandbox.now in
-    let left = cleanups_value c.walk_hook.new.cleanups in
+    let new_cleanups = cleanups_value c.walk_hook.new.cleanups in
     let site = before_site c.args.section.now.level in
     let steps : map step_value c.hook_steps-steps-2.result.now ≡ hook_steps hooks (before_kind c.args.section.now.level) None = c.hook_steps-steps-2.ensures ∙ rw c.before_kind.ensures refl in
-    let walked = subst (λ (xs : List StepValue). IsWalked (walk library site s cs xs) e new left) steps
-    (subst (λ (x : Site). IsWalked (walk library x s cs (map step_value c.hook_steps-steps-2.result.now)) e new left) c.before_site-site.ensures c.walk_hook.ensures.walked) in
+    let walked = subst (λ (xs : List StepValue). IsWalked (walk library site s cs xs) e new new_cleanups) steps
+    (subst (λ (x : Site). IsWalked (walk library x s cs (map step_value c.hook_steps-steps-2.result.now)) e new new_cleanups) c.before_site-site.ensures c.walk_hook.ensures.walked) in
     before_done library site hooks c.args.section.now.level (state_of c.args.sandbox.now.now) (cleanups_value c.args.cleanups.now) (texts tags) (texts (drop i tags)) s cs
-    (drop_none string_bytes tags i c.loop-tag-test.false) c.loop-tag.invariant.goes e new left walked
+    (drop_none string_bytes tags i c.loop-tag-test.false) c.loop-tag.invariant.goes e new new_cleanups walked

@@ -24,10 +24,10 @@ returns-then-is_memory-clause-walked c =
     let cs = cleanups_value c.loop-tag.cleanups in
     let this = c.walk_hook-this.result in
     let new = state_of c.walk_hook-this.new.sandbox.now in
-    let left = cleanups_value c.walk_hook-this.new.cleanups in
+    let new_cleanups = cleanups_value c.walk_hook-this.new.cleanups in
     let steps = c.hook_steps-steps.ensures ∙ ap (λ (t : List ℕ). hook_steps hooks kinds.AfterTag (Some t)) c.as_str.ensures.value in
-    let walked = subst (λ (xs : List StepValue). IsWalked (walk library sites.Hook s cs xs) this new left) steps c.walk_hook-this.ensures.walked in
-    tags_off library hooks (state_of c.args.sandbox.now.now) (cleanups_value c.args.cleanups.now) (texts tags) (texts (drop i tags)) (texts (drop (i + 1) tags)) (string_bytes tag) s new cs left c.loop-tag.ending this
+    let walked = subst (λ (xs : List StepValue). IsWalked (walk library sites.Hook s cs xs) this new new_cleanups) steps c.walk_hook-this.ensures.walked in
+    tags_off library hooks (state_of c.args.sandbox.now.now) (cleanups_value c.args.cleanups.now) (texts tags) (texts (drop i tags)) (texts (drop (i + 1) tags)) (string_bytes tag) s new cs new_cleanups c.loop-tag.ending this
     (drop_next string_bytes tags i tag c.loop-tag-test.true c.tag-item.is) walked (is_memory this (sym c.is_memory.ensures ∙ c.if-is_memory.true)) c.loop-tag.invariant.goes
 
 pub loop-tag-preserved : goal.loop-tag-preserved
@@ -43,14 +43,14 @@ loop-tag-preserved c =
     let cs = cleanups_value c.loop-tag.cleanups in
     let this = c.walk_hook-this.result in
     let new = state_of c.walk_hook-this.new.sandbox.now in
-    let left = cleanups_value c.walk_hook-this.new.cleanups in
+    let new_cleanups = cleanups_value c.walk_hook-this.new.cleanups in
     let steps = c.hook_steps-steps.ensures ∙ ap (λ (t : List ℕ). hook_steps hooks kinds.AfterTag (Some t)) c.as_str.ensures.value in
-    let walked = subst (λ (xs : List StepValue). IsWalked (walk library sites.Hook s cs xs) this new left) steps c.walk_hook-this.ensures.walked in
+    let walked = subst (λ (xs : List StepValue). IsWalked (walk library sites.Hook s cs xs) this new new_cleanups) steps c.walk_hook-this.ensures.walked in
     record {
-      goes = subst (λ (e : Ending). GoesEach library hooks new left (texts (drop (i + 1) tags)) e first cs0 (texts tags)) (sym c.worse-ending.ensures)
-          (tags_on library hooks first cs0 (texts tags) (texts (drop i tags)) (texts (drop (i + 1) tags)) (string_bytes tag) s new cs left c.loop-tag.ending this
+      goes = subst (λ (e : Ending). GoesEach library hooks new new_cleanups (texts (drop (i + 1) tags)) e first cs0 (texts tags)) (sym c.worse-ending.ensures)
+          (tags_on library hooks first cs0 (texts tags) (texts (drop i tags)) (texts (drop (i + 1) tags)) (string_bytes tag) s new cs new_cleanups c.loop-tag.ending this
           (drop_next string_bytes tags i tag c.loop-tag-test.true c.tag-item.is) walked (not_memory this (sym c.is_memory.ensures ∙ c.if-is_memory.false)) c.loop-tag.invariant.goes);
-      layers = record { saved = c.walk_hook-this.ensures.layers.saved ∙ c.loop-tag.invariant.layers.saved; marks = c.walk_hook-this.ensures.layers.marks ∙ c.loop-tag.invariant.layers.marks };
+      layers = record { layers = c.walk_hook-this.ensures.layers.layers ∙ c.loop-tag.invariant.layers.layers; marks = c.walk_hook-this.ensures.layers.marks ∙ c.loop-tag.invariant.layers.marks };
     }
 
 pub returns-clause-walked : goal.returns-clause-walked

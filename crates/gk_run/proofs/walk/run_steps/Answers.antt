@@ -5,6 +5,7 @@ use Rattle.gk_gherkin.specs.Feature.{StepValue, step_value}
 use Rattle.gk_steps.specs.Finding.{library_value}
 use Rattle.gk_world.specs.State.{state_of}
 use Rattle.gk_run.specs.Cleanups.{cleanups_value}
+use Rattle.gk_run.specs.Ending.{worse}
 use Rattle.gk_run.specs.Results.{StepRow, step_row}
 use Rattle.gk_run.specs.Walk.{row_of_step}
 use Rattle.gk_run.proofs.StepsLemmas.{GoesSteps, steps_first, steps_on, steps_last}
@@ -22,13 +23,13 @@ loop-step-init c =
       goes =
           subst (λ (rows : List StepRow). GoesSteps library c.args.before first cs0 (map step_value (into_iter_items c.into_iter-step-iterator.result)) rows c.args.before first cs0 steps) (sym (ap (map step_row) c.args.steps.empty))
           (subst (λ (left : List StepValue). GoesSteps library c.args.before first cs0 left [] c.args.before first cs0 steps) (sym (ap (map step_value) here)) (steps_first library c.args.before first cs0 steps));
-      layers = record { saved = refl; marks = refl };
+      layers = record { layers = refl; marks = refl };
       room = let e : length c.args.steps.results.items ≡ 0 = ap length c.args.steps.empty in let f = ap length here in let v = c.args.steps.results.ok.0 in omega arith;
       counted = let l = c.into_iter-step-iterator.ensures.into_iter_gives.1 in let v = c.args.steps.steps.ok.0 in let f = ap length here in omega arith;
     }
 
-pub next_step-next-requires : goal.next_step-next-requires
-next_step-next-requires c = record { begun = rw (ap length c.loop-step.invariant.layers.saved) c.requires.begun }
+pub next_step-mark-requires : goal.next_step-mark-requires
+next_step-mark-requires c = record { in_layer = rw (ap length c.loop-step.invariant.layers.layers) c.requires.in_layer }
 
 pub loop-step-preserved : goal.loop-step-preserved
 loop-step-preserved c =
@@ -43,17 +44,18 @@ loop-step-preserved c =
     let left = map step_value (into_iter_items c.next.new.self) in
     let rows = map step_row c.loop-step.results.items in
     let now = state_of c.loop-step.sandbox.now in
-    let new = state_of c.next_step-next.new.sandbox.now in
+    let new = state_of c.next_step-mark.new.sandbox.now in
     let cs = cleanups_value c.loop-step.cleanups in
-    let ls = cleanups_value c.next_step-next.new.cleanups in
-    let mark = c.next_step-next.result.mark in
+    let ls = cleanups_value c.next_step-mark.new.cleanups in
+    let mark = c.next_step-mark.result in
+    let ends = c.worse-ending.ensures ∙ ap (worse c.loop-step.ending) c.ending_of.ensures in
     let more : map step_row c.push_reserved.new.self.items ≡ rows ++ row_of_step step mark ∷ [] =
     ap (map step_row) c.push_reserved.ensures.items ∙ map_push step_row c.loop-step.results.items c.row_of.result ∙ ap (λ (row : StepRow). rows ++ row ∷ []) c.row_of.ensures in
     let whole : GoesSteps library c.loop-step.ending now cs (step ∷ left) rows before first cs0 all =
     subst (λ (xs : List StepValue). GoesSteps library c.loop-step.ending now cs xs rows before first cs0 all) (ap (map step_value) s.0) c.loop-step.invariant.goes in
     record {
-      goes = steps_on library before first cs0 all c.loop-step.ending c.next_step-next.result.ending now new cs ls step left mark rows (map step_row c.push_reserved.new.self.items) c.next_step-next.ensures.next more whole;
-      layers = record { saved = c.next_step-next.ensures.layers.saved ∙ c.loop-step.invariant.layers.saved; marks = c.next_step-next.ensures.layers.marks ∙ c.loop-step.invariant.layers.marks };
+      goes = steps_on library before first cs0 all c.loop-step.ending c.worse-ending.result now new cs ls step left mark rows (map step_row c.push_reserved.new.self.items) c.next_step-mark.ensures.next ends more whole;
+      layers = record { layers = c.next_step-mark.ensures.layers.layers ∙ c.loop-step.invariant.layers.layers; marks = c.next_step-mark.ensures.layers.marks ∙ c.loop-step.invariant.layers.marks };
       room = omega arith;
       counted = omega arith;
     }

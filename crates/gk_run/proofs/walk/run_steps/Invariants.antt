@@ -3,7 +3,7 @@ use Rattle.std.specs.Vec.Iter.{into_iter_items, into_iter_len}
 use Rattle.gk_gherkin.specs.Feature.{step_value}
 use Rattle.gk_steps.specs.Finding.{library_value}
 use Rattle.gk_world.specs.State.{state_of}
-use Rattle.gk_run.specs.Acting.{KeepsLayers}
+use Rattle.gk_world.specs.Sandbox.{KeepsLayers}
 use Rattle.gk_run.specs.Cleanups.{cleanups_value}
 use Rattle.gk_run.specs.Results.{step_row}
 use Rattle.gk_run.proofs.StepsLemmas.{GoesSteps}

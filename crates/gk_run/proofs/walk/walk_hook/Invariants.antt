@@ -2,7 +2,7 @@ use Rattle.std.proofs.Common.{drop, map}
 use Rattle.gk_gherkin.specs.Feature.{step_value}
 use Rattle.gk_steps.specs.Finding.{library_value}
 use Rattle.gk_world.specs.State.{state_of}
-use Rattle.gk_run.specs.Acting.{KeepsLayers}
+use Rattle.gk_world.specs.Sandbox.{KeepsLayers}
 use Rattle.gk_run.specs.Cleanups.{cleanups_value}
 use Rattle.gk_run.proofs.WalkLemmas.{Goes}
 use Rattle.gk_run.proofs.walk.walk_hook.Given as goal

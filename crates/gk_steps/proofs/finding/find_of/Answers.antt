@@ -1,4 +1,8 @@
-use Rattle.std.proofs.Common.{map, subst, refl, option_map}
+use Rattle.std.proofs.Common.{◌≤◌, ◌+◌, sym, map, drop, subst, refl, option_map}
+use Rattle.gk_steps.specs.declared.filled_cells.Cells.{Cells}
+use Rattle.gk_steps.specs.FilledCells.{cells_of_type}
+use Rattle.gk_steps.specs.Finding.{entry_value}
+use Rattle.gk_steps.proofs.FilledCellsLemmas.{asked, passed_over, within_all}
 use Rattle.gk_steps.specs.Matching.{IsMatchResult, field_value}
 use Rattle.gk_steps.specs.Pattern.{piece_value}
 use Rattle.gk_steps.proofs.FindingLemmas.{none_more, none_all, first_at, candidate, of_fault}
@@ -9,10 +13,10 @@ pub returns-in-Some-clause-found : goal.returns-in-Some-clause-found
 returns-in-Some-clause-found c =
     first_at c.args.entries.now c.args.step_type c.args.text.now c.loop-place.place c.index-entries-place.result (map field_value c.in-Some.fields.items) c.loop-place-test.true c.index-entries-place.is c.if-is_same.ensures
     (subst (λ o. IsMatchResult (map piece_value c.index-entries-place.result.pattern.pieces.items) c.args.text.now (option_map (λ fields. map field_value fields.items) o)) c.in-Some.is
-    (subst (λ ps. IsMatchResult (map piece_value ps) c.args.text.now (option_map (λ fields. map field_value fields.items) c.in_ok-fields.field-0)) c.deref.ensures.value c.in_ok-fields.ensures)) c.loop-place.invariant
+    (subst (λ ps. IsMatchResult (map piece_value ps) c.args.text.now (option_map (λ fields. map field_value fields.items) c.in_ok-fields.field-0)) c.deref.ensures.value c.in_ok-fields.ensures.found)) c.loop-place.invariant.0
 
 pub returns-clause-found : goal.returns-clause-found
-returns-clause-found c = none_all c.args.entries.now c.args.step_type c.args.text.now c.loop-place.place c.loop-place-test.false c.loop-place.invariant
+returns-clause-found c = none_all c.args.entries.now c.args.step_type c.args.text.now c.loop-place.place c.loop-place-test.false c.loop-place.invariant.0
 
 pub returns-in_err-fields-clause-memory : goal.returns-in_err-fields-clause-memory
 returns-in_err-fields-clause-memory c =
@@ -21,16 +25,36 @@ returns-in_err-fields-clause-memory c =
 pub loop-place-preserved : goal.loop-place-preserved
 loop-place-preserved c =
     elim c.if-is_same.branch [
-      | then-is_same+then-can_match+in_ok-fields+in-None w ↦
-          none_more c.args.entries.now c.args.step_type c.args.text.now c.loop-place.place c.index-entries-place.result c.loop-place-test.true c.index-entries-place.is
-          (λ same. subst (λ o. IsMatchResult (map piece_value c.index-entries-place.result.pattern.pieces.items) c.args.text.now (option_map (λ fields. map field_value fields.items) o)) w.in-None.is
-          (subst (λ ps. IsMatchResult (map piece_value ps) c.args.text.now (option_map (λ fields. map field_value fields.items) w.in_ok-fields.field-0)) w.deref.ensures.value w.in_ok-fields.ensures)) c.loop-place.invariant
-      | else-is_same w ↦ elim w.else-is_same.branch [
-        | else-is_same-via-then-is_same+else-can_match v ↦
-            none_more c.args.entries.now c.args.step_type c.args.text.now c.loop-place.place c.index-entries-place.result c.loop-place-test.true c.index-entries-place.is
-            (λ same. v.if-can_match.ensures.refused refl) c.loop-place.invariant
-        | else-is_same-via-else-is_same v ↦
-            none_more c.args.entries.now c.args.step_type c.args.text.now c.loop-place.place c.index-entries-place.result c.loop-place-test.true c.index-entries-place.is
-            (λ same. absurd (v.if-is_same.ensures same)) c.loop-place.invariant
-      ]
+      | then-is_same+then-can_match+in_ok-fields+in-None w ↦ (
+        none_more c.args.entries.now c.args.step_type c.args.text.now c.loop-place.place c.index-entries-place.result c.loop-place-test.true c.index-entries-place.is
+            (λ same. subst (λ o. IsMatchResult (map piece_value c.index-entries-place.result.pattern.pieces.items) c.args.text.now (option_map (λ fields. map field_value fields.items) o)) w.in-None.is
+            (subst (λ ps. IsMatchResult (map piece_value ps) c.args.text.now (option_map (λ fields. map field_value fields.items) w.in_ok-fields.field-0)) w.deref.ensures.value w.in_ok-fields.ensures.found)) c.loop-place.invariant.0,
+        subst (λ (cells : Cells). cells.filled + cells_of_type (map entry_value (drop (c.loop-place.place + 1) c.args.entries.now)) c.args.step_type c.args.text.now ≤ c.args.cells.now.filled + cells_of_type (map entry_value c.args.entries.now) c.args.step_type c.args.text.now) (sym w.cells-is)
+            (asked c.args.entries.now c.loop-place.place c.index-entries-place.result c.args.step_type c.args.text.now w.deref.result.now c.args.cells.now.filled c.loop-place.cells.filled w.match_from_left.new.cells.filled c.loop-place-test.true c.index-entries-place.is w.if-is_same.ensures w.deref.ensures.value w.match_from_left.ensures.most c.loop-place.invariant.1),
+      )
+      | else-is_same w ↦ (
+        elim w.else-is_same.branch [
+          | else-is_same-via-then-is_same+else-can_match v ↦
+              none_more c.args.entries.now c.args.step_type c.args.text.now c.loop-place.place c.index-entries-place.result c.loop-place-test.true c.index-entries-place.is
+              (λ same. v.if-can_match.ensures.refused refl) c.loop-place.invariant.0
+          | else-is_same-via-else-is_same v ↦
+              none_more c.args.entries.now c.args.step_type c.args.text.now c.loop-place.place c.index-entries-place.result c.loop-place-test.true c.index-entries-place.is
+              (λ same. absurd (v.if-is_same.ensures same)) c.loop-place.invariant.0
+        ],
+        subst (λ (cells : Cells). cells.filled + cells_of_type (map entry_value (drop (c.loop-place.place + 1) c.args.entries.now)) c.args.step_type c.args.text.now ≤ c.args.cells.now.filled + cells_of_type (map entry_value c.args.entries.now) c.args.step_type c.args.text.now) (sym w.cells-is)
+            (passed_over c.args.entries.now c.loop-place.place c.index-entries-place.result c.args.step_type c.args.text.now c.args.cells.now.filled c.loop-place.cells.filled c.loop-place-test.true c.index-entries-place.is c.loop-place.invariant.1),
+      )
     ]
+
+pub returns-in_err-fields-clause-most : goal.returns-in_err-fields-clause-most
+returns-in_err-fields-clause-most c =
+    within_all c.match_from_left.new.cells.filled (cells_of_type (map entry_value (drop (c.loop-place.place + 1) c.args.entries.now)) c.args.step_type c.args.text.now) c.args.cells.now.filled (cells_of_type (map entry_value c.args.entries.now) c.args.step_type c.args.text.now)
+    (asked c.args.entries.now c.loop-place.place c.index-entries-place.result c.args.step_type c.args.text.now c.deref.result.now c.args.cells.now.filled c.loop-place.cells.filled c.match_from_left.new.cells.filled c.loop-place-test.true c.index-entries-place.is c.if-is_same.ensures c.deref.ensures.value c.match_from_left.ensures.most c.loop-place.invariant.1)
+
+pub returns-in-Some-clause-most : goal.returns-in-Some-clause-most
+returns-in-Some-clause-most c =
+    within_all c.match_from_left.new.cells.filled (cells_of_type (map entry_value (drop (c.loop-place.place + 1) c.args.entries.now)) c.args.step_type c.args.text.now) c.args.cells.now.filled (cells_of_type (map entry_value c.args.entries.now) c.args.step_type c.args.text.now)
+    (asked c.args.entries.now c.loop-place.place c.index-entries-place.result c.args.step_type c.args.text.now c.deref.result.now c.args.cells.now.filled c.loop-place.cells.filled c.match_from_left.new.cells.filled c.loop-place-test.true c.index-entries-place.is c.if-is_same.ensures c.deref.ensures.value c.match_from_left.ensures.most c.loop-place.invariant.1)
+
+pub returns-clause-most : goal.returns-clause-most
+returns-clause-most c = within_all c.loop-place.cells.filled (cells_of_type (map entry_value (drop c.loop-place.place c.args.entries.now)) c.args.step_type c.args.text.now) c.args.cells.now.filled (cells_of_type (map entry_value c.args.entries.now) c.args.step_type c.args.text.now) c.loop-place.invariant.1

@@ -1,7 +1,7 @@
 use Rattle.std.proofs.Common.{rules, ◌<◌, List, length, map, ap, subst, sym, ◌∙◌}
 use Rattle.gk_steps.specs.declared.pattern.FieldKind.TheVariants.{Plain}
 use Rattle.gk_steps.specs.Pattern.{PieceValue, Literal, FieldPiece, piece_value}
-use Rattle.gk_steps.specs.Leftmost.{IsKnown, IsCut}
+use Rattle.gk_steps.specs.Leftmost.{IsCutOf, IsCut}
 use Rattle.gk_steps.proofs.LeftmostLemmas.{none_left, first_and_rest, all_cut}
 use Rattle.gk_steps.proofs.leftmost.plain_cut.Goals as goal
 
@@ -14,4 +14,4 @@ pub returns-in-Literal : goal.returns-in-Literal
 returns-in-Literal c = λ name.
     let piece = ap piece_value c.in-Literal.is ∙ ap Literal (sym c.deref.ensures) in
     let after = first_and_rest c.args.after.now c.in-Some.piece.now c.in-Some.later.now (Literal c.deref.result.now) c.in-Some.ensures.cases.0 piece in
-    subst (λ (ps : List PieceValue). IsKnown (FieldPiece name Plain) ps c.args.text.now c.cut_before.result) (sym after) (c.cut_before.ensures name)
+    subst (λ (ps : List PieceValue). IsCutOf (FieldPiece name Plain) ps c.args.text.now c.cut_before.result) (sym after) (c.cut_before.ensures name)

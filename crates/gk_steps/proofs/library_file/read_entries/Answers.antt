@@ -1,13 +1,13 @@
 use Rattle.std.proofs.Common.{◌+◌, ℕ, length, map, take, ap, sym, subst, ◌∙◌, arith}
 use Rattle.std.proofs.lemmas.Iterator.Splits.{YieldsList-from_lines}
 use Rattle.std.proofs.lemmas.Iterator.Consumers.{YieldsList-turn, YieldsList-end}
-use Rattle.std.proofs.lemmas.List.{length_push, take_all}
+use Rattle.std.proofs.lemmas.List.{length_push}
 use Rattle.std.specs.Str.Lines.{lines}
 use Rattle.gk_gherkin.specs.Lines.{LineValue, Lines, line_at, numbered_from}
-use Rattle.gk_gherkin.proofs.LineNumbering.{length-numbered_from, numbered_from-at}
 use Rattle.gk_steps.specs.Finding.{entry_value}
 use Rattle.gk_steps.specs.LibraryFile.{ReadsLibrary}
 use Rattle.gk_steps.specs.LibraryLine.{AddsLine, LineFaultSays}
+use Rattle.gk_steps.proofs.LineLemmas.{line_there, no_more_lines}
 use Rattle.gk_steps.proofs.LibraryFileLemmas.{added_at, stopped_at}
 use Rattle.gk_steps.proofs.library_file.read_entries.Goals as goal
 
@@ -17,8 +17,9 @@ returns-in-Err-clause-fault c =
     let done = length c.loop-part.yielded in
     let before = map entry_value c.loop-part.entries.items in
     let turn = YieldsList-turn (YieldsList-from_lines c.args.text.now cc) c.loop-part.yielded _ c.loop-part.yielded_by _ _ _ c.in-Some.is c.next.ensures.steps in
+    let there = line_there 1 all done c.in-Some.part.now turn.0 turn.1 in
     let line = c.borrowed_line.ensures ∙ ap (λ (n : ℕ). line_at n c.in-Some.part.now) c.loop-part.invariant.counted in
-    stopped_at c.in-Err.fault (numbered_from 1 all) done (line_at (1 + done) c.in-Some.part.now) before (omega (arith, turn.0, length-numbered_from 1 all)) (numbered_from-at 1 all done c.in-Some.part.now turn.0 turn.1) c.loop-part.invariant.so_far
+    stopped_at c.in-Err.fault (numbered_from 1 all) done (line_at (1 + done) c.in-Some.part.now) before there.0 there.1 c.loop-part.invariant.so_far
     (subst (λ (l : LineValue). LineFaultSays c.in-Err.fault before l) line c.in-Err.ensures.fault)
 
 pub loop-part-preserved : goal.loop-part-preserved
@@ -28,9 +29,10 @@ loop-part-preserved c =
     let before = map entry_value c.loop-part.entries.items in
     let after = map entry_value c.add_line.new.entries.items in
     let turn = YieldsList-turn (YieldsList-from_lines c.args.text.now cc) c.loop-part.yielded _ c.loop-part.yielded_by _ _ _ c.in-Some.is c.next.ensures.steps in
+    let there = line_there 1 all done c.in-Some.part.now turn.0 turn.1 in
     let line = c.borrowed_line.ensures ∙ ap (λ (n : ℕ). line_at n c.in-Some.part.now) c.loop-part.invariant.counted in
     let longer = length_push c.loop-part.yielded c.in-Some.part in
-    let next = added_at (numbered_from 1 all) done (line_at (1 + done) c.in-Some.part.now) before after (omega (arith, turn.0, length-numbered_from 1 all)) (numbered_from-at 1 all done c.in-Some.part.now turn.0 turn.1) c.loop-part.invariant.so_far
+    let next = added_at (numbered_from 1 all) done (line_at (1 + done) c.in-Some.part.now) before after there.0 there.1 c.loop-part.invariant.so_far
     (subst (λ (l : LineValue). AddsLine before l after) line c.in-Ok.ensures.added) in
     record {
       so_far = subst (λ (i : ℕ). ReadsLibrary (take i (numbered_from 1 all)) after) (sym longer) next;
@@ -41,4 +43,4 @@ pub returns-clause-found : goal.returns-clause-found
 returns-clause-found c =
     let all = lines c.args.text.now in
     let t = YieldsList-end (YieldsList-from_lines c.args.text.now cc) c.loop-part.yielded _ c.loop-part.yielded_by _ _ c.in-None.is c.next.ensures.steps in
-    subst (λ (ls : Lines). ReadsLibrary ls (map entry_value c.loop-part.entries.items)) (take_all (length c.loop-part.yielded) (numbered_from 1 all) (omega (arith, t.1, length-numbered_from 1 all))) c.loop-part.invariant.so_far
+    subst (λ (ls : Lines). ReadsLibrary ls (map entry_value c.loop-part.entries.items)) (no_more_lines 1 all (length c.loop-part.yielded) (omega (arith, t.1))) c.loop-part.invariant.so_far

@@ -27,4 +27,4 @@ returns-in-Err-read_entries-clause-fault c =
     file_fault c.in-Err-read_entries.fault c.args.bytes.now (numbered_from 1 (lines c.in-Ok.text.now)) c.in-Ok.ensures.ok.0 (ap (λ (t : List ℕ). numbered_from 1 (lines t)) c.in-Ok.ensures.ok.1) c.in-Err-read_entries.ensures.fault
 
 pub returns-in-Err-clause-only : goal.returns-in-Err-clause-only
-returns-in-Err-clause-only c = λ entries is reads. c.lines_fault.ensures.only c.args.bytes.now is c.in-Err.ensures.fault
+returns-in-Err-clause-only c = λ entries is reads. absurd (c.lines_fault.ensures.none c.args.bytes.now c.in-Err.ensures.fault is)

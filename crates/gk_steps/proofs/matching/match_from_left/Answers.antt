@@ -1,4 +1,5 @@
-use Rattle.std.proofs.Common.{rules, ◌≡◌, ◌∷◌, ◌++◌, ◌-◌, List, None, option_map, Vec, Global, take, map, ap, subst, sym, ◌∙◌, arith}
+use Rattle.std.proofs.Common.{rules, ◌≡◌, ◌∷◌, ◌++◌, ◌-◌, length, drop, List, None, option_map, Vec, Global, take, map, ap, subst, sym, ◌∙◌, arith}
+use Rattle.std.specs.Str.{chars}
 use Rattle.gk_steps.specs.declared.pattern.Piece.{Piece}
 use Rattle.gk_steps.specs.declared.pattern.Field.{Field}
 use Rattle.gk_steps.specs.Pattern.{PieceValue, piece_value}
@@ -7,6 +8,7 @@ use Rattle.gk_steps.specs.Columns.{values_of}
 use Rattle.gk_steps.specs.Leftmost.{IsLeft, FindsRest}
 use Rattle.gk_steps.proofs.TableRowLemmas.{if_ok}
 use Rattle.gk_steps.proofs.LeftmostLemmas.{none_left, left_more, left_nothing, left_over}
+use Rattle.gk_steps.proofs.FilledCellsLemmas.{fewer_chars, left_most}
 use Rattle.gk_steps.proofs.matching.match_from_left.Goals as goal
 
 pub pieces-preserved : goal.pieces-preserved
@@ -22,25 +24,33 @@ pieces-preserved c =
       c.range_from-rest.utf8,
       subst (IsLeft (map piece_value c.args.pieces.now) c.args.text.now (map field_value c.push_taken.new.fields.items) others) (sym c.range_from-rest.ensures.value)
           (left_more (map piece_value c.args.pieces.now) c.args.text.now (map field_value c.pieces.fields.items) (map field_value c.push_taken.new.fields.items) piece others rest c.in-At.place known c.in-At.ensures added),
+      omega (arith, ap length c.in-Some.ensures.cases.0, c.pieces.invariant.2),
+      let back : length (chars c.range_from-rest.result.now) ≡ length (chars (drop c.in-At.place rest)) = ap (λ t. length (chars t)) c.range_from-rest.ensures.value in
+          omega (arith, back, fewer_chars rest c.in-At.place c.pieces.invariant.0 c.in-At.ensures.boundary, c.pieces.invariant.3),
+      c.pieces.invariant.4,
     )
 
-pub returns-in-Nowhere : goal.returns-in-Nowhere
-returns-in-Nowhere c =
+pub returns-in-Nowhere-clause-found : goal.returns-in-Nowhere-clause-found
+returns-in-Nowhere-clause-found c =
     let known = subst (λ (ps : List PieceValue). IsLeft (map piece_value c.args.pieces.now) c.args.text.now (map field_value c.pieces.fields.items) ps c.pieces.rest.now) (ap (map piece_value) c.in-Some.ensures.cases.0) c.pieces.invariant.1 in
     known None c.in-Nowhere.ensures
 
-pub returns-in-Unknown : goal.returns-in-Unknown
-returns-in-Unknown c = if_ok c.match_rest.result
+pub returns-in-Unknown-clause-found : goal.returns-in-Unknown-clause-found
+returns-in-Unknown-clause-found c = if_ok c.match_rest.result
     (λ found. FindsRest (map field_value c.pieces.fields.items) (map piece_value c.pieces.left.now) c.pieces.rest.now (option_map (λ (fields : Vec Field Global). map field_value fields.items) found))
     (λ found. IsMatchResult (map piece_value c.args.pieces.now) c.args.text.now (option_map (λ (fields : Vec Field Global). map field_value fields.items) found))
-    (λ found h. h (map piece_value c.args.pieces.now) c.args.text.now c.pieces.invariant.1) c.match_rest.ensures
+    (λ found h. h (map piece_value c.args.pieces.now) c.args.text.now c.pieces.invariant.1) c.match_rest.ensures.found
 
-pub returns-then-is_empty : goal.returns-then-is_empty
-returns-then-is_empty c =
+pub returns-then-is_empty-clause-found : goal.returns-then-is_empty-clause-found
+returns-then-is_empty-clause-found c =
     let known = subst (λ (pieces : List Piece). IsLeft (map piece_value c.args.pieces.now) c.args.text.now (map field_value c.pieces.fields.items) (map piece_value pieces) c.pieces.rest.now) (none_left c.pieces.left.now c.in_default.ensures.cases) c.pieces.invariant.1 in
     left_nothing (map piece_value c.args.pieces.now) c.args.text.now (map field_value c.pieces.fields.items) c.pieces.rest.now known (search rules)
 
-pub returns-else-is_empty : goal.returns-else-is_empty
-returns-else-is_empty c =
+pub returns-else-is_empty-clause-found : goal.returns-else-is_empty-clause-found
+returns-else-is_empty-clause-found c =
     let known = subst (λ (pieces : List Piece). IsLeft (map piece_value c.args.pieces.now) c.args.text.now (map field_value c.pieces.fields.items) (map piece_value pieces) c.pieces.rest.now) (none_left c.pieces.left.now c.in_default.ensures.cases) c.pieces.invariant.1 in
     left_over (map piece_value c.args.pieces.now) c.args.text.now (map field_value c.pieces.fields.items) c.pieces.rest.now known (search rules)
+
+pub returns-in-Unknown-clause-most : goal.returns-in-Unknown-clause-most
+returns-in-Unknown-clause-most c =
+    left_most c.pieces.left.now c.args.pieces.now c.pieces.rest.now c.args.text.now c.args.cells.now.filled c.pieces.cells.filled c.match_rest.new.cells.filled c.pieces.invariant.2 c.pieces.invariant.3 c.pieces.invariant.4 c.match_rest.ensures.most

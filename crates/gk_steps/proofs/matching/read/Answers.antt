@@ -1,7 +1,7 @@
 use Rattle.std.proofs.Common.{◌≡◌, ◌∙◌, ◌+◌, ◌-◌, ◌++◌, ◌∷◌, Some, ap, sym, subst, length, map, drop, get_or, arith}
 use Rattle.gk_steps.specs.Pattern.{piece_value}
 use Rattle.gk_steps.specs.Matching.{Matches, field_value}
-use Rattle.gk_steps.specs.Columns.{IsStep, IsReadTo, Takes, values_of}
+use Rattle.gk_steps.specs.Columns.{IsAdvance, IsMatchedTo, Takes, values_of}
 use Rattle.std.proofs.lemmas.List.{length-map}
 use Rattle.gk_steps.proofs.TableLemmas.{is_step}
 use Rattle.gk_steps.proofs.ColumnLemmas.{text_piece}
@@ -9,7 +9,7 @@ use Rattle.gk_steps.proofs.TableReadLemmas.{read_start, read_more, read_end, her
 use Rattle.gk_steps.proofs.matching.read.Goals as goal
 
 pub loop-taken-init : goal.loop-taken-init
-loop-taken-init c = subst (λ fs. IsReadTo 0 (length c.args.places.now - 1) (map piece_value c.args.pieces.now) c.args.text.now c.args.places.now (map field_value fs)) (sym c.new-fields.ensures.items)
+loop-taken-init c = subst (λ fs. IsMatchedTo 0 (length c.args.places.now - 1) (map piece_value c.args.pieces.now) c.args.text.now c.args.places.now (map field_value fs)) (sym c.new-fields.ensures.items)
     (read_start (map piece_value c.args.pieces.now) c.args.text.now c.args.places.now c.utf8.text c.requires.places c.requires.matched)
 
 pub unwrap-next-requires : goal.unwrap-next-requires
@@ -20,9 +20,9 @@ unwrap-next-requires c =
     let taken = c.loop-taken.taken in
     let column = c.loop-taken.column in
     let here : drop taken ps ≡ piece_value c.index-pieces-taken.result ∷ drop (taken + 1) ps = here_at c.args.pieces.now taken c.index-pieces-taken.result c.loop-taken-test.true c.index-pieces-taken.is in
-    is_step (piece_value c.index-pieces-taken.result) (drop (taken + 1) ps) text places c.deref.result.now column c.step.result c.utf8.text (text_piece c.index-pieces-taken.result) c.requires.places
+    is_step (piece_value c.index-pieces-taken.result) (drop (taken + 1) ps) text places c.deref.result.now column c.advance.result c.utf8.text (text_piece c.index-pieces-taken.result) c.requires.places
     (row_under c.args.pieces.now text places c.args.rows.now taken c.index-rows-pieces.result c.deref.result.now c.requires.table c.loop-taken-test.true c.index-rows-pieces.is c.deref.ensures.value)
-    c.loop-taken.invariant.known c.step.ensures (c.loop-taken.invariant.matched.0, subst (λ ws. Matches ws (drop (get_or places column 0) text) c.loop-taken.invariant.matched.0) here c.loop-taken.invariant.matched.1)
+    c.loop-taken.invariant.known c.advance.ensures (c.loop-taken.invariant.matched.0, subst (λ ws. Matches ws (drop (get_or places column 0) text) c.loop-taken.invariant.matched.0) here c.loop-taken.invariant.matched.1)
 
 pub loop-taken-preserved : goal.loop-taken-preserved
 loop-taken-preserved c =
@@ -32,7 +32,7 @@ loop-taken-preserved c =
     let taken = c.loop-taken.taken in
     let column = c.loop-taken.column in
     let here : drop taken ps ≡ piece_value c.index-pieces-taken.result ∷ drop (taken + 1) ps = here_at c.args.pieces.now taken c.index-pieces-taken.result c.loop-taken-test.true c.index-pieces-taken.is in
-    let stepped : IsStep (piece_value c.index-pieces-taken.result) text places c.deref.result.now column (Some c.unwrap-next.result) = subst (IsStep (piece_value c.index-pieces-taken.result) text places c.deref.result.now column) c.unwrap-next.ensures c.step.ensures in
+    let stepped : IsAdvance (piece_value c.index-pieces-taken.result) text places c.deref.result.now column (Some c.unwrap-next.result) = subst (IsAdvance (piece_value c.index-pieces-taken.result) text places c.deref.result.now column) c.unwrap-next.ensures c.advance.ensures in
     read_more ps (drop (taken + 1) ps) (piece_value c.index-pieces-taken.result) text places c.deref.result.now taken column c.unwrap-next.result (map field_value c.loop-taken.fields.items) (map field_value c.push_taken.new.fields.items) c.utf8.text (text_piece c.index-pieces-taken.result) c.requires.places here (λ i. drop (taken + 1) ps)
     (row_under c.args.pieces.now text places c.args.rows.now taken c.index-rows-pieces.result c.deref.result.now c.requires.table c.loop-taken-test.true c.index-rows-pieces.is c.deref.ensures.value)
     stepped (c.in_ok-push_taken.ensures ∙ ap (λ x. map field_value c.loop-taken.fields.items ++ values_of (piece_value c.index-pieces-taken.result) x) c.range.ensures.value) c.loop-taken.invariant
@@ -43,10 +43,10 @@ returns c =
     let size : length ps ≡ length c.args.pieces.now = length-map c.args.pieces.now piece_value in
     let all : c.loop-taken.taken ≡ length ps = omega arith in
     read_end ps c.args.text.now c.args.places.now c.loop-taken.column (map field_value c.loop-taken.fields.items)
-    (subst (λ k. IsReadTo k c.loop-taken.column ps c.args.text.now c.args.places.now (map field_value c.loop-taken.fields.items)) all c.loop-taken.invariant)
+    (subst (λ k. IsMatchedTo k c.loop-taken.column ps c.args.text.now c.args.places.now (map field_value c.loop-taken.fields.items)) all c.loop-taken.invariant)
 
 pub push_taken-requires : goal.push_taken-requires
 push_taken-requires c =
     let piece = piece_value c.index-pieces-taken.result in
-    let stepped : IsStep piece c.args.text.now c.args.places.now c.deref.result.now c.loop-taken.column (Some c.unwrap-next.result) = subst (IsStep piece c.args.text.now c.args.places.now c.deref.result.now c.loop-taken.column) c.unwrap-next.ensures c.step.ensures in
+    let stepped : IsAdvance piece c.args.text.now c.args.places.now c.deref.result.now c.loop-taken.column (Some c.unwrap-next.result) = subst (IsAdvance piece c.args.text.now c.args.places.now c.deref.result.now c.loop-taken.column) c.unwrap-next.ensures c.advance.ensures in
     subst (Takes piece) (sym c.range.ensures.value) stepped.0.takes

@@ -1,6 +1,7 @@
 use Rattle.std.proofs.Common.{◌≡◌, ◌+◌, ◌-◌, subst, arith}
 use Rattle.gk_steps.specs.Digits.{KnowsDigits}
 use Rattle.gk_steps.proofs.TableRowLemmas.{number_more}
+use Rattle.gk_steps.proofs.FilledCellsLemmas.{one_more}
 use Rattle.gk_steps.proofs.table_rows.decimal_row.Goals as goal
 
 pub loop-column-preserved : goal.loop-column-preserved
@@ -9,5 +10,6 @@ loop-column-preserved c =
     record {
       row = number_more c.loop-column.column c.args.text.now c.args.below.now.places.now c.args.below.now.cells.now c.loop-column.row.items c.fill.new.row.items c.has_number.result c.in_ok-fill.ensures.items c.loop-column.invariant.row c.has_number.ensures;
       digits = subst (λ k. KnowsDigits c.args.text.now c.args.below.now.places.now c.args.below.now.cells.now k c.next-here.result) at c.next-here.ensures;
-      filled = omega (arith, c.in_ok-fill.ensures.filled);
+      most = omega (arith, c.loop-column.invariant.most, c.in_ok-fill.ensures.most);
+      filled = one_more c.args.cells.now.filled c.loop-column.cells.filled c.fill.new.self.filled c.loop-column.column c.loop-column.invariant.filled c.in_ok-fill.ensures.filled;
     }

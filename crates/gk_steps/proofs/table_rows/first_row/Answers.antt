@@ -1,12 +1,14 @@
 use Rattle.std.proofs.Common.{◌≡◌, [], length, subst, arith}
 use Rattle.gk_steps.specs.TableRows.{IsRowTo}
 use Rattle.gk_steps.proofs.TableRowLemmas.{end_more}
+use Rattle.gk_steps.proofs.FilledCellsLemmas.{one_more}
 use Rattle.gk_steps.proofs.table_rows.first_row.Goals as goal
 
 pub loop-column-preserved : goal.loop-column-preserved
 loop-column-preserved c = record {
   row = λ text h. end_more text c.args.places.now c.loop-column.column c.loop-column.row.items c.fill.new.row.items h c.loop-column-test.true c.in_ok-fill.ensures.items (c.loop-column.invariant.row text h);
-  filled = omega (arith, c.in_ok-fill.ensures.filled);
+  most = omega (arith, c.loop-column.invariant.most, c.in_ok-fill.ensures.most);
+  filled = one_more c.args.cells.now.filled c.loop-column.cells.filled c.fill.new.self.filled c.loop-column.column c.loop-column.invariant.filled c.in_ok-fill.ensures.filled;
 }
 
 pub returns-clause-row : goal.returns-clause-row

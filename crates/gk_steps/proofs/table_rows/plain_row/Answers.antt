@@ -1,6 +1,7 @@
 use Rattle.std.proofs.Common.{◌∙◌, ◌+◌, subst, sym, arith}
 use Rattle.gk_steps.specs.TableRows.{IsAnyBefore}
 use Rattle.gk_steps.proofs.TableRowLemmas.{any_new, any_kept, plain_more}
+use Rattle.gk_steps.proofs.FilledCellsLemmas.{one_more}
 use Rattle.gk_steps.proofs.table_rows.plain_row.Goals as goal
 use Rattle.gk_steps.proofs.table_rows.plain_row.Goals.{then-any, else-any}
 
@@ -11,5 +12,6 @@ loop-column-preserved c = record {
     | then-any w ↦ subst (IsAnyBefore c.args.below.now (c.loop-column.column + 1)) (sym (w.any-is ∙ w.if-any.true)) (any_kept c.args.below.now c.loop-column.column (subst (IsAnyBefore c.args.below.now c.loop-column.column) w.if-any.true c.loop-column.invariant.any))
     | else-any w ↦ any_new c.args.below.now c.loop-column.column c.if-any.any (sym w.any-is) (subst (IsAnyBefore c.args.below.now c.loop-column.column) w.if-any.false c.loop-column.invariant.any)
   ];
-  filled = omega (arith, c.in_ok-fill.ensures.filled);
+  most = omega (arith, c.loop-column.invariant.most, c.in_ok-fill.ensures.most);
+  filled = one_more c.args.cells.now.filled c.loop-column.cells.filled c.fill.new.self.filled c.loop-column.column c.loop-column.invariant.filled c.in_ok-fill.ensures.filled;
 }

@@ -1,6 +1,7 @@
-use Rattle.std.proofs.Common.{◌≡◌, ◌+◌}
+use Rattle.std.proofs.Common.{◌≤◌, ◌+◌}
 use Rattle.gk_steps.specs.TableRows.{IsPlainRow, IsAnyBefore}
+use Rattle.gk_steps.specs.FilledCells.{GoesOnBy}
 use Rattle.gk_steps.proofs.table_rows.plain_row.Given as goal
 
 abbrev pub invariant-loop-column : goal.invariant-loop-column
-invariant-loop-column l = record { row : IsPlainRow l.column l.below l.row.items; any : IsAnyBefore l.below l.column l.any; filled : l.counter.filled ≡ l.fn.counter.filled + l.column }
+invariant-loop-column l = record { row : IsPlainRow l.column l.below l.row.items; any : IsAnyBefore l.below l.column l.any; most : l.cells.filled ≤ l.fn.cells.filled + l.column; filled : GoesOnBy l.column l.fn.cells.filled l.cells.filled }

@@ -5,6 +5,7 @@ use Rattle.gk_steps.specs.Digits.{IsNumberRow}
 use Rattle.gk_steps.specs.Pattern.{piece_value}
 use Rattle.gk_steps.proofs.ColumnLemmas.{field_piece, text_piece}
 use Rattle.gk_steps.proofs.TableRowLemmas.{if_ok, plain_row, number_row, step_more}
+use Rattle.gk_steps.proofs.FilledCellsLemmas.{one_more}
 use Rattle.gk_steps.proofs.table_rows.row_over.Goals as goal
 
 pub returns-in-Plain-clause-row : goal.returns-in-Plain-clause-row
@@ -23,8 +24,9 @@ returns-in-Decimal-clause-row c =
 
 pub loop-column-preserved : goal.loop-column-preserved
 loop-column-preserved c = record {
-  row = λ ps r. step_more (piece_value c.args.piece.now) ps c.args.text.now c.args.below.now.places.now c.args.below.now.cells.now c.loop-column.column c.step.result c.is_some-cell.result c.loop-column.row.items c.fill.new.row.items c.utf8.text (text_piece c.args.piece.now) c.requires.places r c.loop-column-test.true c.step.ensures c.is_some-cell.ensures c.in_ok-fill.ensures.items (c.loop-column.invariant.row ps r);
-  filled = omega (arith, c.in_ok-fill.ensures.filled);
+  row = λ ps r. step_more (piece_value c.args.piece.now) ps c.args.text.now c.args.below.now.places.now c.args.below.now.cells.now c.loop-column.column c.advance.result c.is_some-cell.result c.loop-column.row.items c.fill.new.row.items c.utf8.text (text_piece c.args.piece.now) c.requires.places r c.loop-column-test.true c.advance.ensures c.is_some-cell.ensures c.in_ok-fill.ensures.items (c.loop-column.invariant.row ps r);
+  most = omega (arith, c.loop-column.invariant.most, c.in_ok-fill.ensures.most);
+  filled = one_more c.args.cells.now.filled c.loop-column.cells.filled c.fill.new.self.filled c.loop-column.column c.loop-column.invariant.filled c.in_ok-fill.ensures.filled;
 }
 
 pub returns-clause-row : goal.returns-clause-row

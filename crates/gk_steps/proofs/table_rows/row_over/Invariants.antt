@@ -1,7 +1,8 @@
-use Rattle.std.proofs.Common.{◌≡◌, ◌+◌, List, ◌∷◌}
+use Rattle.std.proofs.Common.{◌≤◌, ◌+◌, List, ◌∷◌}
 use Rattle.gk_steps.specs.Pattern.{PieceValue, piece_value}
 use Rattle.gk_steps.specs.TableRows.{IsRow, IsRowTo}
+use Rattle.gk_steps.specs.FilledCells.{GoesOnBy}
 use Rattle.gk_steps.proofs.table_rows.row_over.Given as goal
 
 abbrev pub invariant-loop-column : goal.invariant-loop-column
-invariant-loop-column l = record { row : (ps : List PieceValue) → IsRow ps l.text l.below.places.now l.below.cells.now → IsRowTo l.column (piece_value l.piece ∷ ps) l.text l.below.places.now l.row.items; filled : l.counter.filled ≡ l.fn.counter.filled + l.column }
+invariant-loop-column l = record { row : (ps : List PieceValue) → IsRow ps l.text l.below.places.now l.below.cells.now → IsRowTo l.column (piece_value l.piece ∷ ps) l.text l.below.places.now l.row.items; most : l.cells.filled ≤ l.fn.cells.filled + l.column; filled : GoesOnBy l.column l.fn.cells.filled l.cells.filled }

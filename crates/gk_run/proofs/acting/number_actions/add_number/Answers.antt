@@ -3,9 +3,9 @@ use Rattle.std.specs.Option.{option_copied}
 use Rattle.std.specs.Prelude.{ℤ, ◌+ℤ◌, FitsSigned}
 use Rattle.std.proofs.Common.{rules, ◌≡◌, ◌∙◌, ap, sym, subst, Some, w64, to_z, of_z}
 use Rattle.std.proofs.Math.Facts.{to_z-of_z}
+use Rattle.gk_steps.specs.Decimal.{number_of}
 use Rattle.gk_world.specs.State.{state_of}
 use Rattle.gk_run.specs.Acting.{IsActed, passes, with_own}
-use Rattle.gk_run.specs.Numbers.{number_of}
 use Rattle.gk_run.proofs.ActingLemmas.{sum_acted, out_of_range_acted, not_in_range, number_fits}
 use Rattle.gk_run.proofs.acting.number_actions.add_number.Goals as goal
 

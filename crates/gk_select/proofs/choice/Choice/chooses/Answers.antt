@@ -2,7 +2,8 @@ use Rattle.std.proofs.Common.{◌≡◌, true, false, map, sym, ◌∙◌}
 use Rattle.std.specs.List.{list_all}
 use Rattle.gk_gherkin.specs.Feature.{texts}
 use Rattle.gk_select.specs.Choice.{is_chosen}
-use Rattle.gk_select.specs.TagRules.{holds, tag_rule_value}
+use Rattle.gk_select.specs.TagRules.{tag_rule_value}
+use Rattle.gk_select.specs.TagValues.{holds}
 use Rattle.gk_select.proofs.choice.Choice.chooses.Goals as goal
 
 pub returns-then-rules_hold : goal.returns-then-rules_hold

@@ -2,7 +2,8 @@ use Rattle.std.proofs.Common.{◌∙◌, rules, tests}
 use Rattle.std.proofs.lemmas.Iterator.{YieldsList-from_slice}
 use Rattle.std.proofs.lemmas.Iterator.Search.{all_from_yields_List}
 use Rattle.gk_gherkin.specs.Feature.{texts}
-use Rattle.gk_select.specs.TagRules.{holds, tag_rule_value}
+use Rattle.gk_select.specs.TagRules.{tag_rule_value}
+use Rattle.gk_select.specs.TagValues.{holds}
 use Rattle.gk_select.proofs.ChosenLines.{list_all-map}
 use Rattle.gk_select.proofs.choice.Choice.rules_hold.Goals as goal
 

@@ -1,6 +1,7 @@
-use Rattle.std.proofs.Common.{arith}
+use Rattle.std.proofs.Common.{arith, sym, subst}
+use Rattle.gk_world.specs.World.{IsHere}
 use Rattle.gk_world.specs.Sandbox.{open_marks}
-use Rattle.gk_world.proofs.SandboxLemmas.{length-open_marks, applies, recorded_value, recorded_sound, recorded_answer, recorded_same}
+use Rattle.gk_world.proofs.SandboxLemmas.{length-open_marks, depth_is, unrecorded_sound, applies, recorded_value, recorded_sound, recorded_answer, recorded_same}
 use Rattle.gk_world.proofs.sandbox.Sandbox.change.Goals as goal
 
 pub change-answer-requires : goal.change-answer-requires
@@ -23,6 +24,13 @@ pub returns-clause-err : goal.returns-clause-err
 returns-clause-err c =
     let i = c.self.inside in
     recorded_same c.args.change i.world i.journal (open_marks i.depth i.marks) c.args.self.now c.self.view_is c.requires.here c.self.invariant (omega (arith, length-open_marks i.depth i.marks)) c.change-answer.new.on c.change-answer.new.self c.change-answer.result c.change-answer.ensures.err
+
+pub invariant_of-self : goal.invariant_of-self
+invariant_of-self c =
+    let i = c.self.inside in
+    unrecorded_sound c.args.change i.world c.apply.new.self i.journal i.depth i.marks c.if-self-eq0.true c.apply.result
+    (subst (IsHere c.args.change) (sym (depth_is i.world i.journal i.depth i.marks c.args.self.now c.self.view_is)) c.requires.here)
+    c.self.invariant c.apply.ensures.done c.apply.ensures.err
 
 pub invariant_of-self-2 : goal.invariant_of-self-2
 invariant_of-self-2 c =

@@ -1,0 +1,61 @@
+-- What std's `contains` answers, as the definition has it.
+use Rattle.std.specs.Prelude.{◌||◌, ◌==◌}
+use Rattle.std.specs.Str.Iter.{HasSubslice}
+use Rattle.std.proofs.Common.{◌≡◌, ◌⊎◌, inl, inr, ℕ, Bool, true, false, List, [], ◌∷◌, ◌++◌, length, take, drop, refl, sym, ap, ◌∙◌, arith}
+use Rattle.std.proofs.Math.Seq.{take-append_seam}
+use Rattle.std.proofs.lemmas.Bool.{eqb-true}
+use Rattle.std.proofs.lemmas.List.{take-append-drop}
+use Rattle.std.proofs.lemmas.Slice.Eq.{bytes_eq-Decides}
+use Rattle.gk_gherkin.specs.Text.{begins, stands_in}
+
+-- a list begins with another where it is that one and something after it
+begins_so : (bs text rest : List ℕ) → bs ≡ text ++ rest → begins bs text ≡ true
+begins_so bs text rest e = (bytes_eq-Decides text (take (length text) bs)).1 (sym (ap (λ xs. take (length text) xs) e ∙ take-append_seam text rest))
+
+begun : (bs text : List ℕ) → begins bs text ≡ true → bs ≡ text ++ drop (length text) bs
+begun bs text h = let e = (bytes_eq-Decides text (take (length text) bs)).0 h in
+    sym (take-append-drop (length text) bs) ∙ ap (λ xs. xs ++ drop (length text) bs) (sym e)
+
+either_first : (a b : Bool) → a ≡ true → (a || b) ≡ true
+either_first true b h = refl
+either_first false b h = cc
+
+either_second : (a b : Bool) → b ≡ true → (a || b) ≡ true
+either_second true b h = refl
+either_second false b h = h
+
+no_bytes : (text : List ℕ) → [] ≡ text → (length text == 0) ≡ true
+no_bytes [] e = refl
+no_bytes (b ∷ bs) e = cc
+
+no_bytes_after : (before text rest : List ℕ) → [] ≡ before ++ (text ++ rest) → (length text == 0) ≡ true
+no_bytes_after [] [] rest e = refl
+no_bytes_after [] (b ∷ bs) rest e = cc
+no_bytes_after (x ∷ xs) text rest e = cc
+
+tail_same : (x y : ℕ) (xs ys : List ℕ) → x ∷ xs ≡ y ∷ ys → xs ≡ ys
+tail_same x y xs ys e = ap (λ zs. drop 1 zs) e
+
+-- a text that stands in another is found by the definition
+stands_after : (whole text before rest : List ℕ) → whole ≡ before ++ (text ++ rest) → stands_in text whole ≡ true
+stands_after [] text before rest e = no_bytes_after before text rest e
+stands_after (b ∷ bs) text [] rest e = either_first (begins (b ∷ bs) text) (stands_in text bs) (begins_so (b ∷ bs) text rest e)
+stands_after (b ∷ bs) text (x ∷ before) rest e = either_second (begins (b ∷ bs) text) (stands_in text bs) (stands_after bs text before rest (tail_same b x bs _ e))
+
+pub stands_from : (whole text : List ℕ) → HasSubslice whole text → stands_in text whole ≡ true
+stands_from whole text (before, rest, e) = stands_after whole text before rest e
+
+one_of : (a b : Bool) → (a || b) ≡ true → (a ≡ true) ⊎ (b ≡ true)
+one_of true b h = inl refl
+one_of false b h = inr h
+
+empty_text : (text : List ℕ) → (length text == 0) ≡ true → text ≡ []
+empty_text [] h = refl
+empty_text (b ∷ bs) h = let e = eqb-true (length (b ∷ bs)) 0 h in let never : ⊥ = omega arith in absurd never
+
+pub stands_to : (whole text : List ℕ) → stands_in text whole ≡ true → HasSubslice whole text
+stands_to [] text h = ([], [], sym (ap (λ xs. xs ++ []) (empty_text text h)))
+stands_to (b ∷ bs) text h = elim (one_of (begins (b ∷ bs) text) (stands_in text bs) h) [
+  | inl e ↦ ([], drop (length text) (b ∷ bs), begun (b ∷ bs) text e)
+  | inr e ↦ let more = stands_to bs text e in (b ∷ more.0, more.1, ap (λ xs. b ∷ xs) more.2)
+]

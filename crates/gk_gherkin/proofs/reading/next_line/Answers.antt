@@ -1,0 +1,16 @@
+use Rattle.std.proofs.Common.{Option, Ok, refl, ap, sym, ◌∙◌}
+use Rattle.gk_gherkin.specs.declared.doc_strings.DocString.{DocString}
+use Rattle.gk_gherkin.specs.Lines.{borrowed_value}
+use Rattle.gk_gherkin.specs.Reading as spec
+use Rattle.gk_gherkin.specs.Reading.Views.{state_value, text_value}
+use Rattle.gk_gherkin.proofs.ReadingStates.{step_closes}
+use Rattle.gk_gherkin.proofs.reading.next_line.Goals as goal
+
+pub returns-then-is_closed_by-clause-says : goal.returns-then-is_closed_by-clause-says
+returns-then-is_closed_by-clause-says g c =
+    let places = g.P.FilePlace.places in
+    let place = g.P.FilePlace.value c.args.place.now in
+    let text = text_value c.in-Some.it in
+    ap (λ (t : Option DocString). spec.step places (state_value place t) (borrowed_value c.args.line.now)) c.in-Some.is
+    ∙ step_closes places place text (borrowed_value c.args.line.now) (sym c.is_closed_by.ensures ∙ c.if-is_closed_by.true)
+    ∙ ap Ok (sym (c.end_text.ensures text refl))

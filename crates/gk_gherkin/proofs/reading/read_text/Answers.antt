@@ -1,0 +1,18 @@
+use Rattle.std.proofs.Common.{subst}
+use Rattle.std.proofs.lemmas.Result.{err_from_is_err_and}
+use Rattle.std.specs.Str.Lines.{lines}
+use Rattle.gk_gherkin.specs.Lines.{numbered_from}
+use Rattle.gk_gherkin.specs.Reading as spec
+use Rattle.gk_gherkin.proofs.ReadingWhole.{if_err}
+use Rattle.gk_gherkin.proofs.reading.read_text.Goals as goal
+
+pub returns-in_err-run-clause-memory : goal.returns-in_err-run-clause-memory
+returns-in_err-run-clause-memory g c =
+    let places = g.P.FilePlace.places in
+    let p = err_from_is_err_and c.from_residual.result c.from_residual.ensures.1 in
+    rw (p.1, p.2) (λ memory. subst (λ place. spec.NeedSome places (spec.At place) (numbered_from 1 (lines c.args.text.now))) c.first-place.ensures (c.in_err-run.ensures.memory memory))
+
+pub returns-clause-memory : goal.returns-clause-memory
+returns-clause-memory g c =
+    let places = g.P.FilePlace.places in
+    if_err c.finish.result _ _ (λ e needs memory. subst (λ place. spec.NeedSome places (spec.At place) (numbered_from 1 (lines c.args.text.now))) c.first-place.ensures (c.in_ok-run.ensures.end (needs memory))) c.finish.ensures.memory

@@ -1,0 +1,221 @@
+-- Proof machinery: the open parts of a file, and what a line makes of each. No public contract cites it.
+-- A body is what stands under the heading of a background, a scenario or a hook; an open part is what stands under that of a feature or a rule, with what is finished before it.
+pub mod Views
+use Rattle.std.specs.Prelude.{ℕ, Bool, true, false, ◌==◌, if◌then◌else◌, List, [], ◌∷◌, ◌++◌, length, Option, Some, None, Result, Ok, Err}
+use Rattle.gk_gherkin.specs.declared.class.Class.{Class}
+use Rattle.gk_gherkin.specs.declared.class.Class.TheVariants.{Blank, Comment, TagLine, FeatureHeading, RuleHeading, BackgroundHeading, ScenarioHeading, ExamplesHeading, StepLine, RowLine, FenceLine, Other}
+use Rattle.gk_gherkin.specs.declared.read_fault.ReadFault.{ReadFault}
+use Rattle.gk_gherkin.specs.declared.read_fault.ReadFault.TheVariants.{Unexpected, BadRow, CellCount}
+use Rattle.gk_gherkin.specs.declared.feature.StepType.{StepType}
+use Rattle.gk_gherkin.specs.declared.feature.StepType.TheVariants.{Given}
+use Rattle.gk_gherkin.specs.Lines.{LineValue}
+use Rattle.gk_gherkin.specs.Class.{heading_keyword, heading_name, step_keyword, step_text}
+use Rattle.gk_gherkin.specs.Rows.{cells_of}
+use Rattle.gk_gherkin.specs.StepTypes.{type_after}
+use Rattle.gk_gherkin.specs.Feature.{BlockValue, Empty, Text, Table, StepValue, RowValue, ExamplesValue, BackgroundValue, ScenarioValue}
+use Rattle.gk_gherkin.specs.Gives.{◌>>=◌}
+
+-- What the heading of a feature, a rule, a scenario or examples says.
+pub record HeadValue : Type 0 where
+  pub tags : List (List ℕ)
+  pub name : List ℕ
+  pub line : ℕ
+
+-- The finished parts after the description of a feature or a rule.
+pub record SectionValue : Type 0 where
+  pub background : Option BackgroundValue
+  pub scenarios : List ScenarioValue
+
+-- In a description, or after steps, of which the last is open.
+pub data Body : Type 0 where
+  Describing : Body
+  Stepped : List StepValue → StepValue → Body
+
+-- Whose steps these are: a background's, or a scenario's, with what is finished before it.
+pub data Owner : Type 0 where
+  OfBackground : ℕ → Owner
+  OfScenario : SectionValue → List ℕ → HeadValue → Owner
+
+-- In the description of examples, or after rows: the header and those under it.
+pub data Grid : Type 0 where
+  NoRows : Grid
+  Rows : List (List ℕ) → List RowValue → Grid
+
+-- The open part of a feature or a rule: its description, or steps, or examples with the scenario before them.
+pub data Open : Type 0 where
+  Headed : Open
+  Bodied : Owner → Body → Open
+  Exampled : SectionValue → ScenarioValue → HeadValue → Grid → Open
+
+-- A scenario, with what is finished before it.
+pub record OutlineValue : Type 0 where
+  pub section : SectionValue
+  pub scenario : ScenarioValue
+
+-- What a line says.
+abbrev pub head_from : List (List ℕ) → LineValue → HeadValue
+head_from tags line = record { tags = tags; name = heading_name line; line = line.line }
+
+-- The step that a line is, after a step of this type.
+abbrev pub step_from : StepType → LineValue → StepValue
+step_from before line = record { keyword = step_keyword line; step_type = type_after before (step_keyword line); text = step_text line; block = Empty; line = line.line }
+
+-- Closing what is open.
+abbrev pub steps_of : Body → List StepValue
+steps_of Describing = []
+steps_of (Stepped steps step) = steps ++ step ∷ []
+
+-- A scenario without examples.
+abbrev pub scenario_of : List ℕ → HeadValue → List StepValue → ScenarioValue
+scenario_of keyword head steps = record { keyword = keyword; name = head.name; line = head.line; tags = head.tags; steps = steps; examples = [] }
+
+-- Nothing finished yet.
+abbrev pub no_section : SectionValue
+no_section = record { background = None; scenarios = [] }
+
+-- A section with one scenario more.
+abbrev pub with_scenario : SectionValue → ScenarioValue → SectionValue
+with_scenario section scenario = record { background = section.background; scenarios = section.scenarios ++ scenario ∷ [] }
+
+-- A section that a background begins.
+abbrev pub background_section : ℕ → List StepValue → SectionValue
+background_section n steps = record { background = Some (record { line = n; steps = steps }); scenarios = [] }
+
+-- The section that the steps of an owner close.
+abbrev pub owner_section : Owner → List StepValue → SectionValue
+owner_section (OfBackground n) steps = background_section n steps
+owner_section (OfScenario section keyword head) steps = with_scenario section (scenario_of keyword head steps)
+
+-- The header of rows.
+abbrev pub header_of : Grid → List (List ℕ)
+header_of NoRows = []
+header_of (Rows header rows) = header
+
+-- The rows under a header.
+abbrev pub rows_of : Grid → List RowValue
+rows_of NoRows = []
+rows_of (Rows header rows) = rows
+
+-- Examples of this heading and these rows.
+abbrev pub examples_of : HeadValue → Grid → ExamplesValue
+examples_of head grid = record { name = head.name; line = head.line; tags = head.tags; header = header_of grid; rows = rows_of grid }
+
+-- A scenario with one more table of examples.
+abbrev pub with_examples : ScenarioValue → ExamplesValue → ScenarioValue
+with_examples s examples = record { keyword = s.keyword; name = s.name; line = s.line; tags = s.tags; steps = s.steps; examples = s.examples ++ examples ∷ [] }
+
+-- The section that an open part closes.
+abbrev pub section_of : Open → SectionValue
+section_of Headed = no_section
+section_of (Bodied owner body) = owner_section owner (steps_of body)
+section_of (Exampled section scenario head grid) = with_scenario section (with_examples scenario (examples_of head grid))
+
+-- The scenario that examples may follow.
+abbrev pub outline_of : Open → Option OutlineValue
+outline_of Headed = None
+outline_of (Bodied (OfBackground n) body) = None
+outline_of (Bodied (OfScenario section keyword head) body) = Some (record { section = section; scenario = scenario_of keyword head (steps_of body) })
+outline_of (Exampled section scenario head grid) = Some (record { section = section; scenario = with_examples scenario (examples_of head grid) })
+
+-- A scenario that begins after a section, with this keyword and this head.
+abbrev pub begun_scenario : SectionValue → List ℕ → HeadValue → Open
+begun_scenario section keyword head = Bodied (OfScenario section keyword head) Describing
+
+-- The same by the line of its heading, and the tags above it.
+abbrev pub scenario_from : SectionValue → List (List ℕ) → LineValue → Open
+scenario_from section tags line = begun_scenario section (heading_keyword line) (head_from tags line)
+
+-- A row of any width, or of this one.
+abbrev pub row_of : Option ℕ → LineValue → Option (List (List ℕ)) → Result (List (List ℕ)) ReadFault
+row_of None line None = Err (BadRow line.line)
+row_of None line (Some cells) = Ok cells
+row_of (Some width) line None = Err (BadRow line.line)
+row_of (Some width) line (Some cells) = if length cells == width then Ok cells else Err (CellCount line.line)
+
+-- The cells of a row, of any width or of this one.
+unfoldable pub on_row : Option ℕ → LineValue → Result (List (List ℕ)) ReadFault
+on_row width line = row_of width line (cells_of line)
+
+-- The width of a table, if it has a row.
+abbrev pub width_of : List (List (List ℕ)) → Option ℕ
+width_of [] = None
+width_of (first ∷ rows) = Some (length first)
+
+-- A step with this block.
+abbrev pub with_block : StepValue → BlockValue → StepValue
+with_block step block = record { keyword = step.keyword; step_type = step.step_type; text = step.text; block = block; line = step.line }
+
+-- A row under a step.
+unfoldable pub on_block : BlockValue → LineValue → Result BlockValue ReadFault
+on_block Empty line = on_row None line >>= λ cells. Ok (Table (cells ∷ []))
+on_block (Table rows) line = on_row (width_of rows) line >>= λ cells. Ok (Table (rows ++ cells ∷ []))
+on_block (Text text) line = Err (Unexpected line.line)
+
+-- A row of examples.
+abbrev pub row_from : LineValue → List (List ℕ) → RowValue
+row_from line cells = record { line = line.line; cells = cells }
+
+-- The header of examples.
+abbrev pub header_row : LineValue → Result Grid ReadFault
+header_row line = on_row None line >>= λ cells. Ok (Rows cells [])
+
+-- A row under a header, after these rows.
+abbrev pub row_under : List (List ℕ) → List RowValue → LineValue → Result Grid ReadFault
+row_under header rows line = on_row (Some (length header)) line >>= λ cells. Ok (Rows header (rows ++ row_from line cells ∷ []))
+
+-- A line under an Examples heading.
+unfoldable pub on_grid : Grid → LineValue → Class → Result Grid ReadFault
+on_grid NoRows line StepLine = Ok NoRows
+on_grid NoRows line RowLine = header_row line
+on_grid NoRows line (FenceLine fence) = Ok NoRows
+on_grid NoRows line Other = Ok NoRows
+on_grid NoRows line _ = Err (Unexpected line.line)
+on_grid (Rows header rows) line RowLine = row_under header rows line
+on_grid (Rows header rows) line _ = Err (Unexpected line.line)
+
+-- A line in a description or after steps.
+unfoldable pub on_body : Body → LineValue → Class → Result Body ReadFault
+on_body Describing line StepLine = Ok (Stepped [] (step_from Given line))
+on_body Describing line RowLine = Ok Describing
+on_body Describing line (FenceLine fence) = Ok Describing
+on_body Describing line Other = Ok Describing
+on_body Describing line _ = Err (Unexpected line.line)
+on_body (Stepped steps step) line StepLine = Ok (Stepped (steps ++ step ∷ []) (step_from step.step_type line))
+on_body (Stepped steps step) line RowLine = on_block step.block line >>= λ block. Ok (Stepped steps (with_block step block))
+on_body (Stepped steps step) line _ = Err (Unexpected line.line)
+
+-- A line that takes no tags.
+unfoldable pub on_open : Open → LineValue → Class → Result Open ReadFault
+on_open Headed line BackgroundHeading = Ok (Bodied (OfBackground line.line) Describing)
+on_open Headed line StepLine = Ok Headed
+on_open Headed line RowLine = Ok Headed
+on_open Headed line (FenceLine fence) = Ok Headed
+on_open Headed line Other = Ok Headed
+on_open Headed line _ = Err (Unexpected line.line)
+on_open (Bodied owner body) line class = on_body body line class >>= λ next. Ok (Bodied owner next)
+on_open (Exampled section scenario head grid) line class = on_grid grid line class >>= λ next. Ok (Exampled section scenario head next)
+
+-- Whether nothing stands under a step yet.
+abbrev pub is_empty : BlockValue → Bool
+is_empty Empty = true
+is_empty _ = false
+
+-- Whether a doc string may stand under the last step of a body.
+abbrev pub body_takes_text : Body → Bool
+body_takes_text Describing = false
+body_takes_text (Stepped steps step) = is_empty step.block
+
+-- A body with this doc string under its last step.
+abbrev pub body_with_text : Body → List ℕ → Body
+body_with_text Describing text = Describing
+body_with_text (Stepped steps step) text = Stepped steps (with_block step (Text text))
+
+-- Whether a doc string may stand under the last step of an open part.
+abbrev pub open_takes_text : Open → Bool
+open_takes_text (Bodied owner body) = body_takes_text body
+open_takes_text _ = false
+
+-- An open part with this doc string under its last step.
+abbrev pub open_with_text : Open → List ℕ → Open
+open_with_text (Bodied owner body) text = Bodied owner (body_with_text body text)
+open_with_text part text = part

@@ -1,0 +1,137 @@
+-- Proof machinery: how a file is read line after line, the same for a feature file and for a hooks file. No public contract cites it.
+-- A place says what was read so far. A fence opens a doc string at a place whose last step may have one; up to the fence that closes it each line is content. What any other line makes of a place is said by the kind of file.
+pub mod Views
+use Rattle.std.specs.Prelude.{◌≡◌, ◌≢◌, ◌⊎◌, ℕ, ◌-◌, Bool, true, false, List, [], ◌∷◌, ◌++◌, Option, Some, None, Result, Ok, Err}
+use Rattle.gk_gherkin.specs.declared.class.Class.{Class}
+use Rattle.gk_gherkin.specs.declared.class.Class.TheVariants.{FenceLine}
+use Rattle.gk_gherkin.specs.declared.class.Fence.{Fence}
+use Rattle.gk_gherkin.specs.declared.read_fault.ReadFault.{ReadFault}
+use Rattle.gk_gherkin.specs.declared.read_fault.ReadFault.TheVariants.{UnclosedText, Memory}
+use Rattle.gk_gherkin.specs.Lines.{LineValue, Lines, lines_of, IsText}
+use Rattle.gk_gherkin.specs.Class.{class}
+use Rattle.gk_gherkin.specs.DocStrings.{closes, content_of}
+use Rattle.gk_gherkin.specs.ReadFault.{LinesFaultSays}
+use Rattle.gk_gherkin.specs.Gives.{◌>>=◌}
+
+-- An open doc string: its fence, the column and the number of that fence's line, and the text so far, if it has a line.
+pub record DocStringValue : Type 0 where
+  pub fence : Fence
+  pub column : ℕ
+  pub line : ℕ
+  pub content : Option (List ℕ)
+
+-- The places of a kind of file.
+pub record Places (P A : Type 0) : Type 1 where
+  -- before the first line
+  pub first : P
+  -- after a line that is no part of a doc string
+  pub after_line : P → LineValue → Result P ReadFault
+  -- whether a doc string may stand there, and the place after it
+  pub takes_text : P → Bool
+  pub after_text : P → List ℕ → P
+  -- what was read, where the lines end there
+  pub answer : P → Result A ReadFault
+  -- whether a line there, or the end of the lines, needs memory
+  pub needs : P → LineValue → Type 0
+  pub needs_at_end : P → Type 0
+
+-- At a place, or in a doc string under the last step there.
+pub data State (P : Type 0) : Type 0 where
+  At : P → State P
+  InText : P → DocStringValue → State P
+
+-- The state at a place that was reached.
+abbrev pub placed : {P : Type 0} → Result P ReadFault → Result (State P) ReadFault
+placed (Ok place) = Ok (At place)
+placed (Err e) = Err e
+
+-- The state with this doc string open, or none.
+abbrev pub state_of : {P : Type 0} → P → Option DocStringValue → State P
+state_of place None = At place
+state_of place (Some text) = InText place text
+
+-- The fence of a line that opens a doc string where one may stand.
+abbrev pub opening : Bool → Class → Option Fence
+opening true (FenceLine fence) = Some fence
+opening _ _ = None
+
+-- The doc string that a fence opens.
+abbrev pub opened : Fence → LineValue → DocStringValue
+opened fence line = record { fence = fence; column = line.column; line = line.line; content = None }
+
+-- A text with one line more.
+abbrev pub with_line : Option (List ℕ) → List ℕ → List ℕ
+with_line None text = text
+with_line (Some before) text = before ++ 10 ∷ text
+
+-- A doc string with its next line.
+abbrev pub longer : DocStringValue → LineValue → DocStringValue
+longer text line = record { fence = text.fence; column = text.column; line = text.line; content = Some (with_line text.content (content_of text.fence (text.column - 1) line)) }
+
+-- The text of a doc string.
+abbrev pub whole_text : Option (List ℕ) → List ℕ
+whole_text None = []
+whole_text (Some text) = text
+
+-- Line after line, by what a line makes of a state.
+unfoldable pub run_by : {S : Type 0} → (S → LineValue → Result S ReadFault) → S → Lines → Result S ReadFault
+run_by step state [] = Ok state
+run_by step state (line ∷ lines) = step state line >>= λ next. run_by step next lines
+
+-- From a state, some line that is reached needs memory, or the end does.
+pub data Need {S : Type 0} (step : S → LineValue → Result S ReadFault) (In : S → LineValue → Type 0) (AtEnd : S → Type 0) : S → Lines → Type 0 where
+  need_at_end : {state : S} → AtEnd state → Need step In AtEnd state []
+  need_here : {state : S} {line : LineValue} {lines : Lines} → In state line → Need step In AtEnd state (line ∷ lines)
+  need_later : {state next : S} {line : LineValue} {lines : Lines} → step state line ≡ Ok next → Need step In AtEnd next lines → Need step In AtEnd state (line ∷ lines)
+
+module _ {P A : Type 0} (places : Places P A) where
+  -- A line at a place, with the fence that it opens a doc string by, if it does.
+  abbrev pub at_place : Option Fence → P → LineValue → Result (State P) ReadFault
+  at_place (Some fence) place line = Ok (InText place (opened fence line))
+  at_place None place line = placed (places.after_line place line)
+
+  -- A line in a doc string, which it closes or not.
+  abbrev pub in_text : Bool → P → DocStringValue → LineValue → State P
+  in_text true place text line = At (places.after_text place (whole_text text.content))
+  in_text false place text line = InText place (longer text line)
+
+  -- A line.
+  unfoldable pub step : State P → LineValue → Result (State P) ReadFault
+  step (At place) line = at_place (opening (places.takes_text place) (class line)) place line
+  step (InText place text) line = Ok (in_text (closes text.fence line) place text line)
+
+  -- Line after line.
+  abbrev pub run : State P → Lines → Result (State P) ReadFault
+  run state lines = run_by step state lines
+
+  -- At the end of the lines.
+  unfoldable pub finish : State P → Result A ReadFault
+  finish (At place) = places.answer place
+  finish (InText place text) = Err (UnclosedText text.line)
+
+  -- What all lines say.
+  unfoldable pub reading : Lines → Result A ReadFault
+  reading lines = run (At places.first) lines >>= finish
+
+  -- A line needs memory in a state.
+  abbrev pub NeedsIn : State P → LineValue → Type 0
+  NeedsIn (At place) line = places.needs place line
+  NeedsIn (InText place text) line = Unit {0}
+
+  -- The end of the lines needs memory in a state.
+  abbrev pub NeedsAtEnd : State P → Type 0
+  NeedsAtEnd (At place) = places.needs_at_end place
+  NeedsAtEnd (InText place text) = ⊥
+
+  -- From a state, some line that is reached needs memory, or the end does.
+  abbrev pub NeedSome : State P → Lines → Type 0
+  NeedSome state lines = Need step NeedsIn NeedsAtEnd state lines
+
+  -- A fault of the lines is that of their reading; for refused memory, some line or the end needs memory.
+  abbrev pub FailsBy : ReadFault → Lines → Type 0
+  FailsBy Memory lines = NeedSome (At places.first) lines
+  FailsBy fault lines = reading lines ≡ Err fault
+
+  -- A fault of the bytes is one of their text, or else of the reading of its lines.
+  abbrev pub FailsAs : ReadFault → List ℕ → Type 0
+  FailsAs fault bytes = (LinesFaultSays fault bytes × (fault ≢ Memory)) ⊎ (IsText bytes × FailsBy fault (lines_of bytes))

@@ -1,0 +1,596 @@
+//! The open parts of a file, and what a line makes of each.
+ghost use Rattle.std.specs.Prelude.{option_map, map, Ok, ◌≡◌, ◌++◌, ◌∷◌, []};
+ghost use Rattle.std.specs.String.{string_bytes};
+ghost use Rattle.gk_gherkin.specs.Lines.{borrowed_value};
+ghost use Rattle.gk_gherkin.specs.Feature.{texts, block_value, step_value, row_value};
+ghost use Rattle.gk_gherkin.specs.Feature.{examples_value, scenario_value};
+ghost use Rattle.gk_gherkin.specs.Gives.{Gives};
+ghost use Rattle.gk_gherkin.specs.OpenParts as spec;
+ghost use Rattle.gk_gherkin.specs.OpenParts.Views.{head_value, section_value, body_value};
+ghost use Rattle.gk_gherkin.specs.OpenParts.Views.{owner_value, grid_value, outline_value};
+ghost use Rattle.gk_gherkin.specs.OpenParts.Views.{open_value, bodied_value, begun_after};
+ghost use Rattle.gk_gherkin.specs.declared.feature.StepType.TheVariants.{Given};
+ghost use Rattle.gk_gherkin.specs.declared.read_fault.ReadFault.TheVariants.{Unexpected};
+
+use crate::class::{Class, heading_keyword, heading_name, step_parts};
+use crate::feature::{Background, Block, Examples, Row, Scenario, Step, StepType};
+use crate::lines::BorrowedLine;
+use crate::read_fault::ReadFault;
+use crate::rows::cells_of;
+use crate::step_types::type_after;
+use std::alloc::Global;
+use std::mem;
+
+/// What the heading of a feature, a rule, a scenario or examples says.
+#[derive(Drop)]
+pub struct Head {
+    pub tags: Vec<String>,
+    pub name: String,
+    pub line: u32,
+}
+
+/// The finished parts after the description of a feature or a rule.
+#[derive(Drop)]
+pub struct Section {
+    pub background: Option<Background>,
+    pub scenarios: Vec<Scenario>,
+}
+
+/// In a description, or after steps, of which the last is open.
+#[derive(Drop)]
+pub enum Body {
+    Describing,
+    Stepped { steps: Vec<Step>, step: Step },
+}
+
+/// Whose steps these are: a background's, or a scenario's, with what is finished before it.
+#[derive(Drop)]
+pub enum Owner {
+    OfBackground {
+        line: u32,
+    },
+    OfScenario {
+        section: Section,
+        keyword: String,
+        head: Head,
+    },
+}
+
+/// In the description of examples, or after rows: the header and those under it.
+#[derive(Drop)]
+pub enum Grid {
+    NoRows,
+    Rows { header: Vec<String>, rows: Vec<Row> },
+}
+
+/// A scenario, with what is finished before it.
+#[derive(Drop)]
+pub struct Outline {
+    pub section: Section,
+    pub scenario: Scenario,
+}
+
+/// The open part of a feature or a rule: its description, or steps, or examples with the scenario
+/// before them.
+#[derive(Drop)]
+pub enum Open {
+    Headed,
+    Bodied {
+        owner: Owner,
+        body: Body,
+    },
+    Exampled {
+        section: Section,
+        scenario: Scenario,
+        head: Head,
+        grid: Grid,
+    },
+}
+
+/// A value in the place of another, which is dropped.
+pub fn put<T: Drop>(slot: &mut T, next: T)
+    ensures { slot.new ≡ next }
+{
+    *slot = next;
+}
+
+pub fn unexpected(line: &BorrowedLine<'_>) -> ReadFault
+    ensures { result ≡ Unexpected line.now.place.line }
+{
+    ReadFault::Unexpected {
+        line: line.place.line,
+    }
+}
+
+pub fn head_from(
+    alloc: Global,
+    tags: Vec<String>,
+    line: &BorrowedLine<'_>,
+) -> Result<Head, ReadFault>
+    ensures { Gives head_value result
+        (Ok (spec.head_from (texts tags.items) (borrowed_value line.now))) }
+{
+    let name = String::from_str(alloc, heading_name(line))?;
+    Ok(Head {
+        tags,
+        name,
+        line: line.place.line,
+    })
+}
+
+fn step_from(alloc: Global, before: StepType, line: &BorrowedLine<'_>) -> Result<Step, ReadFault>
+    ensures { Gives step_value result (Ok (spec.step_from before (borrowed_value line.now))) }
+{
+    let (keyword, text) = step_parts(line);
+    let step_type = type_after(before, keyword);
+    let keyword = String::from_str(alloc, keyword)?;
+    let text = String::from_str(alloc, text)?;
+    Ok(Step {
+        keyword,
+        step_type,
+        text,
+        block: Block::Empty,
+        line: line.place.line,
+    })
+}
+
+pub fn steps_of(alloc: Global, body: Body) -> Result<Vec<Step>, ReadFault>
+    ensures { Gives (λ v. map step_value v.items) result (Ok (spec.steps_of (body_value body))) }
+{
+    match body {
+        Body::Describing => Ok(Vec::new(alloc)),
+        Body::Stepped { steps, step } => {
+            let mut steps = steps;
+            steps.push(step)?;
+            Ok(steps)
+        }
+    }
+}
+
+fn with_scenario(section: Section, scenario: Scenario) -> Result<Section, ReadFault>
+    ensures { Gives section_value result
+        (Ok (spec.with_scenario (section_value section) (scenario_value scenario))) }
+{
+    let mut section = section;
+    section.scenarios.push(scenario)?;
+    Ok(section)
+}
+
+fn scenario_of(alloc: Global, keyword: String, head: Head, steps: Vec<Step>) -> Scenario
+    ensures { scenario_value result
+        ≡ spec.scenario_of (string_bytes keyword) (head_value head) (map step_value steps.items) }
+{
+    Scenario {
+        keyword,
+        name: head.name,
+        line: head.line,
+        tags: head.tags,
+        steps,
+        examples: Vec::new(alloc),
+    }
+}
+
+fn owner_section(alloc: Global, owner: Owner, steps: Vec<Step>) -> Result<Section, ReadFault>
+    ensures { Gives section_value result
+        (Ok (spec.owner_section (owner_value owner) (map step_value steps.items))) }
+{
+    match owner {
+        Owner::OfBackground { line } => Ok(Section {
+            background: Some(Background { line, steps }),
+            scenarios: Vec::new(alloc),
+        }),
+        Owner::OfScenario {
+            section,
+            keyword,
+            head,
+        } => with_scenario(section, scenario_of(alloc, keyword, head, steps)),
+    }
+}
+
+fn examples_of(alloc: Global, head: Head, grid: Grid) -> Examples
+    ensures { examples_value result ≡ spec.examples_of (head_value head) (grid_value grid) }
+{
+    match grid {
+        Grid::NoRows => Examples {
+            name: head.name,
+            line: head.line,
+            tags: head.tags,
+            header: Vec::new(alloc),
+            rows: Vec::new(alloc),
+        },
+        Grid::Rows { header, rows } => Examples {
+            name: head.name,
+            line: head.line,
+            tags: head.tags,
+            header,
+            rows,
+        },
+    }
+}
+
+fn with_examples(scenario: Scenario, examples: Examples) -> Result<Scenario, ReadFault>
+    ensures { Gives scenario_value result
+        (Ok (spec.with_examples (scenario_value scenario) (examples_value examples))) }
+{
+    let mut scenario = scenario;
+    scenario.examples.push(examples)?;
+    Ok(scenario)
+}
+
+pub fn outline_of(alloc: Global, part: Open) -> Result<Option<Outline>, ReadFault>
+    ensures { Gives (λ o. option_map outline_value o) result
+        (Ok (spec.outline_of (open_value part))) }
+{
+    match part {
+        Open::Headed => Ok(None),
+        Open::Bodied { owner, body } => match owner {
+            Owner::OfBackground { .. } => Ok(None),
+            Owner::OfScenario {
+                section,
+                keyword,
+                head,
+            } => {
+                let steps = steps_of(alloc, body)?;
+                let scenario = scenario_of(alloc, keyword, head, steps);
+                Ok(Some(Outline { section, scenario }))
+            }
+        },
+        Open::Exampled {
+            section,
+            scenario,
+            head,
+            grid,
+        } => {
+            let scenario = with_examples(scenario, examples_of(alloc, head, grid))?;
+            Ok(Some(Outline { section, scenario }))
+        }
+    }
+}
+
+pub fn section_of(alloc: Global, part: Open) -> Result<Section, ReadFault>
+    ensures { Gives section_value result (Ok (spec.section_of (open_value part))) }
+{
+    match part {
+        Open::Headed => Ok(Section {
+            background: None,
+            scenarios: Vec::new(alloc),
+        }),
+        Open::Bodied { owner, body } => owner_section(alloc, owner, steps_of(alloc, body)?),
+        Open::Exampled {
+            section,
+            scenario,
+            head,
+            grid,
+        } => {
+            let scenario = with_examples(scenario, examples_of(alloc, head, grid))?;
+            with_scenario(section, scenario)
+        }
+    }
+}
+
+// What follows the heading of a background or a scenario: no step yet.
+fn bodied(owner: Owner) -> Open
+    ensures { open_value result ≡ spec.Bodied (owner_value owner) spec.Describing }
+{
+    Open::Bodied {
+        owner,
+        body: Body::Describing,
+    }
+}
+
+// A scenario's heading after what isn't steps.
+#[inline(never)]
+fn first_scenario(
+    alloc: Global,
+    part: &mut Open,
+    keyword: String,
+    head: Head,
+) -> Result<(), ReadFault>
+    ensures { let section = spec.section_of (open_value part.old) in
+        Gives (λ _. open_value part.new) result
+        (Ok (spec.begun_scenario section (string_bytes keyword) (head_value head))) }
+{
+    let section = section_of(alloc, mem::replace(part, Open::Headed))?;
+    let owner = Owner::OfScenario {
+        section,
+        keyword,
+        head,
+    };
+    put(part, bodied(owner));
+    Ok(())
+}
+
+// A scenario's heading after steps.
+fn scenario_after_steps(
+    alloc: Global,
+    owner: &mut Owner,
+    body: &mut Body,
+    keyword: String,
+    head: Head,
+) -> Result<(), ReadFault>
+    ensures { Gives (λ _. bodied_value owner.new body.new) result
+        (begun_after owner.old body.old (string_bytes keyword) (head_value head)) }
+{
+    let steps = steps_of(alloc, mem::replace(body, Body::Describing))?;
+    match owner {
+        Owner::OfBackground { line } => {
+            let background = Some(Background { line: *line, steps });
+            let section = Section {
+                background,
+                scenarios: Vec::new(alloc),
+            };
+            put(
+                owner,
+                Owner::OfScenario {
+                    section,
+                    keyword,
+                    head,
+                },
+            );
+            Ok(())
+        }
+        Owner::OfScenario {
+            section,
+            keyword: before,
+            head: head_before,
+        } => {
+            let keyword = mem::replace(before, keyword);
+            let head = mem::replace(head_before, head);
+            section
+                .scenarios
+                .push(scenario_of(alloc, keyword, head, steps))?;
+            Ok(())
+        }
+    }
+}
+
+pub fn scenario_heading(
+    alloc: Global,
+    part: &mut Open,
+    tags: Vec<String>,
+    line: &BorrowedLine<'_>,
+) -> Result<(), ReadFault>
+    ensures { let section = spec.section_of (open_value part.old) in
+        Gives (λ _. open_value part.new) result
+        (Ok (spec.scenario_from section (texts tags.items) (borrowed_value line.now))) }
+{
+    let keyword = String::from_str(alloc, heading_keyword(line))?;
+    let head = head_from(alloc, tags, line)?;
+    match part {
+        Open::Bodied { owner, body } => scenario_after_steps(alloc, owner, body, keyword, head),
+        _ => first_scenario(alloc, part, keyword, head),
+    }
+}
+
+#[tactic(auto, unfolding(crate::specs::OpenParts::on_row))]
+fn on_row(
+    alloc: Global,
+    width: Option<usize>,
+    line: &BorrowedLine<'_>,
+) -> Result<Vec<String>, ReadFault>
+    ensures { Gives (λ v. texts v.items) result (spec.on_row width (borrowed_value line.now)) }
+{
+    match cells_of(alloc, line)? {
+        Some(cells) => match width {
+            Some(width) => {
+                if cells.len() == width {
+                    Ok(cells)
+                } else {
+                    Err(ReadFault::CellCount {
+                        line: line.place.line,
+                    })
+                }
+            }
+            None => Ok(cells),
+        },
+        None => Err(ReadFault::BadRow {
+            line: line.place.line,
+        }),
+    }
+}
+
+fn width_of(rows: &Vec<Vec<String>>) -> Option<usize>
+    ensures { result ≡ spec.width_of (map (λ row. texts row.items) rows.now.items) }
+{
+    match rows.first() {
+        Some(first) => Some(first.len()),
+        None => None,
+    }
+}
+
+#[tactic(auto, unfolding(crate::specs::OpenParts::on_block))]
+fn on_block(alloc: Global, block: &mut Block, line: &BorrowedLine<'_>) -> Result<(), ReadFault>
+    ensures { Gives (λ _. block_value block.new) result
+        (spec.on_block (block_value block.old) (borrowed_value line.now)) }
+{
+    match block {
+        Block::Empty => {
+            let cells = on_row(alloc, None, line)?;
+            let mut rows = Vec::new(alloc);
+            rows.push(cells)?;
+            put(block, Block::Table(rows));
+            Ok(())
+        }
+        Block::Table(rows) => {
+            let width = width_of(rows);
+            let cells = on_row(alloc, width, line)?;
+            rows.push(cells)?;
+            Ok(())
+        }
+        Block::Text(_) => Err(unexpected(line)),
+    }
+}
+
+// The header of examples.
+fn header_row(alloc: Global, grid: &mut Grid, line: &BorrowedLine<'_>) -> Result<(), ReadFault>
+    ensures { Gives (λ _. grid_value grid.new) result (spec.header_row (borrowed_value line.now)) }
+{
+    let header = on_row(alloc, None, line)?;
+    let rows = Vec::new(alloc);
+    put(grid, Grid::Rows { header, rows });
+    Ok(())
+}
+
+// A row under a header.
+fn row_under(
+    alloc: Global,
+    header: &[String],
+    rows: &mut Vec<Row>,
+    line: &BorrowedLine<'_>,
+) -> Result<(), ReadFault>
+    ensures { let header = texts header.now in
+        Gives (λ _. spec.Rows header (map row_value rows.new.items)) result
+        (spec.row_under header (map row_value rows.old.items) (borrowed_value line.now)) }
+{
+    let cells = on_row(alloc, Some(header.len()), line)?;
+    let line = line.place.line;
+    rows.push(Row { line, cells })?;
+    Ok(())
+}
+
+#[tactic(auto, unfolding(crate::specs::OpenParts::on_grid))]
+fn on_grid(
+    alloc: Global,
+    grid: &mut Grid,
+    line: &BorrowedLine<'_>,
+    class: Class,
+) -> Result<(), ReadFault>
+    ensures { Gives (λ _. grid_value grid.new) result
+        (spec.on_grid (grid_value grid.old) (borrowed_value line.now) class) }
+{
+    match grid {
+        Grid::NoRows => match class {
+            Class::StepLine | Class::FenceLine(_) | Class::Other => Ok(()),
+            Class::RowLine => header_row(alloc, grid, line),
+            _ => Err(unexpected(line)),
+        },
+        Grid::Rows { header, rows } => match class {
+            Class::RowLine => row_under(alloc, header, rows, line),
+            _ => Err(unexpected(line)),
+        },
+    }
+}
+
+// The first step of a body.
+fn first_step(alloc: Global, body: &mut Body, line: &BorrowedLine<'_>) -> Result<(), ReadFault>
+    ensures { Gives (λ _. body_value body.new) result
+        (Ok (spec.Stepped [] (spec.step_from Given (borrowed_value line.now)))) }
+{
+    let step = step_from(alloc, StepType::Given, line)?;
+    let steps = Vec::new(alloc);
+    put(body, Body::Stepped { steps, step });
+    Ok(())
+}
+
+// The step after an open one.
+fn next_step(
+    alloc: Global,
+    steps: &mut Vec<Step>,
+    step: &mut Step,
+    line: &BorrowedLine<'_>,
+) -> Result<(), ReadFault>
+    ensures { let before = step_value step.old in
+        Gives (λ _. spec.Stepped (map step_value steps.new.items) (step_value step.new)) result
+        (Ok (spec.Stepped (map step_value steps.old.items ++ before ∷ [])
+        (spec.step_from before.step_type (borrowed_value line.now)))) }
+{
+    let next = step_from(alloc, step.step_type, line)?;
+    steps.push(mem::replace(step, next))?;
+    Ok(())
+}
+
+#[tactic(auto, unfolding(crate::specs::OpenParts::on_body))]
+pub fn on_body(
+    alloc: Global,
+    body: &mut Body,
+    line: &BorrowedLine<'_>,
+    class: Class,
+) -> Result<(), ReadFault>
+    ensures { Gives (λ _. body_value body.new) result
+        (spec.on_body (body_value body.old) (borrowed_value line.now) class) }
+{
+    match body {
+        Body::Describing => match class {
+            Class::StepLine => first_step(alloc, body, line),
+            Class::RowLine | Class::FenceLine(_) | Class::Other => Ok(()),
+            _ => Err(unexpected(line)),
+        },
+        Body::Stepped { steps, step } => match class {
+            Class::StepLine => next_step(alloc, steps, step, line),
+            Class::RowLine => on_block(alloc, &mut step.block, line),
+            _ => Err(unexpected(line)),
+        },
+    }
+}
+
+fn background_heading(part: &mut Open, line: &BorrowedLine<'_>)
+    ensures { open_value part.new
+        ≡ spec.Bodied (spec.OfBackground line.now.place.line) spec.Describing }
+{
+    let owner = Owner::OfBackground {
+        line: line.place.line,
+    };
+    put(part, bodied(owner));
+}
+
+#[tactic(auto, unfolding(crate::specs::OpenParts::on_open))]
+pub fn on_open(
+    alloc: Global,
+    part: &mut Open,
+    line: &BorrowedLine<'_>,
+    class: Class,
+) -> Result<(), ReadFault>
+    ensures { let said = borrowed_value line.now in
+        Gives (λ _. open_value part.new) result (spec.on_open (open_value part.old) said class) }
+{
+    match part {
+        Open::Headed => match class {
+            Class::BackgroundHeading => {
+                background_heading(part, line);
+                Ok(())
+            }
+            Class::StepLine | Class::RowLine | Class::FenceLine(_) | Class::Other => Ok(()),
+            _ => Err(unexpected(line)),
+        },
+        Open::Bodied { body, .. } => on_body(alloc, body, line, class),
+        Open::Exampled { grid, .. } => on_grid(alloc, grid, line, class),
+    }
+}
+
+/// Whether a doc string may stand under the last step of a body.
+pub fn body_takes_text(body: &Body) -> bool
+    ensures { result ≡ spec.body_takes_text (body_value body.now) }
+{
+    match body {
+        Body::Describing => false,
+        Body::Stepped { step, .. } => matches!(step.block, Block::Empty),
+    }
+}
+
+/// Puts a doc string under the last step of a body, if it has one.
+pub fn put_text(body: &mut Body, text: String)
+    ensures { body_value body.new ≡ spec.body_with_text (body_value body.old) (string_bytes text) }
+{
+    if let Body::Stepped { step, .. } = body {
+        put(&mut step.block, Block::Text(text));
+    }
+}
+
+/// Whether a doc string may stand under the last step of an open part.
+pub fn open_takes_text(part: &Open) -> bool
+    ensures { result ≡ spec.open_takes_text (open_value part.now) }
+{
+    match part {
+        Open::Bodied { body, .. } => body_takes_text(body),
+        _ => false,
+    }
+}
+
+/// Puts a doc string under the last step of an open part, if it has one.
+pub fn put_text_in(part: &mut Open, text: String)
+    ensures { open_value part.new ≡ spec.open_with_text (open_value part.old) (string_bytes text) }
+{
+    if let Open::Bodied { body, .. } = part {
+        put_text(body, text);
+    }
+}

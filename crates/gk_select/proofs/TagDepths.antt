@@ -1,0 +1,200 @@
+-- What the words taken so far have built is as deep as it is measured.
+use Rattle.std.proofs.Common.{◌≡◌, ◌⊎◌, ◌≤◌, ◌<◌, ◌+◌, ◌-◌, ◌==◌, ℕ, zero, suc, max, min, nat_le, Bool, false, if◌then◌else◌, List, [], ◌∷◌, ◌++◌, length, take, get_or, Option, Some, None, option_and_then, refl, ap, sym, subst, ◌∙◌, arith, length-append, map, drop, inl, inr, Err, drop-cons}
+use Rattle.std.proofs.lemmas.List.{map-append, take-append-drop}
+use Rattle.std.proofs.Math.Seq.{get_or-append_seam, take-append_seam}
+use Rattle.std.proofs.lemmas.Bool.Decides.{nat_tests}
+use Rattle.gk_select.specs.TagWords.{WordValue, word_value, open_word, close_word, not_word, and_word, or_word, tag_word}
+use Rattle.gk_select.specs.TagGrammar.{Expression, Term, Factor, spelling, depth, term_depth, factor_depth, depth_limit}
+use Rattle.gk_select.specs.TagTrees.{Part, State, waiting, ready, term_from, expression_from, closed, step, run, run_whole, expression_again, first, head, part_of}
+use Rattle.gk_select.specs.TagMeasures.{Measure, measure_before, measure_of, deeper, built_value}
+use Rattle.gk_select.specs.declared.tag_words.Word.{Word}
+use Rattle.gk_select.specs.declared.select_fault.SelectFault.{SelectFault}
+use Rattle.gk_select.specs.declared.select_fault.SelectFault.TheVariants.{TooMany, BadTagText, Memory}
+use Rattle.gk_select.specs.SelectFault.{Gives}
+use Rattle.gk_select.proofs.TagMachine.{spelt_by}
+
+abbrev pub capped : ℕ → ℕ
+capped n = min n 101
+
+abbrev joined_depth : Option Term → ℕ
+joined_depth None = 0
+joined_depth (Some t) = term_depth t
+
+abbrev later_depth : Option Expression → ℕ
+later_depth None = 0
+later_depth (Some e) = depth e
+
+abbrev pub part_depth : Part → ℕ
+part_depth p = max (joined_depth p.joined) (later_depth p.later)
+
+abbrev outer_depths : List Part → List ℕ
+outer_depths [] = []
+outer_depths (p ∷ ps) = outer_depths ps ++ capped (part_depth p) ∷ []
+
+abbrev measured : State → Measure
+measured (waiting p ps) = record { factor = None; behind = capped (part_depth p); outer = outer_depths ps }
+measured (ready f p ps) = record { factor = Some (capped (factor_depth f)); behind = capped (part_depth p); outer = outer_depths ps }
+
+abbrev made : Option ℕ → ℕ → List ℕ → Option Measure
+made f b o = Some (record { factor = f; behind = b; outer = o })
+
+term_deep : (f : Factor) (j : Option Term) → term_depth (term_from f j) ≡ max (factor_depth f) (joined_depth j)
+term_deep f None = omega arith
+term_deep f (Some t) = refl
+
+expression_deep : (t : Term) (l : Option Expression) → depth (expression_from t l) ≡ max (term_depth t) (later_depth l)
+expression_deep t None = omega arith
+expression_deep t (Some e) = refl
+
+max_three : (f j l t d : ℕ) → t ≡ max f j → d ≡ max t l → d ≡ max f (max j l)
+max_three f j l t d x y = omega arith
+
+closed_deep : (f : Factor) (p : Part) → depth (closed f p) ≡ max (factor_depth f) (part_depth p)
+closed_deep f p = max_three (factor_depth f) (joined_depth p.joined) (later_depth p.later) (term_depth (term_from f p.joined)) (depth (closed f p)) (term_deep f p.joined) (expression_deep (term_from f p.joined) p.later)
+
+capped_max : (a b c : ℕ) → c ≡ max a b → max (min a 101) (min b 101) ≡ min c 101
+capped_max a b c e = omega arith
+
+deeper_is : (n k : ℕ) → n ≡ min k 101 → (if nat_le n 100 then n + 1 else n) ≡ min (k + 1) 101
+deeper_is n k e = grind (arith, nat_tests)
+
+zero_max : (n : ℕ) → n ≡ max 0 n
+zero_max n = omega arith
+
+seam : (xs : List ℕ) (x : ℕ) → length (xs ++ x ∷ []) - 1 ≡ length xs
+seam xs x = omega (arith, length-append xs (x ∷ []))
+
+last_of : (xs : List ℕ) (x : ℕ) → get_or (xs ++ x ∷ []) (length (xs ++ x ∷ []) - 1) 0 ≡ x
+last_of xs x = ap (λ (k : ℕ). get_or (xs ++ x ∷ []) k 0) (seam xs x) ∙ get_or-append_seam xs x [] 0
+
+front_of : (xs : List ℕ) (x : ℕ) → take (length (xs ++ x ∷ []) - 1) (xs ++ x ∷ []) ≡ xs
+front_of xs x = ap (λ (k : ℕ). take k (xs ++ x ∷ [])) (seam xs x) ∙ take-append_seam xs (x ∷ [])
+
+long : (n m : ℕ) → n ≡ m + 1 → (n == 0) ≡ false
+long n m e = grind (arith, nat_tests)
+
+some_length : (xs : List ℕ) (x : ℕ) → (length (xs ++ x ∷ []) == 0) ≡ false
+some_length xs x = long (length (xs ++ x ∷ [])) (length xs) (length-append xs (x ∷ []))
+
+pub map_state : Option State → Option Measure
+map_state None = None
+map_state (Some s) = Some (measured s)
+
+step_measured : (w : WordValue) (s : State) → measure_before w (measured s).factor (measured s).behind (measured s).outer ≡ map_state (step w s)
+unfolding map_state
+step_measured open_word (waiting p ps) = refl
+step_measured open_word (ready f p []) = refl
+step_measured open_word (ready f p (q ∷ ps)) =
+    let xs = outer_depths ps in
+    let x = capped (part_depth q) in
+    let top = deeper (max (capped (factor_depth f)) (capped (part_depth p))) in
+    ap (λ (b : Bool). if b then None else made (Some top) (get_or (xs ++ x ∷ []) (length (xs ++ x ∷ []) - 1) 0) (take (length (xs ++ x ∷ []) - 1) (xs ++ x ∷ []))) (some_length xs x)
+    ∙ ap (λ (k : ℕ). made (Some top) k (take (length (xs ++ x ∷ []) - 1) (xs ++ x ∷ []))) (last_of xs x)
+    ∙ ap (λ (o : List ℕ). made (Some top) x o) (front_of xs x)
+    ∙ ap (λ (k : ℕ). made (Some k) x xs) (deeper_is (max (capped (factor_depth f)) (capped (part_depth p))) (depth (closed f p)) (capped_max (factor_depth f) (part_depth p) (depth (closed f p)) (closed_deep f p)))
+step_measured close_word (waiting p ps) = refl
+step_measured close_word (ready f p ps) = refl
+step_measured not_word (waiting p ps) = refl
+step_measured not_word (ready f p ps) = ap (λ (k : ℕ). made (Some k) (capped (part_depth p)) (outer_depths ps)) (deeper_is (capped (factor_depth f)) (factor_depth f) refl)
+step_measured and_word (waiting p ps) = refl
+step_measured and_word (ready f p ps) =
+    ap (λ (k : ℕ). made None k (outer_depths ps)) (capped_max (factor_depth f) (part_depth p) (max (term_depth (term_from f p.joined)) (later_depth p.later))
+    (max_three (factor_depth f) (joined_depth p.joined) (later_depth p.later) (term_depth (term_from f p.joined)) (max (term_depth (term_from f p.joined)) (later_depth p.later)) (term_deep f p.joined) refl))
+step_measured or_word (waiting p ps) = refl
+step_measured or_word (ready f p ps) =
+    ap (λ (k : ℕ). made None k (outer_depths ps)) (capped_max (factor_depth f) (part_depth p) (max 0 (depth (closed f p))) (sym (zero_max (depth (closed f p))) ∙ closed_deep f p))
+step_measured (tag_word t) (waiting p ps) = refl
+step_measured (tag_word t) (ready f p ps) = refl
+
+goes_measured : (w : WordValue) (r : Option State) → option_and_then (λ (m : Measure). measure_before w m.factor m.behind m.outer) (map_state r) ≡ map_state (option_and_then (step w) r)
+unfolding map_state
+goes_measured w None = refl
+goes_measured w (Some s) = step_measured w s
+
+run_measured : (ws : List WordValue) → measure_of ws ≡ map_state (run ws)
+unfolding map_state
+run_measured [] = refl
+run_measured (w ∷ ws) = ap (option_and_then (λ (m : Measure). measure_before w m.factor m.behind m.outer)) (run_measured ws) ∙ goes_measured w (run ws)
+
+abbrev factor_of : Option Measure → Option ℕ
+factor_of None = None
+factor_of (Some m) = m.factor
+
+abbrev behind_of : Option Measure → ℕ
+behind_of None = 0
+behind_of (Some m) = m.behind
+
+abbrev outer_of : Option Measure → List ℕ
+outer_of None = []
+outer_of (Some m) = m.outer
+
+-- What is accepted is spelt.
+abbrev pub Accepted : List WordValue → Type 0
+Accepted ws = (e : Expression) × (spelling e ≡ ws) × (depth e ≤ depth_limit)
+
+shallow : (f p d n b : ℕ) → d ≡ max f p → n ≡ min f 101 → b ≡ min p 101 → max n b ≤ 100 → d ≤ 100
+shallow f p d n b x y z h = omega arith
+
+accepted_at : (ws : List WordValue) (r : Option State) → run ws ≡ r → (n b : ℕ) (o : List ℕ) → map_state r ≡ made (Some n) b o → length o ≡ 0 → max n b ≤ 100 → Accepted ws
+unfolding map_state
+accepted_at ws None is n b o e none low = let no : ⊥ = cc e in absurd no
+accepted_at ws (Some (waiting p ps)) is n b o e none low = let other : ◌≡◌ {A = Option ℕ} None (Some n) = ap factor_of e in let no : ⊥ = cc other in absurd no
+accepted_at ws (Some (ready f p [])) is n b o e none low =
+    let some : ◌≡◌ {A = Option ℕ} (Some (capped (factor_depth f))) (Some n) = ap factor_of e in
+    let first : capped (factor_depth f) ≡ n = cc some in
+    let second : capped (part_depth p) ≡ b = ap behind_of e in
+    (closed f p, spelt_by ws f p is, shallow (factor_depth f) (part_depth p) (depth (closed f p)) n b (closed_deep f p) (sym first) (sym second) low)
+accepted_at ws (Some (ready f p (q ∷ ps))) is n b o e none low =
+    let same : outer_depths ps ++ capped (part_depth q) ∷ [] ≡ o = ap outer_of e in
+    absurd (omega (arith, length-append (outer_depths ps) (capped (part_depth q) ∷ []), ap length same))
+
+pub accepted : (ws : List WordValue) (m : Measure) (n : ℕ) → measure_of ws ≡ Some m → m.factor ≡ Some n → length m.outer ≡ 0 → max n m.behind ≤ 100 → Accepted ws
+accepted ws m n is factor none low = accepted_at ws (run ws) refl n m.behind m.outer (sym (run_measured ws) ∙ is ∙ ap (λ (o : Option ℕ). made o m.behind m.outer) factor) none low
+
+-- What is spelt is accepted.
+low_enough : (f p d : ℕ) → d ≡ max f p → d ≤ 100 → max (min f 101) (min p 101) ≤ 100
+low_enough f p d x h = omega arith
+
+measure_whole : (ws : List WordValue) (e : Expression) → spelling e ≡ ws → measure_of ws ≡ Some (measured (ready (first (head e)) (part_of e) []))
+unfolding map_state
+measure_whole ws e says = run_measured ws ∙ ap map_state (ap run (sym says) ∙ run_whole e)
+
+pub refused : (ws : List WordValue) (m : Measure) → measure_of ws ≡ Some m → (m.factor ≡ None) ⊎ ((n : ℕ) × (m.factor ≡ Some n) × ((length m.outer ≡ 0) → max n m.behind ≤ 100 → ⊥)) → (e : Expression) → spelling e ≡ ws → depth e ≤ depth_limit → ⊥
+refused ws m is (inl none) e says low = let same : Some (measured (ready (first (head e)) (part_of e) [])) ≡ Some m = sym (measure_whole ws e says) ∙ is in cc (same, none)
+refused ws m is (inr bad) e says low =
+    let same : measured (ready (first (head e)) (part_of e) []) ≡ m = cc (sym (measure_whole ws e says) ∙ is) in
+    let n_is : capped (factor_depth (first (head e))) ≡ bad.0 = cc (same, bad.1) in
+    let b_is : capped (part_depth (part_of e)) ≡ m.behind = cc same in
+    let o_is : [] ≡ m.outer = cc same in
+    bad.2 (ap length (sym o_is)) (subst (λ (k : ℕ). k ≤ 100) (ap (λ (k : ℕ). max k (capped (part_depth (part_of e)))) n_is ∙ ap (λ (k : ℕ). max bad.0 k) b_is)
+    (low_enough (factor_depth (first (head e))) (part_depth (part_of e)) (depth e) (sym (ap depth (expression_again e)) ∙ closed_deep (first (head e)) (part_of e)) low))
+
+-- Where a word can't stand, nothing is spelt.
+none_on : (front ws : List WordValue) → measure_of ws ≡ None → measure_of (front ++ ws) ≡ None
+none_on [] ws e = e
+none_on (w ∷ front) ws e = ap (option_and_then (λ (m : Measure). measure_before w m.factor m.behind m.outer)) (none_on front ws e)
+
+pub stopped : (ws : List Word) (i : ℕ) → measure_of (map word_value (drop i ws)) ≡ None → (e : Expression) → spelling e ≡ map word_value ws → ⊥
+stopped ws i none e says =
+    let whole : measure_of (map word_value ws) ≡ None = ap (λ (xs : List Word). measure_of (map word_value xs)) (sym (take-append-drop i ws)) ∙ ap measure_of (map-append word_value (take i ws) (drop i ws)) ∙ none_on (map word_value (take i ws)) (map word_value (drop i ws)) none in
+    let no : ⊥ = cc (sym whole ∙ measure_whole (map word_value ws) e says) in no
+
+word_stops : (ws : List Word) (i : ℕ) (w : Word) (m : Measure) → 0 < i → i ≤ length ws → w ≡ get_or ws (i - 1) w → measure_of (map word_value (drop i ws)) ≡ Some m → measure_before (word_value w) m.factor m.behind m.outer ≡ None
+    → measure_of (map word_value (drop (i - 1) ws)) ≡ None
+word_stops ws zero w m some within is h none = absurd (omega arith)
+word_stops ws (suc i) w m some within is h none =
+    let e : suc i - 1 ≡ i = omega arith in
+    let below : i < length ws = omega arith in
+    ap (λ (k : ℕ). measure_of (map word_value (drop k ws))) e ∙ ap (λ (xs : List Word). measure_of (map word_value xs)) (drop-cons ws i w below)
+    ∙ ap (λ (x : Word). measure_of (word_value x ∷ map word_value (drop (suc i) ws))) (sym (is ∙ ap (λ (k : ℕ). get_or ws k w) e))
+    ∙ ap (option_and_then (λ (m : Measure). measure_before (word_value w) m.factor m.behind m.outer)) h ∙ none
+
+pub before_errs : (ws : List Word) (i : ℕ) (w : Word) (m : Measure) → 0 < i → i ≤ length ws → w ≡ get_or ws (i - 1) w → measure_of (map word_value (drop i ws)) ≡ Some m
+    → (e : SelectFault) → Gives built_value (Err e) (measure_before (word_value w) m.factor m.behind m.outer)
+    → (e ≡ Memory) ⊎ ((e ≡ BadTagText) × ((x : Expression) → spelling x ≡ map word_value ws → depth x ≤ depth_limit → ⊥))
+before_errs ws i w m some within is h Memory g = inl refl
+before_errs ws i w m some within is h BadTagText g = inr (refl, λ x says low. stopped ws (i - 1) (word_stops ws i w m some within is h g) x says)
+before_errs ws i w m some within is h TooMany g = absurd g
+
+pub unspelt : (ws : List WordValue) → measure_of ws ≡ None → (e : Expression) → spelling e ≡ ws → ⊥
+unspelt ws none e says = let no : ⊥ = cc (sym none ∙ measure_whole ws e says) in no

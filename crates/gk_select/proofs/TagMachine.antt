@@ -1,0 +1,86 @@
+-- What words of an expression have built has those words.
+use Rattle.std.proofs.Common.{◌≡◌, List, [], ◌∷◌, ◌++◌, map, Option, Some, None, option_and_then, refl, ap, sym, ◌∙◌, append_assoc, append-nil}
+use Rattle.gk_select.specs.declared.tag_values.TagRule.{TagRule}
+use Rattle.gk_select.specs.TagRules.{tag_rule_value}
+use Rattle.gk_select.specs.TagWords.{WordValue, word_value, open_word, close_word, not_word, and_word, or_word, tag_word}
+use Rattle.gk_select.specs.TagGrammar.{Expression, Term, Factor, tagged, negated, grouped, spelling, term_spelling, factor_spelling, SpeltBy}
+use Rattle.gk_select.specs.TagTrees.{Part, State, waiting, ready, empty, term_from, expression_from, closed, step, run, built_from}
+
+-- What is built has the words taken so far.
+abbrev pub joined_words : Option Term → List WordValue
+joined_words None = []
+joined_words (Some t) = and_word ∷ term_spelling t
+
+abbrev pub later_words : Option Expression → List WordValue
+later_words None = []
+later_words (Some e) = or_word ∷ spelling e
+
+abbrev pub part_words : Part → List WordValue
+part_words p = joined_words p.joined ++ later_words p.later
+
+abbrev pub outer_words : List Part → List WordValue
+outer_words [] = []
+outer_words (p ∷ ps) = close_word ∷ (part_words p ++ outer_words ps)
+
+abbrev pub state_words : State → List WordValue
+state_words (waiting p ps) = part_words p ++ outer_words ps
+state_words (ready f p ps) = factor_spelling f ++ (part_words p ++ outer_words ps)
+
+term_words : (f : Factor) (j : Option Term) → term_spelling (term_from f j) ≡ factor_spelling f ++ joined_words j
+term_words f None = sym (append-nil (factor_spelling f))
+term_words f (Some t) = refl
+
+expression_words : (t : Term) (l : Option Expression) → spelling (expression_from t l) ≡ term_spelling t ++ later_words l
+expression_words t None = sym (append-nil (term_spelling t))
+expression_words t (Some e) = refl
+
+closed_words : (f : Factor) (p : Part) → spelling (closed f p) ≡ factor_spelling f ++ part_words p
+closed_words f p = expression_words (term_from f p.joined) p.later ∙ ap (λ (ts : List WordValue). ts ++ later_words p.later) (term_words f p.joined) ∙ append_assoc (factor_spelling f) (joined_words p.joined) (later_words p.later)
+
+step_words : (w : WordValue) (s s' : State) → step w s ≡ Some s' → state_words s' ≡ w ∷ state_words s
+step_words open_word (waiting p ps) s' e = let no : ⊥ = cc e in absurd no
+step_words open_word (ready f p []) s' e = let no : ⊥ = cc e in absurd no
+step_words open_word (ready f p (q ∷ ps)) s' e =
+    let is : ready (grouped (closed f p)) q ps ≡ s' = cc e in
+    let rest = part_words q ++ outer_words ps in
+    ap state_words (sym is) ∙ ap (λ (x : List WordValue). open_word ∷ x)
+    (append_assoc (spelling (closed f p)) (close_word ∷ []) rest ∙ ap (λ (x : List WordValue). x ++ close_word ∷ rest) (closed_words f p) ∙ append_assoc (factor_spelling f) (part_words p) (close_word ∷ rest))
+step_words close_word (waiting p ps) s' e = let is : waiting empty (p ∷ ps) ≡ s' = cc e in ap state_words (sym is)
+step_words close_word (ready f p ps) s' e = let no : ⊥ = cc e in absurd no
+step_words not_word (waiting p ps) s' e = let no : ⊥ = cc e in absurd no
+step_words not_word (ready f p ps) s' e = let is : ready (negated f) p ps ≡ s' = cc e in ap state_words (sym is)
+step_words and_word (waiting p ps) s' e = let no : ⊥ = cc e in absurd no
+step_words and_word (ready f p ps) s' e =
+    let is : waiting (record { joined = Some (term_from f p.joined); later = p.later }) ps ≡ s' = cc e in
+    ap state_words (sym is) ∙ ap (λ (x : List WordValue). and_word ∷ ((x ++ later_words p.later) ++ outer_words ps)) (term_words f p.joined)
+    ∙ ap (λ (x : List WordValue). and_word ∷ (x ++ outer_words ps)) (append_assoc (factor_spelling f) (joined_words p.joined) (later_words p.later))
+    ∙ ap (λ (x : List WordValue). and_word ∷ x) (append_assoc (factor_spelling f) (part_words p) (outer_words ps))
+step_words or_word (waiting p ps) s' e = let no : ⊥ = cc e in absurd no
+step_words or_word (ready f p ps) s' e =
+    let is : waiting (record { joined = None; later = Some (closed f p) }) ps ≡ s' = cc e in
+    ap state_words (sym is) ∙ ap (λ (x : List WordValue). or_word ∷ (x ++ outer_words ps)) (closed_words f p)
+    ∙ ap (λ (x : List WordValue). or_word ∷ x) (append_assoc (factor_spelling f) (part_words p) (outer_words ps))
+step_words (tag_word t) (waiting p ps) s' e = let is : ready (tagged t) p ps ≡ s' = cc e in ap state_words (sym is)
+step_words (tag_word t) (ready f p ps) s' e = let no : ⊥ = cc e in absurd no
+
+-- Each turn.
+pub taken : (w : WordValue) (s : State) (ws : List WordValue) → run ws ≡ Some s → run (w ∷ ws) ≡ step w s
+taken w s ws h = ap (option_and_then (step w)) h
+
+some_words : (w : WordValue) (ws : List WordValue) (r : Option State) (s' : State) → ((s : State) → r ≡ Some s → state_words s ≡ ws) → option_and_then (step w) r ≡ Some s' → state_words s' ≡ w ∷ ws
+some_words w ws None s' before e = let no : ⊥ = cc e in absurd no
+some_words w ws (Some s) s' before e = step_words w s s' e ∙ ap (λ (x : List WordValue). w ∷ x) (before s refl)
+
+pub run_words : (ws : List WordValue) (s : State) → run ws ≡ Some s → state_words s ≡ ws
+run_words [] s e = let is : waiting empty [] ≡ s = cc e in ap state_words (sym is)
+run_words (w ∷ ws) s e = some_words w ws (run ws) s (run_words ws) e
+
+pub spelt_by : (ws : List WordValue) (f : Factor) (p : Part) → run ws ≡ Some (ready f p []) → spelling (closed f p) ≡ ws
+spelt_by ws f p e = closed_words f p ∙ ap (λ (x : List WordValue). factor_spelling f ++ x) (sym (append-nil (part_words p))) ∙ run_words ws (ready f p []) e
+
+-- What is spelt is the one expression that the words spell.
+spelt_is : (ws : List WordValue) (s : SpeltBy ws) (e : Expression) → spelling e ≡ ws → s.0 ≡ e
+spelt_is ws s e says = built_from s.0 ws s.1 ∙ sym (built_from e ws says)
+
+pub rule_is : (r : TagRule) (e : Expression) → spelling e ≡ map word_value r.words.items → tag_rule_value r ≡ e
+rule_is r e says = spelt_is (map word_value r.words.items) r.spelt e says

@@ -1,0 +1,24 @@
+use Rattle.std.proofs.Common.{◌≡◌, ◌⊎◌, ◌≤◌, ◌<◌, length, map, List, ap, subst, arith}
+use Rattle.std.proofs.lemmas.List.{length-map}
+use Rattle.std.proofs.lemmas.Result.{err_from_is_err_and}
+use Rattle.gk_select.specs.declared.select_fault.SelectFault.TheVariants.{BadTagText, Memory}
+use Rattle.gk_select.specs.declared.tag_words.Word.{Word}
+use Rattle.gk_select.specs.TagGrammar.{Expression, depth, depth_limit, spelling}
+use Rattle.gk_select.specs.TagWords.{word_value}
+use Rattle.gk_select.proofs.TagReading.{no_rule, first_word_said}
+use Rattle.gk_select.proofs.tag_rules.read_new_form.Goals as goal
+
+pub returns-in_err-check_words-clause-fault : goal.returns-in_err-check_words-clause-fault
+returns-in_err-check_words-clause-fault c =
+    let p = err_from_is_err_and c.from_residual-in_err-check_words.result c.from_residual-in_err-check_words.ensures.1 in
+    let fault = c.in_err-check_words.field-0.0 in
+    rw (p.1, p.2) (no_rule c.args.text.now (map word_value c.in_ok-words.words.items) c.requires c.in_ok-words.ensures.found fault
+    (subst (λ (ws : List Word). (fault ≡ Memory) ⊎ ((fault ≡ BadTagText) × ((x : Expression) → spelling x ≡ map word_value ws → depth x ≤ depth_limit → ⊥))) c.deref.ensures.value c.in_err-check_words.ensures.fault))
+
+pub returns-in_err-check_words-clause-memory : goal.returns-in_err-check_words-clause-memory
+returns-in_err-check_words-clause-memory c =
+    let p = err_from_is_err_and c.from_residual-in_err-check_words.result c.from_residual-in_err-check_words.ensures.1 in
+    λ is_memory.
+    let some : 0 < length c.deref.result.now = c.in_err-check_words.ensures.memory (cc (is_memory, p.1, p.2)) in
+    let same = ap length c.deref.ensures.value in
+    (c.requires, first_word_said c.args.text.now (map word_value c.in_ok-words.words.items) c.in_ok-words.ensures.found (omega (arith, some, same, length-map c.in_ok-words.words.items word_value)))

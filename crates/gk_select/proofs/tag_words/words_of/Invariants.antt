@@ -1,0 +1,12 @@
+use Rattle.std.proofs.Common.{map, length}
+use denote.Text.{Utf8}
+use denote.Shadow.{shadow}
+use Rattle.gk_select.specs.TagWords.{word_value}
+use Rattle.gk_select.proofs.TagWords.{Reads}
+use Rattle.gk_select.proofs.tag_words.words_of.Given as goal
+
+abbrev pub invariant-words : goal.invariant-words
+invariant-words l = shadow (Utf8 l.rest) × Reads l.text (map word_value l.words.items) l.rest
+
+abbrev pub decreases-words : goal.decreases-words
+decreases-words l = length l.rest

@@ -1,0 +1,111 @@
+//! Rules of tags, asked about a set of tags: the words of an expression are taken from the last to the first.
+ghost use Rattle.std.specs.Prelude.{◌≡◌, ◌-◌, ◌<◌, ◌^◌, map};
+ghost use Rattle.std.specs.List.{list_any};
+ghost use Rattle.std.specs.Str.{bytes_eq};
+ghost use Rattle.gk_gherkin.specs.Feature.{texts};
+ghost use Rattle.gk_select.specs.TagGrammar.{Expression, SpeltBy, spelling};
+ghost use Rattle.gk_select.specs.TagTrees.{spelt_once};
+ghost use Rattle.gk_select.specs.TagValues.{holds, seen_before, seen_value, seen_depth};
+ghost use Rattle.gk_select.specs.TagWords.{word_value};
+
+use crate::tag_words::Word;
+
+/// What is known of the words taken so far.
+#[derive(Clone, Copy, Debug)]
+pub enum Seen {
+    /// The value of the factor that stands in front, where all joined to it holds and nothing behind
+    /// the next `or` does.
+    Value(bool),
+    /// The term fails, and the rest of it is passed over, now so many groups deep.
+    Failed(usize),
+    /// The expression holds, and the rest of it is passed over, now so many groups deep.
+    Held(usize),
+}
+
+impl Seen {
+    pub fn value(self) -> bool
+        ensures { result ≡ seen_value self }
+    {
+        match self {
+            Seen::Value(value) => value,
+            Seen::Failed(_) => false,
+            Seen::Held(_) => true,
+        }
+    }
+
+    // What is known once the word before is taken.
+    pub fn before(self, word: &Word, tags: &[String]) -> Seen
+        requires { seen_depth self < 2 ^ 64 - 1 }
+        ensures { result ≡ seen_before (texts tags.now) (word_value word.now) self }
+    {
+        match self {
+            Seen::Value(value) => match word {
+                Word::Tag(tag) => Seen::Value(is_among(tag, tags)),
+                Word::Not => Seen::Value(!value),
+                Word::And => if value { self } else { Seen::Failed(0) },
+                Word::Or => if value { Seen::Held(0) } else { self },
+                Word::Open | Word::Close => self,
+            },
+            Seen::Failed(depth) => match word {
+                Word::Open => if depth == 0 {
+                    Seen::Value(false)
+                } else {
+                    Seen::Failed(depth - 1)
+                },
+                Word::Close => Seen::Failed(depth + 1),
+                Word::Or => if depth == 0 { Seen::Value(false) } else { self },
+                Word::And | Word::Not | Word::Tag(_) => self,
+            },
+            Seen::Held(depth) => match word {
+                Word::Open => if depth == 0 {
+                    Seen::Value(true)
+                } else {
+                    Seen::Held(depth - 1)
+                },
+                Word::Close => Seen::Held(depth + 1),
+                Word::And | Word::Or | Word::Not | Word::Tag(_) => self,
+            },
+        }
+    }
+}
+
+fn is_among(tag: &str, tags: &[String]) -> bool
+    ensures { result ≡ list_any (bytes_eq tag.now) (texts tags.now) }
+{
+    tags.iter().any(|other| tag == other.as_str())
+}
+
+/// An expression of tags, which holds of a set of tags or doesn't.
+#[derive(Debug, Drop)]
+pub struct TagRule {
+    words: Vec<Word>,
+    ghost spelt: { SpeltBy (map word_value words.items) } by { spelt_once (map word_value words.items) },
+}
+
+impl TagRule {
+    ghost use Rattle.gk_select.specs.TagRules.{tag_rule_value};
+
+    /// The rule that these words spell.
+    pub fn of_words(words: Vec<Word>) -> TagRule
+        requires { SpeltBy (map word_value words.items) }
+        ensures { (e : Expression) → spelling e ≡ map word_value words.items →
+            tag_rule_value result ≡ e }
+    {
+        TagRule { words }
+    }
+
+    /// Whether the rule holds of a set of tags, each with its `@`. Takes no memory. (behave's
+    /// documentation: tag expressions; Cucumber's tag expressions)
+    pub fn selects(&self, tags: &[String]) -> bool
+        ensures { result ≡ holds (tag_rule_value self.now) (texts tags.now) }
+    {
+        let words = self.words.as_slice();
+        let mut seen = Seen::Value(false);
+        let mut at = words.len();
+        while at > 0 {
+            at -= 1;
+            seen = seen.before(&words[at], tags);
+        }
+        seen.value()
+    }
+}

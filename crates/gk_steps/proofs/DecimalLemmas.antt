@@ -1,0 +1,83 @@
+-- Texts that spell numbers, as a property and as a test.
+use Rattle.std.specs.Prelude.{◌&&◌, nat_le, nat_lt, FitsSigned, IsSome, Option, Some, None, Result, Ok, Err, if◌then◌else◌}
+use Rattle.std.specs.Char.{is_digit}
+use Rattle.std.specs.Int.{w64}
+use Rattle.std.specs.List.{list_all}
+use Rattle.std.specs.Result.{result_ok}
+use Rattle.std.specs.Str.Parse.{IsNumeral, AllDigits, ParsesSigned, without_leading_sign, signed_digits_value}
+use Rattle.std.proofs.Common.{◌≡◌, ◌<◌, ◌≤◌, ℕ, ℤ, pos, negsuc, Bool, true, false, List, [], ◌∷◌, length, refl, sym, ap, ◌∙◌, arith}
+use Rattle.std.proofs.lemmas.Bool.Decides.{nat_tests}
+use Rattle.gk_steps.specs.Decimal.{is_i64, is_numeral, IsNumber, is_number, number_of}
+
+-- tests
+pub and_left : (a b : Bool) → (a && b) ≡ true → a ≡ true
+and_left true b e = refl
+and_left false b e = let bad : ⊥ = cc in absurd bad
+
+pub and_right : (a b : Bool) → (a && b) ≡ true → b ≡ true
+and_right true b e = e
+and_right false b e = let bad : ⊥ = cc in absurd bad
+
+pub both : (a b : Bool) → a ≡ true → b ≡ true → (a && b) ≡ true
+both true b e f = f
+both false b e f = let bad : ⊥ = cc in absurd bad
+
+pub less_so : (a b : ℕ) → nat_lt a b ≡ true → a < b
+less_so a b e = grind (arith, nat_tests)
+
+pub less_test : (a b : ℕ) → a < b → nat_lt a b ≡ true
+less_test a b e = grind (arith, nat_tests)
+
+digits_so : (ds : List ℕ) → list_all (λ c. is_digit c 10) ds ≡ true → AllDigits 10 ds
+digits_so [] e = tt
+digits_so (c ∷ cs) e = (less_so _ 10 (and_left (is_digit c 10) (list_all (λ d. is_digit d 10) cs) e), digits_so cs (and_right (is_digit c 10) (list_all (λ d. is_digit d 10) cs) e))
+
+digits_test : (ds : List ℕ) → AllDigits 10 ds → list_all (λ c. is_digit c 10) ds ≡ true
+digits_test [] h = refl
+digits_test (c ∷ cs) h = both (is_digit c 10) (list_all (λ d. is_digit d 10) cs) (less_test _ 10 h.0) (digits_test cs h.1)
+
+numeral_so : (ds : List ℕ) → is_numeral ds ≡ true → IsNumeral 10 ds
+numeral_so ds e = (less_so 0 (length ds) (and_left (nat_lt 0 (length ds)) (list_all (λ c. is_digit c 10) ds) e), digits_so ds (and_right (nat_lt 0 (length ds)) (list_all (λ c. is_digit c 10) ds) e))
+
+numeral_test : (ds : List ℕ) → IsNumeral 10 ds → is_numeral ds ≡ true
+numeral_test ds h = both (nat_lt 0 (length ds)) (list_all (λ c. is_digit c 10) ds) (less_test 0 (length ds) h.0) (digits_test ds h.1)
+
+not_more_so : (a b : ℕ) → nat_le a b ≡ true → a ≤ b
+not_more_so a b e = grind (arith, nat_tests)
+
+not_more_test : (a b : ℕ) → a ≤ b → nat_le a b ≡ true
+not_more_test a b e = grind (arith, nat_tests)
+
+fits_so : (z : ℤ) → is_i64 z ≡ true → FitsSigned w64 z
+fits_so (pos n) e = let within = not_more_so n 9223372036854775807 e in record { sfits = omega arith }
+fits_so (negsuc n) e = let within = not_more_so n 9223372036854775807 e in record { sfits = omega arith }
+
+fits_test : (z : ℤ) → FitsSigned w64 z → is_i64 z ≡ true
+fits_test (pos n) h = not_more_test n 9223372036854775807 (omega (arith, h.sfits))
+fits_test (negsuc n) h = not_more_test n 9223372036854775807 (omega (arith, h.sfits))
+
+pub number_so : (x : List ℕ) → is_number x ≡ true → IsNumber x
+number_so x e =
+    let a = is_numeral (without_leading_sign x) in
+    let b = is_i64 (signed_digits_value 10 x) in
+    (numeral_so (without_leading_sign x) (and_left a b e), fits_so (signed_digits_value 10 x) (and_right a b e))
+
+pub number_test : (x : List ℕ) → IsNumber x → is_number x ≡ true
+number_test x h = both (is_numeral (without_leading_sign x)) (is_i64 (signed_digits_value 10 x)) (numeral_test (without_leading_sign x) h.0) (fits_test (signed_digits_value 10 x) h.1)
+
+-- the number of a text that spells one, and of one that spells none
+pub number_some : (x : List ℕ) → IsNumber x → number_of x ≡ Some (signed_digits_value 10 x)
+number_some x h = ap (λ b. if b then Some (signed_digits_value 10 x) else None) (number_test x h)
+
+number_none : (x : List ℕ) (b : Bool) → is_number x ≡ b → (IsNumber x → ⊥) → (if b then Some (signed_digits_value 10 x) else None) ≡ None
+number_none x true e never = absurd (never (number_so x e))
+number_none x false e never = refl
+
+pub some_number : (o : Option ℤ) (x : List ℕ) → o ≡ Some (signed_digits_value 10 x) → IsSome o
+some_number (Some n) x e = refl
+some_number None x e = let bad : ⊥ = cc in absurd bad
+
+-- what `parse` reads
+pub number_parsed : {E : Type 0} (x : List ℕ) (r : Result ℤ E) → ParsesSigned w64 10 x r → result_ok r ≡ number_of x
+number_parsed x (Ok n) h = ap (λ m. Some m) h.1 ∙ sym (number_some x h.0)
+number_parsed x (Err e) h = sym (number_none x (is_number x) refl h)

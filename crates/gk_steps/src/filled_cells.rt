@@ -1,0 +1,35 @@
+//! The count of the cells that matches fill.
+ghost use Rattle.std.specs.Prelude.{◌≡◌, ◌≤◌, ◌+◌, [], ◌∷◌, ◌++◌, if◌then◌else◌, is_ok, OnOk};
+ghost use Rattle.gk_steps.specs.FilledCells.{GoesOnBy};
+
+use std::alloc::AllocError;
+
+/// Counts the cells of tables as matches fill them. It stops at the largest number of 64 bits.
+#[derive(Debug, Drop)]
+pub struct Cells {
+    /// How many were filled so far.
+    pub filled: u64,
+}
+
+impl Cells {
+    /// A count at 0.
+    pub fn new() -> Cells
+        ensures { result.filled ≡ 0 }
+    {
+        Cells { filled: 0 }
+    }
+
+    /// Fills a cell and counts it. No other call fills a cell of a table.
+    pub(crate) fn fill(&mut self, row: &mut Vec<bool>, cell: bool) -> Result<(), AllocError>
+        ensures items { row.new.items
+            ≡ (if is_ok result then row.old.items ++ cell ∷ [] else row.old.items) }
+        ensures most { self.new.filled ≤ self.old.filled + 1 }
+        ensures filled { OnOk result (GoesOnBy 1 self.old.filled self.new.filled) }
+    {
+        row.push(cell)?;
+        if self.filled < u64::MAX {
+            self.filled += 1;
+        }
+        Ok(())
+    }
+}

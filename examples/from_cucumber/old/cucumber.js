@@ -1,0 +1,1 @@
+module.exports = { default: { tags: 'not @wip' } };

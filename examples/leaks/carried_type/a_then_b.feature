@@ -1,0 +1,6 @@
+Feature: A step's type is carried over
+  Scenario: A
+    Then it passes
+
+  Scenario: B
+    And x

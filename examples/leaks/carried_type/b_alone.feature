@@ -1,0 +1,3 @@
+Feature: A step's type is carried over
+  Scenario: B
+    And x

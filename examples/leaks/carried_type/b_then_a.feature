@@ -1,0 +1,6 @@
+Feature: A step's type is carried over
+  Scenario: B
+    And x
+
+  Scenario: A
+    Then it passes

@@ -1,0 +1,4 @@
+Feature: A switch of a class
+  Scenario: B
+    When it fails
+    Then a mark is left

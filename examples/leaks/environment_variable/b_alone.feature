@@ -1,0 +1,3 @@
+Feature: A variable of the environment
+  Scenario: B
+    Then REGION is unset

@@ -1,0 +1,3 @@
+Feature: A mark that a step has failed
+  Scenario: B
+    Then failed isn't set

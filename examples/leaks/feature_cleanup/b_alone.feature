@@ -1,0 +1,3 @@
+Feature: A cleanup of the feature that fails
+  Scenario: B
+    Then it passes

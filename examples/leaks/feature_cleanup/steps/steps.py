@@ -1,0 +1,6 @@
+from behave import then
+
+
+@then("it passes")
+def passes(context):
+    pass

@@ -1,0 +1,4 @@
+Feature: A value is hidden, deleted and set
+  Scenario: B
+    When n is set to 8
+    Then n is 8

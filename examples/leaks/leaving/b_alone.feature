@@ -1,0 +1,3 @@
+Feature: A step that leaves
+  Scenario: B
+    Then it fails

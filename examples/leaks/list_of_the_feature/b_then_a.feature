@@ -1,0 +1,6 @@
+Feature: A list of the feature's layer
+  Scenario: B
+    Then the basket is as it was: milk
+
+  Scenario: A
+    When bread is put into the basket

@@ -1,0 +1,3 @@
+Feature: A variable of a module
+  Scenario: B
+    Then nothing is in the basket

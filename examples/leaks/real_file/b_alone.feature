@@ -1,0 +1,3 @@
+Feature: A file
+  Scenario: B
+    Then there is no order

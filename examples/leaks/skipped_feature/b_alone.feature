@@ -1,0 +1,3 @@
+Feature: A step that skips
+  Scenario: B
+    Then it fails

@@ -1,0 +1,28 @@
+#!/bin/sh
+# Runs once more what failed: examples/recipes/again.sh REPORT PROGRAM [OPTION]..
+#
+# REPORT is the JSON report of the run in which it failed. Each file of it with something that failed is run by itself,
+# with the options and the lines of those scenarios; whole where its own hooks and cleanups failed. Ends with the greatest
+# status. It needs jq.
+set -eu
+
+report=$1
+shift
+runs=$(jq --raw-output '
+    def is_bad: . == "failed" or . == "memory";
+    .features[]
+    | [.scenarios[] | select(.status | is_bad) | .line] as $lines
+    | if .around | is_bad then ["--", .source]
+      elif $lines == [] then empty
+      else [$lines[] | "--line", tostring] + ["--", .source] end
+    | "again \"$@\" " + @sh' "$report") || exit 3
+worst=0
+
+again() {
+    status=0
+    "$@" || status=$?
+    [ "$status" -le "$worst" ] || worst=$status
+}
+
+eval "$runs"
+exit "$worst"

@@ -1,0 +1,23 @@
+#!/bin/sh
+# Runs a suite, and ends with its status: examples/recipes/check.sh PROGRAM [OPTION].. FILE..
+#
+# Looks for undefined steps first, and prints them. Where there are none it runs the suite, and prints what failed and the
+# counts.
+set -eu
+
+room=$(mktemp -d)
+trap 'rm -rf "$room"' EXIT
+trap 'exit 1' HUP INT TERM
+program=$1
+shift
+"$program" --dry-run "$@" > "$room/undefined" || {
+    status=$?
+    grep '\.\.\. undefined$' "$room/undefined" || true
+    tail -n 3 "$room/undefined"
+    exit "$status"
+}
+status=0
+"$program" --no-skipped "$@" > "$room/report" || status=$?
+grep -E '^(Feature|  [A-Z][A-Za-z ]*): .* \.\.\. (failed|memory)$|\.\.\. failed: |^ *\(hooks and cleanups\) ' "$room/report" || true
+tail -n 3 "$room/report"
+exit "$status"

@@ -1,0 +1,336 @@
+#!/bin/sh
+# Installs the program into empty folders and takes it out again: tests/install.sh [PROGRAM]
+#
+# Tries ./install and ./install --remove, what they refuse, the program, the man page and the completions that were
+# put in, and the commands that docs/guide/installing.md shows. The man page and the completions have to list
+# exactly the options of the help of PROGRAM, the built program; without it, of the one that ./run runs, which is
+# also the one that is installed. Each file of completions is read by its shell where that shell is there.
+# Closes with one line 'N passed, M failed'.
+set -eu
+
+. "$(dirname -- "$(readlink -f -- "$0")")/setup.sh"
+cd "$home"
+
+# Counts a test: what is claimed, and then the command that has to end with 0.
+holds() {
+    claim=$1
+    shift
+    if "$@" > "$room/log" 2>&1; then
+        passed=$((passed + 1))
+    else
+        failed=$((failed + 1))
+        echo "not so: $claim"
+        cat "$room/log"
+    fi
+}
+
+# Whether ./install with these arguments ends with 1, says these words and leaves the folder 'place' as it was.
+refuses() {
+    words=$1
+    shift
+    contents "$room/place" > "$room/before"
+    status=0
+    "$home/install" "$@" > "$room/said" 2>&1 || status=$?
+    contents "$room/place" > "$room/after"
+    [ "$status" -eq 1 ] && grep -F -- "$words" "$room/said" && cmp "$room/before" "$room/after"
+}
+
+# What is in a folder: each file and folder with its permissions, and the sum of each file.
+contents() (
+    cd "$1"
+    find . -exec stat -c '%A %n' {} + | LC_ALL=C sort
+    find . -type f -exec sha256sum {} + | LC_ALL=C sort
+)
+
+# Makes an empty folder 'place' anew.
+clear() {
+    rm -rf "$room/place"
+    mkdir "$room/place"
+}
+
+# ---- put in and taken out
+
+it_is_all_there() (
+    cd "$1"
+    cmp bin/gherkin_run "$("$home/run" --which)" &&
+        [ -x bin/gherkin_run ] &&
+        cmp share/man/man1/gherkin_run.1 "$home/share/gherkin_run.1" &&
+        cmp share/bash-completion/completions/gherkin_run "$home/share/gherkin_run.bash" &&
+        cmp share/zsh/site-functions/_gherkin_run "$home/share/_gherkin_run" &&
+        cmp share/fish/vendor_completions.d/gherkin_run.fish "$home/share/gherkin_run.fish" &&
+        cmp share/doc/gherkin_run/LICENSE-MIT "$home/LICENSE-MIT" &&
+        cmp share/doc/gherkin_run/LICENSE-APACHE "$home/LICENSE-APACHE" &&
+        diff -r -x __pycache__ share/doc/gherkin_run/examples "$home/examples"
+)
+
+an_example_runs() (
+    cd "$1/share/doc/gherkin_run"
+    "$1/bin/gherkin_run" examples/first.feature > "$room/report" && cmp "$room/report" examples/first.report
+)
+
+# Installs into a folder, looks at what is there, and takes it out: the folder 'place' is as it was.
+there_and_back() {
+    contents "$room/place" > "$room/before"
+    "$home/install" "$1" && it_is_all_there "$1" && an_example_runs "$1" && "$home/install" --remove "$1" &&
+        contents "$room/place" > "$room/after" && cmp "$room/before" "$room/after"
+}
+
+by_a_relative_path() (
+    cd "$room/place"
+    "$home/install" "it's here" && it_is_all_there "$room/place/it's here" && "$home/install" --remove "it's here" &&
+        [ ! -e "it's here" ]
+)
+
+into_the_own_folder() {
+    HOME=$room/place "$home/install" && it_is_all_there "$room/place/.local" &&
+        HOME=$room/place "$home/install" --remove && [ -z "$(ls -A "$room/place")" ]
+}
+
+beside_other_files() {
+    mkdir -p "$room/place/bin" "$room/place/share/man" && echo mine > "$room/place/bin/mine" &&
+        there_and_back "$room/place" && [ "$(cat "$room/place/bin/mine")" = mine ]
+}
+
+# What was put in later into folders of the installation stays, and so do these folders until they are empty.
+twice() {
+    "$home/install" "$room/place" && echo mine > "$room/place/bin/mine" && echo old > "$room/place/bin/gherkin_run" &&
+        "$home/install" "$room/place" && it_is_all_there "$room/place" && rm "$room/place/bin/mine" &&
+        "$home/install" --remove "$room/place" && [ -z "$(ls -A "$room/place")" ]
+}
+
+what_others_put_in_stays() {
+    "$home/install" "$room/place" && echo mine > "$room/place/bin/mine" && "$home/install" --remove "$room/place" &&
+        [ "$(find "$room/place" -mindepth 1 | LC_ALL=C sort | tr '\n' ' ')" = "$room/place/bin $room/place/bin/mine " ]
+}
+
+# ---- refused
+
+in_the_way() {
+    clear
+    mkdir -p "$(dirname "$room/place/$1")"
+    echo mine > "$room/place/$1"
+    holds "a file $1 in the way is refused" refuses "is in the way" "$room/place"
+}
+
+# Runs a command as somebody whom permissions bind: they don't bind root.
+as_somebody() {
+    case $(id -u) in
+    0) setpriv --reuid 65534 --regid 65534 --clear-groups "$@" ;;
+    *) "$@" ;;
+    esac
+}
+
+# Whether a folder below 'place', where nothing can be written, is refused.
+unwritable() {
+    chmod a-w "$room/place"
+    status=0
+    as_somebody "$home/install" "$1" > "$room/said" 2>&1 || status=$?
+    chmod u+w "$room/place"
+    cat "$room/said"
+    [ "$status" -eq 1 ] && grep -F "can't be written" "$room/said" && [ -z "$(ls -A "$room/place")" ]
+}
+
+without_home() (
+    unset HOME
+    refuses "HOME isn't set"
+)
+
+# A file that can't be written whole, as on a full disk.
+fails_midway() (
+    ulimit -f 100
+    refuses "nothing is installed" "$room/place"
+)
+
+# ---- the man page and the completions
+
+# The options that the help lists, one a line: each spelling, and the value.
+options_of_help() {
+    "$program" --help | sed -nE 's/^ +((-[a-z], )?--[a-z-]+( <[^>]+>)?)( .*)?$/\1/p' | tr -d '<>' | LC_ALL=C sort
+}
+
+options_of_man() {
+    sed -nE '/^\.SH OPTIONS/,/^\.SH EXIT/{/^\\fB\\-/{s/\\f[BIR]//g;s/\\-/-/g;p}}' "$home/share/gherkin_run.1" | LC_ALL=C sort
+}
+
+# The spellings alone.
+spellings() {
+    options_of_help | sed -E 's/ [A-Z=]+$//;s/, /\n/' | LC_ALL=C sort
+}
+
+spellings_of_zsh() {
+    grep -oE -- "('|\*|,|\{)-(-[a-z-]+|h)" "$home/share/_gherkin_run" | grep -oE -- '-(-[a-z-]+|h)$' | LC_ALL=C sort
+}
+
+spellings_of_fish() {
+    sed -nE 's/^complete -c gherkin_run( -s ([a-z]))?( -l ([a-z-]+)).*$/-\2 --\4/p' "$home/share/gherkin_run.fish" |
+        tr ' ' '\n' | grep -vx -- - | LC_ALL=C sort
+}
+
+# What bash completes: the words so far are the arguments.
+bash_completes() {
+    bash -c '. "$0"; compopt() { :; }; COMP_WORDS=(gherkin_run "$@"); COMP_CWORD=$#; _gherkin_run
+        printf "%s\n" ${COMPREPLY[@]+"${COMPREPLY[@]}"}' "$home/share/gherkin_run.bash" "$@" | LC_ALL=C sort
+}
+
+# Which of the options of the help take a value.
+with_value() {
+    options_of_help | sed -nE 's/^(.*) [A-Z=]+$/\1/p'
+}
+
+lists_as() {
+    "$1" > "$room/listed"
+    "$2" > "$room/wanted"
+    [ -s "$room/wanted" ] && diff "$room/wanted" "$room/listed"
+}
+
+bash_lists_options() {
+    bash_completes - | grep . > "$room/listed"
+    spellings > "$room/wanted"
+    diff "$room/wanted" "$room/listed"
+}
+
+# The formats that the help names, as `plain json progress`.
+formats() {
+    "$program" --help | sed -nE 's/^ +--format .* as ([a-z, ]+) \[.*$/\1/p' | sed 's/,//g;s/ or / /' | tr ' ' '\n' |
+        LC_ALL=C sort | tr '\n' ' '
+}
+
+# bash hands over --format=j as three words.
+bash_completes_formats() {
+    [ "$(bash_completes --format "" | tr '\n' ' ')" = "$(formats)" ] &&
+        [ "$(bash_completes --format = | tr '\n' ' ')" = "$(formats)" ] &&
+        [ "$(bash_completes --stop --format j)" = json ] &&
+        [ "$(bash_completes --format = j)" = json ] &&
+        [ -z "$(bash_completes --tags -)" ]
+}
+
+values_are_named() {
+    for option in $(with_value); do
+        grep -qE -- "'\*?$option=\[" "$home/share/_gherkin_run" &&
+            grep -qE -- " -l ${option#--} (-x|-r)" "$home/share/gherkin_run.fish" || return 1
+    done
+    [ "$(grep -cE -- '=\[' "$home/share/_gherkin_run")" -eq "$(with_value | wc -l)" ] &&
+        [ "$(grep -cE -- ' (-x|-r) ' "$home/share/gherkin_run.fish")" -eq "$(with_value | wc -l)" ]
+}
+
+# Whether a way to read the man page warns of nothing and shows its name and an option.
+shows_man_page() {
+    LC_ALL=C "$@" > "$room/page" 2> "$room/warnings" && cat "$room/warnings" && [ ! -s "$room/warnings" ] &&
+        grep -F "run the scenarios of Gherkin feature files" "$room/page" && grep -F -e "--no-skipped" "$room/page"
+}
+
+# ---- the page
+
+# The commands of a block of docs/guide/installing.md: the block's name stands after its fence.
+commands_of() {
+    sed -n "/^\`\`\`sh $1\$/,/^\`\`\`\$/p" docs/guide/installing.md | sed '/^```/d'
+}
+
+# Runs a block as it is printed, with 'place' as the user's own folder. Below 'top' is what the commands count on at
+# the top of the repository, so that nothing is written there.
+runs_as_printed() {
+    commands_of "$1" > "$room/commands"
+    [ -s "$room/commands" ] && (
+        rm -rf "$room/top"
+        mkdir "$room/top"
+        ln -s "$home/install" "$room/top/install"
+        cd "$room/top"
+        HOME=$room/place sh -eu "$room/commands"
+    )
+}
+
+page_installs_and_removes() {
+    runs_as_printed install && runs_as_printed example > "$room/report" && cmp "$room/report" examples/first.report &&
+        runs_as_printed remove && [ -z "$(ls -A "$room/place")" ]
+}
+
+page_makes_an_archive() {
+    runs_as_printed archive && tar -xzf "$room/top/gherkin_run.tar.gz" -C "$room/place" &&
+        it_is_all_there "$room/place/gherkin_run" && an_example_runs "$room/place/gherkin_run"
+}
+
+page_makes_a_debian_package() {
+    runs_as_printed debian && dpkg-deb -x "$room/top/gherkin-run.deb" "$room/place" &&
+        it_is_all_there "$room/place/usr" && an_example_runs "$room/place/usr" &&
+        [ "$(dpkg-deb -f "$room/top/gherkin-run.deb" Package)" = gherkin-run ]
+}
+
+clear
+holds "into an empty folder and out of it" there_and_back "$room/place"
+holds "into a folder that isn't there and out of it" there_and_back "$room/place/not/yet there"
+holds "by a relative path" by_a_relative_path
+holds "without PREFIX into the user's own folder" into_the_own_folder
+holds "beside other files" beside_other_files
+clear
+holds "a second installation replaces the first" twice
+clear
+holds "what others put in stays" what_others_put_in_stays
+
+for path in bin bin/gherkin_run share/man share/gherkin_run share/doc/gherkin_run/examples/first.feature; do
+    in_the_way "$path"
+done
+clear
+ln -s nowhere "$room/place/share"
+holds "a link in the way is refused" refuses "is in the way" "$room/place"
+clear
+left_out=
+chmod a+rx "$room"
+if as_somebody "$home/run" --which > /dev/null 2>&1; then
+    holds "a folder that can't be written is refused" unwritable "$room/place"
+    holds "a folder below one that can't be written is refused" unwritable "$room/place/below/it"
+else
+    left_out="$left_out a user other than root who can read $home,"
+fi
+holds "a failure midway leaves nothing" fails_midway
+holds "an option that isn't known is refused" refuses "there is no option" --prefix="$room/place"
+holds "two folders are refused" refuses "too many arguments" "$room/place" "$room/place"
+holds "an empty name is refused" refuses "is empty" ""
+holds "no folder is refused without HOME" without_home
+holds "a folder with a line feed is refused" refuses "line feed" "$room/place/a
+b"
+holds "removing where nothing is installed is refused" refuses "there is no installation" --remove "$room/place"
+
+holds "the man page lists the options of the help" lists_as options_of_man options_of_help
+holds "the completions for zsh list the options of the help" lists_as spellings_of_zsh spellings
+holds "the completions for fish list the options of the help" lists_as spellings_of_fish spellings
+holds "the completions for zsh and fish say which options take a value" values_are_named
+if command -v bash > /dev/null; then
+    holds "bash reads its completions" bash -n share/gherkin_run.bash
+    holds "the completions for bash list the options of the help" bash_lists_options
+    holds "bash completes the formats" bash_completes_formats
+else
+    left_out="$left_out bash"
+fi
+if command -v zsh > /dev/null; then
+    holds "zsh reads its completions" zsh -n share/_gherkin_run
+else
+    left_out="$left_out zsh"
+fi
+if command -v fish > /dev/null; then
+    holds "fish reads its completions" fish --no-execute share/gherkin_run.fish
+else
+    left_out="$left_out fish"
+fi
+if command -v man > /dev/null; then
+    holds "man shows the man page" shows_man_page man --warnings -l share/gherkin_run.1
+else
+    left_out="$left_out man"
+fi
+if command -v groff > /dev/null; then
+    holds "groff shows the man page" shows_man_page groff -man -Tascii -P -c -P -b -P -u -ww share/gherkin_run.1
+else
+    left_out="$left_out groff"
+fi
+clear
+holds "the page's commands install and remove" page_installs_and_removes
+holds "the page's commands make an archive" page_makes_an_archive
+clear
+if command -v dpkg-deb > /dev/null; then
+    holds "the page's commands make a Debian package" page_makes_a_debian_package
+else
+    left_out="$left_out dpkg-deb"
+fi
+[ -z "$left_out" ] || echo "left out, as it isn't there:$left_out"
+
+echo "$passed passed, $failed failed"
+[ "$failed" -eq 0 ]

@@ -1,0 +1,8 @@
+Feature: words
+  @not
+  Scenario: not
+  @and
+  Scenario: and
+  @or @nor
+  Scenario: or
+  Scenario: nothing

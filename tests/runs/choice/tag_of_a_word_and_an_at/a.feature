@@ -1,0 +1,7 @@
+Feature: old
+  @not@a
+  Scenario: s
+  @a\b
+  Scenario: t
+  @a
+  Scenario: u

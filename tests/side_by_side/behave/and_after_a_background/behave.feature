@@ -1,0 +1,5 @@
+Feature: And
+  Background:
+    Then it passes
+  Scenario: Begins with And
+    And x

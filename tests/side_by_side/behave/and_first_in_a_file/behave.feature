@@ -1,0 +1,3 @@
+Feature: And
+  Scenario: Begins with And
+    And x

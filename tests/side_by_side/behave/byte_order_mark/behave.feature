@@ -1,0 +1,3 @@
+﻿Feature: A mark
+  Scenario: The only one
+    Given it passes

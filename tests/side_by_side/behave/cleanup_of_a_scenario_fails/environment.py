@@ -1,0 +1,6 @@
+def fails():
+    assert False
+
+
+def before_scenario(context, scenario):
+    context.add_cleanup(fails)

@@ -1,0 +1,6 @@
+def fails():
+    assert False
+
+
+def before_all(context):
+    context.add_cleanup(fails)

@@ -1,0 +1,3 @@
+Feature: Layers
+  Scenario: Deletes the feature's number
+    When the value "n" is deleted

@@ -1,0 +1,6 @@
+from behave import when
+
+
+@when('the value "{name}" is deleted')
+def delete(context, name):
+    delattr(context, name)

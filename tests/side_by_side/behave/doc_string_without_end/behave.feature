@@ -1,0 +1,7 @@
+Feature: Doc strings
+  Scenario: Without end
+    Given it passes
+"""
+text
+  Scenario: Never seen
+    Given it fails

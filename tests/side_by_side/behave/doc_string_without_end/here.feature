@@ -1,0 +1,8 @@
+Feature: Doc strings
+  Scenario: With its end
+    Given it passes
+"""
+text
+"""
+  Scenario: Seen
+    Given it fails

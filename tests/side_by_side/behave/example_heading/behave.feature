@@ -1,0 +1,3 @@
+Feature: Headings
+  Example: A scenario by its other name
+    Given it fails

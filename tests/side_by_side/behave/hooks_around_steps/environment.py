@@ -1,0 +1,2 @@
+def before_step(context, step):
+    assert False

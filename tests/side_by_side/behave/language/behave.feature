@@ -1,0 +1,4 @@
+# language: de
+Funktionalität: Sprachen
+  Szenario: Auf Deutsch
+    Gegeben sei it passes

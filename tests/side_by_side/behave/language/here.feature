@@ -1,0 +1,3 @@
+Feature: Sprachen
+  Scenario: Auf Deutsch
+    Given it passes

@@ -1,0 +1,3 @@
+Feature: Keywords
+  Scenario: The first step begins with a capital letter
+    Given it fails

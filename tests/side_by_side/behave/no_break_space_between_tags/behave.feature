@@ -1,0 +1,4 @@
+Feature: Tags
+  @a @b
+  Scenario: A no-break space
+    Given it passes

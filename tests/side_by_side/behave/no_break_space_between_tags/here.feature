@@ -1,0 +1,4 @@
+Feature: Tags
+  @a @b
+  Scenario: A space
+    Given it passes

@@ -1,0 +1,3 @@
+Feature: Cleanups
+  Scenario: The only one
+    Given it passes

@@ -1,0 +1,3 @@
+Feature: Examples
+  Scenario Outline: None at all
+    Given it passes

@@ -1,0 +1,3 @@
+Feature: Types
+  Scenario: A word
+    Given a lamp

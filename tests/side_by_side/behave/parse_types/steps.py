@@ -1,0 +1,6 @@
+from behave import given
+
+
+@given("a {thing:w}")
+def given_thing(context, thing):
+    pass

@@ -1,0 +1,4 @@
+Feature: Rules
+  Rule: The first thing in the file
+    Scenario: In a rule
+      Given it passes

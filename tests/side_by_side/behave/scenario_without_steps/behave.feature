@@ -1,0 +1,2 @@
+Feature: Steps
+  Scenario: None

@@ -1,0 +1,4 @@
+@later
+Feature: Skipping
+  Scenario: The only one
+    Given it passes

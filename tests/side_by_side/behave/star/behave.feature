@@ -1,0 +1,4 @@
+Feature: A star
+  Scenario: After a Then
+    Then it passes
+    * x

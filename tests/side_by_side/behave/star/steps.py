@@ -1,0 +1,11 @@
+from behave import given, then
+
+
+@given("x")
+def given_x(context):
+    pass
+
+
+@then("x")
+def then_x(context):
+    assert False

@@ -1,0 +1,2 @@
+def before_tag(context, tag):
+    assert tag != "a"

@@ -1,0 +1,5 @@
+Feature: Stopping
+  Scenario: fails
+    Given it fails
+  Scenario: isn't reached
+    Given it passes

@@ -1,0 +1,3 @@
+Feature: Later
+  Scenario: Isn't to be reached
+    Given it passes

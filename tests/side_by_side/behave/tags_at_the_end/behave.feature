@@ -1,0 +1,4 @@
+Feature: Tags
+  Scenario: The only one
+    Given it passes
+@lost

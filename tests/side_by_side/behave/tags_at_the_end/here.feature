@@ -1,0 +1,4 @@
+Feature: Tags
+  @found
+  Scenario: The only one
+    Given it passes

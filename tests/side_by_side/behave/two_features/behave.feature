@@ -1,0 +1,4 @@
+Feature: One
+Feature: Two
+  Scenario: Of which?
+    Given it passes

@@ -1,0 +1,3 @@
+Feature: One
+  Scenario: Of the only one
+    Given it passes

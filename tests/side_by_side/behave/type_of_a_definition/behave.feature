@@ -1,0 +1,3 @@
+Feature: Types
+  Scenario: A Given isn't found by a When
+    When x

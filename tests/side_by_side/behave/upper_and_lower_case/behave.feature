@@ -1,0 +1,3 @@
+Feature: Texts
+  Scenario: In capital letters
+    Given IT PASSES

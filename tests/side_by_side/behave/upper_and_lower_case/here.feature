@@ -1,0 +1,3 @@
+Feature: Texts
+  Scenario: As the library has it
+    Given it passes

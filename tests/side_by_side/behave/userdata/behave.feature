@@ -1,0 +1,3 @@
+Feature: Settings
+  Scenario: One from the command line
+    Then the variable "REGION" should be "eu"

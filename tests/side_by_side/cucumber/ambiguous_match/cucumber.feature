@@ -1,0 +1,3 @@
+Feature: Expressions
+  Scenario: Two definitions fit
+    Given a lamp

@@ -1,0 +1,3 @@
+Feature: Parameters
+  Scenario: Anything
+    Given a lamp

@@ -1,0 +1,3 @@
+Business Need: Lamps
+  Scenario: One
+    Given it passes

@@ -1,0 +1,3 @@
+Feature: Lamps
+  Scenario: One
+    Given it passes

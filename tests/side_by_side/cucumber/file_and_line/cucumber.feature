@@ -1,0 +1,5 @@
+Feature: Choosing
+  Scenario: one
+    Given it passes
+  Scenario: two
+    Given it passes

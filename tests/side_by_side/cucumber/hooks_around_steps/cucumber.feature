@@ -1,0 +1,3 @@
+Feature: Hooks
+  Scenario: The only one
+    Given it passes

@@ -1,0 +1,4 @@
+# language: fr
+Fonctionnalité: Langues
+  Scénario: En français
+    Soit it passes

@@ -1,0 +1,3 @@
+Feature: Langues
+  Scenario: En français
+    Given it passes

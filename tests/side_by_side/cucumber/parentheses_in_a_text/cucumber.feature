@@ -1,0 +1,3 @@
+Feature: Expressions
+  Scenario: Parentheses that are text
+    Given a lamp (red)

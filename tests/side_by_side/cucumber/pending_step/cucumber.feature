@@ -1,0 +1,4 @@
+Feature: Steps
+  Scenario: Not written yet
+    Given a lamp
+    Then it shines

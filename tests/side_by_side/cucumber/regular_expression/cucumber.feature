@@ -1,0 +1,3 @@
+Feature: Expressions
+  Scenario: One of two
+    Given the red lamp is on

@@ -1,0 +1,4 @@
+Feature: Keywords
+  Scenario: The keyword decides
+    Given the lamp is on
+    Then the lamp is on

@@ -1,0 +1,6 @@
+Feature: Outlines
+  Scenario: A plain scenario with examples
+    Given it <ends>
+    Examples:
+      | ends   |
+      | passes |
