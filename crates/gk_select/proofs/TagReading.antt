@@ -12,7 +12,7 @@ use Rattle.gk_select.specs.TagTrees.{one_expression}
 use Rattle.gk_select.specs.TagValues.{holds}
 use Rattle.gk_select.specs.TagWords.{WordValue, AreWords, is_of_new_form, words_of_text, word_said}
 use Rattle.gk_select.proofs.AlternativeWords.{Said, no_pieces, one_list, or_value}
-use Rattle.gk_select.proofs.TagWords.{one_words}
+use Rattle.gk_select.proofs.TagTextWords.{one_words}
 
 abbrev or_all : List AlternativeValue → Expression → Expression
 or_all [] e = e

@@ -10,7 +10,7 @@ use Rattle.gk_select.specs.TagMeasures.{Measure, measure_of}
 use Rattle.gk_select.specs.TagTrees.{one_expression}
 use Rattle.gk_select.proofs.TagDepths.{unspelt, refused}
 use Rattle.gk_select.proofs.TagReading.{spells_none}
-use Rattle.gk_select.proofs.TagWords.{one_words, no_word}
+use Rattle.gk_select.proofs.TagTextWords.{one_words, no_word}
 
 abbrev a : List ℕ
 a = codes "@a"

@@ -4,14 +4,17 @@ use Rattle.gk_select.specs.TagWords.{WordValue, open_word, close_word, not_word,
 
 -- An expression is terms between `or`, a term is factors between `and`, and a factor is a tag, the negation of a factor, or an expression in parentheses. (Cucumber's tag expressions)
 mutual
+  -- Terms between `or`.
   pub data Expression : Type 0 where
     one_term : Term → Expression
     or_terms : Term → Expression → Expression
 
+  -- Factors between `and`.
   pub data Term : Type 0 where
     one_factor : Factor → Term
     and_factors : Factor → Term → Term
 
+  -- A tag, the negation of a factor, or an expression in parentheses.
   pub data Factor : Type 0 where
     tagged : List ℕ → Factor
     negated : Factor → Factor

@@ -17,20 +17,25 @@ pub data State : Type 0 where
   waiting : Part → List Part → State
   ready : Factor → Part → List Part → State
 
+-- The part of a group that nothing stands in yet.
 abbrev pub empty : Part
 empty = record { joined = None; later = None }
 
+-- A factor, and what is joined to it.
 abbrev pub term_from : Factor → Option Term → Term
 term_from f None = one_factor f
 term_from f (Some t) = and_factors f t
 
+-- A term, and what comes after the next `or`.
 abbrev pub expression_from : Term → Option Expression → Expression
 expression_from t None = one_term t
 expression_from t (Some e) = or_terms t e
 
+-- The expression that a part is once its first factor stands.
 abbrev pub closed : Factor → Part → Expression
 closed f p = expression_from (term_from f p.joined) p.later
 
+-- What a word does to what is built from the words after it.
 abbrev pub step : WordValue → State → Option State
 step open_word (waiting p ps) = None
 step open_word (ready f p []) = None
@@ -46,6 +51,7 @@ step or_word (ready f p ps) = Some (waiting (record { joined = None; later = Som
 step (tag_word t) (waiting p ps) = Some (ready (tagged t) p ps)
 step (tag_word t) (ready f p ps) = None
 
+-- What words build.
 abbrev pub run : List WordValue → Option State
 run [] = Some (waiting empty [])
 run (w ∷ ws) = option_and_then (step w) (run ws)
@@ -55,14 +61,17 @@ abbrev pub first : Term → Factor
 first (one_factor f) = f
 first (and_factors f t) = f
 
+-- The factors after the first one.
 abbrev pub others : Term → Option Term
 others (one_factor f) = None
 others (and_factors f t) = Some t
 
+-- The first term.
 abbrev pub head : Expression → Term
 head (one_term t) = t
 head (or_terms t e) = t
 
+-- The terms after the first one.
 abbrev pub tail : Expression → Option Expression
 tail (one_term t) = None
 tail (or_terms t e) = Some e
@@ -71,9 +80,11 @@ term_again : (t : Term) → term_from (first t) (others t) ≡ t
 term_again (one_factor f) = refl
 term_again (and_factors f t) = refl
 
+-- An expression but for its first factor.
 abbrev pub part_of : Expression → Part
 part_of e = record { joined = others (head e); later = tail e }
 
+-- The first factor and the rest make the expression again.
 pub expression_again : (e : Expression) → closed (first (head e)) (part_of e) ≡ e
 expression_again (one_term t) = ap one_term (term_again t)
 expression_again (or_terms t e) = ap (λ (t : Term). or_terms t e) (term_again t)
@@ -103,6 +114,7 @@ mutual
       ap (option_and_then (step or_word)) (run_expression e ws ps h) ∙ ap (λ (e : Expression). Some (waiting (record { joined = None; later = Some e }) ps)) (expression_again e) in
       ap run (append_assoc (term_spelling t) (or_word ∷ spelling e) ws) ∙ run_term t (or_word ∷ (spelling e ++ ws)) (Some e) ps after
 
+-- The words of an expression build it.
 pub run_whole : (e : Expression) → run (spelling e) ≡ Some (ready (first (head e)) (part_of e) [])
 run_whole e = ap run (sym (append-nil (spelling e))) ∙ run_expression e [] [] refl
 
@@ -112,11 +124,14 @@ built None = one_term (one_factor (tagged []))
 built (Some (waiting p ps)) = one_term (one_factor (tagged []))
 built (Some (ready f p ps)) = closed f p
 
+-- The words that spell an expression build it.
 pub built_from : (e : Expression) (ws : List WordValue) → spelling e ≡ ws → e ≡ built (run ws)
 built_from e ws says = sym (ap built (ap run (sym says) ∙ run_whole e) ∙ expression_again e)
 
+-- Expressions of the same words are one.
 pub one_expression : (d e : Expression) → spelling d ≡ spelling e → d ≡ e
 one_expression d e same = built_from d (spelling e) same ∙ sym (built_from e (spelling e) refl)
 
+-- Words spell at most one expression, in one way.
 pub spelt_once : (ws : List WordValue) → IsProp (SpeltBy ws)
 spelt_once ws x y = Σ_prop_path (λ (e : Expression). List-set (word_value_set (List-set ℕ_set)) (spelling e) ws) (built_from x.0 ws x.1 ∙ sym (built_from y.0 ws y.1))

@@ -1,4 +1,4 @@
-use Rattle.gk_select.proofs.TagWords.{word_is, byte_word, edge_one}
+use Rattle.gk_select.proofs.TagTextWords.{word_is, byte_word, edge_one}
 use Rattle.std.proofs.Common.{arith}
 use Rattle.gk_select.proofs.tag_words.word_end.Goals as goal
 

@@ -2,7 +2,7 @@ use Rattle.std.proofs.Common.{◌≡◌, ◌-◌, ℕ, length, map, take, Option
 use Rattle.std.proofs.lemmas.Bool.Decides.{nat_tests}
 use Rattle.std.proofs.lemmas.Result.{err_from_is_err_and}
 use Rattle.gk_select.specs.TagWords.{WordValue, word_value}
-use Rattle.gk_select.proofs.TagWords.{ends, word_fails, word_needs_memory, word_lacks_memory}
+use Rattle.gk_select.proofs.TagTextWords.{ends, word_fails, word_needs_memory, word_lacks_memory}
 use Rattle.gk_select.proofs.tag_words.words_of.Goals as goal
 
 pub returns-clause-found : goal.returns-clause-found
