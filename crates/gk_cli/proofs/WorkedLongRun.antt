@@ -389,17 +389,19 @@ unfolding class class_of class_of_words heading_name
 reads = subst (λ (ls : Lines). Reads ls (Some feature)) (sym are_lines) (
   [],
   record {
-    line = line_3;
-    after_heading = from_4;
-    after_description = from_5;
-    after_background = from_11;
     after_scenarios = from_19;
-    heading = record { after_tags = from_3; above = tags_read; heading = record { next = skip_none; is = refl } };
-    name = refl;
-    number = refl;
-    description = describe {l = line_4} skip_none tt described;
-    background = background_reads;
-    scenarios = more outline_reads none;
+    container = record {
+      line = line_3;
+      after_heading = from_4;
+      after_description = from_5;
+      after_background = from_11;
+      heading = record { after_tags = from_3; above = tags_read; heading = record { next = skip_none; is = refl } };
+      name = refl;
+      number = refl;
+      description = describe {l = line_4} skip_none tt described;
+      background = background_reads;
+      scenarios = more outline_reads none;
+    };
     rules = more rule_reads none;
   },
   skip_none,

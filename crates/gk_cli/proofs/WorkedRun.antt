@@ -141,17 +141,19 @@ unfolding class class_of class_of_words heading_keyword heading_name
 one_reads = subst (λ (ls : Lines). Reads ls (Some one_feature)) (sym one_lines) (
   [],
   record {
-    line = one_line_1;
-    after_heading = one_line_2 ∷ one_line_3 ∷ [];
-    after_description = one_line_2 ∷ one_line_3 ∷ [];
-    after_background = one_line_2 ∷ one_line_3 ∷ [];
     after_scenarios = [];
-    heading = record { after_tags = one_line_1 ∷ one_line_2 ∷ one_line_3 ∷ []; above = untagged; heading = record { next = skip_none; is = refl } };
-    name = refl;
-    number = refl;
-    description = described;
-    background = refl;
-    scenarios = more one_scenario_reads none;
+    container = record {
+      line = one_line_1;
+      after_heading = one_line_2 ∷ one_line_3 ∷ [];
+      after_description = one_line_2 ∷ one_line_3 ∷ [];
+      after_background = one_line_2 ∷ one_line_3 ∷ [];
+      heading = record { after_tags = one_line_1 ∷ one_line_2 ∷ one_line_3 ∷ []; above = untagged; heading = record { next = skip_none; is = refl } };
+      name = refl;
+      number = refl;
+      description = described;
+      background = refl;
+      scenarios = more one_scenario_reads none;
+    };
     rules = none;
   },
   skip_none,
@@ -381,17 +383,19 @@ unfolding class class_of class_of_words heading_keyword heading_name
 two_reads = subst (λ (ls : Lines). Reads ls (Some two_feature)) (sym two_lines) (
   [],
   record {
-    line = two_line_1;
-    after_heading = two_from_2;
-    after_description = two_from_2;
-    after_background = two_from_2;
     after_scenarios = [];
-    heading = record { after_tags = two_line_1 ∷ two_from_2; above = untagged; heading = record { next = skip_none; is = refl } };
-    name = refl;
-    number = refl;
-    description = described;
-    background = refl;
-    scenarios = more scenario_A_reads (more scenario_B_reads none);
+    container = record {
+      line = two_line_1;
+      after_heading = two_from_2;
+      after_description = two_from_2;
+      after_background = two_from_2;
+      heading = record { after_tags = two_line_1 ∷ two_from_2; above = untagged; heading = record { next = skip_none; is = refl } };
+      name = refl;
+      number = refl;
+      description = described;
+      background = refl;
+      scenarios = more scenario_A_reads (more scenario_B_reads none);
+    };
     rules = none;
   },
   skip_none,
