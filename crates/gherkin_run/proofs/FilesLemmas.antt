@@ -18,9 +18,9 @@ pub any_later : {X : Type 0} (P : X → Type 0) (x : X) (xs : List X) → Any P 
 any_later P x xs any = (suc any.0, any.1, omega (arith, any.2), any.3, any.4)
 
 -- one more is read: its name goes from the names that are left to those of the sources
-pub one_more : {X Y : Type 0} (f : X → List ℕ) (g : Y → List ℕ) (xs more : List X) (x : X) (left : List Y) (y : Y) (rest : List Y) (all : List (List ℕ))
+pub one_source_more : {X Y : Type 0} (f : X → List ℕ) (g : Y → List ℕ) (xs more : List X) (x : X) (left : List Y) (y : Y) (rest : List Y) (all : List (List ℕ))
     → more ≡ xs ++ x ∷ [] → left ≡ y ∷ rest → f x ≡ g y → map f xs ++ map g left ≡ all → map f more ++ map g rest ≡ all
-one_more f g xs more x left y rest all grown step same before =
+one_source_more f g xs more x left y rest all grown step same before =
     ap (λ l. map f l ++ map g rest) grown
     ∙ ap (λ l. l ++ map g rest) (map_push f xs x)
     ∙ append_assoc (map f xs) (f x ∷ []) (map g rest)
@@ -42,8 +42,8 @@ pub named_file : {X : Type 0} (P : X → Type 0) (name : Option X) → IfSome na
 named_file P None says none = absurd (none refl)
 named_file P (Some n) says none = says
 
-pub is_no_answer : {T E : Type 0} (e : E) (x : T) → Err e ≡ Ok x → ⊥
-is_no_answer e x h = cc
+pub err_is_not_ok : {T E : Type 0} (e : E) (x : T) → Err e ≡ Ok x → ⊥
+err_is_not_ok e x h = cc
 
 -- one reading after another
 pub reads_both : {S : Type 0} (r : S → List ℕ → Result (List ℕ) SourceFault → S → Type 0) (a b c : S) (xs ys : List SourceValue) → AreRead r a xs b → AreRead r b ys c → AreRead r a (xs ++ ys) c

@@ -94,16 +94,16 @@ put_more f xs i x old new all lt is put before =
     let split : drop i xs ≡ x ∷ drop (i + 1) xs = drop-cons xs i x lt ∙ ap (λ y. y ∷ drop (suc i) xs) (sym is) ∙ ap (λ n. x ∷ drop n xs) (sym (add-one i)) in
     ap (λ c. with_variables c (map f (drop (i + 1) xs))) put ∙ (sym (ap (λ l. with_variables old (map f l)) split) ∙ before)
 
-pub good_more : {X : Type 0} (P : PairValue → Type 0) (f : X → PairValue) (xs : List X) (i : ℕ) (x : X) → i < length xs → x ≡ get_or xs i x → P (f x) → All P (map f (take i xs)) → All P (map f (take (i + 1) xs))
-good_more P f xs i x lt is here before =
+pub taken_more : {X : Type 0} (P : PairValue → Type 0) (f : X → PairValue) (xs : List X) (i : ℕ) (x : X) → i < length xs → x ≡ get_or xs i x → P (f x) → All P (map f (take i xs)) → All P (map f (take (i + 1) xs))
+taken_more P f xs i x lt is here before =
     let more : take (i + 1) xs ≡ take i xs ++ x ∷ [] = ap (λ n. take n xs) (add-one i) ∙ take-suc xs i x lt ∙ ap (λ y. take i xs ++ y ∷ []) (sym is) in
     subst (λ l. All P (map f l)) (sym more) (subst (All P) (sym (map_push f (take i xs) x)) (All-push P (map f (take i xs)) (f x) before here))
 
 pub all_put : {X : Type 0} (f : X → PairValue) (xs : List X) (i : ℕ) (c all : Contents) → length xs ≤ i → with_variables c (map f (drop i xs)) ≡ all → c ≡ all
 all_put f xs i c all le before = ap (λ l. with_variables c (map f l)) (sym (drop_all i xs le)) ∙ before
 
-pub all_good : {X : Type 0} (P : PairValue → Type 0) (f : X → PairValue) (xs : List X) (i : ℕ) → length xs ≤ i → All P (map f (take i xs)) → All P (map f xs)
-all_good P f xs i le good = subst (λ l. All P (map f l)) (take_all i xs le) good
+pub all_taken : {X : Type 0} (P : PairValue → Type 0) (f : X → PairValue) (xs : List X) (i : ℕ) → length xs ≤ i → All P (map f (take i xs)) → All P (map f xs)
+all_taken P f xs i le good = subst (λ l. All P (map f l)) (take_all i xs le) good
 
 -- what a refusal says of the program's fault
 pub refused : (variables : List PairValue) (old new : SandboxValue) (refusal : Option WorldFault) (by : WorldFault) (fault : Fault) → IsFault refusal by → IsFaultOfVariable by fault
@@ -114,8 +114,8 @@ refused variables old new refusal world.TextTooLong fault h is any = subst (λ x
 refused variables old new refusal world.BadName fault h is any = subst (λ x. SaysVariables variables old new (Err x)) (sym is) (any (ap is_some h))
 refused variables old new refusal world.OtherLayer fault h is any = subst (λ x. SaysVariables variables old new (Err x)) (sym is) (any (ap is_some h))
 
-pub bad_here : {X : Type 0} (P : PairValue → Type 0) (f : X → PairValue) (xs : List X) (i : ℕ) (x : X) → i < length xs → x ≡ get_or xs i x → P (f x) → Any P (map f xs)
-bad_here P f xs i x lt is here =
+pub refused_here : {X : Type 0} (P : PairValue → Type 0) (f : X → PairValue) (xs : List X) (i : ℕ) (x : X) → i < length xs → x ≡ get_or xs i x → P (f x) → Any P (map f xs)
+refused_here P f xs i x lt is here =
     let less : i < length (map f xs) = rw length-map lt in
     (i, f x, less, get_or-map f xs i x (f x) lt ∙ ap f (sym is), here)
 

@@ -1,4 +1,4 @@
--- What reading the files answers.
+-- What reading the files returns.
 use Rattle.std.specs.Prelude.{◌≡◌, ◌⊎◌, ◌++◌, List, [], ◌∷◌, ℕ, map, Option, Some, None, Result, Ok, Err, String, Vec, option_map, string_bytes, IsSomeAnd}
 use Rattle.std.specs.List.{Any}
 use Rattle.std.specs.declared.alloc.Global.{Global}
@@ -29,9 +29,9 @@ IsFaultOfFiles library hooks names fault =
     ⊎ Any (λ name. IsFileFault (string_bytes name) fault) names)
 
 -- What to read a file gave: its bytes, or why they can't be had.
-abbrev pub answer_of : Result (Vec ℕ Global) SourceFault → Result (List ℕ) SourceFault
-answer_of (Ok bytes) = Ok bytes.items
-answer_of (Err fault) = Err fault
+abbrev pub bytes_or_fault : Result (Vec ℕ Global) SourceFault → Result (List ℕ) SourceFault
+bytes_or_fault (Ok bytes) = Ok bytes.items
+bytes_or_fault (Err fault) = Err fault
 
 -- The fault of a run for a file of this name that couldn't be read, for this reason.
 abbrev pub IsFaultOfReading : List ℕ → SourceFault → Fault → Type 0

@@ -1,4 +1,4 @@
--- What the program answers and writes.
+-- What the program returns and writes.
 use Rattle.std.specs.Prelude.{◌≡◌, ◌⊎◌, ◌<◌, ◌≤◌, ◌+◌, ℕ, List, [], ◌∷◌, length, map, Option, Some, None, Result, Ok, Err, IsSome, IsSomeAnd, option_map, slice_get, string_bytes}
 use Rattle.std.specs.Io.KnownBytes.{Appends, Keeps}
 use Rattle.std.specs.List.{All, Any}
@@ -16,7 +16,7 @@ use Rattle.gk_cli.specs.Counted.{one_more}
 use Rattle.gk_cli.specs.Inputs.{Request, request_of}
 use Rattle.gk_cli.specs.Source.{SourceValue}
 use Rattle.gk_cli.specs.declared.arguments.Options.{Options}
-use Rattle.gk_cli.specs.Suite.{Cut, Device, IsUntouched, JudgedReport, Plain, SaysFault}
+use Rattle.gk_cli.specs.Suite.{CutShort, Device, IsUntouched, JudgedReport, OnlyReport, SaysFault}
 use Rattle.gk_cli.specs.declared.arguments.Words.{Words}
 use Rattle.gk_cli.specs.declared.arguments.WordsFault.TheVariants as words
 use Rattle.gk_cli.specs.declared.run_fault.RunFault.{RunFault}
@@ -59,12 +59,12 @@ SaysCalls old new Write = (old.failures < new.failures) × (new.idle ≤ old.idl
 SaysCalls old new _ = IsUntouched old new
 
 -- A prefix of the report of some run was written, and standard output neither failed nor was flushed, and moved a byte in each call.
-abbrev pub IsCutForSome : Device → Device → Type 0
-IsCutForSome old new = (request : Request) × (contents : Contents) × Cut request contents old new × (new.failures ≡ old.failures) × (new.idle ≡ old.idle)
+abbrev pub IsCutShortForSome : Device → Device → Type 0
+IsCutShortForSome old new = (request : Request) × (contents : Contents) × CutShort request contents old new × (new.failures ≡ old.failures) × (new.idle ≡ old.idle)
 
 -- Standard output failed, or it was not called at all, or memory was refused after a prefix of the report was written.
 abbrev pub SaysCallsOfRun : Device → Device → Fault → Type 0
-SaysCallsOfRun old new Memory = IsUntouched old new ⊎ IsCutForSome old new
+SaysCallsOfRun old new Memory = IsUntouched old new ⊎ IsCutShortForSome old new
 SaysCallsOfRun old new fault = SaysCalls old new fault
 
 -- This text, and nothing else, was appended to standard output, by calls that each moved at least one byte, and the status is 0.
@@ -146,11 +146,11 @@ pub record IsFlushed (old new : Device) : Type 0 where
   pub idle : new.idle ≡ old.idle
   pub flushes : new.flushes ≡ one_more old.flushes
 
--- The report of a judged list was written and flushed, and its status is answered; at each status other than 4 that list is the one that plain maps give.
+-- The report of a judged list was written and flushed, and its status is returned; at each status other than 4 that list is the one that plain maps give.
 pub record IsFlushedRun (request : Request) (contents : Contents) (old new : Device) (status : ℕ) : Type 0 where
   pub written : Device
   pub judged : JudgedReport request contents old written status
-  pub plain : Plain request contents old written status
+  pub plain : OnlyReport request contents old written status
   pub flushed : IsFlushed written new
 
 -- The report was written whole, and then the flush failed.
@@ -225,9 +225,9 @@ IsDone (Help e) old new status = IsHelp old new status
 IsDone (Run w) old new status = IsRun w old new status
 
 -- Why what was asked for was not done.
-abbrev pub SaysUndone : Asked → Device → Device → Fault → Type 0
-SaysUndone (Help e) old new fault = IsHelpFault fault × SaysCalls old new fault
-SaysUndone (Run w) old new fault = SaysProgram w old new fault
+abbrev pub IsFaultOfAsked : Asked → Device → Device → Fault → Type 0
+IsFaultOfAsked (Help e) old new fault = IsHelpFault fault × SaysCalls old new fault
+IsFaultOfAsked (Run w) old new fault = SaysProgram w old new fault
 
 -- What these arguments ask for was done.
 abbrev pub IsDoneFor : List Text → Device → Device → ℕ → Type 0
@@ -237,7 +237,7 @@ IsDoneFor arguments old new status = (asked : Asked) × SaysAsked arguments (Ok 
 abbrev pub IsFaultFor : List Text → Device → Device → Fault → Type 0
 IsFaultFor arguments old new fault =
     (SaysAsked arguments (Err fault) × IsUntouched old new)
-    ⊎ ((asked : Asked) × SaysAsked arguments (Ok asked) × SaysUndone asked old new fault)
+    ⊎ ((asked : Asked) × SaysAsked arguments (Ok asked) × IsFaultOfAsked asked old new fault)
 
 -- What some arguments ask for was done.
 abbrev pub IsDoneForSome : Device → Device → ℕ → Type 0

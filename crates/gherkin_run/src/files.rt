@@ -16,14 +16,14 @@ use std::{fs, io};
 pub trait System {
     ghost use Rattle.std.specs.Prelude.{◌≤◌, ℕ, List, Result, IfOk, vec_len};
     ghost use Rattle.gk_cli.specs.declared.source.SourceFault.{SourceFault};
-    ghost use Rattle.gherkin_run.specs.Files.{answer_of};
+    ghost use Rattle.gherkin_run.specs.Files.{bytes_or_fault};
 
     /// In the first state, to read the file of this name gives this answer, and leaves the second state.
     ghost reads: { Self → List ℕ → Result (List ℕ) SourceFault → Self → Type 0 };
 
     /// All the bytes of the file of this name, or why they can't be had.
     fn read(&mut self, alloc: Global, name: &str) -> Result<Vec<u8>, SourceFault>
-        ensures read { reads self.old name.now (answer_of result) self.new }
+        ensures read { reads self.old name.now (bytes_or_fault result) self.new }
         ensures within { IfOk result (λ bytes. vec_len bytes ≤ LIMIT) };
 }
 

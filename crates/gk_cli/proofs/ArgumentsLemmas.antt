@@ -36,7 +36,7 @@ use Rattle.clap.specs.declared.error.kind.ErrorKind.{ErrorKind}
 use Rattle.clap.specs.declared.error.kind.ErrorKind.TheVariants.{InvalidValue}
 use Rattle.gk_report.specs.declared.report.Format.{Format}
 use Rattle.gk_report.specs.declared.report.Format.TheVariants.{Plain, Progress, Json}
-use Rattle.gk_cli.specs.Arguments.{HasRule, IsAskedBy, IsCommand, IsFaultBy, IsLineNumber, PairValue, SaysArguments, SaysMatches, SaysVariable, SaysVariables, command, cut_at_equals, faults_in, files_rule, format_asked, format_name, found_in, has_equals, is_format, line_number, values_of}
+use Rattle.gk_cli.specs.Arguments.{HasRule, IsAskedBy, IsCommand, IsFaultBy, IsLineNumber, PairValue, SaysArguments, SaysMatches, SaysVariable, SaysVariables, command, split_at_equals, faults_in, files_rule, format_asked, format_name, found_in, has_equals, is_format, line_number, values_of}
 use Rattle.gk_cli.specs.declared.arguments.Words.{Words}
 use Rattle.gk_cli.specs.declared.arguments.WordsFault.{WordsFault}
 use Rattle.gk_cli.specs.declared.arguments.WordsFault.TheVariants.{Usage, Env, Memory}
@@ -81,12 +81,12 @@ texts_apart a old new f is with app args groups globals negates = record {
   demands = ap (λ (g : Command-F Command). g.subcommand_negates_reqs) with ∙ (negates ∙ is.demands);
 }
 
--- the command as clap leaves it: as it was, or filled in
-abbrev IsLeft : Command → Type 0
-IsLeft c = (app_of c ≡ command) ⊎ (app_of c ≡ built command)
+-- the command as clap returns it: as it was, or built
+abbrev MayBeBuilt : Command → Type 0
+MayBeBuilt c = (app_of c ≡ command) ⊎ (app_of c ≡ built command)
 
-left_of : (old new : Command) → IsCommand command old → BuildsOrBreaks old new → (is_broken new ≡ true → ⊥) → IsLeft new
-left_of old new is after whole = elim after [
+may_be_built : (old new : Command) → IsCommand command old → BuildsOrBreaks old new → (is_broken new ≡ true → ⊥) → MayBeBuilt new
+may_be_built old new is after whole = elim after [
   | inl broken ↦ absurd (whole broken)
   | inr h ↦ elim h.2 [
     | inl same ↦ inl (same ∙ is.app)
@@ -110,10 +110,10 @@ tested test [] k x lt at h = absurd (omega arith)
 tested test (y ∷ ys) zero x lt at h = subst (λ z. test (rule_of z) ≡ true) at (both (test (rule_of y)) (list_all test (map rule_of ys)) h).0
 tested test (y ∷ ys) (suc k) x lt at h = tested test ys k x (omega arith) at (both (test (rule_of y)) (list_all test (map rule_of ys)) h).1
 
-left_passes : (test : Rule → Bool) (c : Command) → IsLeft c → list_all test command.top.rules ≡ true → list_all test (built command).top.rules ≡ true
+test_passes : (test : Rule → Bool) (c : Command) → MayBeBuilt c → list_all test command.top.rules ≡ true → list_all test (built command).top.rules ≡ true
     → list_all test (map rule_of (args_of c)) ≡ true
-left_passes test c (inl h) here later = ap (λ (a : App). list_all test a.top.rules) h ∙ here
-left_passes test c (inr h) here later = ap (λ (a : App). list_all test a.top.rules) h ∙ later
+test_passes test c (inl h) here later = ap (λ (a : App). list_all test a.top.rules) h ∙ here
+test_passes test c (inr h) here later = ap (λ (a : App). list_all test a.top.rules) h ∙ later
 
 -- ---- the files have a value
 
@@ -140,16 +140,16 @@ one_least a h = go (least_values a) h
 abbrev IsFilesArg : Arg → Type 0
 IsFilesArg a = (least_values a ≡ 1) × (is_some a.val_delim ≡ false) × (is_append (unwrap_or a.action Set) ≡ true)
 
-named_files : (c : Command) → IsLeft c → (k : ℕ) (x : Arg) → k < length (args_of c) → slice_index_or (args_of c) k x ≡ x
+named_files : (c : Command) → MayBeBuilt c → (k : ℕ) (x : Arg) → k < length (args_of c) → slice_index_or (args_of c) k x ≡ x
     → bytes_eq x.id.now (codes "files") ≡ true → IsFilesArg x
 named_files c left k x lt at same =
-    let test = unless (bytes_eq x.id.now (codes "files")) _ (tested files_test (args_of c) k x lt at (left_passes files_test c left refl refl)) same in
+    let test = unless (bytes_eq x.id.now (codes "files")) _ (tested files_test (args_of c) k x lt at (test_passes files_test c left refl refl)) same in
     let simple = both (is_simple_arg x) _ test in
     let rest = both (least_values x == 1) _ simple.1 in
     (one_least x rest.0, no_delimiter x simple.0, rest.1)
 
 -- an entry of the files has a value
-has_values : (c : Command) (e : Entry) → IsLeft c → groups_of c ≡ [] → bytes_eq e.0.now (codes "files") ≡ true
+has_values : (c : Command) (e : Entry) → MayBeBuilt c → groups_of c ≡ [] → bytes_eq e.0.now (codes "files") ≡ true
     → IsFilledEntry c e → 0 < length e.1.vals.items
 has_values c e left groups same filled =
     let id : e.0.now ≡ codes "files" = (bytes_eq-Decides _ _).0 same in
@@ -294,13 +294,13 @@ accepts_line : (ignore : Bool) (p : ValueParser) (text : Text) → is_line_parse
 accepts_line ignore (Unsigned low high) text test h = within low high text test h
 accepts_line ignore _ text test h = absurd cc
 
-passes_line : (c : Command) → IsLeft c → (text : Text) → PassesArg c (codes "line") text → IsLineNumber text
+passes_line : (c : Command) → MayBeBuilt c → (text : Text) → PassesArg c (codes "line") text → IsLineNumber text
 passes_line c left text h =
     let x = h.1 in
-    let test = unless (bytes_eq x.id.now (codes "line")) _ (tested line_test (args_of c) h.0 x h.2 h.3 (left_passes line_test c left refl refl)) h.4.0 in
+    let test = unless (bytes_eq x.id.now (codes "line")) _ (tested line_test (args_of c) h.0 x h.2 h.3 (test_passes line_test c left refl refl)) h.4.0 in
     accepts_line x.ignore_case (parser_of_value x.value_parser) text test h.4.1
 
-entry_lines : (c : Command) (e : Entry) → IsLeft c → groups_of c ≡ [] → bytes_eq e.0.now (codes "line") ≡ true → EntryPasses c e → All IsLineNumber (raw_values e.1)
+entry_lines : (c : Command) (e : Entry) → MayBeBuilt c → groups_of c ≡ [] → bytes_eq e.0.now (codes "line") ≡ true → EntryPasses c e → All IsLineNumber (raw_values e.1)
 entry_lines c e left groups same passes =
     let id : e.0.now ≡ codes "line" = (bytes_eq-Decides _ _).0 same in
     elim passes.0 [
@@ -313,7 +313,7 @@ entry_lines c e left groups same passes =
       | inr h ↦ All-map IsLineNumber (λ s. s.now) e.1.vals.items (λ k d lt. passes_line c left (slice_index_or e.1.vals.items k d).now (rw id at (h k d lt)))
     ]
 
-lines_pass : (c : Command) (f : Found) → IsLeft c → groups_of c ≡ [] → ValuesPass c f → All IsLineNumber (values_of (codes "line") (rows_of f))
+lines_pass : (c : Command) (f : Found) → MayBeBuilt c → groups_of c ≡ [] → ValuesPass c f → All IsLineNumber (values_of (codes "line") (rows_of f))
 lines_pass c f left groups passes = rw (values_are f (codes "line")) (go (matched_of f (codes "line")) refl)
   where
     go : (o : Option MatchedArg) → matched_of f (codes "line") ≡ o → All IsLineNumber (unwrap_or (option_map raw_values o) [])
@@ -328,18 +328,18 @@ pub found_lines : (old new : Command) (m : ArgMatches) → IsCommand command old
 found_lines old new m is whole after from parsed =
     let all = parsed (from.globals ∙ is.local) in
     let plain = from.plain is.plain in
-    lines_pass new (found_of m) (left_of old new is after whole) plain.1 all.values
+    lines_pass new (found_of m) (may_be_built old new is after whole) plain.1 all.values
 
 positive : (texts : List Text) → All IsLineNumber texts → All (λ n. 1 ≤ n) (map line_number texts)
 positive texts h = All-map (λ n. 1 ≤ n) line_number texts (λ k d lt. (h k d lt).2)
 
 -- the number of a text that was accepted is read
-pub unread : (text : Text) {E : Type 0} (e : E) → IsLineNumber text → ParsesUnsigned 32 10 text (Err e) → ⊥
-unread text e h refused = refused (h.0, omega (arith, h.3))
+pub not_refused : (text : Text) {E : Type 0} (e : E) → IsLineNumber text → ParsesUnsigned 32 10 text (Err e) → ⊥
+not_refused text e h refused = refused (h.0, omega (arith, h.3))
 
-pub is_read : (text : Text) {E : Type 0} (r : Result ℕ E) → IsLineNumber text → ParsesUnsigned 32 10 text r → IsOk r
-is_read text (Ok n) h parsed = refl
-is_read text (Err e) h parsed = absurd (unread text e h parsed)
+pub is_accepted : (text : Text) {E : Type 0} (r : Result ℕ E) → IsLineNumber text → ParsesUnsigned 32 10 text r → IsOk r
+is_accepted text (Ok n) h parsed = refl
+is_accepted text (Err e) h parsed = absurd (not_refused text e h parsed)
 
 pub number_read : (text : Text) {E : Type 0} (r : Result ℕ E) (n : ℕ) → ParsesUnsigned 32 10 text r → r ≡ Ok n → n ≡ line_number text
 number_read text r n parsed same = (subst (ParsesUnsigned 32 10 text) same parsed).1
@@ -352,47 +352,47 @@ line_at texts i d h lt =
 -- ---- the variables
 
 -- what holds of the texts so far, and of one more
-pub one_more : (P : Text → Type 0) (texts : List (Bor Text)) (i : ℕ) (d : Bor Text) → i < length texts → All P (map (λ t. t.now) (take i texts)) → P (get_or texts i d).now
+pub holds_of_one_more : (P : Text → Type 0) (texts : List (Bor Text)) (i : ℕ) (d : Bor Text) → i < length texts → All P (map (λ t. t.now) (take i texts)) → P (get_or texts i d).now
     → All P (map (λ t. t.now) (take (i + 1) texts))
-one_more P texts i d lt before here =
+holds_of_one_more P texts i d lt before here =
     let more : take (i + 1) texts ≡ take i texts ++ get_or texts i d ∷ [] = grind (arith, common_steps) in
     subst (λ xs. All P (map (λ t. t.now) xs)) (sym more) (subst (All P) (sym (map_push (λ t. t.now) (take i texts) (get_or texts i d))) (All-push P (map (λ t. t.now) (take i texts)) (get_or texts i d).now before here))
 
 -- one number more
-pub one_number : (done more : List ℕ) (n : ℕ) (texts : List (Bor Text)) (i : ℕ) (d : Bor Text) → i < length texts → more ≡ done ++ n ∷ [] → n ≡ line_number (get_or texts i d).now
+pub one_number_more : (done more : List ℕ) (n : ℕ) (texts : List (Bor Text)) (i : ℕ) (d : Bor Text) → i < length texts → more ≡ done ++ n ∷ [] → n ≡ line_number (get_or texts i d).now
     → (all : List ℕ) → done ++ map line_number (map (λ t. t.now) (drop i texts)) ≡ all
     → more ++ map line_number (map (λ t. t.now) (drop (i + 1) texts)) ≡ all
-one_number done more n texts i d lt grown same all before =
+one_number_more done more n texts i d lt grown same all before =
     let split : drop i texts ≡ get_or texts i d ∷ drop (i + 1) texts = grind (arith, common_steps) in
     let rest = map line_number (map (λ (t : Bor Text). t.now) (drop (i + 1) texts)) in
     ap (λ l. l ++ rest) grown ∙ append_assoc done (n ∷ []) rest ∙ ap (λ x. done ++ x ∷ rest) same
     ∙ ap (λ l. done ++ map line_number (map (λ (t : Bor Text). t.now) l)) (sym split) ∙ before
 
--- a text that was cut at its first `=`
-pub cut_there : (text name value : Text) (variable : String Global × String Global) → text ≡ name ++ 61 ∷ value → string_bytes variable.0 ≡ before_first (λ b. b == 61) text → string_bytes variable.1 ≡ after_first (λ b. b == 61) text
+-- a text that was split at its first `=`
+pub split_there : (text name value : Text) (variable : String Global × String Global) → text ≡ name ++ 61 ∷ value → string_bytes variable.0 ≡ before_first (λ b. b == 61) text → string_bytes variable.1 ≡ after_first (λ b. b == 61) text
     → SaysVariable text (Ok variable)
-cut_there text name value variable whole before after =
+split_there text name value variable whole before after =
     (subst (λ t. has_equals t ≡ true) (sym whole) (list_any-at 61 name value), alike before after)
   where
     alike : {a a' b b' : Text} → a ≡ a' → b ≡ b' → let one : PairValue = record { name = a; text = b } in let other : PairValue = record { name = a'; text = b' } in one ≡ other
     alike e f = cc
 
-pub one_pair : {X : Type 0} (f : X → PairValue) (done more : List X) (v : X) (texts : List (Bor Text)) (i : ℕ) (d : Bor Text) → i < length texts → more ≡ done ++ v ∷ [] → f v ≡ cut_at_equals (get_or texts i d).now
-    → (all : List PairValue) → map f done ++ map cut_at_equals (map (λ t. t.now) (drop i texts)) ≡ all
-    → map f more ++ map cut_at_equals (map (λ t. t.now) (drop (i + 1) texts)) ≡ all
-one_pair f done more v texts i d lt grown same all before =
+pub one_pair_more : {X : Type 0} (f : X → PairValue) (done more : List X) (v : X) (texts : List (Bor Text)) (i : ℕ) (d : Bor Text) → i < length texts → more ≡ done ++ v ∷ [] → f v ≡ split_at_equals (get_or texts i d).now
+    → (all : List PairValue) → map f done ++ map split_at_equals (map (λ t. t.now) (drop i texts)) ≡ all
+    → map f more ++ map split_at_equals (map (λ t. t.now) (drop (i + 1) texts)) ≡ all
+one_pair_more f done more v texts i d lt grown same all before =
     let split : drop i texts ≡ get_or texts i d ∷ drop (i + 1) texts = grind (arith, common_steps) in
-    let rest = map cut_at_equals (map (λ (t : Bor Text). t.now) (drop (i + 1) texts)) in
+    let rest = map split_at_equals (map (λ (t : Bor Text). t.now) (drop (i + 1) texts)) in
     ap (λ l. map f l ++ rest) grown ∙ ap (λ l. l ++ rest) (map_push f done v) ∙ append_assoc (map f done) (f v ∷ []) rest
-    ∙ ap (λ x. map f done ++ x ∷ rest) same ∙ ap (λ l. map f done ++ map cut_at_equals (map (λ (t : Bor Text). t.now) l)) (sym split) ∙ before
+    ∙ ap (λ x. map f done ++ x ∷ rest) same ∙ ap (λ l. map f done ++ map split_at_equals (map (λ (t : Bor Text). t.now) l)) (sym split) ∙ before
 
 pub all_pairs : {X : Type 0} (f : X → PairValue) (done : List X) (texts : List (Bor Text)) (i : ℕ) → length texts ≤ i
-    → map f done ++ map cut_at_equals (map (λ t. t.now) (drop i texts)) ≡ map cut_at_equals (map (λ t. t.now) texts)
+    → map f done ++ map split_at_equals (map (λ t. t.now) (drop i texts)) ≡ map split_at_equals (map (λ t. t.now) texts)
     → All (λ text. has_equals text ≡ true) (map (λ t. t.now) (take i texts))
-    → All (λ text. has_equals text ≡ true) (map (λ t. t.now) texts) × (map f done ≡ map cut_at_equals (map (λ t. t.now) texts))
-all_pairs f done texts i le cut equals = (
+    → All (λ text. has_equals text ≡ true) (map (λ t. t.now) texts) × (map f done ≡ map split_at_equals (map (λ t. t.now) texts))
+all_pairs f done texts i le split equals = (
   subst (λ xs. All (λ text. has_equals text ≡ true) (map (λ t. t.now) xs)) (take_all i texts le) equals,
-  sym (append-nil (map f done)) ∙ ap (λ xs. map f done ++ map cut_at_equals (map (λ (t : Bor Text). t.now) xs)) (sym (drop_all i texts le)) ∙ cut,
+  sym (append-nil (map f done)) ∙ ap (λ xs. map f done ++ map split_at_equals (map (λ (t : Bor Text). t.now) xs)) (sym (drop_all i texts le)) ∙ split,
 )
 
 -- what the variables' fault says of the answer
@@ -405,7 +405,7 @@ says_variables rows texts Memory (Err f) is says by = subst (λ g. SaysMatches r
 
 -- ---- the files of a parse that succeeds
 
-some_files : (old new : Command) (m : ArgMatches) → IsCommand command old → IsLeft new → BuildsTo old new
+some_files : (old new : Command) (m : ArgMatches) → IsCommand command old → MayBeBuilt new → BuildsTo old new
     → ((fields_of new).has_globals ≡ false → IsParsed new (found_of m) (has_subcommand m))
     → values_of (codes "files") (rows_of (found_of m)) ≢ []
 some_files old new m is left from parsed =
@@ -482,7 +482,7 @@ says_found arguments old new m format r is whole after from parsed matches kinds
 
     go : (r : Result Words WordsFault) → SaysMatches (rows_of (found_of m)) r → SaysArguments arguments r
     go (Ok w) says =
-        let some = some_files old new m is (left_of old new is after whole) from parsed in
+        let some = some_files old new m is (may_be_built old new is after whole) from parsed in
         let lines = found_lines old new m is whole after from parsed in (
           faultless,
           subst (λ x. IsAskedBy x w) same says,

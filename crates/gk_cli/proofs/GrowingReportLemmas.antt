@@ -165,10 +165,10 @@ tail_stopped law g old new before rows around text fault is stopped grown =
     subst (λ xs. IsStopped before new xs fault) (ap (λ (xs : List ℕ). so_far g.style rows ++ xs) (is rows grown.counted) ∙ sym (law.whole g.style (results_with rows around)))
     (stopped_after before old new (so_far g.style rows) text fault grown.written stopped)
 
--- The tail was written, and the status is answered.
+-- The tail was written, and the status is returned.
 pub tail_written : ReportsGrowByParts → (g : GrowingReport) (old new before : Device) (rows : List FeatureRow) (around : Status) (text : List ℕ) (answer : ℕ) → ((rows : List FeatureRow) → g.summary ≡ summary_of rows → text ≡ tail g.style rows around) →
     IsWritten old new text → IsStatusOf g.summary around answer → IsGrown before old g rows → IsReported g.style before new answer (results_with rows around)
 tail_written law g old new before rows around text answer is written status grown =
     let whole = subst (IsWritten before new) (ap (λ (xs : List ℕ). so_far g.style rows ++ xs) (is rows grown.counted) ∙ sym (law.whole g.style (results_with rows around)))
     (written_more before old new (so_far g.style rows) text grown.written written) in
-    record { written = whole.written; answered = status rows grown.counted; calls = whole.calls; busy = whole.busy; quiet = whole.quiet; unflushed = whole.unflushed }
+    record { written = whole.written; returned = status rows grown.counted; calls = whole.calls; busy = whole.busy; quiet = whole.quiet; unflushed = whole.unflushed }

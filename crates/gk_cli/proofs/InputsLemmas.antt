@@ -26,7 +26,7 @@ use Rattle.gk_steps.specs.LibraryFile.{LibraryReadingIsUnique}
 use Rattle.gk_steps.specs.LibraryFault.{LibraryFaultSays}
 use Rattle.gk_run.specs.Chosen.{MemberValue, ChosenValue, members_of}
 use Rattle.gk_cli.specs.Source.{SourceValue}
-use Rattle.gk_cli.specs.Inputs.{Request, Inputs, AreRules, IsLibrary, AreHooks, member_by, with_reading, HasRoom, AreRead, HasFault}
+use Rattle.gk_cli.specs.Inputs.{Request, Inputs, AreRules, IsLibrary, AreHooks, member_by, with_reading, IsWithinLimit, AreRead, HasFault}
 use Rattle.gk_cli.specs.declared.run_fault.RunFault.{RunFault}
 use Rattle.gk_cli.specs.declared.run_fault.RunFault.TheVariants.{Read, Library, Hooks, Select, Write, Memory}
 use Rattle.gk_cli.specs.RunFault.{IsUnread, SaysTags, SaysLibrary, SaysHooks, SaysSourceAt, SaysSources, read_fault_at, select_fault_at, tags_fault, library_fault, hooks_fault, SaysExpansion}
@@ -49,11 +49,11 @@ take_one xs i x is = ap (λ n. take n xs) (add-one i) ∙ go xs i x is where
   go (y ∷ ys) zero x is = ap (λ z. z ∷ []) (same_some y x is)
   go (y ∷ ys) (suc i) x is = ap (λ t. y ∷ t) (go ys i x is)
 
--- A list, cut at a place.
-pub cut_at : {A : Type 0} (xs : List A) (i : ℕ) (x : A) → slice_get xs i ≡ Some x → xs ≡ take i xs ++ x ∷ drop (suc i) xs
-cut_at [] i x is = let no : ⊥ = cc in absurd no
-cut_at (y ∷ ys) zero x is = ap (λ z. z ∷ ys) (same_some y x is)
-cut_at (y ∷ ys) (suc i) x is = ap (λ t. y ∷ t) (cut_at ys i x is)
+-- A list, split at a place.
+pub split_at : {A : Type 0} (xs : List A) (i : ℕ) (x : A) → slice_get xs i ≡ Some x → xs ≡ take i xs ++ x ∷ drop (suc i) xs
+split_at [] i x is = let no : ⊥ = cc in absurd no
+split_at (y ∷ ys) zero x is = ap (λ z. z ∷ ys) (same_some y x is)
+split_at (y ∷ ys) (suc i) x is = ap (λ t. y ∷ t) (split_at ys i x is)
 
 -- The cases of a feature, each with whether it is chosen.
 pub members_chosen : (chooses : CaseValue → Bool) (cs : List Case) → members_of cs (map (λ (c : Case). chooses (case_value c)) cs) ≡ map (member_by chooses) (map case_value cs)
@@ -92,36 +92,36 @@ with_more chooses name (Some f) others more = refl
 
 -- One source more.
 pub read_one : (chooses : CaseValue → Bool) (ss : List SourceValue) (fs : List ChosenValue) (s : SourceValue) (reading : Option FeatureValue) →
-    AreRead chooses ss fs → IsText s.bytes → Reads (lines_of s.bytes) reading → HasRoom reading → AreRead chooses (ss ++ s ∷ []) (fs ++ with_reading chooses s.name reading [])
-read_one chooses [] fs s reading none text reads room = (reading, [], text, reads, room, refl, ap (λ x. x ++ with_reading chooses s.name reading []) none)
-read_one chooses (x ∷ ss) fs s reading h text reads room = (
+    AreRead chooses ss fs → IsText s.bytes → Reads (lines_of s.bytes) reading → IsWithinLimit reading → AreRead chooses (ss ++ s ∷ []) (fs ++ with_reading chooses s.name reading [])
+read_one chooses [] fs s reading none text reads within = (reading, [], text, reads, within, refl, ap (λ x. x ++ with_reading chooses s.name reading []) none)
+read_one chooses (x ∷ ss) fs s reading h text reads within = (
   h.0,
   h.1 ++ with_reading chooses s.name reading [],
   h.2,
   h.3,
   h.4,
-  read_one chooses ss h.1 s reading h.5 text reads room,
+  read_one chooses ss h.1 s reading h.5 text reads within,
   ap (λ x. x ++ with_reading chooses s.name reading []) h.6 ∙ with_more chooses x.name h.0 h.1 (with_reading chooses s.name reading []),
 )
 
 -- The fault of one source, named as it is.
-pub read_fault_said : (input : ℕ) (fault : ReadFault) (bytes : List ℕ) → HasFault fault bytes → SaysSourceAt input bytes (read_fault_at input fault)
-read_fault_said input read_faults.Memory bytes h = tt
-read_fault_said input read_faults.TooLong bytes h = (refl, h, λ e. cc)
-read_fault_said input (read_faults.NotUtf8 n) bytes h = (refl, h, λ e. cc)
-read_fault_said input (read_faults.Unexpected n) bytes h = (refl, h, λ e. cc)
-read_fault_said input (read_faults.BadTag n) bytes h = (refl, h, λ e. cc)
-read_fault_said input (read_faults.CellCount n) bytes h = (refl, h, λ e. cc)
-read_fault_said input (read_faults.UnclosedText n) bytes h = (refl, h, λ e. cc)
-read_fault_said input (read_faults.TagsAtEnd n) bytes h = (refl, h, λ e. cc)
-read_fault_said input (read_faults.Language n) bytes h = (refl, h, λ e. cc)
-read_fault_said input (read_faults.BadRow n) bytes h = (refl, h, λ e. cc)
-read_fault_said input (read_faults.BadHook n) bytes h = (refl, h, λ e. cc)
+pub says_read_fault : (input : ℕ) (fault : ReadFault) (bytes : List ℕ) → HasFault fault bytes → SaysSourceAt input bytes (read_fault_at input fault)
+says_read_fault input read_faults.Memory bytes h = tt
+says_read_fault input read_faults.TooLong bytes h = (refl, h, λ e. cc)
+says_read_fault input (read_faults.NotUtf8 n) bytes h = (refl, h, λ e. cc)
+says_read_fault input (read_faults.Unexpected n) bytes h = (refl, h, λ e. cc)
+says_read_fault input (read_faults.BadTag n) bytes h = (refl, h, λ e. cc)
+says_read_fault input (read_faults.CellCount n) bytes h = (refl, h, λ e. cc)
+says_read_fault input (read_faults.UnclosedText n) bytes h = (refl, h, λ e. cc)
+says_read_fault input (read_faults.TagsAtEnd n) bytes h = (refl, h, λ e. cc)
+says_read_fault input (read_faults.Language n) bytes h = (refl, h, λ e. cc)
+says_read_fault input (read_faults.BadRow n) bytes h = (refl, h, λ e. cc)
+says_read_fault input (read_faults.BadHook n) bytes h = (refl, h, λ e. cc)
 
-pub select_fault_said : (input : ℕ) (fault : SelectFault) (bytes : List ℕ) (f : FeatureValue) → IsText bytes → Reads (lines_of bytes) (Some f) → SaysExpansion f fault → SaysSourceAt input bytes (select_fault_at input fault)
-select_fault_said input select_faults.TooMany bytes f text reads h = (refl, (f, text, reads, h))
-select_fault_said input select_faults.BadTagText bytes f text reads h = h
-select_fault_said input select_faults.Memory bytes f text reads h = tt
+pub says_select_fault : (input : ℕ) (fault : SelectFault) (bytes : List ℕ) (f : FeatureValue) → IsText bytes → Reads (lines_of bytes) (Some f) → SaysExpansion f fault → SaysSourceAt input bytes (select_fault_at input fault)
+says_select_fault input select_faults.TooMany bytes f text reads h = (refl, (f, text, reads, h))
+says_select_fault input select_faults.BadTagText bytes f text reads h = h
+says_select_fault input select_faults.Memory bytes f text reads h = tt
 
 -- The first source that doesn't read is named, or memory was refused.
 pub first_unread : (chooses : CaseValue → Bool) (sources : List SourceValue) (features : List ChosenValue) (input : ℕ) (source : SourceValue) (fault : RunFault) →
@@ -139,11 +139,11 @@ first_unread chooses sources features input source Write read place h = h
 first_unread chooses sources features input source Memory read place h = tt
 
 -- The first text that spells no rule is there, or memory was refused.
-pub tags_said : (tags : List (List ℕ)) (i : ℕ) (text : List ℕ) (rules : List Expression) (fault : SelectFault) → slice_get tags i ≡ Some text → AreRules (take i tags) rules →
+pub says_tags : (tags : List (List ℕ)) (i : ℕ) (text : List ℕ) (rules : List Expression) (fault : SelectFault) → slice_get tags i ≡ Some text → AreRules (take i tags) rules →
     (fault ≡ select_faults.Memory) ⊎ ((fault ≡ select_faults.BadTagText) × ((rule : Expression) → ReadsTags text rule → ⊥)) → SaysTags tags fault
-tags_said tags i text rules fault place read (inl memory) = subst (SaysTags tags) (sym memory) tt
-tags_said tags i text rules fault place read (inr bad) =
-    subst (SaysTags tags) (sym bad.0) (record { before = take i tags; text = text; after = drop (suc i) tags; whole = cut_at tags i text place; rules = rules; read = read; bad = bad.1 })
+says_tags tags i text rules fault place read (inl memory) = subst (SaysTags tags) (sym memory) tt
+says_tags tags i text rules fault place read (inr bad) =
+    subst (SaysTags tags) (sym bad.0) (record { before = take i tags; text = text; after = drop (suc i) tags; whole = split_at tags i text place; rules = rules; read = read; bad = bad.1 })
 
 -- The fault of the texts of tags.
 pub tags_unread : (r : Request) (fault : SelectFault) → SaysTags r.tags fault → IsUnread r (tags_fault fault)
@@ -229,7 +229,7 @@ same_rules one (t ∷ ts) rs qs (rule, others, reads, rest, is) (rule', others',
 
 same_features : HasOneReading → (chooses : CaseValue → Bool) (ss : List SourceValue) (fs gs : List ChosenValue) → AreRead chooses ss fs → AreRead chooses ss gs → fs ≡ gs
 same_features one chooses [] fs gs f g = f ∙ sym g
-same_features one chooses (s ∷ ss) fs gs (reading, others, text, reads, room, rest, is) (reading', others', text', reads', room', rest', is') =
+same_features one chooses (s ∷ ss) fs gs (reading, others, text, reads, within, rest, is) (reading', others', text', reads', within', rest', is') =
     is ∙ ap (λ r. with_reading chooses s.name r others) (one (lines_of s.bytes) reading reading' reads reads')
     ∙ ap (with_reading chooses s.name reading') (same_features one chooses ss others others' rest rest') ∙ sym is'
 

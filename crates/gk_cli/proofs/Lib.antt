@@ -5,7 +5,7 @@ pub mod WorkedArguments
 pub mod InputsLemmas
 pub mod GrowingReportLemmas
 pub mod WrittenRunLemmas
-pub mod FeaturesLemmas
+pub mod SuiteLemmas
 pub mod WorkedRun
 pub mod WorkedHooksRun
 pub mod WorkedLongRun

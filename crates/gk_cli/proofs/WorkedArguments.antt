@@ -3,7 +3,7 @@ use Rattle.std.proofs.Common.{◌≡◌, List, [], ◌∷◌, Some, codes, map, 
 use Rattle.clap.specs.Words.{Text, first_of}
 use Rattle.clap.specs.declared.error.kind.ErrorKind.TheVariants as kind
 use Rattle.clap.proofs.OnLiterals.{clap_on_literals}
-use Rattle.gk_cli.specs.Arguments.{cut_at_equals, faults_in, format_asked, found_in, is_set, line_number, values_of}
+use Rattle.gk_cli.specs.Arguments.{split_at_equals, faults_in, format_asked, found_in, is_set, line_number, values_of}
 
 abbrev program : Text
 program = codes "gherkin_run"
@@ -39,8 +39,8 @@ mixed_hooks = refl
 plus_three : line_number (codes "+3") ≡ 3
 plus_three = refl
 
-cut_once : cut_at_equals (codes "A=b=c") ≡ record { name = codes "A"; text = codes "b=c" }
-cut_once = refl
+split_once : split_at_equals (codes "A=b=c") ≡ record { name = codes "A"; text = codes "b=c" }
+split_once = refl
 
 no_file : faults_in (program ∷ []) ≡ kind.MissingRequiredArgument ∷ []
 unfolding clap_on_literals
@@ -79,7 +79,7 @@ stopping_lines : map line_number (values_of (codes "line") (found_in stopping)) 
 unfolding clap_on_literals
 stopping_lines = refl
 
-stopping_variables : map cut_at_equals (values_of (codes "env") (found_in stopping)) ≡ record { name = codes "A"; text = codes "b=c" } ∷ []
+stopping_variables : map split_at_equals (values_of (codes "env") (found_in stopping)) ≡ record { name = codes "A"; text = codes "b=c" } ∷ []
 unfolding clap_on_literals
 stopping_variables = refl
 

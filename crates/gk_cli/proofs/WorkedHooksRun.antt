@@ -31,7 +31,7 @@ use Rattle.gk_report.specs.Summary.{status}
 use Rattle.gk_report.specs.PlainReport.{status_line, step_line, case_line, around_line, feature_line, counted, count_line, closing_lines, plain_part}
 use Rattle.gk_report.specs.Report.{report}
 use Rattle.gk_cli.specs.Inputs.{Request, Inputs, AreInputs}
-use Rattle.gk_cli.specs.Suite.{Device, Plain, InputsAreUnique, run_with}
+use Rattle.gk_cli.specs.Suite.{Device, OnlyReport, InputsAreUnique, run_with}
 use Rattle.gk_cli.proofs.WorkedRun.{plain_style, ends_so, one_request, one_inputs, one_inputs_read, one_results}
 
 -- A hooks file: a step that passes before each scenario, and one that no entry matches after the run.
@@ -154,5 +154,5 @@ hooks_status : status hooks_results ≡ 1
 hooks_status = refl
 
 -- A run of that request that doesn't end with 4 writes that report and ends with 1.
-pub hooks_run : InputsAreUnique → (old new : Device) (answer : ℕ) → Plain hooks_request nothing_yet old new answer → answer ≢ 4 → Appends old.bytes new.bytes hooks_report × (answer ≡ 1)
+pub hooks_run : InputsAreUnique → (old new : Device) (answer : ℕ) → OnlyReport hooks_request nothing_yet old new answer → answer ≢ 4 → Appends old.bytes new.bytes hooks_report × (answer ≡ 1)
 hooks_run = ends_so hooks_request hooks_inputs hooks_results hooks_report 1 hooks_inputs_read hooks_is_plain hooks_reports hooks_status

@@ -40,8 +40,8 @@ use Rattle.gk_report.specs.Summary.{status}
 use Rattle.gk_report.specs.PlainReport.{status_line, step_line, case_line, around_line, feature_line, counted, count_line, closing_lines, plain_part}
 use Rattle.gk_report.specs.Report.{report}
 use Rattle.gk_cli.specs.Source.{SourceValue}
-use Rattle.gk_cli.specs.Inputs.{Request, Inputs, AreInputs, HasRoom, chosen_of}
-use Rattle.gk_cli.specs.Suite.{Device, Plain, InputsAreUnique, run_with}
+use Rattle.gk_cli.specs.Inputs.{Request, Inputs, AreInputs, IsWithinLimit, chosen_of}
+use Rattle.gk_cli.specs.Suite.{Device, OnlyReport, InputsAreUnique, run_with}
 use Rattle.gk_cli.proofs.WorkedRun.{plain_style, ends_so, other_name, same_from_bare}
 
 -- The feature file.
@@ -389,17 +389,19 @@ unfolding class class_of class_of_words heading_name
 reads = subst (λ (ls : Lines). Reads ls (Some feature)) (sym are_lines) (
   [],
   record {
-    line = line_3;
-    after_heading = from_4;
-    after_description = from_5;
-    after_background = from_11;
     after_scenarios = from_19;
-    heading = record { after_tags = from_3; above = tags_read; heading = record { next = skip_none; is = refl } };
-    name = refl;
-    number = refl;
-    description = describe {l = line_4} skip_none tt described;
-    background = background_reads;
-    scenarios = more outline_reads none;
+    container = record {
+      line = line_3;
+      after_heading = from_4;
+      after_description = from_5;
+      after_background = from_11;
+      heading = record { after_tags = from_3; above = tags_read; heading = record { next = skip_none; is = refl } };
+      name = refl;
+      number = refl;
+      description = describe {l = line_4} skip_none tt described;
+      background = background_reads;
+      scenarios = more outline_reads none;
+    };
     rules = more rule_reads none;
   },
   skip_none,
@@ -480,9 +482,9 @@ abbrev inputs : Inputs
 inputs = record { library = write_entry ∷ ask_entry ∷ []; hooks = []; features = chosen_of (is_chosen (tag_rule ∷ []) []) (codes "mixed.feature") feature ∷ [] }
 
 -- The feature's cases have no more steps than the limit.
-has_room : HasRoom (Some feature)
+is_within_limit : IsWithinLimit (Some feature)
 unfolding cases filled filled_from cell_under digits
-has_room = omega arith
+is_within_limit = omega arith
 
 -- What is asked for reads as these inputs.
 inputs_read : AreInputs request inputs
@@ -497,7 +499,7 @@ inputs_read = record {
   );
   library = (library_is_text, library_reads);
   hooks = refl;
-  features = (Some feature, [], is_text, reads, has_room, refl, refl);
+  features = (Some feature, [], is_text, reads, is_within_limit, refl, refl);
 }
 
 -- The results that plain maps give: each row of the examples begins with what the background leaves.
@@ -557,5 +559,5 @@ ends : status results ≡ 1
 ends = refl
 
 -- A run of that request that doesn't end with 4 writes that report and ends with 1.
-pub run : InputsAreUnique → (old new : Device) (answer : ℕ) → Plain request nothing_yet old new answer → answer ≢ 4 → Appends old.bytes new.bytes text × (answer ≡ 1)
+pub run : InputsAreUnique → (old new : Device) (answer : ℕ) → OnlyReport request nothing_yet old new answer → answer ≢ 4 → Appends old.bytes new.bytes text × (answer ≡ 1)
 run = ends_so request inputs results text 1 inputs_read is_plain reports ends

@@ -31,14 +31,14 @@ use Rattle.gk_cli.specs.Inputs.{Request, Inputs, AreInputs, member_by}
 use Rattle.gk_cli.specs.Suite.{Device, IsReported, JudgedReport, InputsAreUnique, run_with}
 use Rattle.gk_cli.proofs.WorkedRun.{plain_style, bare_state, one_feature, two_feature, set_step, ask_step, results_from_bare, same_from_bare, one_request, one_inputs, one_inputs_read, one_results, one_report, one_reports, one_status, two_request, two_inputs, two_inputs_read, two_results, two_report, two_reports, two_status}
 
--- This report was written, and this status is answered.
-abbrev IsAnswered : Device → Device → ℕ → List ℕ → ℕ → Type 0
-IsAnswered old new answer text number = Appends old.bytes new.bytes text × (answer ≡ number)
+-- This report was written, and this status is returned.
+abbrev IsReturned : Device → Device → ℕ → List ℕ → ℕ → Type 0
+IsReturned old new answer text number = Appends old.bytes new.bytes text × (answer ≡ number)
 
 -- What the report and the status of results say, where these are known.
-answered : (old new : Device) (answer : ℕ) (results known : Results) (text : List ℕ) (number : ℕ) → results ≡ known → report plain_style known ≡ text → status known ≡ number → IsReported plain_style old new answer results → IsAnswered old new answer text number
-answered old new answer results known text number are reports ends r =
-    (subst (λ (bytes : List ℕ). Appends old.bytes new.bytes bytes) (ap (report plain_style) are ∙ reports) r.written, r.answered ∙ ap status are ∙ ends)
+returned : (old new : Device) (answer : ℕ) (results known : Results) (text : List ℕ) (number : ℕ) → results ≡ known → report plain_style known ≡ text → status known ≡ number → IsReported plain_style old new answer results → IsReturned old new answer text number
+returned old new answer results known text number are reports ends r =
+    (subst (λ (bytes : List ℕ). Appends old.bytes new.bytes bytes) (ap (report plain_style) are ∙ reports) r.written, r.returned ∙ ap status are ∙ ends)
 
 -- A run of a request whose inputs are known writes and answers what some cuts give.
 judged_ends : (r : Request) (inputs : Inputs) → r.dry_run ≡ false → AreInputs r inputs → InputsAreUnique → (old new : Device) (answer : ℕ) → JudgedReport r nothing_yet old new answer → (cuts : Cuts) × IsReported r.style old new answer (results_from_bare (run_with r inputs) cuts inputs.features)
@@ -138,13 +138,13 @@ one_by_cuts cuts =
 
 -- A run of that request writes the plain report and ends with 0, or writes that memory was refused and ends with 4.
 pub one_judged : InputsAreUnique → (old new : Device) (answer : ℕ) → JudgedReport one_request nothing_yet old new answer →
-    IsAnswered old new answer one_report 0 ⊎ IsAnswered old new answer one_memory_report 4
+    IsReturned old new answer one_report 0 ⊎ IsReturned old new answer one_memory_report 4
 one_judged unique old new answer judged =
     let (cuts, reported) = judged_ends one_request one_inputs refl one_inputs_read unique old new answer judged in
     let results : Results = results_from_bare (run_with one_request one_inputs) cuts one_inputs.features in
     elim (one_by_cuts cuts) [
-      | inl is ↦ inl (answered old new answer results one_results one_report 0 is one_reports one_status reported)
-      | inr is ↦ inr (answered old new answer results one_memory one_memory_report 4 is one_memory_reports refl reported)
+      | inl is ↦ inl (returned old new answer results one_results one_report 0 is one_reports one_status reported)
+      | inr is ↦ inr (returned old new answer results one_memory one_memory_report 4 is one_memory_reports refl reported)
     ]
 
 -- Two scenarios, the second of which asks for what the first has set: their rows, by what became of their steps.
@@ -285,13 +285,13 @@ two_by_cuts cuts =
 
 -- A run of that request writes the plain report and ends with 1, or writes where memory was refused and ends with 4. Whatever is refused, the second scenario never passes.
 pub two_judged : InputsAreUnique → (old new : Device) (answer : ℕ) → JudgedReport two_request nothing_yet old new answer →
-    IsAnswered old new answer two_report 1 ⊎ (IsAnswered old new answer memory_in_A_report 4 ⊎ (IsAnswered old new answer memory_in_B_report 4 ⊎ IsAnswered old new answer memory_in_both_report 4))
+    IsReturned old new answer two_report 1 ⊎ (IsReturned old new answer memory_in_A_report 4 ⊎ (IsReturned old new answer memory_in_B_report 4 ⊎ IsReturned old new answer memory_in_both_report 4))
 two_judged unique old new answer judged =
     let (cuts, reported) = judged_ends two_request two_inputs refl two_inputs_read unique old new answer judged in
     let results : Results = results_from_bare (run_with two_request two_inputs) cuts two_inputs.features in
     elim (two_by_cuts cuts) [
-      | inl is ↦ inl (answered old new answer results two_results two_report 1 is two_reports two_status reported)
-      | inr (inl is) ↦ inr (inl (answered old new answer results memory_in_A memory_in_A_report 4 is memory_in_A_reports refl reported))
-      | inr (inr (inl is)) ↦ inr (inr (inl (answered old new answer results memory_in_B memory_in_B_report 4 is memory_in_B_reports refl reported)))
-      | inr (inr (inr is)) ↦ inr (inr (inr (answered old new answer results memory_in_both memory_in_both_report 4 is memory_in_both_reports refl reported)))
+      | inl is ↦ inl (returned old new answer results two_results two_report 1 is two_reports two_status reported)
+      | inr (inl is) ↦ inr (inl (returned old new answer results memory_in_A memory_in_A_report 4 is memory_in_A_reports refl reported))
+      | inr (inr (inl is)) ↦ inr (inr (inl (returned old new answer results memory_in_B memory_in_B_report 4 is memory_in_B_reports refl reported)))
+      | inr (inr (inr is)) ↦ inr (inr (inr (returned old new answer results memory_in_both memory_in_both_report 4 is memory_in_both_reports refl reported)))
     ]

@@ -41,8 +41,8 @@ use Rattle.gk_report.specs.declared.report.Style.{Style}
 use Rattle.gk_report.specs.declared.report.Format.TheVariants as formats
 use Rattle.gk_report.specs.Report.{report}
 use Rattle.gk_cli.specs.Source.{SourceValue}
-use Rattle.gk_cli.specs.Inputs.{Request, Inputs, AreRead, AreInputs, IsLibrary, HasRoom, chosen_of}
-use Rattle.gk_cli.specs.Suite.{Device, Plain, InputsAreUnique, run_with}
+use Rattle.gk_cli.specs.Inputs.{Request, Inputs, AreRead, AreInputs, IsLibrary, IsWithinLimit, chosen_of}
+use Rattle.gk_cli.specs.Suite.{Device, OnlyReport, InputsAreUnique, run_with}
 
 -- The plain style, in which nothing is left out.
 abbrev pub plain_style : Style
@@ -50,12 +50,12 @@ plain_style = record { format = formats.Plain; no_skipped = false }
 
 -- What a run of a request writes and answers, where its inputs, their results, and the report and the status of these are known.
 pub ends_so : (r : Request) (inputs : Inputs) (results : Results) (text : List ℕ) (number : ℕ) → AreInputs r inputs → plain_results (run_with r inputs) nothing_yet inputs.features ≡ results → report r.style results ≡ text → status results ≡ number →
-    InputsAreUnique → (old new : Device) (answer : ℕ) → Plain r nothing_yet old new answer → answer ≢ 4 → Appends old.bytes new.bytes text × (answer ≡ number)
+    InputsAreUnique → (old new : Device) (answer : ℕ) → OnlyReport r nothing_yet old new answer → answer ≢ 4 → Appends old.bytes new.bytes text × (answer ≡ number)
 ends_so r inputs results text number read is_plain reports ends unique old new answer plain not_memory =
     let p = plain not_memory in
     let same : p.inputs ≡ inputs = unique r p.inputs inputs p.read read in
     let are : plain_results (run_with r p.inputs) nothing_yet p.inputs.features ≡ results = ap (λ (i : Inputs). plain_results (run_with r i) nothing_yet i.features) same ∙ is_plain in
-    (subst (λ (bytes : List ℕ). Appends old.bytes new.bytes bytes) (ap (report r.style) are ∙ reports) p.reported.written, p.reported.answered ∙ ap status are ∙ ends)
+    (subst (λ (bytes : List ℕ). Appends old.bytes new.bytes bytes) (ap (report r.style) are ∙ reports) p.reported.written, p.reported.returned ∙ ap status are ∙ ends)
 
 -- The state of a new sandbox: no file, no variable, no value.
 abbrev pub bare_state : State
@@ -141,17 +141,19 @@ unfolding class class_of class_of_words heading_keyword heading_name
 one_reads = subst (λ (ls : Lines). Reads ls (Some one_feature)) (sym one_lines) (
   [],
   record {
-    line = one_line_1;
-    after_heading = one_line_2 ∷ one_line_3 ∷ [];
-    after_description = one_line_2 ∷ one_line_3 ∷ [];
-    after_background = one_line_2 ∷ one_line_3 ∷ [];
     after_scenarios = [];
-    heading = record { after_tags = one_line_1 ∷ one_line_2 ∷ one_line_3 ∷ []; above = untagged; heading = record { next = skip_none; is = refl } };
-    name = refl;
-    number = refl;
-    description = described;
-    background = refl;
-    scenarios = more one_scenario_reads none;
+    container = record {
+      line = one_line_1;
+      after_heading = one_line_2 ∷ one_line_3 ∷ [];
+      after_description = one_line_2 ∷ one_line_3 ∷ [];
+      after_background = one_line_2 ∷ one_line_3 ∷ [];
+      heading = record { after_tags = one_line_1 ∷ one_line_2 ∷ one_line_3 ∷ []; above = untagged; heading = record { next = skip_none; is = refl } };
+      name = refl;
+      number = refl;
+      description = described;
+      background = refl;
+      scenarios = more one_scenario_reads none;
+    };
     rules = none;
   },
   skip_none,
@@ -204,9 +206,9 @@ abbrev pub one_inputs : Inputs
 one_inputs = record { library = pass_entry ∷ []; hooks = []; features = chosen_of (is_chosen [] []) (codes "one.feature") one_feature ∷ [] }
 
 -- It has no more steps than the limit.
-one_has_room : HasRoom (Some one_feature)
+one_is_within_limit : IsWithinLimit (Some one_feature)
 unfolding cases
-one_has_room = omega arith
+one_is_within_limit = omega arith
 
 -- What is asked for reads as these inputs.
 pub one_inputs_read : AreInputs one_request one_inputs
@@ -215,7 +217,7 @@ one_inputs_read = record {
   tags = refl;
   library = (pass_is_text, pass_reads);
   hooks = refl;
-  features = (Some one_feature, [], one_is_text, one_reads, one_has_room, refl, refl);
+  features = (Some one_feature, [], one_is_text, one_reads, one_is_within_limit, refl, refl);
 }
 
 -- The results that plain maps give.
@@ -259,7 +261,7 @@ pub one_status : status one_results ≡ 0
 one_status = refl
 
 -- A run of that request that doesn't end with 4 writes that report and ends with 0.
-pub one_run : InputsAreUnique → (old new : Device) (answer : ℕ) → Plain one_request nothing_yet old new answer → answer ≢ 4 → Appends old.bytes new.bytes one_report × (answer ≡ 0)
+pub one_run : InputsAreUnique → (old new : Device) (answer : ℕ) → OnlyReport one_request nothing_yet old new answer → answer ≢ 4 → Appends old.bytes new.bytes one_report × (answer ≡ 0)
 one_run = ends_so one_request one_inputs one_results one_report 0 one_inputs_read one_is_plain one_reports one_status
 
 -- A feature with two scenarios, the second of which asks for what the first has set.
@@ -381,17 +383,19 @@ unfolding class class_of class_of_words heading_keyword heading_name
 two_reads = subst (λ (ls : Lines). Reads ls (Some two_feature)) (sym two_lines) (
   [],
   record {
-    line = two_line_1;
-    after_heading = two_from_2;
-    after_description = two_from_2;
-    after_background = two_from_2;
     after_scenarios = [];
-    heading = record { after_tags = two_line_1 ∷ two_from_2; above = untagged; heading = record { next = skip_none; is = refl } };
-    name = refl;
-    number = refl;
-    description = described;
-    background = refl;
-    scenarios = more scenario_A_reads (more scenario_B_reads none);
+    container = record {
+      line = two_line_1;
+      after_heading = two_from_2;
+      after_description = two_from_2;
+      after_background = two_from_2;
+      heading = record { after_tags = two_line_1 ∷ two_from_2; above = untagged; heading = record { next = skip_none; is = refl } };
+      name = refl;
+      number = refl;
+      description = described;
+      background = refl;
+      scenarios = more scenario_A_reads (more scenario_B_reads none);
+    };
     rules = none;
   },
   skip_none,
@@ -472,13 +476,13 @@ abbrev pub two_inputs : Inputs
 two_inputs = record { library = set_entry ∷ ask_entry ∷ []; hooks = []; features = chosen_of (is_chosen [] []) (codes "two.feature") two_feature ∷ [] }
 
 -- The feature has no more steps than the limit.
-two_has_room : HasRoom (Some two_feature)
+two_is_within_limit : IsWithinLimit (Some two_feature)
 unfolding cases
-two_has_room = omega arith
+two_is_within_limit = omega arith
 
 -- The source reads as that feature, whichever cases are chosen.
 two_is_read : (chooses : CaseValue → Bool) → AreRead chooses (two_source ∷ []) (chosen_of chooses (codes "two.feature") two_feature ∷ [])
-two_is_read chooses = (Some two_feature, [], two_is_text, two_reads, two_has_room, refl, refl)
+two_is_read chooses = (Some two_feature, [], two_is_text, two_reads, two_is_within_limit, refl, refl)
 
 -- What is asked for reads as these inputs.
 pub two_inputs_read : AreInputs two_request two_inputs
@@ -533,7 +537,7 @@ pub two_status : status two_results ≡ 1
 two_status = refl
 
 -- A run of that request that doesn't end with 4 writes that report and ends with 1.
-pub two_run : InputsAreUnique → (old new : Device) (answer : ℕ) → Plain two_request nothing_yet old new answer → answer ≢ 4 → Appends old.bytes new.bytes two_report × (answer ≡ 1)
+pub two_run : InputsAreUnique → (old new : Device) (answer : ℕ) → OnlyReport two_request nothing_yet old new answer → answer ≢ 4 → Appends old.bytes new.bytes two_report × (answer ≡ 1)
 two_run = ends_so two_request two_inputs two_results two_report 1 two_inputs_read two_is_plain two_reports two_status
 
 -- The same feature with the default library, of which nothing is asked but that its text spells its entries.
@@ -554,7 +558,7 @@ unfolding cases is_chosen found match_of is_utf8 chars lib.Utf8.encode act
 default_is_plain = same_from_bare (run_with default_request default_inputs) uncut default_inputs.features refl ∙ refl
 
 -- A run of that request that doesn't end with 4 writes the same report and ends with 1.
-pub default_run : IsLibrary None default_entries → InputsAreUnique → (old new : Device) (answer : ℕ) → Plain default_request nothing_yet old new answer → answer ≢ 4 → Appends old.bytes new.bytes two_report × (answer ≡ 1)
+pub default_run : IsLibrary None default_entries → InputsAreUnique → (old new : Device) (answer : ℕ) → OnlyReport default_request nothing_yet old new answer → answer ≢ 4 → Appends old.bytes new.bytes two_report × (answer ≡ 1)
 default_run spelled = ends_so default_request default_inputs two_results two_report 1 (default_inputs_read spelled) default_is_plain two_reports two_status
 
 -- The same feature with the library file, where line 2 is chosen: the first scenario alone is run.
@@ -618,7 +622,7 @@ line_status : status line_results ≡ 0
 line_status = refl
 
 -- A run of that request that doesn't end with 4 writes that report and ends with 0.
-pub line_run : InputsAreUnique → (old new : Device) (answer : ℕ) → Plain line_request nothing_yet old new answer → answer ≢ 4 → Appends old.bytes new.bytes line_report × (answer ≡ 0)
+pub line_run : InputsAreUnique → (old new : Device) (answer : ℕ) → OnlyReport line_request nothing_yet old new answer → answer ≢ 4 → Appends old.bytes new.bytes line_report × (answer ≡ 0)
 line_run = ends_so line_request line_inputs line_results line_report 0 line_inputs_read line_is_plain line_reports line_status
 
 -- A file of a comment and a blank line, which holds no feature.
@@ -664,7 +668,7 @@ several_inputs_read =
       tags = refl;
       library = (pass_is_text, pass_reads);
       hooks = refl;
-      features = (Some one_feature, again, one_is_text, one_reads, one_has_room, (None, again, comment_is_text, comment_reads, tt, (Some one_feature, [], one_is_text, one_reads, one_has_room, refl, refl), refl), refl);
+      features = (Some one_feature, again, one_is_text, one_reads, one_is_within_limit, (None, again, comment_is_text, comment_reads, tt, (Some one_feature, [], one_is_text, one_reads, one_is_within_limit, refl, refl), refl), refl);
     }
 
 -- The row of the feature, by the name of its source.
@@ -709,5 +713,5 @@ several_status : status several_results ≡ 0
 several_status = refl
 
 -- A run of that request that doesn't end with 4 writes that report and ends with 0.
-pub several_run : InputsAreUnique → (old new : Device) (answer : ℕ) → Plain several_request nothing_yet old new answer → answer ≢ 4 → Appends old.bytes new.bytes several_report × (answer ≡ 0)
+pub several_run : InputsAreUnique → (old new : Device) (answer : ℕ) → OnlyReport several_request nothing_yet old new answer → answer ≢ 4 → Appends old.bytes new.bytes several_report × (answer ≡ 0)
 several_run = ends_so several_request several_inputs several_results several_report 0 several_inputs_read several_is_plain several_reports several_status

@@ -18,7 +18,7 @@ use Rattle.gk_cli.specs.declared.growing_report.GrowingReport.{GrowingReport}
 use Rattle.gk_cli.specs.declared.run_fault.RunFault.{RunFault}
 use Rattle.gk_cli.specs.Suite.{Device, IsReported}
 use Rattle.gk_cli.specs.GrowingReport.{style_of, so_far, results_with, IsStopped, IsGrown}
-use Rattle.gk_cli.specs.WrittenRun.{IsWhole, IsPart, Finishes, Ends, IsRunNext, EndsNext, IsDryNext, EndsDryNext, StopsHere, AreWritten, AreWrittenUpTo}
+use Rattle.gk_cli.specs.WrittenRun.{IsWhole, IsPrefix, Finishes, Ends, IsRunNext, EndsNext, IsDryNext, EndsDryNext, StopsHere, AreWritten, AreWrittenUpTo}
 use Rattle.gk_cli.specs.declared.run_fault.RunFault.TheVariants.{Memory}
 use Rattle.gk_cli.proofs.GrowingReportLemmas.{stopped_here, stopped_within}
 
@@ -48,20 +48,20 @@ pub stops_here : (old : Device) (g : GrowingReport) → StopsHere old g old Memo
 stops_here old g before rows grown = stopped_here before old (so_far g.style rows) grown.written
 
 -- However the features that come next are cut, all have cuts with these rows before the others.
-abbrev pub GoesOn : Run → State → Bool → List ChosenValue → List FeatureRow → Bool → Type 0
-GoesOn run first first_open done rows is_open =
+abbrev pub RowsSoFar : Run → State → Bool → List ChosenValue → List FeatureRow → Bool → Type 0
+RowsSoFar run first first_open done rows is_open =
     (outside : State) → (first_open ≡ true → first ≡ outside) → (left : List ChosenValue) (cuts : List FeatureCuts) →
     (whole : List FeatureCuts) × (rows ++ features_of run outside is_open cuts left ≡ features_of run outside first_open whole (done ++ left))
 
-pub goes_first : (run : Run) (first : State) (first_open : Bool) → GoesOn run first first_open [] [] first_open
-goes_first run first first_open outside opens left cuts = (cuts, refl)
+pub rows_first : (run : Run) (first : State) (first_open : Bool) → RowsSoFar run first first_open [] [] first_open
+rows_first run first first_open outside opens left cuts = (cuts, refl)
 
-pub goes_next : (run : Run) (first now : State) (first_open : Bool) (done : List ChosenValue) (rows : List FeatureRow) (row : FeatureRow) (is_open next : Bool) (f : ChosenValue) →
+pub rows_next : (run : Run) (first now : State) (first_open : Bool) (done : List ChosenValue) (rows : List FeatureRow) (row : FeatureRow) (is_open next : Bool) (f : ChosenValue) →
     now ≡ first → (is_open ≡ true → first_open ≡ true) → IsFeatureResult run now is_open f row → next ≡ (is_open && stays_open run row.status) →
-    GoesOn run first first_open done rows is_open → GoesOn run first first_open (done ++ f ∷ []) (rows ++ row ∷ []) next
-goes_next run first now first_open done rows row is_open next f same earlier one nexts goes outside opens left cuts =
+    RowsSoFar run first first_open done rows is_open → RowsSoFar run first first_open (done ++ f ∷ []) (rows ++ row ∷ []) next
+rows_next run first now first_open done rows row is_open next f same earlier one nexts held outside opens left cuts =
     let here = one outside (λ o. same ∙ opens (earlier o)) in
-    let whole = goes outside opens (f ∷ left) (here.0 ∷ cuts) in (
+    let whole = held outside opens (f ∷ left) (here.0 ∷ cuts) in (
       whole.0,
       append_assoc rows (row ∷ []) (features_of run outside next cuts left)
           ∙ ap (λ b. rows ++ row ∷ features_of run outside b cuts left) nexts
@@ -70,33 +70,33 @@ goes_next run first now first_open done rows row is_open next f same earlier one
           ∙ ap (features_of run outside first_open whole.0) (sym (append_assoc done (f ∷ []) left)),
     )
 
-pub goes_last : (run : Run) (first : State) (first_open : Bool) (done : List ChosenValue) (rows : List FeatureRow) (is_open : Bool) →
-    GoesOn run first first_open done rows is_open → AreFeatures run first first_open done rows
-goes_last run first first_open done rows is_open goes outside opens =
-    let whole = goes outside opens [] [] in
+pub rows_last : (run : Run) (first : State) (first_open : Bool) (done : List ChosenValue) (rows : List FeatureRow) (is_open : Bool) →
+    RowsSoFar run first first_open done rows is_open → AreFeatures run first first_open done rows
+rows_last run first first_open done rows is_open held outside opens =
+    let whole = held outside opens [] [] in
     (whole.0, sym (append-nil rows) ∙ whole.1 ∙ ap (features_of run outside first_open whole.0) (append-nil done))
 
 -- The same of a dry run.
-abbrev pub GoesDryOn : LibraryValue → List ChosenValue → List FeatureRow → Type 0
-GoesDryOn library done rows =
+abbrev pub DryRowsSoFar : LibraryValue → List ChosenValue → List FeatureRow → Type 0
+DryRowsSoFar library done rows =
     (left : List ChosenValue) (cuts : List FeatureCuts) → (whole : List FeatureCuts) × (rows ++ dry_features_of library cuts left ≡ dry_features_of library whole (done ++ left))
 
-pub dry_first : (library : LibraryValue) → GoesDryOn library [] []
-dry_first library left cuts = (cuts, refl)
+pub dry_rows_first : (library : LibraryValue) → DryRowsSoFar library [] []
+dry_rows_first library left cuts = (cuts, refl)
 
-pub dry_next : (library : LibraryValue) (done : List ChosenValue) (rows : List FeatureRow) (f : ChosenValue) (own : FeatureCuts) →
-    GoesDryOn library done rows → GoesDryOn library (done ++ f ∷ []) (rows ++ dry_feature_of library own f ∷ [])
-dry_next library done rows f own goes left cuts =
-    let whole = goes (f ∷ left) (own ∷ cuts) in (
+pub dry_rows_next : (library : LibraryValue) (done : List ChosenValue) (rows : List FeatureRow) (f : ChosenValue) (own : FeatureCuts) →
+    DryRowsSoFar library done rows → DryRowsSoFar library (done ++ f ∷ []) (rows ++ dry_feature_of library own f ∷ [])
+dry_rows_next library done rows f own held left cuts =
+    let whole = held (f ∷ left) (own ∷ cuts) in (
       whole.0,
       append_assoc rows (dry_feature_of library own f ∷ []) (dry_features_of library cuts left)
           ∙ whole.1
           ∙ ap (dry_features_of library whole.0) (sym (append_assoc done (f ∷ []) left)),
     )
 
-pub dry_last : (library : LibraryValue) (done : List ChosenValue) (rows : List FeatureRow) → GoesDryOn library done rows → AreDryFeatures library done rows
-dry_last library done rows goes =
-    let whole = goes [] [] in
+pub dry_rows_last : (library : LibraryValue) (done : List ChosenValue) (rows : List FeatureRow) → DryRowsSoFar library done rows → AreDryFeatures library done rows
+dry_rows_last library done rows held =
+    let whole = held [] [] in
     (whole.0, sym (append-nil rows) ∙ whole.1 ∙ ap (dry_features_of library whole.0) (append-nil done))
 
 -- ---- a report that grows by the features of a run
@@ -104,93 +104,93 @@ dry_last library done rows goes =
 -- The features that aren't left have results, and their parts were written.
 abbrev pub Running : Run → State → Bool → List ChosenValue → Device → GrowingReport → List ChosenValue → Bool → Device → GrowingReport → Type 0
 Running run first first_open all old g left is_open now grown =
-    (before : Device) → IsGrown before old g [] → (done : List ChosenValue) × (rows : List FeatureRow) × (all ≡ done ++ left) × GoesOn run first first_open done rows is_open × IsGrown before now grown rows
+    (before : Device) → IsGrown before old g [] → (done : List ChosenValue) × (rows : List FeatureRow) × (all ≡ done ++ left) × RowsSoFar run first first_open done rows is_open × IsGrown before now grown rows
 
 pub running_first : (run : Run) (first : State) (first_open : Bool) (all : List ChosenValue) (old : Device) (g : GrowingReport) → Running run first first_open all old g all first_open old g
-running_first run first first_open all old g before grown = ([], [], refl, goes_first run first first_open, grown)
+running_first run first first_open all old g before grown = ([], [], refl, rows_first run first first_open, grown)
 
 pub running_next : (run : Run) (first now : State) (first_open : Bool) (all : List ChosenValue) (old : Device) (g : GrowingReport) (f : ChosenValue) (left : List ChosenValue) (is_open next : Bool)
     (there : Device) (h : GrowingReport) (new : Device) (grown : GrowingReport) → now ≡ first → (is_open ≡ true → first_open ≡ true) →
     IsRunNext run now is_open next f there h new grown → Running run first first_open all old g (f ∷ left) is_open there h → Running run first first_open all old g left next new grown
-running_next run first now first_open all old g f left is_open next there h new grown same earlier one goes before begun =
-    let was = goes before begun in (
+running_next run first now first_open all old g f left is_open next there h new grown same earlier one held before begun =
+    let was = held before begun in (
       was.0 ++ f ∷ [],
       was.1 ++ one.row ∷ [],
       was.2 ∙ sym (append_assoc was.0 (f ∷ []) left),
-      goes_next run first now first_open was.0 was.1 one.row is_open next f same earlier one.result one.opens was.3,
+      rows_next run first now first_open was.0 was.1 one.row is_open next f same earlier one.result one.opens was.3,
       one.grows before was.1 was.4,
     )
 
 pub running_last : (run : Run) (first : State) (first_open : Bool) (all : List ChosenValue) (old : Device) (g : GrowingReport) (left : List ChosenValue) (is_open : Bool) (now : Device) (grown : GrowingReport) → left ≡ [] →
     Running run first first_open all old g left is_open now grown → AreWritten (AreFeatures run first first_open) all old g now grown
-running_last run first first_open all old g left is_open now grown none goes before begun =
-    let was = goes before begun in
+running_last run first first_open all old g left is_open now grown none held before begun =
+    let was = held before begun in
     let done : was.0 ≡ all = sym (was.2 ∙ ap (λ (fs : List ChosenValue). was.0 ++ fs) none ∙ append-nil was.0) in
-    (was.1, subst (λ fs. AreFeatures run first first_open fs was.1) done (goes_last run first first_open was.0 was.1 is_open was.3), was.4)
+    (was.1, subst (λ fs. AreFeatures run first first_open fs was.1) done (rows_last run first first_open was.0 was.1 is_open was.3), was.4)
 
 pub running_stopped : (run : Run) (first now : State) (first_open : Bool) (all : List ChosenValue) (old : Device) (g : GrowingReport) (f : ChosenValue) (left : List ChosenValue) (is_open : Bool)
     (there : Device) (h : GrowingReport) (new : Device) (fault : RunFault) → now ≡ first → (is_open ≡ true → first_open ≡ true) → style_of h ≡ style_of g →
     EndsNext run now is_open f there h new fault → Running run first first_open all old g (f ∷ left) is_open there h → AreWrittenUpTo (AreFeatures run first first_open) all old g new fault
-running_stopped run first now first_open all old g f left is_open there h new fault same earlier style (inl stops) goes before begun =
-    let was = goes before begun in (
+running_stopped run first now first_open all old g f left is_open there h new fault same earlier style (inl stops) held before begun =
+    let was = held before begun in (
       was.0,
       f ∷ left,
       was.1,
       was.2,
-      goes_last run first first_open was.0 was.1 is_open was.3,
+      rows_last run first first_open was.0 was.1 is_open was.3,
       subst (λ (s : Style). IsStopped before new (so_far s was.1) fault) style (stops before was.1 was.4),
     )
-running_stopped run first now first_open all old g f left is_open there h new fault same earlier style (inr ended) goes before begun =
-    let was = goes before begun in
+running_stopped run first now first_open all old g f left is_open there h new fault same earlier style (inr ended) held before begun =
+    let was = held before begun in
     let row = ended.0 in
     let next = is_open && stays_open run row.status in (
       was.0 ++ f ∷ [],
       left,
       was.1 ++ row ∷ [],
       was.2 ∙ sym (append_assoc was.0 (f ∷ []) left),
-      goes_last run first first_open (was.0 ++ f ∷ []) (was.1 ++ row ∷ []) next (goes_next run first now first_open was.0 was.1 row is_open next f same earlier ended.1 refl was.3),
+      rows_last run first first_open (was.0 ++ f ∷ []) (was.1 ++ row ∷ []) next (rows_next run first now first_open was.0 was.1 row is_open next f same earlier ended.1 refl was.3),
       subst (λ (s : Style). IsStopped before new (so_far s (was.1 ++ row ∷ [])) fault) style (ended.2 before was.1 was.4),
     )
 
 -- The same of a dry run.
 abbrev pub DryRunning : LibraryValue → List ChosenValue → Device → GrowingReport → List ChosenValue → Device → GrowingReport → Type 0
 DryRunning library all old g left now grown =
-    (before : Device) → IsGrown before old g [] → (done : List ChosenValue) × (rows : List FeatureRow) × (all ≡ done ++ left) × GoesDryOn library done rows × IsGrown before now grown rows
+    (before : Device) → IsGrown before old g [] → (done : List ChosenValue) × (rows : List FeatureRow) × (all ≡ done ++ left) × DryRowsSoFar library done rows × IsGrown before now grown rows
 
 pub dry_running_first : (library : LibraryValue) (all : List ChosenValue) (old : Device) (g : GrowingReport) → DryRunning library all old g all old g
-dry_running_first library all old g before grown = ([], [], refl, dry_first library, grown)
+dry_running_first library all old g before grown = ([], [], refl, dry_rows_first library, grown)
 
 pub dry_running_next : (library : LibraryValue) (all : List ChosenValue) (old : Device) (g : GrowingReport) (f : ChosenValue) (left : List ChosenValue) (there : Device) (h : GrowingReport) (new : Device) (grown : GrowingReport) →
     IsDryNext library f there h new grown → DryRunning library all old g (f ∷ left) there h → DryRunning library all old g left new grown
-dry_running_next library all old g f left there h new grown one goes before begun =
-    let was = goes before begun in (
+dry_running_next library all old g f left there h new grown one held before begun =
+    let was = held before begun in (
       was.0 ++ f ∷ [],
       was.1 ++ dry_feature_of library one.cuts f ∷ [],
       was.2 ∙ sym (append_assoc was.0 (f ∷ []) left),
-      dry_next library was.0 was.1 f one.cuts was.3,
+      dry_rows_next library was.0 was.1 f one.cuts was.3,
       one.grows before was.1 was.4,
     )
 
 pub dry_running_last : (library : LibraryValue) (all : List ChosenValue) (old : Device) (g : GrowingReport) (left : List ChosenValue) (now : Device) (grown : GrowingReport) → left ≡ [] →
     DryRunning library all old g left now grown → AreWritten (AreDryFeatures library) all old g now grown
-dry_running_last library all old g left now grown none goes before begun =
-    let was = goes before begun in
+dry_running_last library all old g left now grown none held before begun =
+    let was = held before begun in
     let done : was.0 ≡ all = sym (was.2 ∙ ap (λ (fs : List ChosenValue). was.0 ++ fs) none ∙ append-nil was.0) in
-    (was.1, subst (λ fs. AreDryFeatures library fs was.1) done (dry_last library was.0 was.1 was.3), was.4)
+    (was.1, subst (λ fs. AreDryFeatures library fs was.1) done (dry_rows_last library was.0 was.1 was.3), was.4)
 
 pub dry_running_stopped : (library : LibraryValue) (all : List ChosenValue) (old : Device) (g : GrowingReport) (f : ChosenValue) (left : List ChosenValue) (there : Device) (h : GrowingReport) (new : Device) (fault : RunFault) →
     style_of h ≡ style_of g → EndsDryNext library f there h new fault → DryRunning library all old g (f ∷ left) there h → AreWrittenUpTo (AreDryFeatures library) all old g new fault
-dry_running_stopped library all old g f left there h new fault style (inl stops) goes before begun =
-    let was = goes before begun in
-    (was.0, f ∷ left, was.1, was.2, dry_last library was.0 was.1 was.3, subst (λ (s : Style). IsStopped before new (so_far s was.1) fault) style (stops before was.1 was.4))
-dry_running_stopped library all old g f left there h new fault style (inr ended) goes before begun =
-    let was = goes before begun in
+dry_running_stopped library all old g f left there h new fault style (inl stops) held before begun =
+    let was = held before begun in
+    (was.0, f ∷ left, was.1, was.2, dry_rows_last library was.0 was.1 was.3, subst (λ (s : Style). IsStopped before new (so_far s was.1) fault) style (stops before was.1 was.4))
+dry_running_stopped library all old g f left there h new fault style (inr ended) held before begun =
+    let was = held before begun in
     let row = dry_feature_of library ended.0 f in (
       was.0 ++ f ∷ [],
       left,
       was.1 ++ row ∷ [],
       was.2 ∙ sym (append_assoc was.0 (f ∷ []) left),
-      dry_last library (was.0 ++ f ∷ []) (was.1 ++ row ∷ []) (dry_next library was.0 was.1 f ended.0 was.3),
+      dry_rows_last library (was.0 ++ f ∷ []) (was.1 ++ row ∷ []) (dry_rows_next library was.0 was.1 f ended.0 was.3),
       subst (λ (s : Style). IsStopped before new (so_far s (was.1 ++ row ∷ [])) fault) style (ended.1 before was.1 was.4),
     )
 
@@ -223,7 +223,7 @@ unfinished Give run contents features old g new fault law begins written before 
     (results, subst (λ fs. Judged run contents fs results) (sym was.3) some.2, stopped_within before new (so_far (style_of g) was.2) rest.0 (report (style_of g) results) fault rest.1 was.5)
 
 -- The head wasn't written whole.
-pub head_stopped : ReportsGrowByParts → (run : Run) (contents : Contents) (features : List ChosenValue) (style : Style) (old new : Device) (fault : RunFault) → IsStopped old new (so_far style []) fault → IsPart run contents features style old new fault
+pub head_stopped : ReportsGrowByParts → (run : Run) (contents : Contents) (features : List ChosenValue) (style : Style) (old new : Device) (fault : RunFault) → IsStopped old new (so_far style []) fault → IsPrefix run contents features style old new fault
 head_stopped law run contents features style old new fault stopped =
     let results : Results = plain_results run contents features in
     let rest = law.begins style results [] results.features refl in
@@ -235,7 +235,7 @@ pub as_whole : (run wanted : Run) (contents : Contents) (features : List ChosenV
 as_whole run wanted contents features style old there g new status same styles grown finishes =
     subst (λ (r : Run). IsWhole r contents features style old new status) same (subst (λ (s : Style). IsWhole run contents features s old new status) styles (finishes old grown))
 
-pub as_part : (run wanted : Run) (contents : Contents) (features : List ChosenValue) (style : Style) (old there : Device) (g : GrowingReport) (new : Device) (fault : RunFault) → run ≡ wanted → style_of g ≡ style → IsGrown old there g [] →
-    Ends run contents features there g new fault → IsPart wanted contents features style old new fault
-as_part run wanted contents features style old there g new fault same styles grown ends =
-    subst (λ (r : Run). IsPart r contents features style old new fault) same (subst (λ (s : Style). IsPart run contents features s old new fault) styles (ends old grown))
+pub as_prefix : (run wanted : Run) (contents : Contents) (features : List ChosenValue) (style : Style) (old there : Device) (g : GrowingReport) (new : Device) (fault : RunFault) → run ≡ wanted → style_of g ≡ style → IsGrown old there g [] →
+    Ends run contents features there g new fault → IsPrefix wanted contents features style old new fault
+as_prefix run wanted contents features style old there g new fault same styles grown ends =
+    subst (λ (r : Run). IsPrefix r contents features style old new fault) same (subst (λ (s : Style). IsPrefix run contents features s old new fault) styles (ends old grown))

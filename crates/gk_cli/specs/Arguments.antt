@@ -132,20 +132,20 @@ pair_value pair = record { name = string_bytes pair.0; text = string_bytes pair.
 abbrev pub has_equals : Text → Bool
 has_equals text = has_byte 61 text
 
--- A text cut at its first `=`.
-abbrev pub cut_at_equals : Text → PairValue
-cut_at_equals text = record { name = before_first (λ b. b == 61) text; text = after_first (λ b. b == 61) text }
+-- A text split at its first `=`.
+abbrev pub split_at_equals : Text → PairValue
+split_at_equals text = record { name = before_first (λ b. b == 61) text; text = after_first (λ b. b == 61) text }
 
 -- The variable that a text of `--env` names; a text without `=` names none.
 abbrev pub SaysVariable : Text → Result (String Global × String Global) WordsFault → Type 0
-SaysVariable text (Ok variable) = (has_equals text ≡ true) × (pair_value variable ≡ cut_at_equals text)
+SaysVariable text (Ok variable) = (has_equals text ≡ true) × (pair_value variable ≡ split_at_equals text)
 SaysVariable text (Err Env) = has_equals text ≡ false
 SaysVariable text (Err Memory) = Unit {0}
 SaysVariable text (Err (Usage e)) = ⊥
 
 -- The variables that some texts of `--env` name: the first text without `=` is a fault.
 abbrev pub SaysVariables : List Text → Result (Vec (String Global × String Global) Global) WordsFault → Type 0
-SaysVariables texts (Ok variables) = All (λ text. has_equals text ≡ true) texts × (map pair_value variables.items ≡ map cut_at_equals texts)
+SaysVariables texts (Ok variables) = All (λ text. has_equals text ≡ true) texts × (map pair_value variables.items ≡ map split_at_equals texts)
 SaysVariables texts (Err Env) = Any (λ text. has_equals text ≡ false) texts
 SaysVariables texts (Err Memory) = Unit {0}
 SaysVariables texts (Err (Usage e)) = ⊥
@@ -165,8 +165,8 @@ pub record IsAskedBy (rows : List Row) (w : Words) : Type 0 where
   pub options : AreAsked rows w.options
   pub library : option_map string_bytes w.library ≡ first_of (codes "library") rows
   pub hooks : option_map string_bytes w.hooks ≡ first_of (codes "hooks") rows
-  pub variables : map pair_value w.env.items ≡ map cut_at_equals (values_of (codes "env") rows)
-  pub cut : All (λ text. has_equals text ≡ true) (values_of (codes "env") rows)
+  pub variables : map pair_value w.env.items ≡ map split_at_equals (values_of (codes "env") rows)
+  pub equals : All (λ text. has_equals text ≡ true) (values_of (codes "env") rows)
 
 -- What is asked for, from what clap found; `Env` comes where an `--env` has no `=`.
 abbrev pub SaysMatches : List Row → Result Words WordsFault → Type 0

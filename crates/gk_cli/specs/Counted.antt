@@ -48,8 +48,8 @@ abbrev pub IsUnflushed : {T : Type 0} → Counted T → Counted T → Type 0
 IsUnflushed old new = flushes_of new ≡ flushes_of old
 
 -- No call of the device failed in between.
-abbrev pub IsQuiet : {T : Type 0} → Counted T → Counted T → Type 0
-IsQuiet old new = failures_of new ≡ failures_of old
+abbrev pub HasNotFailed : {T : Type 0} → Counted T → Counted T → Type 0
+HasNotFailed old new = failures_of new ≡ failures_of old
 
 -- One more call of the device failed.
 abbrev pub HasFailedOnce : {T : Type 0} → Counted T → Counted T → Type 0

@@ -89,16 +89,16 @@ with_reading chooses source None others = others
 with_reading chooses source (Some f) others = chosen_of chooses source f ∷ others
 
 -- The cases of what a source reads as have no more steps than the limit.
-abbrev pub HasRoom : Option FeatureValue → Type 0
-HasRoom None = Unit {0}
-HasRoom (Some f) = step_count f ≤ step_limit
+abbrev pub IsWithinLimit : Option FeatureValue → Type 0
+IsWithinLimit None = Unit {0}
+IsWithinLimit (Some f) = step_count f ≤ step_limit
 
--- The sources read as these features: each source's bytes are a text whose lines have a reading with room, and the features are theirs, in order.
+-- The sources read as these features: each source's bytes are a text whose lines have a reading within the limit of steps, and the features are theirs, in order.
 abbrev pub AreRead : (CaseValue → Bool) → List SourceValue → List ChosenValue → Type 0
 AreRead chooses [] features = features ≡ []
 AreRead chooses (s ∷ ss) features =
     (reading : Option FeatureValue) × (others : List ChosenValue)
-    × IsText s.bytes × Reads (lines_of s.bytes) reading × HasRoom reading × AreRead chooses ss others × (features ≡ with_reading chooses s.name reading others)
+    × IsText s.bytes × Reads (lines_of s.bytes) reading × IsWithinLimit reading × AreRead chooses ss others × (features ≡ with_reading chooses s.name reading others)
 
 -- What is asked for reads as these inputs.
 pub record AreInputs (r : Request) (inputs : Inputs) : Type 0 where
@@ -153,6 +153,6 @@ pub record IsReadOnto (chooses : CaseValue → Bool) (source : SourceValue) (old
   pub reading : Option FeatureValue
   pub text : IsText source.bytes
   pub reads : Reads (lines_of source.bytes) reading
-  pub room : HasRoom reading
+  pub limit : IsWithinLimit reading
   pub added : map chosen_value new ≡ map chosen_value old ++ with_reading chooses source.name reading []
   pub paired : AllByRecursion IsPaired old → AllByRecursion IsPaired new

@@ -1,4 +1,4 @@
--- What a whole run may answer and write.
+-- What a whole run may return and write.
 use Rattle.std.specs.Prelude.{◌≡◌, ◌≢◌, ◌≤◌, ◌+◌, ◌⊎◌, ℕ, false, List, [], length, Option, None}
 use Rattle.std.specs.Io.KnownBytes.{Appends}
 use Rattle.gk_world.specs.State.{Contents}
@@ -32,16 +32,16 @@ pub record Device : Type 0 where
 abbrev pub device_of : {W : Type 0} → (W → Option (List ℕ)) → Counted W → Device
 device_of bytes_of out = record { bytes = bytes_of (inner_of out); calls = calls_of out; flushes = flushes_of out; failures = failures_of out; idle = idle_of out }
 
--- The report of these results was written, and their status is answered. The writer didn't fail, wasn't flushed, and was called no more often than there are bytes; each call moved at least one.
+-- The report of these results was written, and their status is returned. The writer didn't fail, wasn't flushed, and was called no more often than there are bytes; each call moved at least one.
 pub record IsReported (style : Style) (old new : Device) (answer : ℕ) (results : Results) : Type 0 where
   pub written : Appends old.bytes new.bytes (report style results)
-  pub answered : answer ≡ status results
+  pub returned : answer ≡ status results
   pub calls : new.calls ≤ old.calls + length (report style results)
   pub busy : new.idle ≡ old.idle
   pub quiet : new.failures ≡ old.failures
   pub unflushed : new.flushes ≡ old.flushes
 
--- There is a list of results whose report was written and whose status is answered.
+-- There is a list of results whose report was written and whose status is returned.
 abbrev pub Reported : Style → Device → Device → ℕ → Type 0
 Reported style old new answer = (results : Results) × IsReported style old new answer results
 
@@ -51,12 +51,12 @@ pub record AreJudged (r : Request) (contents : Contents) (results : Results) : T
   pub read : AreInputs r inputs
   pub judged : Judged (run_with r inputs) contents inputs.features results
 
--- The list whose report was written and whose status is answered is judged.
+-- The list whose report was written and whose status is returned is judged.
 abbrev pub JudgedReport : Request → Contents → Device → Device → ℕ → Type 0
 JudgedReport r contents old new answer = (results : Results) × IsReported r.style old new answer results × AreJudged r contents results
 
 -- That list is the one that plain maps give; no scenario in it is marked memory; and what is asked for has no other judged list with this status.
-pub record IsPlain (r : Request) (contents : Contents) (old new : Device) (answer : ℕ) : Type 0 where
+pub record IsOnlyReport (r : Request) (contents : Contents) (old new : Device) (answer : ℕ) : Type 0 where
   pub inputs : Inputs
   pub read : AreInputs r inputs
   pub reported : IsReported r.style old new answer (plain_results (run_with r inputs) contents inputs.features)
@@ -64,8 +64,8 @@ pub record IsPlain (r : Request) (contents : Contents) (old new : Device) (answe
   pub only : (results : Results) → AreJudged r contents results → answer ≡ status results → results ≡ plain_results (run_with r inputs) contents inputs.features
 
 -- So it is at each status other than 4.
-abbrev pub Plain : Request → Contents → Device → Device → ℕ → Type 0
-Plain r contents old new answer = answer ≢ 4 → IsPlain r contents old new answer
+abbrev pub OnlyReport : Request → Contents → Device → Device → ℕ → Type 0
+OnlyReport r contents old new answer = answer ≢ 4 → IsOnlyReport r contents old new answer
 
 -- Nothing was written, and the writer wasn't called.
 pub record IsUntouched (old new : Device) : Type 0 where
@@ -83,13 +83,13 @@ pub record IsCutShort (r : Request) (contents : Contents) (old new : Device) (re
   pub unflushed : new.flushes ≡ old.flushes
 
 -- The writer took a prefix of the report of some judged list.
-abbrev pub Cut : Request → Contents → Device → Device → Type 0
-Cut r contents old new = (results : Results) × IsCutShort r contents old new results
+abbrev pub CutShort : Request → Contents → Device → Device → Type 0
+CutShort r contents old new = (results : Results) × IsCutShort r contents old new results
 
 -- What each fault says. Where the writer failed, it failed once, a prefix was written, and each other call moved at least one byte. Where memory was refused, nothing was written, or a prefix was, the writer didn't fail, and each call moved at least one byte. Else what is asked for doesn't read, and nothing was written.
 abbrev pub SaysFault : Request → Contents → Device → Device → RunFault → Type 0
-SaysFault r contents old new Write = Cut r contents old new × (new.failures ≡ one_more old.failures) × (new.idle ≡ one_more old.idle)
-SaysFault r contents old new Memory = IsUntouched old new ⊎ (Cut r contents old new × (new.failures ≡ old.failures) × (new.idle ≡ old.idle))
+SaysFault r contents old new Write = CutShort r contents old new × (new.failures ≡ one_more old.failures) × (new.idle ≡ one_more old.idle)
+SaysFault r contents old new Memory = IsUntouched old new ⊎ (CutShort r contents old new × (new.failures ≡ old.failures) × (new.idle ≡ old.idle))
 SaysFault r contents old new fault = IsUnread r fault × IsUntouched old new
 
 -- What is asked for reads in one way only.

@@ -24,13 +24,13 @@ use Rattle.gk_cli.specs.declared.written_run.RunSoFar.{RunSoFar}
 use Rattle.gk_cli.specs.Suite.{Device, IsReported}
 use Rattle.gk_cli.specs.GrowingReport.{style_of, so_far, IsStopped, IsGrown, Grows, Stops}
 
--- The report of a judged list was written, and its status is answered.
+-- The report of a judged list was written, and its status is returned.
 abbrev pub IsWhole : Run → Contents → List ChosenValue → Style → Device → Device → ℕ → Type 0
 IsWhole run contents features style old new status = (results : Results) × Judged run contents features results × IsReported style old new status results
 
 -- A prefix of the report of a judged list was written.
-abbrev pub IsPart : Run → Contents → List ChosenValue → Style → Device → Device → RunFault → Type 0
-IsPart run contents features style old new fault = (results : Results) × Judged run contents features results × IsStopped old new (report style results) fault
+abbrev pub IsPrefix : Run → Contents → List ChosenValue → Style → Device → Device → RunFault → Type 0
+IsPrefix run contents features style old new fault = (results : Results) × Judged run contents features results × IsStopped old new (report style results) fault
 
 -- Proof machinery, from here on: a dry run with a `Library` and a `HookFile`.
 abbrev pub dry_run_of : Library → HookFile → Bool → Run
@@ -40,9 +40,9 @@ dry_run_of library hooks stop = record { library = library_value library; hooks 
 abbrev pub Finishes : Run → Contents → List ChosenValue → Device → GrowingReport → Device → ℕ → Type 0
 Finishes run contents features old g new status = (before : Device) → IsGrown before old g [] → IsWhole run contents features (style_of g) before new status
 
--- The run ends in a part, from where its head was written.
+-- The run ends in a prefix of its report, from where its head was written.
 abbrev pub Ends : Run → Contents → List ChosenValue → Device → GrowingReport → Device → RunFault → Type 0
-Ends run contents features old g new fault = (before : Device) → IsGrown before old g [] → IsPart run contents features (style_of g) before new fault
+Ends run contents features old g new fault = (before : Device) → IsGrown before old g [] → IsPrefix run contents features (style_of g) before new fault
 
 -- A feature was run in a run that is open, or isn't, and its part was written.
 pub record IsRunNext (run : Run) (now : State) (is_open next : Bool) (f : ChosenValue) (old : Device) (g : GrowingReport) (new : Device) (grown : GrowingReport) : Type 0 where

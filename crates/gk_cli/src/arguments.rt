@@ -214,7 +214,7 @@ fn numbers(alloc: Global, texts: &[&str]) -> Result<Vec<u32>, AllocError>
     Ok(numbers)
 }
 
-// The name and the text of a variable, cut at the first `=`.
+// The name and the text of a variable, split at the first `=`.
 fn variable(alloc: Global, text: &str) -> Result<(String, String), WordsFault>
     ensures { SaysVariable text.now result }
 {

@@ -1,7 +1,7 @@
 //! A reader or a writer whose calls are counted, and writing bytes whole.
 ghost use Rattle.std.specs.Prelude.{◌≡◌, ◌≤◌, ◌+◌, length, OnOk, OnErr};
 ghost use Rattle.std.specs.Io.KnownBytes.{Appends};
-ghost use Rattle.gk_cli.specs.Counted.{inner_of, calls_of, one_more, IsPrefixWritten, IsQuiet, HasFailedOnce, IsUnflushed, IsNeverIdle, IsIdleOnce, CountsCanRise};
+ghost use Rattle.gk_cli.specs.Counted.{inner_of, calls_of, one_more, IsPrefixWritten, HasNotFailed, HasFailedOnce, IsUnflushed, IsNeverIdle, IsIdleOnce, CountsCanRise};
 
 use std::io;
 use std::io::{Read, Write};
@@ -177,7 +177,7 @@ pub fn write_whole<W: Write>(out: &mut Counted<W>, bytes: &[u8]) -> Result<(), N
     requires room { CountsCanRise out.old }
     ensures ok { OnOk result
         (Appends (W.contents (inner_of out.old)) (W.contents (inner_of out.new)) bytes.now) }
-    ensures quiet { OnOk result (IsQuiet out.old out.new) }
+    ensures quiet { OnOk result (HasNotFailed out.old out.new) }
     ensures cut { OnErr result (IsPrefixWritten
         (W.contents (inner_of out.old)) (W.contents (inner_of out.new)) bytes.now) }
     // One failure ends it: no second call follows one that failed.

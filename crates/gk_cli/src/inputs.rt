@@ -161,7 +161,7 @@ fn chosen_of(
         ≡ spec.chosen_of (chosen_by choice.now) source.now (feature_value feature)) }
     ensures paired { IfOk result (λ c. IsPaired c) }
     ensures fault { IfErr result (λ e. SaysExpansion (feature_value feature) e) }
-    ensures room { OnOk result (spec.HasRoom (Some (feature_value feature))) }
+    ensures limit { OnOk result (spec.IsWithinLimit (Some (feature_value feature))) }
 {
     let copies = copies_of(alloc, source, &feature)?;
     let line = feature.line;

@@ -1,7 +1,7 @@
 //! The sources of a run, and reading one whole.
 ghost use Rattle.std.specs.Prelude.{◌≡◌, ◌≢◌, ◌≤◌, ◌+◌, [], Some, IfOk, IfSome, IsErrOf, vec_len};
 ghost use Rattle.gk_gherkin.specs.Lines.{limit};
-ghost use Rattle.gk_cli.specs.Counted.{inner_of, calls_of, idle_of, IsQuiet, HasFailedOnce, ReadCountsCanRise};
+ghost use Rattle.gk_cli.specs.Counted.{inner_of, calls_of, idle_of, HasNotFailed, HasFailedOnce, ReadCountsCanRise};
 ghost use Rattle.gk_cli.specs.Source.{StopsAfter, GivesAtMost, idle_after};
 
 use crate::counted::Counted;
@@ -43,18 +43,18 @@ pub fn read_source<R: Read>(alloc: Global, reader: &mut Counted<R>) -> Result<Ve
     ensures whole { IfOk result (λ v.
         IfSome (R.remaining (inner_of reader.old)) (λ xs. v.items ≡ xs)) }
     ensures within { IfOk result (λ v. vec_len v ≤ limit) }
-    ensures quiet { IfOk result (λ v. IsQuiet reader.old reader.new) }
+    ensures quiet { IfOk result (λ v. HasNotFailed reader.old reader.new) }
     // `TooLong`: the reader gave one byte more than the limit, and never failed.
     ensures long { IsErrOf result SourceFault.TooLong →
         StopsAfter (limit + 1)
         (R.remaining (inner_of reader.old)) (R.remaining (inner_of reader.new)) }
-    ensures long_quiet { IsErrOf result SourceFault.TooLong → IsQuiet reader.old reader.new }
+    ensures long_quiet { IsErrOf result SourceFault.TooLong → HasNotFailed reader.old reader.new }
     // `Device` comes of one failure, and only of that.
     ensures device { IsErrOf result SourceFault.Device → HasFailedOnce reader.old reader.new }
     // `Memory` never comes where the reader has no byte.
-    ensures spare { IsErrOf result SourceFault.Memory → IsQuiet reader.old reader.new }
+    ensures spare { IsErrOf result SourceFault.Memory → HasNotFailed reader.old reader.new }
     ensures free { IsErrOf result SourceFault.Memory → R.remaining (inner_of reader.old) ≢ Some [] }
-    // Whatever is answered, each call but the last gives a byte. Where the reader's bytes are known,
+    // Whatever is returned, each call but the last gives a byte. Where the reader's bytes are known,
     // it gives none after number LIMIT + 1; of another reader `given` says nothing.
     ensures idle { idle_of reader.new ≡ idle_after result (idle_of reader.old) }
     ensures given { GivesAtMost (limit + 1)

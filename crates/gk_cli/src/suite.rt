@@ -2,9 +2,9 @@
 ghost use Rattle.std.specs.Prelude.{◌≡◌, IfOk, IfErr, OnOk};
 ghost use Rattle.gk_world.specs.Sandbox.{depth};
 ghost use Rattle.gk_run.specs.Running.{IsSame};
-ghost use Rattle.gk_cli.specs.Counted.{CountsCanRise, IsQuiet, IsUnflushed, IsNeverIdle};
+ghost use Rattle.gk_cli.specs.Counted.{CountsCanRise, HasNotFailed, IsUnflushed, IsNeverIdle};
 ghost use Rattle.gk_cli.specs.Inputs.{asked};
-ghost use Rattle.gk_cli.specs.Suite.{device_of, Reported, JudgedReport, Plain, SaysFault, InputsAreUnique};
+ghost use Rattle.gk_cli.specs.Suite.{device_of, Reported, JudgedReport, OnlyReport, SaysFault, InputsAreUnique};
 
 use crate::arguments::Options;
 use crate::counted::Counted;
@@ -37,7 +37,7 @@ fn inputs_are_unique()
 ///
 /// The answer is the status of the run: 0 where nothing failed, 1 where a scenario, a hook or a cleanup failed
 /// or a step is undefined, 4 where memory was refused in one of these. `RunFault` says when each error comes and
-/// what was written. Whatever is answered, files, variables, values and layers of the sandbox are as they
+/// what was written. Whatever is returned, files, variables, values and layers of the sandbox are as they
 /// were, and nothing is flushed. No layer of the sandbox is open, and the writer's counts of
 /// failures, idle calls and flushes are below `u64::MAX - 1`, so that one more of each can be seen.
 pub fn run_suite<W: Write>(
@@ -52,7 +52,7 @@ pub fn run_suite<W: Write>(
     requires room { CountsCanRise out.old }
     requires outside { depth sandbox.old ≡ 0 }
 
-    // What was written and what is answered are the report and the status of one list of results.
+    // What was written and what is returned are the report and the status of one list of results.
     ensures reported { IfOk result (Reported options.now.style
         (device_of W.contents out.old) (device_of W.contents out.new)) }
     // That list is judged: each selected scenario that was reached has in it the verdict and the step statuses
@@ -61,17 +61,17 @@ pub fn run_suite<W: Write>(
         (asked options.now library.entry hooks.entry sources.now) sandbox.old.now
         (device_of W.contents out.old) (device_of W.contents out.new)) }
     // At each status but 4 that list is the one that plain maps give, and there is no other.
-    ensures plain { IfOk result (Plain
+    ensures plain { IfOk result (OnlyReport
         (asked options.now library.entry hooks.entry sources.now) sandbox.old.now
         (device_of W.contents out.old) (device_of W.contents out.new)) }
-    // Whatever is answered, files, variables, values and layers are as they were.
+    // Whatever is returned, files, variables, values and layers are as they were.
     ensures same { IsSame sandbox.old sandbox.new }
     // Which fault it is, and what was written.
     ensures fault { IfErr result (SaysFault
         (asked options.now library.entry hooks.entry sources.now) sandbox.old.now
         (device_of W.contents out.old) (device_of W.contents out.new)) }
     // A status comes only where the writer didn't fail.
-    ensures quiet { OnOk result (IsQuiet out.old out.new) }
+    ensures quiet { OnOk result (HasNotFailed out.old out.new) }
     // Each call of the writer moved at least one byte.
     ensures busy { OnOk result (IsNeverIdle out.old out.new) }
     ensures unflushed { IsUnflushed out.old out.new }

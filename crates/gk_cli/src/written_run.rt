@@ -13,7 +13,7 @@ ghost use Rattle.gk_cli.specs.Inputs.{inputs_value};
 ghost use Rattle.gk_cli.specs.Counted.{CountsCanRise};
 ghost use Rattle.gk_cli.specs.Suite.{device_of, run_by};
 ghost use Rattle.gk_cli.specs.GrowingReport.{style_of};
-ghost use Rattle.gk_cli.specs.WrittenRun.{RunsNext, EndsRunNext, AreRun, IsDryNext, EndsDryNext, AreWritten, AreWrittenUpTo, IsWhole, IsPart, dry_run_of};
+ghost use Rattle.gk_cli.specs.WrittenRun.{RunsNext, EndsRunNext, AreRun, IsDryNext, EndsDryNext, AreWritten, AreWrittenUpTo, IsWhole, IsPrefix, dry_run_of};
 
 use crate::arguments::Options;
 use crate::counted::Counted;
@@ -118,7 +118,7 @@ fn run_all<W: Write>(
         (run_of inputs.library inputs.hooks options.now.stop) sandbox.old.now
         (map chosen_value inputs.features.items) options.now.style
         (device_of W.contents out.old) (device_of W.contents out.new)) }
-    ensures err { IfErr result (IsPart
+    ensures err { IfErr result (IsPrefix
         (run_of inputs.library inputs.hooks options.now.stop) sandbox.old.now
         (map chosen_value inputs.features.items) options.now.style
         (device_of W.contents out.old) (device_of W.contents out.new)) }
@@ -211,7 +211,7 @@ fn dry_all<W: Write>(
         (dry_run_of inputs.library inputs.hooks options.now.stop) contents
         (map chosen_value inputs.features.items) options.now.style
         (device_of W.contents out.old) (device_of W.contents out.new) status) }
-    ensures err { IfErr result (λ fault. (contents : Contents) → IsPart
+    ensures err { IfErr result (λ fault. (contents : Contents) → IsPrefix
         (dry_run_of inputs.library inputs.hooks options.now.stop) contents
         (map chosen_value inputs.features.items) options.now.style
         (device_of W.contents out.old) (device_of W.contents out.new) fault) }
@@ -250,7 +250,7 @@ pub fn write_run<W: Write>(
     ensures ok { IfOk result (IsWhole (run_by options.now (inputs_value inputs)) sandbox.old.now
         (map chosen_value inputs.features.items) options.now.style
         (device_of W.contents out.old) (device_of W.contents out.new)) }
-    ensures err { IfErr result (IsPart (run_by options.now (inputs_value inputs)) sandbox.old.now
+    ensures err { IfErr result (IsPrefix (run_by options.now (inputs_value inputs)) sandbox.old.now
         (map chosen_value inputs.features.items) options.now.style
         (device_of W.contents out.old) (device_of W.contents out.new)) }
     ensures same { IsSame sandbox.old sandbox.new }

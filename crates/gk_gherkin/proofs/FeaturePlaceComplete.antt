@@ -348,10 +348,11 @@ run_feature : {ls rest : Lines} (f : FeatureValue) → IsFeature ls f rest → R
 unfolding on_heading with_rules
 run_feature f i =
     let head : HeadValue = record { tags = f.tags; name = f.name; line = f.line } in
-    let made : on_heading Above f.tags i.line FeatureHeading ≡ Ok (Inside (OfFeature head) Headed) = rw (← i.name, ← i.number) refl in
-    let s = run_section (OfFeature head) f.background f.scenarios i.description i.background i.scenarios in
+    let c = i.container in
+    let made : on_heading Above f.tags c.line FeatureHeading ≡ Ok (Inside (OfFeature head) Headed) = rw (← c.name, ← c.number) refl in
+    let s = run_section (OfFeature head) f.background f.scenarios c.description c.background c.scenarios in
     let r = run_rules (OfFeature head) s.0 (feature_of (OfFeature head) (record { background = f.background; scenarios = f.scenarios })) (ap (feature_of (OfFeature head)) s.2) i.rules in
-    record { top = r.top; part = r.part; runs_to = run_heading Above (Inside (OfFeature head) Headed) FeatureHeading i.line tt i.heading made ∙ s.1 ∙ r.runs_to; says = r.says }
+    record { top = r.top; part = r.part; runs_to = run_heading Above (Inside (OfFeature head) Headed) FeatureHeading c.line tt c.heading made ∙ s.1 ∙ r.runs_to; says = r.says }
 
 -- What has a reading is run over, up to a place that says it.
 pub runs : (ls : Lines) (g : Option FeatureValue) → Reads ls g → (feature : OpenFeature) × (run feature_places (At feature_places.first) ls ≡ Ok (At (Untagged feature))) × (feature_in feature ≡ g)

@@ -10,14 +10,14 @@ use Rattle.gk_gherkin.specs.declared.class.Class.{Class}
 use Rattle.gk_gherkin.specs.declared.read_fault.ReadFault.{ReadFault}
 use Rattle.gk_gherkin.specs.FeaturePlace.{Above, FeaturePlace, Inside, OfFeature, OfRule, OpenFeature, Tagged, Top, Untagged, by_language, examples_after, feature_in, feature_of, feature_places, on, on_comment, on_heading, on_place, rule_of, tag_line, without_tags}
 use Rattle.gk_gherkin.specs.Reading.{At, InText, State, finish, reading, run}
-use Rattle.gk_gherkin.specs.OpenParts.{Bodied, Exampled, Headed, Open, OutlineValue, SectionValue, on_open, outline_of, section_of}
+use Rattle.gk_gherkin.specs.OpenParts.{Bodied, Exampled, HeadValue, Headed, Open, OutlineValue, SectionValue, on_open, outline_of, section_of}
 use Rattle.gk_gherkin.specs.Text.{begins, trim, trim_front}
 use Rattle.gk_gherkin.specs.Lines.{LineValue, Lines}
 use Rattle.gk_gherkin.specs.Class.{class, class_of, class_of_words}
 use Rattle.gk_gherkin.specs.Tags.{tags_of}
 use Rattle.gk_gherkin.specs.Language.{IsEnglishOrNone, language_of, language_word, rest_after}
-use Rattle.gk_gherkin.specs.Feature.{FeatureValue}
-use Rattle.gk_gherkin.specs.Grammar.{AreTags, Describes, IsDocString, IsFeature, IsIgnored, IsIgnoredAbove, IsIgnoredClass, IsRule, MayDescribeScenario, Reads, Skips, described, none, skip_none, untagged}
+use Rattle.gk_gherkin.specs.Feature.{FeatureValue, rule_container}
+use Rattle.gk_gherkin.specs.Grammar.{AreTags, Describes, IsContainer, IsDocString, IsFeature, IsIgnored, IsIgnoredAbove, IsIgnoredClass, IsRule, MayDescribeScenario, Reads, Skips, described, none, skip_none, untagged}
 use Rattle.gk_gherkin.proofs.ReadingRuns.{bind_is, bind_ok, no_ok, ok_same}
 use Rattle.gk_gherkin.proofs.ReadingSound.{Built, built_run}
 use Rattle.gk_gherkin.proofs.OpenPartsSound.{AreTags-push, HeadBuilt, Many-push, OpenBuilt, SectionBuilt, Skips-more, closed, cond_ok, head_line, on_open-built, outline_built, text_under}
@@ -34,14 +34,17 @@ abbrev pub IgnoredAt : OpenFeature → LineValue → Type 0
 IgnoredAt Above = IsIgnoredAbove
 IgnoredAt (Inside top part) = IsIgnored
 
+-- A heading and the section under it are a container.
+closed_container : {Ignored : LineValue → Type 0} {kind : Class} (head : HeadValue) (section : SectionValue) (ls mid rest : Lines) → HeadBuilt Ignored kind head ls mid → SectionBuilt section mid rest → IsContainer Ignored kind ls (rule_container (rule_of head section)) rest
+closed_container head section ls mid rest h s = record { line = h.line; after_heading = mid; after_description = s.after_description; after_background = s.after_background; heading = h.heading; name = h.name; number = h.number; description = s.description; background = s.background; scenarios = s.scenarios }
+
 pub closed_top : (top : Top) (section : SectionValue) (whole mid rest : Lines) → TopBuilt top whole mid → SectionBuilt section mid rest → IsFeature whole (feature_of top section) rest
 closed_top (OfFeature head) section whole mid rest h s =
-    record { line = h.line; after_heading = mid; after_description = s.after_description; after_background = s.after_background; after_scenarios = rest; heading = h.heading; name = h.name; number = h.number; description = s.description; background = s.background; scenarios = s.scenarios; rules = none }
+    record { after_scenarios = rest; container = closed_container head section whole mid rest h s; rules = none }
 closed_top (OfRule f head) section whole mid rest t s =
     let i = t.1 in
-    let h = t.2 in
-    let made : IsRule t.0 (rule_of head section) rest = record { line = h.line; after_heading = mid; after_description = s.after_description; after_background = s.after_background; heading = h.heading; name = h.name; number = h.number; description = s.description; background = s.background; scenarios = s.scenarios } in
-    record { line = i.line; after_heading = i.after_heading; after_description = i.after_description; after_background = i.after_background; after_scenarios = i.after_scenarios; heading = i.heading; name = i.name; number = i.number; description = i.description; background = i.background; scenarios = i.scenarios; rules = Many-push i.rules made }
+    let made : IsRule t.0 (rule_of head section) rest = closed_container head section t.0 mid rest t.2 s in
+    record { after_scenarios = i.after_scenarios; container = i.container; rules = Many-push i.rules made }
 
 -- a heading after tags
 examples_ok : (part : Open) (r : Option OutlineValue) (top : Top) (tags : List (List ℕ)) (whole mid a b rest : Lines) (l : LineValue) (t : OpenFeature) → outline_of part ≡ r → class l ≡ ExamplesHeading → TopBuilt top whole mid → OpenBuilt part mid a → AreTags IsIgnored a tags b → Skips IsIgnored b (l ∷ rest) → examples_after r top tags l ≡ Ok t → FeatureBuilt t whole rest

@@ -4,10 +4,10 @@ use Rattle.std.proofs.lemmas.List.{append-nil}
 use Rattle.gk_gherkin.specs.declared.class.Class.{Class}
 use Rattle.gk_gherkin.specs.declared.class.Class.TheVariants.{FeatureHeading, RuleHeading, BackgroundHeading, ScenarioHeading, ExamplesHeading}
 use Rattle.gk_gherkin.specs.Lines.{LineValue, Lines}
-use Rattle.gk_gherkin.specs.Feature.{BlockValue, Empty, Text, Table, StepValue, RowValue, ExamplesValue, BackgroundValue, ScenarioValue, RuleValue, FeatureValue}
+use Rattle.gk_gherkin.specs.Feature.{BlockValue, Empty, Text, Table, StepValue, RowValue, ExamplesValue, BackgroundValue, ScenarioValue, RuleValue, FeatureValue, ContainerValue, rule_container, feature_container}
 use Rattle.gk_gherkin.specs.Hooks.{HookValue}
 use Rattle.gk_gherkin.specs.HooksGrammar.{IsHook}
-use Rattle.gk_gherkin.specs.Grammar.{IsIgnored, IsIgnoredAbove, Skips, skip_none, skip, Next, Many, none, more, Perhaps, IsTagLine, AreTags, untagged, tagged, IsHeading, IsTaggedHeading, MayDescribeFeature, MayDescribeScenario, MayDescribeExamples, IsRow, IsTable, IsDocString, IsBlock, HasTable, AreExamples, Describes, described, describe, IsStep, AreSteps, IsBackground, IsScenario, IsRule, IsFeature, IsConcatenation}
+use Rattle.gk_gherkin.specs.Grammar.{IsIgnored, IsIgnoredAbove, Skips, skip_none, skip, Next, Many, none, more, Perhaps, IsTagLine, AreTags, untagged, tagged, IsHeading, IsTaggedHeading, MayDescribeFeature, MayDescribeScenario, MayDescribeExamples, IsRow, IsTable, IsDocString, IsBlock, HasTable, AreExamples, Describes, described, describe, IsStep, AreSteps, IsBackground, IsScenario, IsContainer, IsRule, IsFeature, IsConcatenation}
 
 -- P holds of a prefix of ls, up to rest, and of that prefix before anything else.
 record Fronts (P : Lines → Lines → Type 0) (ls rest : Lines) : Type 0 where
@@ -157,27 +157,27 @@ scenario_prefix ls x rest i =
     (tagged_prefix IsIgnored ScenarioHeading ls x.tags i.line i.after_heading i.heading)
     (both D (Behind S E) i.after_heading i.after_description rest (describes_prefix i.description) (both S E i.after_description i.after_steps rest (steps_prefix i.after_description x.steps i.after_steps i.steps) (many_prefix AreExamples examples_prefix i.examples)))
 
-rule_prefix : (ls : Lines) (x : RuleValue) (rest : Lines) → IsRule ls x rest → Fronts (λ a b. IsRule a x b) ls rest
-rule_prefix ls x rest i =
+container_prefix : (Ignored : LineValue → Type 0) (kind : Class) (ls : Lines) (x : ContainerValue) (rest : Lines) → IsContainer Ignored kind ls x rest → Fronts (λ a b. IsContainer Ignored kind a x b) ls rest
+container_prefix Ignored kind ls x rest i =
     let D = Describes MayDescribeFeature in
     let B : Lines → Lines → Type 0 = λ a b. Perhaps IsBackground a x.background b in
     let S : Lines → Lines → Type 0 = λ a b. Many IsScenario a x.scenarios b in
-    then (λ a b. IsTaggedHeading IsIgnored RuleHeading a x.tags i.line b) (Behind D (Behind B S)) (λ a b. IsRule a x b) ls i.after_heading rest
+    then (λ a b. IsTaggedHeading Ignored kind a x.tags i.line b) (Behind D (Behind B S)) (λ a b. IsContainer Ignored kind a x b) ls i.after_heading rest
     (λ a b c p q. record { line = i.line; after_heading = b; after_description = q.0; after_background = q.2.0; heading = p; name = i.name; number = i.number; description = q.1; background = q.2.1; scenarios = q.2.2 })
-    (tagged_prefix IsIgnored RuleHeading ls x.tags i.line i.after_heading i.heading)
+    (tagged_prefix Ignored kind ls x.tags i.line i.after_heading i.heading)
     (both D (Behind B S) i.after_heading i.after_description rest (describes_prefix i.description) (both B S i.after_description i.after_background rest (perhaps_prefix IsBackground i.after_description i.after_background x.background background_prefix i.background) (many_prefix IsScenario scenario_prefix i.scenarios)))
+
+rule_prefix : (ls : Lines) (x : RuleValue) (rest : Lines) → IsRule ls x rest → Fronts (λ a b. IsRule a x b) ls rest
+rule_prefix ls x rest i = container_prefix IsIgnored RuleHeading ls (rule_container x) rest i
 
 feature_prefix : (ls : Lines) (x : FeatureValue) (rest : Lines) → IsFeature ls x rest → Fronts (λ a b. IsFeature a x b) ls rest
 feature_prefix ls x rest i =
-    let D = Describes MayDescribeFeature in
-    let B : Lines → Lines → Type 0 = λ a b. Perhaps IsBackground a x.background b in
-    let S : Lines → Lines → Type 0 = λ a b. Many IsScenario a x.scenarios b in
+    let C : Lines → Lines → Type 0 = λ a b. IsContainer IsIgnoredAbove FeatureHeading a (feature_container x) b in
     let R : Lines → Lines → Type 0 = λ a b. Many IsRule a x.rules b in
-    then (λ a b. IsTaggedHeading IsIgnoredAbove FeatureHeading a x.tags i.line b) (Behind D (Behind B (Behind S R))) (λ a b. IsFeature a x b) ls i.after_heading rest
-    (λ a b c p q. record { line = i.line; after_heading = b; after_description = q.0; after_background = q.2.0; after_scenarios = q.2.2.0; heading = p; name = i.name; number = i.number; description = q.1; background = q.2.1; scenarios = q.2.2.1; rules = q.2.2.2 })
-    (tagged_prefix IsIgnoredAbove FeatureHeading ls x.tags i.line i.after_heading i.heading)
-    (both D (Behind B (Behind S R)) i.after_heading i.after_description rest (describes_prefix i.description) (both B (Behind S R) i.after_description i.after_background rest (perhaps_prefix IsBackground i.after_description i.after_background x.background background_prefix i.background)
-    (both S R i.after_background i.after_scenarios rest (many_prefix IsScenario scenario_prefix i.scenarios) (many_prefix IsRule rule_prefix i.rules))))
+    then C R (λ a b. IsFeature a x b) ls i.after_scenarios rest
+    (λ a b c p q. record { after_scenarios = b; container = p; rules = q })
+    (container_prefix IsIgnoredAbove FeatureHeading ls (feature_container x) i.after_scenarios i.container)
+    (many_prefix IsRule rule_prefix i.rules)
 
 -- A part stands before rest just where the lines are its own lines and then rest.
 own_lines : (P : Lines → Lines → Type 0) → ((ls rest : Lines) → P ls rest → Fronts P ls rest) → (ls rest : Lines) → P ls rest ↔ ((prefix : Lines) × (ls ≡ prefix ++ rest) × P prefix [])

@@ -70,6 +70,22 @@ pub record FeatureValue : Type 0 where
   pub scenarios : List ScenarioValue
   pub rules : List RuleValue
 
+-- A container of a background and scenarios: what a feature and a rule have in common.
+pub record ContainerValue : Type 0 where
+  pub name : List ℕ
+  pub line : ℕ
+  pub tags : List (List ℕ)
+  pub background : Option BackgroundValue
+  pub scenarios : List ScenarioValue
+
+-- A rule is a container and no more.
+abbrev pub rule_container : RuleValue → ContainerValue
+rule_container rule = record { name = rule.name; line = rule.line; tags = rule.tags; background = rule.background; scenarios = rule.scenarios }
+
+-- A feature, its rules aside.
+abbrev pub feature_container : FeatureValue → ContainerValue
+feature_container feature = record { name = feature.name; line = feature.line; tags = feature.tags; background = feature.background; scenarios = feature.scenarios }
+
 -- The texts of a list of strings.
 abbrev pub texts : {Z : Type 0} → List (String Z) → List (List ℕ)
 texts strings = map string_bytes strings

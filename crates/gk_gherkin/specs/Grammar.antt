@@ -12,7 +12,7 @@ use Rattle.gk_gherkin.specs.Rows.{cells_of}
 use Rattle.gk_gherkin.specs.DocStrings.{closes, doc_string}
 use Rattle.gk_gherkin.specs.Language.{language_of, IsEnglishOrNone}
 use Rattle.gk_gherkin.specs.StepTypes.{AreTyped}
-use Rattle.gk_gherkin.specs.Feature.{BlockValue, Empty, Text, Table, StepValue, RowValue, ExamplesValue, BackgroundValue, ScenarioValue, RuleValue, FeatureValue}
+use Rattle.gk_gherkin.specs.Feature.{BlockValue, Empty, Text, Table, StepValue, RowValue, ExamplesValue, BackgroundValue, ScenarioValue, RuleValue, FeatureValue, ContainerValue, rule_container, feature_container}
 
 -- The classes of lines that say nothing: blank lines and comments. (Cucumber's Gherkin reference: comments)
 abbrev pub IsIgnoredClass : Class → Type 0
@@ -194,32 +194,27 @@ pub record IsScenario (ls : Lines) (scenario : ScenarioValue) (rest : Lines) : T
   pub steps : AreSteps after_description scenario.steps after_steps
   pub examples : Many AreExamples after_steps scenario.examples rest
 
--- RulePart = Tags Rule DescA [Back] Scen*. (Cucumber's Gherkin reference: rule)
-pub record IsRule (ls : Lines) (rule : RuleValue) (rest : Lines) : Type 0 where
+-- Tags Heading DescA [Back] Scen*: a container under a heading of a class. (Cucumber's Gherkin reference: feature, rule)
+pub record IsContainer (Ignored : LineValue → Type 0) (kind : Class) (ls : Lines) (container : ContainerValue) (rest : Lines) : Type 0 where
   pub line : LineValue
   pub after_heading : Lines
   pub after_description : Lines
   pub after_background : Lines
-  pub heading : IsTaggedHeading IsIgnored RuleHeading ls rule.tags line after_heading
-  pub name : rule.name ≡ heading_name line
-  pub number : rule.line ≡ line.line
+  pub heading : IsTaggedHeading Ignored kind ls container.tags line after_heading
+  pub name : container.name ≡ heading_name line
+  pub number : container.line ≡ line.line
   pub description : Describes MayDescribeFeature after_heading after_description
-  pub background : Perhaps IsBackground after_description rule.background after_background
-  pub scenarios : Many IsScenario after_background rule.scenarios rest
+  pub background : Perhaps IsBackground after_description container.background after_background
+  pub scenarios : Many IsScenario after_background container.scenarios rest
+
+-- RulePart = Tags Rule DescA [Back] Scen*. (Cucumber's Gherkin reference: rule)
+abbrev pub IsRule : Lines → RuleValue → Lines → Type 0
+IsRule ls rule rest = IsContainer IsIgnored RuleHeading ls (rule_container rule) rest
 
 -- Tags Feature DescA [Back] Scen* RulePart*. (Cucumber's Gherkin reference: feature)
 pub record IsFeature (ls : Lines) (feature : FeatureValue) (rest : Lines) : Type 0 where
-  pub line : LineValue
-  pub after_heading : Lines
-  pub after_description : Lines
-  pub after_background : Lines
   pub after_scenarios : Lines
-  pub heading : IsTaggedHeading IsIgnoredAbove FeatureHeading ls feature.tags line after_heading
-  pub name : feature.name ≡ heading_name line
-  pub number : feature.line ≡ line.line
-  pub description : Describes MayDescribeFeature after_heading after_description
-  pub background : Perhaps IsBackground after_description feature.background after_background
-  pub scenarios : Many IsScenario after_background feature.scenarios after_scenarios
+  pub container : IsContainer IsIgnoredAbove FeatureHeading ls (feature_container feature) after_scenarios
   pub rules : Many IsRule after_scenarios feature.rules rest
 
 -- File = nothing, or one feature. (Cucumber's Gherkin reference: feature)

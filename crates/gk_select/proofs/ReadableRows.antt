@@ -29,4 +29,4 @@ rule_fits : (ls : Lines) (r : RuleValue) (rest : Lines) → IsRule ls r rest →
 rule_fits ls r rest i = scenarios_fit i.scenarios
 
 pub readable_rows_fit : (ls : Lines) (f : FeatureValue) → Reads ls (Some f) → IsExpandable f
-readable_rows_fit ls f r = (scenarios_fit r.1.scenarios, each_part IsRule (λ (r : RuleValue). RowsFit r.scenarios) rule_fits r.1.rules)
+readable_rows_fit ls f r = (scenarios_fit r.1.container.scenarios, each_part IsRule (λ (r : RuleValue). RowsFit r.scenarios) rule_fits r.1.rules)

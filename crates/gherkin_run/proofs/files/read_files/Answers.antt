@@ -3,7 +3,7 @@ use Rattle.std.specs.List.{Any}
 use Rattle.std.specs.Vec.Iter.{into_iter_items}
 use Rattle.gherkin_run.specs.Files.{AreRead, IsFileFault, StopsReading, name_of}
 use Rattle.gk_cli.specs.Source.{source_value}
-use Rattle.gherkin_run.proofs.FilesLemmas.{any_first, any_later, names_of_values, one_more, passed_on, reads_one_more, stops_at, stops_for_memory, stops_later}
+use Rattle.gherkin_run.proofs.FilesLemmas.{any_first, any_later, names_of_values, one_source_more, passed_on, reads_one_more, stops_at, stops_for_memory, stops_later}
 use Rattle.gherkin_run.proofs.files.read_files.Goals as goal
 
 pub loop-name-init : goal.loop-name-init
@@ -38,7 +38,7 @@ loop-name-preserved g c =
     let step = c.in-Some.ensures.steps in
     let fewer = ap length step.0 in
     record {
-      named = one_more name_of string_bytes c.loop-name.sources.items c.push.new.self.items c.in_ok-source.source (into_iter_items c.loop-name.name-iterator) c.in-Some.name (into_iter_items c.next.new.self) _
+      named = one_source_more name_of string_bytes c.loop-name.sources.items c.push.new.self.items c.in_ok-source.source (into_iter_items c.loop-name.name-iterator) c.in-Some.name (into_iter_items c.next.new.self) _
           (search rules) step.0 c.in_ok-source.ensures.named c.loop-name.invariant.named;
       read = reads_one_more g.S.System.reads c.args.system.now c.loop-name.system c.read_file.new.system c.loop-name.sources.items c.push.new.self.items c.in_ok-source.source (string_bytes c.in-Some.name)
           (search rules) c.in_ok-source.ensures.named c.loop-name.invariant.read c.in_ok-source.ensures.read;
@@ -71,7 +71,7 @@ returns-in_err-push-clause-first g c =
     let source = c.in_ok-source.source in
     let rest = map string_bytes (into_iter_items c.next.new.self) in
     let read = reads_one_more reads start c.loop-name.system end sources (sources ++ source ∷ []) source (string_bytes c.in-Some.name) refl c.in_ok-source.ensures.named c.loop-name.invariant.read c.in_ok-source.ensures.read in
-    let named = one_more name_of string_bytes sources (sources ++ source ∷ []) source (into_iter_items c.loop-name.name-iterator) c.in-Some.name (into_iter_items c.next.new.self) _
+    let named = one_source_more name_of string_bytes sources (sources ++ source ∷ []) source (into_iter_items c.loop-name.name-iterator) c.in-Some.name (into_iter_items c.next.new.self) _
     refl step.0 c.in_ok-source.ensures.named c.loop-name.invariant.named in
     passed_on c.from_residual-in_err-push.result c.from_residual-in_err-push.ensures.1 (λ fault same.
     subst (λ names. StopsReading reads start names end fault) named

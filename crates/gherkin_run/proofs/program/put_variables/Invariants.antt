@@ -10,5 +10,5 @@ abbrev pub invariant-loop-variable : goal.invariant-loop-variable
 invariant-loop-variable l = record {
   put : with_variables l.sandbox.now (map pair_value (drop l.variable-index l.variables)) ≡ with_variables l.fn.sandbox.now (map pair_value l.variables);
   layers : l.sandbox.saved ≡ l.fn.sandbox.saved;
-  good : All (λ v. put_refusal v.name v.text ≡ None) (map pair_value (take l.variable-index l.variables));
+  taken : All (λ v. put_refusal v.name v.text ≡ None) (map pair_value (take l.variable-index l.variables));
 }

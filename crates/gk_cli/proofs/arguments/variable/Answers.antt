@@ -1,7 +1,7 @@
 use Rattle.std.proofs.Common.{◌∙◌, None, Some, arith}
 use Rattle.std.proofs.lemmas.Str.Pattern.{split_parts}
 use Rattle.clap.proofs.CutLemmas.{list_any-Lacks}
-use Rattle.gk_cli.proofs.ArgumentsLemmas.{cut_there}
+use Rattle.gk_cli.proofs.ArgumentsLemmas.{split_there}
 use Rattle.gk_cli.proofs.arguments.variable.Goals as goal
 
 pub returns-in-None : goal.returns-in-None
@@ -11,5 +11,5 @@ pub returns-in_ok-from_str-in-Some-2 : goal.returns-in_ok-from_str-in-Some-2
 returns-in_ok-from_str-in-Some-2 c =
     let whole = split_parts 61 c.args.text.now (Some (c.in-Some.name, c.in-Some.value)) c.in-Some.ensures.cases (omega arith) in
     let parts = c.in-Some.ensures.byte (omega arith) (λ w o h. h) in
-    cut_there c.args.text.now c.in-Some.name.now c.in-Some.value.now (c.in_ok-from_str-in-Some.field-0, c.in_ok-from_str-in-Some-2.field-0) whole.0
+    split_there c.args.text.now c.in-Some.name.now c.in-Some.value.now (c.in_ok-from_str-in-Some.field-0, c.in_ok-from_str-in-Some-2.field-0) whole.0
     (c.in_ok-from_str-in-Some.ensures.ok ∙ parts.0) (c.in_ok-from_str-in-Some-2.ensures.ok ∙ parts.1)

@@ -2,7 +2,7 @@ use Rattle.std.proofs.Common.{◌∙◌, ap, codes, map, refl, subst, true, ◌�
 use Rattle.std.specs.List.{All}
 use Rattle.clap.specs.Words.{found_of, rows_of}
 use Rattle.clap.proofs.WalkLemmas.{first_value-rows}
-use Rattle.gk_cli.specs.Arguments.{cut_at_equals, has_equals}
+use Rattle.gk_cli.specs.Arguments.{split_at_equals, has_equals}
 use Rattle.gk_cli.proofs.ArgumentsLemmas.{says_variables, taken}
 use Rattle.gk_cli.proofs.arguments.words_of.Goals as goal
 
@@ -22,6 +22,6 @@ returns c =
       options = c.in_ok-options.ensures;
       library = c.in_ok-library.ensures ∙ (c.get_str.ensures ∙ first_value-rows f (codes "library"));
       hooks = c.in_ok-hooks.ensures ∙ (c.get_str-2.ensures ∙ first_value-rows f (codes "hooks"));
-      variables = c.in_ok-env.ensures.1 ∙ ap (map cut_at_equals) env;
-      cut = subst (All (λ text. has_equals text ≡ true)) env c.in_ok-env.ensures.0;
+      variables = c.in_ok-env.ensures.1 ∙ ap (map split_at_equals) env;
+      equals = subst (All (λ text. has_equals text ≡ true)) env c.in_ok-env.ensures.0;
     }

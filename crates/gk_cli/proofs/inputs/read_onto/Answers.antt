@@ -27,7 +27,7 @@ returns-clause-ok c =
       reading = Some feature;
       text = subst IsText bytes found.0;
       reads = subst (λ b. Reads (lines_of b) (Some feature)) bytes reads;
-      room = c.in-Ok.ensures.room;
+      limit = c.in-Ok.ensures.limit;
       added = ap (map chosen_value) c.in_ok-push.ensures.items ∙ map_push chosen_value old c.in-Ok.chosen ∙ ap (λ (v : ChosenValue). map chosen_value old ++ v ∷ []) chosen;
       paired = λ all. subst (AllByRecursion IsPaired) (sym c.in_ok-push.ensures.items) (all_push IsPaired old c.in-Ok.chosen all c.in-Ok.ensures.paired);
     }

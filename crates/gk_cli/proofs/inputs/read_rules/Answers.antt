@@ -6,7 +6,7 @@ use Rattle.gk_gherkin.specs.Feature.{texts}
 use Rattle.gk_select.specs.TagGrammar.{Expression}
 use Rattle.gk_select.specs.TagRules.{ReadsTags, tag_rule_value}
 use Rattle.gk_cli.specs.Inputs.{AreRules}
-use Rattle.gk_cli.proofs.InputsLemmas.{at_place, take_one, rules_one, tags_said}
+use Rattle.gk_cli.proofs.InputsLemmas.{at_place, take_one, rules_one, says_tags}
 use Rattle.gk_cli.proofs.inputs.read_rules.Goals as goal
 
 pub returns-in-Err : goal.returns-in-Err
@@ -15,7 +15,7 @@ returns-in-Err c =
     let place = at_place string_bytes c.args.tags.now c.loop-text.text-index c.text-item.result c.loop-text-test.true c.text-item.is in
     record {
       rules = tt;
-      fault = tags_said tags c.loop-text.text-index (string_bytes c.text-item.result) (map tag_rule_value c.loop-text.rules.items) c.in-Err.fault place c.loop-text.invariant
+      fault = says_tags tags c.loop-text.text-index (string_bytes c.text-item.result) (map tag_rule_value c.loop-text.rules.items) c.in-Err.fault place c.loop-text.invariant
           (subst (λ b. (c.in-Err.fault ≡ Memory) ⊎ ((c.in-Err.fault ≡ BadTagText) × ((rule : Expression) → ReadsTags b rule → ⊥))) c.as_str.ensures.value c.in-Err.ensures.fault);
     }
 

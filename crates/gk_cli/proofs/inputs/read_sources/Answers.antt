@@ -27,6 +27,6 @@ loop-input-preserved c =
       read =
           subst (λ ss. AreRead chooses ss (map chosen_value c.read_onto.new.features.items)) (sym (take_one sources c.loop-input.input source place))
           (subst (AreRead chooses (take c.loop-input.input sources ++ source ∷ [])) (sym onto.added)
-          (read_one chooses (take c.loop-input.input sources) (map chosen_value c.loop-input.features.items) source onto.reading c.loop-input.invariant.read onto.text onto.reads onto.room));
+          (read_one chooses (take c.loop-input.input sources) (map chosen_value c.loop-input.features.items) source onto.reading c.loop-input.invariant.read onto.text onto.reads onto.limit));
       paired = onto.paired c.loop-input.invariant.paired;
     }

@@ -7,7 +7,7 @@ use Rattle.gk_run.specs.DryRun.{AreDryFeatures}
 use Rattle.gk_cli.specs.Suite.{device_of}
 use Rattle.gk_cli.specs.WrittenRun.{AreWrittenUpTo}
 use Rattle.gk_cli.proofs.GrowingReportLemmas.{passed_on}
-use Rattle.gk_cli.proofs.FeaturesLemmas.{nothing_in}
+use Rattle.gk_cli.proofs.SuiteLemmas.{nothing_in}
 use Rattle.gk_cli.proofs.WrittenRunLemmas.{DryRunning, dry_running_first, dry_running_next, dry_running_last, dry_running_stopped}
 use Rattle.gk_cli.proofs.written_run.dry_features.Goals as goal
 
@@ -19,7 +19,7 @@ loop-feature-init g c =
     let device = device_of g.W.Write.contents c.args.out.now in
     let report = c.args.report.now in
     record {
-      goes = subst (λ (left : List ChosenValue). DryRunning library all device report left device report) (sym (ap (map chosen_value) here)) (dry_running_first library all device report);
+      held = subst (λ (left : List ChosenValue). DryRunning library all device report left device report) (sym (ap (map chosen_value) here)) (dry_running_first library all device report);
       style = refl;
       room = c.requires.room;
       paired = subst (AllByRecursion IsPaired) (sym here) c.requires.paired;
@@ -42,10 +42,10 @@ loop-feature-preserved g c =
     let old = device_of g.W.Write.contents c.args.out.now in
     let there = device_of g.W.Write.contents c.loop-feature.out in
     let new = device_of g.W.Write.contents c.dry_next.new.out in
-    let before = subst (λ (ls : List ChosenValue). DryRunning library all old c.args.report.now ls there c.loop-feature.report) (ap (map chosen_value) s.0) c.loop-feature.invariant.goes in
+    let before = subst (λ (ls : List ChosenValue). DryRunning library all old c.args.report.now ls there c.loop-feature.report) (ap (map chosen_value) s.0) c.loop-feature.invariant.held in
     let paired : AllByRecursion IsPaired (c.in-Some.feature ∷ into_iter_items c.next.new.self) = subst (AllByRecursion IsPaired) s.0 c.loop-feature.invariant.paired in
     record {
-      goes = dry_running_next library all old c.args.report.now this left there c.loop-feature.report new c.dry_next.new.report c.in_ok-dry_next.ensures.ok before;
+      held = dry_running_next library all old c.args.report.now this left there c.loop-feature.report new c.dry_next.new.report c.in_ok-dry_next.ensures.ok before;
       style = c.dry_next.ensures.style ∙ c.loop-feature.invariant.style;
       room = c.in_ok-dry_next.ensures.room;
       paired = paired.1;
@@ -61,7 +61,7 @@ returns-in_err-dry_next-clause-err g c =
     let old = device_of g.W.Write.contents c.args.out.now in
     let there = device_of g.W.Write.contents c.loop-feature.out in
     let new = device_of g.W.Write.contents c.dry_next.new.out in
-    let before = subst (λ (ls : List ChosenValue). DryRunning library all old c.args.report.now ls there c.loop-feature.report) (ap (map chosen_value) c.in-Some.ensures.steps.0) c.loop-feature.invariant.goes in
+    let before = subst (λ (ls : List ChosenValue). DryRunning library all old c.args.report.now ls there c.loop-feature.report) (ap (map chosen_value) c.in-Some.ensures.steps.0) c.loop-feature.invariant.held in
     passed_on c.from_residual.result c.from_residual.ensures.1 (λ fault same.
     subst (AreWrittenUpTo (AreDryFeatures library) all old c.args.report.now new) (sym same)
     (dry_running_stopped library all old c.args.report.now this left there c.loop-feature.report new c.in_err-dry_next.field-0.0 c.loop-feature.invariant.style c.in_err-dry_next.ensures.err before))
@@ -73,4 +73,4 @@ pub returns-clause-ok : goal.returns-clause-ok
 returns-clause-ok g c =
     let none : into_iter_items c.loop-feature.feature-iterator ≡ [] = nothing_in (into_iter_items c.loop-feature.feature-iterator) (c.loop-feature.invariant.counted ∙ c.in-None.ensures.steps.0) in
     dry_running_last (library_value c.args.library.now) (map chosen_value c.args.features.items) (device_of g.W.Write.contents c.args.out.now) c.args.report.now
-    (map chosen_value (into_iter_items c.loop-feature.feature-iterator)) (device_of g.W.Write.contents c.loop-feature.out) c.loop-feature.report (ap (map chosen_value) none) c.loop-feature.invariant.goes
+    (map chosen_value (into_iter_items c.loop-feature.feature-iterator)) (device_of g.W.Write.contents c.loop-feature.out) c.loop-feature.report (ap (map chosen_value) none) c.loop-feature.invariant.held

@@ -11,7 +11,7 @@ use Rattle.gk_cli.proofs.written_run.dry_features.Given as goal
 
 abbrev pub invariant-loop-feature : goal.invariant-loop-feature
 invariant-loop-feature g l = record {
-  goes : DryRunning (library_value l.library) (map chosen_value l.fn.features.items) (device_of g.W.Write.contents l.fn.out) l.fn.report
+  held : DryRunning (library_value l.library) (map chosen_value l.fn.features.items) (device_of g.W.Write.contents l.fn.out) l.fn.report
       (map chosen_value (into_iter_items l.feature-iterator)) (device_of g.W.Write.contents l.out) l.report;
   style : style_of l.report ≡ style_of l.fn.report;
   room : CountsCanRise l.out;

@@ -5,10 +5,10 @@ use Rattle.gk_run.specs.Results.{FeatureRow}
 use Rattle.gk_run.specs.Chosen.{ChosenValue, chosen_value}
 use Rattle.gk_run.specs.OpenRun.{AreFeatures}
 use Rattle.gk_cli.specs.Suite.{device_of}
-use Rattle.gk_cli.specs.WrittenRun.{AreWritten, AreWrittenUpTo, IsPart}
-use Rattle.gk_cli.proofs.FeaturesLemmas.{judged_by}
+use Rattle.gk_cli.specs.WrittenRun.{AreWritten, AreWrittenUpTo, IsPrefix}
+use Rattle.gk_cli.proofs.SuiteLemmas.{judged_by}
 use Rattle.gk_cli.proofs.GrowingReportLemmas.{passed_on}
-use Rattle.gk_cli.proofs.WrittenRunLemmas.{if_ok, if_err, finished, finished_short, unfinished, head_stopped, as_whole, as_part}
+use Rattle.gk_cli.proofs.WrittenRunLemmas.{if_ok, if_err, finished, finished_short, unfinished, head_stopped, as_whole, as_prefix}
 use Rattle.gk_cli.proofs.written_run.run_all.Goals as goal
 
 pub returns-in_err-report-clause-err : goal.returns-in_err-report-clause-err
@@ -20,7 +20,7 @@ returns-in_err-report-clause-err g c =
     let old = device_of g.W.Write.contents c.args.out.now in
     let new = device_of g.W.Write.contents c.start.new.out in
     passed_on c.from_residual.result c.from_residual.ensures.1 (λ fault same.
-    subst (IsPart run contents features style old new) (sym same)
+    subst (IsPrefix run contents features style old new) (sym same)
     (head_stopped c.reports_grow_by_parts.ensures run contents features style old new c.in_err-report.field-0.0 c.in_err-report.ensures.err))
 
 pub returns-in-Ok : goal.returns-in-Ok
@@ -46,7 +46,7 @@ returns-in-Ok g c =
           (λ rows are. judged_by c.finished_runs_are_judged.ensures run c.args.sandbox.now c.start-suite.new.sandbox c.run_features-written.new.sandbox suite c.run_features-written.new.so_far.suite around features rows
           c.start-suite.ensures c.run_features-written.ensures.kept c.run_features-written.ensures.same are (λ outside walked. c.finish-around.ensures.around outside c.args.options.now.stop walked))
           c.run_features-written.ensures.style written reported)) c.finish.ensures.ok;
-      err = if_err c.finish.result (λ fault reported. as_part run run contents features style old head begun new fault refl c.in_ok-report.ensures.style c.in_ok-report.ensures.ok
+      err = if_err c.finish.result (λ fault reported. as_prefix run run contents features style old head begun new fault refl c.in_ok-report.ensures.style c.in_ok-report.ensures.ok
           (finished_short Give run contents features around head begun there grown new fault
           (λ rows are. judged_by c.finished_runs_are_judged.ensures run c.args.sandbox.now c.start-suite.new.sandbox c.run_features-written.new.sandbox suite c.run_features-written.new.so_far.suite around features rows
           c.start-suite.ensures c.run_features-written.ensures.kept c.run_features-written.ensures.same are (λ outside walked. c.finish-around.ensures.around outside c.args.options.now.stop walked))
@@ -68,6 +68,6 @@ returns-clause-err g c =
     let Give : List ChosenValue → List FeatureRow → Type 0 = AreFeatures run (state_of c.start-suite.new.sandbox.now) suite.is_open in
     let written : AreWrittenUpTo Give features head begun new c.in-Err.fault =
     subst (λ (stop : Bool). AreWrittenUpTo (AreFeatures (run_of c.args.inputs.library c.args.inputs.hooks stop) (state_of c.start-suite.new.sandbox.now) suite.is_open) features head begun new c.in-Err.fault) c.start-suite.ensures.stops c.in-Err.ensures.err in
-    as_part run run contents features style old head begun new c.in-Err.fault refl c.in_ok-report.ensures.style c.in_ok-report.ensures.ok
+    as_prefix run run contents features style old head begun new c.in-Err.fault refl c.in_ok-report.ensures.style c.in_ok-report.ensures.ok
     (unfinished Give run contents features head begun new c.in-Err.fault c.reports_grow_by_parts.ensures
     (λ done others rows are. c.unfinished_runs_are_judged.ensures run c.args.sandbox.now c.start-suite.new.sandbox suite done others rows c.start-suite.ensures are) written)

@@ -9,7 +9,7 @@ use Rattle.gk_run.specs.OpenRun.{AreFeatures}
 use Rattle.gk_cli.specs.Suite.{device_of}
 use Rattle.gk_cli.specs.WrittenRun.{IsRunNext, EndsNext, AreWrittenUpTo}
 use Rattle.gk_cli.proofs.GrowingReportLemmas.{passed_on}
-use Rattle.gk_cli.proofs.FeaturesLemmas.{nothing_in, and_left, kept_on, same_on}
+use Rattle.gk_cli.proofs.SuiteLemmas.{nothing_in, and_left, kept_through, same_through}
 use Rattle.gk_cli.proofs.WrittenRunLemmas.{Running, running_first, running_next, running_last, running_stopped}
 use Rattle.gk_cli.proofs.written_run.run_features.Goals as goal
 
@@ -23,7 +23,7 @@ loop-feature-init g c =
     let device = device_of g.W.Write.contents c.args.out.now in
     let report = c.args.so_far.now.report in
     record {
-      goes = subst (λ (left : List ChosenValue). Running run first was_open all device report left was_open device report) (sym (ap (map chosen_value) here)) (running_first run first was_open all device report);
+      held = subst (λ (left : List ChosenValue). Running run first was_open all device report left was_open device report) (sym (ap (map chosen_value) here)) (running_first run first was_open all device report);
       style = refl;
       same = record { contents = refl; saved = refl; marks = refl; recorded = refl };
       kept = record { layer = refl; before = refl; cleanups = refl; stops = refl };
@@ -57,16 +57,16 @@ loop-feature-preserved g c =
     let old = device_of g.W.Write.contents c.args.out.now in
     let there = device_of g.W.Write.contents c.loop-feature.out in
     let new = device_of g.W.Write.contents c.run_next.new.out in
-    let before = subst (λ (ls : List ChosenValue). Running run first was_open all old c.args.so_far.now.report ls is_open there c.loop-feature.so_far.report) (ap (map chosen_value) s.0) c.loop-feature.invariant.goes in
+    let before = subst (λ (ls : List ChosenValue). Running run first was_open all old c.args.so_far.now.report ls is_open there c.loop-feature.so_far.report) (ap (map chosen_value) s.0) c.loop-feature.invariant.held in
     let one : IsRunNext run now is_open c.run_next.new.so_far.suite.is_open this there c.loop-feature.so_far.report new c.run_next.new.so_far.report =
     subst (λ (x : Bool). IsRunNext (run_of c.args.glue.now.library.now c.args.glue.now.hooks.now x) now is_open c.run_next.new.so_far.suite.is_open this there c.loop-feature.so_far.report new c.run_next.new.so_far.report) stops c.in_ok-run_next.ensures.ok in
     let paired : AllByRecursion IsPaired (c.in-Some.feature ∷ into_iter_items c.next.new.self) = subst (AllByRecursion IsPaired) s.0 c.loop-feature.invariant.paired in
     record {
-      goes = running_next run first now was_open all old c.args.so_far.now.report this left is_open c.run_next.new.so_far.suite.is_open there c.loop-feature.so_far.report new c.run_next.new.so_far.report
+      held = running_next run first now was_open all old c.args.so_far.now.report this left is_open c.run_next.new.so_far.suite.is_open there c.loop-feature.so_far.report new c.run_next.new.so_far.report
           (ap state_of c.loop-feature.invariant.same.contents) c.loop-feature.invariant.earlier one before;
       style = c.run_next.ensures.style ∙ c.loop-feature.invariant.style;
-      same = same_on _ _ _ c.loop-feature.invariant.same c.run_next.ensures.same;
-      kept = kept_on c.args.so_far.now.suite c.loop-feature.so_far.suite c.run_next.new.so_far.suite c.loop-feature.invariant.kept c.run_next.ensures.kept;
+      same = same_through _ _ _ c.loop-feature.invariant.same c.run_next.ensures.same;
+      kept = kept_through c.args.so_far.now.suite c.loop-feature.so_far.suite c.run_next.new.so_far.suite c.loop-feature.invariant.kept c.run_next.ensures.kept;
       earlier = λ h. c.loop-feature.invariant.earlier (and_left is_open (stays_open_by c.args.so_far.now.suite.stop one.row.status) (sym one.opens ∙ h));
       room = c.in_ok-run_next.ensures.room;
       paired = paired.1;
@@ -88,7 +88,7 @@ returns-in_err-run_next-clause-err g c =
     let old = device_of g.W.Write.contents c.args.out.now in
     let there = device_of g.W.Write.contents c.loop-feature.out in
     let new = device_of g.W.Write.contents c.run_next.new.out in
-    let before = subst (λ (ls : List ChosenValue). Running run first was_open all old c.args.so_far.now.report ls is_open there c.loop-feature.so_far.report) (ap (map chosen_value) s.0) c.loop-feature.invariant.goes in
+    let before = subst (λ (ls : List ChosenValue). Running run first was_open all old c.args.so_far.now.report ls is_open there c.loop-feature.so_far.report) (ap (map chosen_value) s.0) c.loop-feature.invariant.held in
     let ended : EndsNext run now is_open this there c.loop-feature.so_far.report new c.in_err-run_next.field-0.0 =
     subst (λ (x : Bool). EndsNext (run_of c.args.glue.now.library.now c.args.glue.now.hooks.now x) now is_open this there c.loop-feature.so_far.report new c.in_err-run_next.field-0.0) stops c.in_err-run_next.ensures.err in
     passed_on c.from_residual.result c.from_residual.ensures.1 (λ fault same.
@@ -100,13 +100,13 @@ pub returns-in_err-run_next-clause-style : goal.returns-in_err-run_next-clause-s
 returns-in_err-run_next-clause-style g c = c.run_next.ensures.style ∙ c.loop-feature.invariant.style
 
 pub returns-in_err-run_next-clause-kept : goal.returns-in_err-run_next-clause-kept
-returns-in_err-run_next-clause-kept g c = kept_on c.args.so_far.now.suite c.loop-feature.so_far.suite c.run_next.new.so_far.suite c.loop-feature.invariant.kept c.run_next.ensures.kept
+returns-in_err-run_next-clause-kept g c = kept_through c.args.so_far.now.suite c.loop-feature.so_far.suite c.run_next.new.so_far.suite c.loop-feature.invariant.kept c.run_next.ensures.kept
 
 pub returns-in_err-run_next-clause-same : goal.returns-in_err-run_next-clause-same
-returns-in_err-run_next-clause-same g c = same_on _ _ _ c.loop-feature.invariant.same c.run_next.ensures.same
+returns-in_err-run_next-clause-same g c = same_through _ _ _ c.loop-feature.invariant.same c.run_next.ensures.same
 
 pub returns-clause-ok : goal.returns-clause-ok
 returns-clause-ok g c =
     let none : into_iter_items c.loop-feature.feature-iterator ≡ [] = nothing_in (into_iter_items c.loop-feature.feature-iterator) (c.loop-feature.invariant.counted ∙ c.in-None.ensures.steps.0) in
     running_last (run_of c.args.glue.now.library.now c.args.glue.now.hooks.now c.args.so_far.now.suite.stop) (state_of c.args.sandbox.now.now) c.args.so_far.now.suite.is_open (map chosen_value c.args.features.items) (device_of g.W.Write.contents c.args.out.now) c.args.so_far.now.report
-    (map chosen_value (into_iter_items c.loop-feature.feature-iterator)) c.loop-feature.so_far.suite.is_open (device_of g.W.Write.contents c.loop-feature.out) c.loop-feature.so_far.report (ap (map chosen_value) none) c.loop-feature.invariant.goes
+    (map chosen_value (into_iter_items c.loop-feature.feature-iterator)) c.loop-feature.so_far.suite.is_open (device_of g.W.Write.contents c.loop-feature.out) c.loop-feature.so_far.report (ap (map chosen_value) none) c.loop-feature.invariant.held

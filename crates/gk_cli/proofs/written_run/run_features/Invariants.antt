@@ -14,7 +14,7 @@ use Rattle.gk_cli.proofs.written_run.run_features.Given as goal
 
 abbrev pub invariant-loop-feature : goal.invariant-loop-feature
 invariant-loop-feature g l = record {
-  goes : Running (run_of l.glue.library.now l.glue.hooks.now l.fn.so_far.suite.stop) (state_of l.fn.sandbox.now) l.fn.so_far.suite.is_open (map chosen_value l.fn.features.items) (device_of g.W.Write.contents l.fn.out) l.fn.so_far.report
+  held : Running (run_of l.glue.library.now l.glue.hooks.now l.fn.so_far.suite.stop) (state_of l.fn.sandbox.now) l.fn.so_far.suite.is_open (map chosen_value l.fn.features.items) (device_of g.W.Write.contents l.fn.out) l.fn.so_far.report
       (map chosen_value (into_iter_items l.feature-iterator)) l.so_far.suite.is_open (device_of g.W.Write.contents l.out) l.so_far.report;
   style : style_of l.so_far.report ≡ style_of l.fn.so_far.report;
   same : IsSame l.fn.sandbox l.sandbox;

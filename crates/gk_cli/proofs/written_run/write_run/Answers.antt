@@ -3,7 +3,7 @@ use Rattle.gk_run.specs.Run.{Run}
 use Rattle.gk_run.specs.Chosen.{chosen_value}
 use Rattle.gk_cli.specs.Inputs.{inputs_value}
 use Rattle.gk_cli.specs.Suite.{device_of, run_by}
-use Rattle.gk_cli.specs.WrittenRun.{IsWhole, IsPart, dry_run_of}
+use Rattle.gk_cli.specs.WrittenRun.{IsWhole, IsPrefix, dry_run_of}
 use Rattle.gk_cli.proofs.WrittenRunLemmas.{if_ok, if_err}
 use Rattle.gk_cli.proofs.written_run.write_run.Goals as goal
 
@@ -20,7 +20,7 @@ returns-then-options g c =
     let same : run ≡ wanted = ap (λ (b : Bool). let r : Run = record { library = inputs.library; hooks = inputs.hooks; dry_run = b; stop = c.args.options.now.stop } in r) (sym c.if-options.true) in
     record {
       ok = if_ok c.dry_all.result (λ status is. subst (λ (r : Run). IsWhole r contents features style old new status) same (is contents)) c.dry_all.ensures.ok;
-      err = if_err c.dry_all.result (λ fault is. subst (λ (r : Run). IsPart r contents features style old new fault) same (is contents)) c.dry_all.ensures.err;
+      err = if_err c.dry_all.result (λ fault is. subst (λ (r : Run). IsPrefix r contents features style old new fault) same (is contents)) c.dry_all.ensures.err;
       same = search rules;
     }
 

@@ -29,8 +29,8 @@ use Rattle.gk_cli.specs.declared.run_fault.RunFault.{RunFault}
 use Rattle.gk_cli.specs.declared.run_fault.RunFault.TheVariants.{Read, Library, Hooks, Select, Write, Memory}
 use Rattle.gk_cli.specs.Inputs.{Request, Inputs, AreInputs}
 use Rattle.gk_cli.specs.RunFault.{IsUnread}
-use Rattle.gk_cli.specs.Suite.{Device, IsReported, JudgedReport, Plain, AreJudged, IsUntouched, IsCutShort, SaysFault, InputsAreUnique, run_with}
-use Rattle.gk_cli.specs.WrittenRun.{IsWhole, IsPart}
+use Rattle.gk_cli.specs.Suite.{Device, IsReported, JudgedReport, OnlyReport, AreJudged, IsUntouched, IsCutShort, SaysFault, InputsAreUnique, run_with}
+use Rattle.gk_cli.specs.WrittenRun.{IsWhole, IsPrefix}
 
 -- A list without length.
 pub nothing_in : {A : Type 0} (xs : List A) → length xs ≡ 0 → xs ≡ []
@@ -42,12 +42,12 @@ and_left true b h = refl
 and_left false b h = h
 
 -- One feature after another keeps what the suite is.
-pub kept_on : (a b d : Suite) → IsKept a b → IsKept b d → IsKept a d
-kept_on a b d p q = record { layer = q.layer ∙ p.layer; before = q.before ∙ p.before; cleanups = q.cleanups ∙ p.cleanups; stops = q.stops ∙ p.stops }
+pub kept_through : (a b d : Suite) → IsKept a b → IsKept b d → IsKept a d
+kept_through a b d p q = record { layer = q.layer ∙ p.layer; before = q.before ∙ p.before; cleanups = q.cleanups ∙ p.cleanups; stops = q.stops ∙ p.stops }
 
 -- And what the sandbox is.
-pub same_on : (a b d : SandboxValue) → IsSame a b → IsSame b d → IsSame a d
-same_on a b d p q = record { contents = q.contents ∙ p.contents; saved = q.saved ∙ p.saved; marks = q.marks ∙ p.marks; recorded = q.recorded ∙ p.recorded }
+pub same_through : (a b d : SandboxValue) → IsSame a b → IsSame b d → IsSame a d
+same_through a b d p q = record { contents = q.contents ∙ p.contents; saved = q.saved ∙ p.saved; marks = q.marks ∙ p.marks; recorded = q.recorded ∙ p.recorded }
 
 -- A run that was begun, whose features were run, and that was finished.
 pub judged_by : FinishedRunsAreJudged → (run : Run) (old started later : SandboxValue) (suite left : Suite) (around : Status) (features : List ChosenValue) (rows : List FeatureRow) →
@@ -137,8 +137,8 @@ no_memory run contents features results judged h =
 -- Of the judged lists of what is asked for, the plain one alone has a status other than 4.
 pub only_list : InputsAreUnique → OneList → (r : Request) (contents : Contents) (answer : ℕ) → answer ≢ 4 → (inputs : Inputs) → AreInputs r inputs →
     (results : Results) → AreJudged r contents results → answer ≡ status results → results ≡ plain_results (run_with r inputs) contents inputs.features
-only_list unique one r contents answer other inputs read results also answered =
-    one (run_with r also.inputs) contents also.inputs.features results also.judged (no_memory (run_with r also.inputs) contents also.inputs.features results also.judged (λ four. other (answered ∙ four)))
+only_list unique one r contents answer other inputs read results also returned =
+    one (run_with r also.inputs) contents also.inputs.features results also.judged (no_memory (run_with r also.inputs) contents also.inputs.features results also.judged (λ four. other (returned ∙ four)))
     ∙ ap (λ i. plain_results (run_with r i) contents i.features) (unique r also.inputs inputs also.read read)
 
 -- What was written whole is the report of a judged list.
@@ -146,13 +146,13 @@ pub whole_is_judged : (r : Request) (contents : Contents) (old new : Device) (in
 whole_is_judged r contents old new inputs answer read whole = (whole.0, whole.2, record { inputs = inputs; read = read; judged = whole.1 })
 
 -- At each status but 4 that list is the plain one.
-pub whole_is_plain : InputsAreUnique → OneList → (r : Request) (contents : Contents) (old new : Device) (inputs : Inputs) (answer : ℕ) → AreInputs r inputs →
-    IsWhole (run_with r inputs) contents inputs.features r.style old new answer → Plain r contents old new answer
-whole_is_plain unique one r contents old new inputs answer read whole other =
+pub whole_is_only : InputsAreUnique → OneList → (r : Request) (contents : Contents) (old new : Device) (inputs : Inputs) (answer : ℕ) → AreInputs r inputs →
+    IsWhole (run_with r inputs) contents inputs.features r.style old new answer → OnlyReport r contents old new answer
+whole_is_only unique one r contents old new inputs answer read whole other =
     let results = whole.0 in
     let reported = whole.2 in
     let run = run_with r inputs in
-    let unmarked = no_memory run contents inputs.features results whole.1 (λ four. other (reported.answered ∙ four)) in
+    let unmarked = no_memory run contents inputs.features results whole.1 (λ four. other (reported.returned ∙ four)) in
     let same = one run contents inputs.features results whole.1 unmarked in
     record {
       inputs = inputs;
@@ -162,7 +162,7 @@ whole_is_plain unique one r contents old new inputs answer read whole other =
       only = only_list unique one r contents answer other inputs read;
     }
 
-cut_short : (r : Request) (contents : Contents) (old new : Device) (inputs : Inputs) (fault : RunFault) → AreInputs r inputs → (part : IsPart (run_with r inputs) contents inputs.features r.style old new fault) → IsCutShort r contents old new part.0
+cut_short : (r : Request) (contents : Contents) (old new : Device) (inputs : Inputs) (fault : RunFault) → AreInputs r inputs → (part : IsPrefix (run_with r inputs) contents inputs.features r.style old new fault) → IsCutShort r contents old new part.0
 cut_short r contents old new inputs fault read part = record {
   judged = record { inputs = inputs; read = read; judged = part.1 };
   written = part.2.written;
@@ -170,15 +170,15 @@ cut_short r contents old new inputs fault read part = record {
   unflushed = part.2.unflushed;
 }
 
--- What was written in part is a prefix of the report of a judged list.
-pub part_is_cut : (r : Request) (contents : Contents) (old new : Device) (inputs : Inputs) (fault : RunFault) → AreInputs r inputs → IsPart (run_with r inputs) contents inputs.features r.style old new fault → SaysFault r contents old new fault
-part_is_cut r contents old new inputs (Read input why) read part = absurd part.2.why
-part_is_cut r contents old new inputs (Library why) read part = absurd part.2.why
-part_is_cut r contents old new inputs (Hooks why) read part = absurd part.2.why
-part_is_cut r contents old new inputs (Select input why) read part = absurd part.2.why
-part_is_cut r contents old new inputs Write read part =
+-- A prefix that was written is the report of a judged list, cut short.
+pub prefix_is_cut_short : (r : Request) (contents : Contents) (old new : Device) (inputs : Inputs) (fault : RunFault) → AreInputs r inputs → IsPrefix (run_with r inputs) contents inputs.features r.style old new fault → SaysFault r contents old new fault
+prefix_is_cut_short r contents old new inputs (Read input why) read part = absurd part.2.why
+prefix_is_cut_short r contents old new inputs (Library why) read part = absurd part.2.why
+prefix_is_cut_short r contents old new inputs (Hooks why) read part = absurd part.2.why
+prefix_is_cut_short r contents old new inputs (Select input why) read part = absurd part.2.why
+prefix_is_cut_short r contents old new inputs Write read part =
     ((part.0, cut_short r contents old new inputs Write read part), part.2.why.0, part.2.why.1)
-part_is_cut r contents old new inputs Memory read part =
+prefix_is_cut_short r contents old new inputs Memory read part =
     inr ((part.0, cut_short r contents old new inputs Memory read part), part.2.why.0, part.2.why.1)
 
 -- What doesn't read writes nothing.
