@@ -1,5 +1,5 @@
 -- Reading what a call hands over.
-use Rattle.std.proofs.Common.{◌≡◌, ◌<◌, ℕ, List, length, map, get_or, Result, Err}
+use Rattle.std.proofs.Common.{◌<◌, ℕ, List, length, map, get_or, Err}
 use Rattle.std.proofs.lemmas.List.{get_or-map, length-map}
 use Rattle.std.specs.List.{Any}
 use Rattle.gk_cli.specs.declared.run_fault.RunFault.TheVariants.{Memory}

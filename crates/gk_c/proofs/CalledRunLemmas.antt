@@ -1,17 +1,15 @@
 -- Variables put one after another, and the answer of a run from what it wrote and how it ended.
-use Rattle.std.proofs.Common.{◌≡◌, ◌≢◌, ◌∙◌, ◌+◌, ◌<◌, ◌≤◌, ◌++◌, ap, sym, subst, refl, inl, inr, arith, suc, ℕ, List, [], ◌∷◌, length, map, take, drop, get_or, Option, Some, None, Result, Ok, Err, add-one}
+use Rattle.std.proofs.Common.{◌≡◌, ◌∙◌, ◌+◌, ◌<◌, ◌≤◌, ◌++◌, ap, sym, subst, refl, inl, inr, ℕ, List, [], ◌∷◌, length, map, take, drop, get_or, Option, Some, Result, Ok, Err, add-one}
 use Rattle.std.specs.Prelude.{◌⊎◌, IfErr, IfOk, OnOk, option_map}
-use Rattle.std.specs.List.{All, Any}
+use Rattle.std.specs.List.{All}
 use Rattle.std.specs.Io.KnownBytes.{Appends}
 use Rattle.std.proofs.lemmas.List.{drop_all, map_push, take_all}
 use Rattle.std.proofs.lemmas.List.Elements.{All-push}
 use Rattle.std.proofs.Math.Seq.{drop-cons, take-suc}
 use Rattle.gk_world.specs.State.{Contents, nothing_yet}
-use Rattle.gk_world.specs.Refusals.{put_refusal}
 use Rattle.gk_world.specs.Sandbox.{SandboxValue, with_env}
 use Rattle.gk_cli.specs.Arguments.{PairValue}
 use Rattle.gk_cli.specs.Inputs.{Request}
-use Rattle.gk_cli.specs.RunFault.{IsUnread}
 use Rattle.gk_cli.specs.Suite.{Device, JudgedReport, Plain, IsPlain}
 use Rattle.gk_cli.specs.Source.{source_value}
 use Rattle.gk_cli.specs.declared.run_fault.RunFault.TheVariants.{Read, Library, Hooks, Select, Write, Memory}

@@ -1,5 +1,5 @@
 -- What a call hands over, and what it asks for.
-use Rattle.std.specs.Prelude.{◌≡◌, ◌⊎◌, ◌==◌, IsUtf8, ℕ, Bool, true, false, List, [], ◌∷◌, map, nat_eq, if◌then◌else◌, Option, Some, None, Result, Ok, Err, option_map, string_bytes, Vec, String}
+use Rattle.std.specs.Prelude.{◌≡◌, ◌⊎◌, ◌==◌, IsUtf8, ℕ, Bool, true, false, List, map, nat_eq, if◌then◌else◌, Option, Some, None, Result, Ok, Err, option_map, string_bytes, Vec, String}
 use denote.Ref.{Bor}
 use Rattle.std.specs.List.{Any, list_any}
 use Rattle.std.specs.declared.alloc.Global.{Global}
@@ -9,7 +9,7 @@ use Rattle.gk_cli.specs.Arguments.{PairValue}
 use Rattle.gk_cli.specs.declared.arguments.Options.{Options}
 use Rattle.gk_cli.specs.declared.run_fault.RunFault.TheVariants.{Memory}
 use Rattle.gk_cli.specs.declared.source.Source.{Source}
-use Rattle.gk_cli.specs.Inputs.{Request, asked, request_of}
+use Rattle.gk_cli.specs.Inputs.{Request, request_of}
 use Rattle.gk_cli.specs.Source.{SourceValue, source_value}
 use Rattle.gk_c.specs.declared.call.Call.{Call}
 use Rattle.gk_c.specs.declared.call.GivenFile.{GivenFile}
@@ -17,7 +17,7 @@ use Rattle.gk_c.specs.declared.call.Named.{Named}
 use Rattle.gk_c.specs.declared.call.ReadCall.{ReadCall}
 use Rattle.gk_c.specs.declared.call.Text.{Text}
 use Rattle.gk_c.specs.declared.call_fault.CallFault.{CallFault}
-use Rattle.gk_c.specs.declared.call_fault.CallFault.TheVariants.{UnknownFormat, NotUtf8, LineZero, BadVariable, Run}
+use Rattle.gk_c.specs.declared.call_fault.CallFault.TheVariants.{UnknownFormat, NotUtf8, LineZero, Run}
 
 -- A call as plain values: the texts of tags, the lines, the variables, the sources, a library file or none, a hooks file or none, whether it is a dry run, whether the first failure stops it, whether skipped sections are left out of the report, and the number of its format.
 pub record CallValue : Type 0 where

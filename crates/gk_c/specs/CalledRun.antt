@@ -1,5 +1,5 @@
 -- What a call is answered.
-use Rattle.std.specs.Prelude.{◌≡◌, ◌≢◌, ◌⊎◌, ℕ, true, false, List, [], ◌∷◌, map, Option, Some, None, Result, Ok, Err, IsSome, option_map}
+use Rattle.std.specs.Prelude.{◌≡◌, ◌≢◌, ◌⊎◌, ℕ, true, false, List, [], ◌∷◌, Some, None, Result, Ok, Err, IsSome}
 use Rattle.std.specs.List.{All, Any}
 use Rattle.gk_world.specs.State.{Contents, nothing_yet}
 use Rattle.gk_world.specs.Refusals.{put_refusal}
@@ -72,7 +72,6 @@ pub record IsReportAnswer (call : CallValue) (old new : List ℕ) (answer : Answ
   pub known : format_by call.format ≡ Some format
   pub from_one : has_line_zero call.lines ≡ false
   pub run : IsRunReport call.variables (request_by call format) old new answer
-
 
 -- What each fault says of the call; refused memory says nothing of it.
 abbrev pub SaysCallFault : CallValue → CallFault → Type 0

@@ -13,9 +13,8 @@ mod call_fault;
 mod called_run;
 
 pub use answer::Answer;
-pub use call::{Call, Named, Text};
-
 use answer::put_out;
+pub use call::{Call, Named, Text};
 use called_run::answer_call;
 use std::alloc::Global;
 
