@@ -1,0 +1,3 @@
+-- Lemmas.
+mod CallLemmas
+mod CalledRunLemmas

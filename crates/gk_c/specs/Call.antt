@@ -1,0 +1,202 @@
+-- What a call hands over, and what it asks for.
+use Rattle.std.specs.Prelude.{◌≡◌, ◌⊎◌, ◌==◌, IsUtf8, ℕ, Bool, true, false, List, map, nat_eq, if◌then◌else◌, Option, Some, None, Result, Ok, Err, option_map, string_bytes, Vec, String}
+use denote.Ref.{Bor}
+use Rattle.std.specs.List.{Any, list_any}
+use Rattle.std.specs.declared.alloc.Global.{Global}
+use Rattle.gk_report.specs.declared.report.Format.{Format}
+use Rattle.gk_report.specs.declared.report.Format.TheVariants.{Plain, Progress, Json}
+use Rattle.gk_cli.specs.Arguments.{PairValue}
+use Rattle.gk_cli.specs.declared.arguments.Options.{Options}
+use Rattle.gk_cli.specs.declared.run_fault.RunFault.TheVariants.{Memory}
+use Rattle.gk_cli.specs.declared.source.Source.{Source}
+use Rattle.gk_cli.specs.Inputs.{Request, request_of}
+use Rattle.gk_cli.specs.Source.{SourceValue, source_value}
+use Rattle.gk_c.specs.declared.call.Call.{Call}
+use Rattle.gk_c.specs.declared.call.GivenFile.{GivenFile}
+use Rattle.gk_c.specs.declared.call.Named.{Named}
+use Rattle.gk_c.specs.declared.call.ReadCall.{ReadCall}
+use Rattle.gk_c.specs.declared.call.Text.{Text}
+use Rattle.gk_c.specs.declared.call_fault.CallFault.{CallFault}
+use Rattle.gk_c.specs.declared.call_fault.CallFault.TheVariants.{UnknownFormat, NotUtf8, LineZero, Run}
+
+-- A call as plain values: the texts of tags, the lines, the variables, the sources, a library file or none, a hooks file or none, whether it is a dry run, whether the first failure stops it, whether skipped sections are left out of the report, and the number of its format.
+pub record CallValue : Type 0 where
+  pub tags : List (List ℕ)
+  pub lines : List ℕ
+  pub variables : List PairValue
+  pub sources : List SourceValue
+  pub library : Option SourceValue
+  pub hooks : Option SourceValue
+  pub dry_run : Bool
+  pub stop : Bool
+  pub no_skipped : Bool
+  pub format : ℕ
+
+-- The bytes of a `Text`.
+abbrev pub text_value : Text → List ℕ
+text_value text = text.bytes.now
+
+-- A `Named` as a file.
+abbrev pub source_named : Named → SourceValue
+source_named file = record { name = file.name.now; bytes = file.bytes.now }
+
+-- A `Named` as a variable.
+abbrev pub variable_named : Named → PairValue
+variable_named variable = record { name = variable.name.now; text = variable.bytes.now }
+
+-- The file, where one is given.
+abbrev pub given : Bool → Named → Option SourceValue
+given true file = Some (source_named file)
+given false file = None
+
+-- What a `Call` hands over.
+abbrev pub call_value : Call → CallValue
+call_value call = record {
+  tags = map text_value call.tags.now;
+  lines = call.lines.now;
+  variables = map variable_named call.variables.now;
+  sources = map source_named call.sources.now;
+  library = given call.has_library call.library;
+  hooks = given call.has_hooks call.hooks;
+  dry_run = call.dry_run;
+  stop = call.stop;
+  no_skipped = call.no_skipped;
+  format = call.format;
+}
+
+-- The format of a number, if there is one.
+abbrev pub format_by : ℕ → Option Format
+format_by n =
+    if nat_eq n 0 then Some Plain else
+    (if nat_eq n 1 then Some Progress else
+    (if nat_eq n 2 then Some Json else None))
+
+-- The bytes of a file that may be given.
+abbrev pub bytes_by : Option SourceValue → Option (List ℕ)
+bytes_by file = option_map (λ f. f.bytes) file
+
+-- What a call asks for in a format.
+abbrev pub request_by : CallValue → Format → Request
+request_by call format = record {
+  tags = call.tags;
+  lines = call.lines;
+  dry_run = call.dry_run;
+  stop = call.stop;
+  style = record { format = format; no_skipped = call.no_skipped };
+  library = bytes_by call.library;
+  hooks = bytes_by call.hooks;
+  sources = call.sources;
+}
+
+-- Among some lines is line 0, which no file has.
+abbrev pub has_line_zero : List ℕ → Bool
+has_line_zero lines = list_any (λ n. n == 0) lines
+
+-- These bytes aren't UTF-8.
+abbrev pub IsNoText : List ℕ → Type 0
+IsNoText bytes = IsUtf8 bytes → ⊥
+
+-- The name of a file that is given isn't UTF-8.
+abbrev pub HasBadName : Option SourceValue → Type 0
+HasBadName None = ⊥
+HasBadName (Some file) = IsNoText file.name
+
+-- A text of tags, or the name of a file, isn't UTF-8.
+abbrev pub HasNoText : CallValue → Type 0
+HasNoText call = Any IsNoText call.tags ⊎ (HasBadName call.library ⊎ (HasBadName call.hooks ⊎ Any (λ s. IsNoText s.name) call.sources))
+
+-- Proof machinery, from here on: what a `GivenFile` says.
+abbrev pub given_value : GivenFile → SourceValue
+given_value file = record { name = file.name.now; bytes = file.bytes.now }
+
+-- What a `ReadCall` asks for.
+abbrev pub request_read : ReadCall → Request
+request_read read = request_of read.options (bytes_by (option_map given_value read.library)) (bytes_by (option_map given_value read.hooks)) (map source_value read.sources.items)
+
+-- A text is the bytes, or these aren't UTF-8.
+abbrev pub SaysText : List ℕ → Result (Bor (List ℕ)) CallFault → Type 0
+SaysText bytes (Ok text) = text.now ≡ bytes
+SaysText bytes (Err NotUtf8) = IsNoText bytes
+SaysText bytes (Err fault) = ⊥
+
+-- A copy is the bytes, or these aren't UTF-8, or memory was refused.
+abbrev pub SaysCopy : List ℕ → Result (String Global) CallFault → Type 0
+SaysCopy bytes (Ok text) = string_bytes text ≡ bytes
+SaysCopy bytes (Err NotUtf8) = IsNoText bytes
+SaysCopy bytes (Err (Run Memory)) = Unit {0}
+SaysCopy bytes (Err fault) = ⊥
+
+-- Copies of texts, or one of them isn't UTF-8.
+abbrev pub SaysTexts : List (List ℕ) → Result (Vec (String Global) Global) CallFault → Type 0
+SaysTexts texts (Ok copies) = map string_bytes copies.items ≡ texts
+SaysTexts texts (Err NotUtf8) = Any IsNoText texts
+SaysTexts texts (Err (Run Memory)) = Unit {0}
+SaysTexts texts (Err fault) = ⊥
+
+-- A copy of a file, or its name isn't UTF-8.
+abbrev pub SaysSource : SourceValue → Result Source CallFault → Type 0
+SaysSource file (Ok source) = source_value source ≡ file
+SaysSource file (Err NotUtf8) = IsNoText file.name
+SaysSource file (Err (Run Memory)) = Unit {0}
+SaysSource file (Err fault) = ⊥
+
+-- Copies of files, or the name of one of them isn't UTF-8.
+abbrev pub SaysSources : List SourceValue → Result (Vec Source Global) CallFault → Type 0
+SaysSources files (Ok sources) = map source_value sources.items ≡ files
+SaysSources files (Err NotUtf8) = Any (λ s. IsNoText s.name) files
+SaysSources files (Err (Run Memory)) = Unit {0}
+SaysSources files (Err fault) = ⊥
+
+-- The file that may be given, or its name isn't UTF-8.
+abbrev pub SaysGiven : Option SourceValue → Result (Option GivenFile) CallFault → Type 0
+SaysGiven file (Ok read) = option_map given_value read ≡ file
+SaysGiven file (Err NotUtf8) = HasBadName file
+SaysGiven file (Err fault) = ⊥
+
+-- A copy of the lines, or line 0 is among them.
+abbrev pub SaysLines : List ℕ → Result (Vec ℕ Global) CallFault → Type 0
+SaysLines lines (Ok copy) = (has_line_zero lines ≡ false) × (copy.items ≡ lines)
+SaysLines lines (Err LineZero) = has_line_zero lines ≡ true
+SaysLines lines (Err (Run Memory)) = Unit {0}
+SaysLines lines (Err fault) = ⊥
+
+-- The options are those of the call.
+pub record AreOptions (call : CallValue) (format : Format) (options : Options) : Type 0 where
+  pub tags : map string_bytes options.tags.items ≡ call.tags
+  pub lines : options.lines.items ≡ call.lines
+  pub from_one : has_line_zero call.lines ≡ false
+  pub dry_run : options.dry_run ≡ call.dry_run
+  pub stop : options.stop ≡ call.stop
+  pub style : options.style ≡ record { format = format; no_skipped = call.no_skipped }
+
+-- The options of a call, or why there are none.
+abbrev pub SaysOptions : CallValue → Format → Result Options CallFault → Type 0
+SaysOptions call format (Ok options) = AreOptions call format options
+SaysOptions call format (Err NotUtf8) = Any IsNoText call.tags
+SaysOptions call format (Err LineZero) = has_line_zero call.lines ≡ true
+SaysOptions call format (Err (Run Memory)) = Unit {0}
+SaysOptions call format (Err fault) = ⊥
+
+-- What was read is what the call asks for in a format, with the names of its files.
+pub record IsReadIn (call : CallValue) (format : Format) (read : ReadCall) : Type 0 where
+  pub options : AreOptions call format read.options
+  pub library : option_map given_value read.library ≡ call.library
+  pub hooks : option_map given_value read.hooks ≡ call.hooks
+  pub sources : map source_value read.sources.items ≡ call.sources
+
+-- What a call asks for in a format, or why it can't be read.
+abbrev pub SaysReadIn : CallValue → Format → Result ReadCall CallFault → Type 0
+SaysReadIn call format (Ok read) = IsReadIn call format read
+SaysReadIn call format (Err NotUtf8) = HasNoText call
+SaysReadIn call format (Err LineZero) = has_line_zero call.lines ≡ true
+SaysReadIn call format (Err (Run Memory)) = Unit {0}
+SaysReadIn call format (Err fault) = ⊥
+
+-- The same, where the call's number is that of a format.
+abbrev pub SaysRead : CallValue → Result ReadCall CallFault → Type 0
+SaysRead call (Ok read) = (format : Format) × (format_by call.format ≡ Some format) × IsReadIn call format read
+SaysRead call (Err UnknownFormat) = format_by call.format ≡ None
+SaysRead call (Err NotUtf8) = HasNoText call
+SaysRead call (Err LineZero) = has_line_zero call.lines ≡ true
+SaysRead call (Err (Run Memory)) = Unit {0}
+SaysRead call (Err fault) = ⊥

@@ -1,0 +1,132 @@
+-- What a call is answered.
+use Rattle.std.specs.Prelude.{◌≡◌, ◌≢◌, ◌⊎◌, ℕ, true, false, List, [], ◌∷◌, Some, None, Result, Ok, Err, IsSome}
+use Rattle.std.specs.List.{All, Any}
+use Rattle.gk_world.specs.State.{Contents, nothing_yet}
+use Rattle.gk_world.specs.Refusals.{put_refusal}
+use Rattle.gk_world.specs.Sandbox.{SandboxValue, with_env}
+use Rattle.gk_run.specs.Results.{Results}
+use Rattle.gk_run.specs.Judged.{plain_results}
+use Rattle.gk_report.specs.declared.report.Format.{Format}
+use Rattle.gk_report.specs.Report.{report}
+use Rattle.gk_report.specs.Summary.{status}
+use Rattle.gk_cli.specs.Arguments.{PairValue}
+use Rattle.gk_cli.specs.Inputs.{Request, Inputs, AreInputs}
+use Rattle.gk_cli.specs.RunFault.{IsUnread}
+use Rattle.gk_cli.specs.declared.run_fault.RunFault.TheVariants.{Memory}
+use Rattle.gk_cli.specs.Suite.{AreJudged, run_with}
+use Rattle.gk_c.specs.Answer.{IsReport, IsNoReport}
+use Rattle.gk_c.specs.Call.{CallValue, HasNoText, IsNoText, format_by, has_line_zero, request_by, request_read}
+use Rattle.gk_c.specs.CallFault.{line_of_call, line_of_read, status_of_call}
+use Rattle.gk_c.specs.declared.answer.Answer.{Answer}
+use Rattle.gk_c.specs.declared.call.ReadCall.{ReadCall}
+use Rattle.gk_c.specs.declared.call_fault.CallFault.{CallFault}
+use Rattle.gk_c.specs.declared.call_fault.CallFault.TheVariants.{UnknownFormat, NotUtf8, LineZero, BadVariable, Run}
+
+-- Contents with some variables put in, in order: of equal names the last counts.
+abbrev pub with_variables : Contents → List PairValue → Contents
+with_variables c [] = c
+with_variables c (v ∷ vs) = with_variables (with_env c v.name v.text) vs
+
+-- The contents that a run begins with: the variables alone.
+abbrev pub contents_by : List PairValue → Contents
+contents_by variables = with_variables nothing_yet variables
+
+-- A variable that no sandbox takes: a bad name, or a text too long.
+abbrev pub IsRefused : PairValue → Type 0
+IsRefused v = IsSome (put_refusal v.name v.text)
+
+-- A sandbox takes every one of these variables.
+abbrev pub AreTaken : List PairValue → Type 0
+AreTaken variables = All (λ v. put_refusal v.name v.text ≡ None) variables
+
+-- The name or the text of a variable isn't UTF-8.
+abbrev pub IsNoVariable : PairValue → Type 0
+IsNoVariable v = IsNoText v.name ⊎ IsNoText v.text
+
+-- The text is the report of a judged list of results, and the status is that list's.
+pub record IsJudgedText (r : Request) (contents : Contents) (text : List ℕ) (answer : ℕ) : Type 0 where
+  pub results : Results
+  pub judged : AreJudged r contents results
+  pub text_is : text ≡ report r.style results
+  pub status_is : answer ≡ status results
+
+-- The text is the report of the list that plain maps give, and the status is that list's.
+pub record IsPlainText (r : Request) (contents : Contents) (text : List ℕ) (answer : ℕ) : Type 0 where
+  pub inputs : Inputs
+  pub read : AreInputs r inputs
+  pub text_is : text ≡ report r.style (plain_results (run_with r inputs) contents inputs.features)
+  pub status_is : answer ≡ status (plain_results (run_with r inputs) contents inputs.features)
+
+-- A report of a run is answered: the variables are taken, and at each status but 4 it is that of plain maps.
+pub record IsRunReport (variables : List PairValue) (r : Request) (old new : List ℕ) (answer : Answer) : Type 0 where
+  pub taken : AreTaken variables
+  pub text : List ℕ
+  pub status : ℕ
+  pub judged : IsJudgedText r (contents_by variables) text status
+  pub plain : status ≢ 4 → IsPlainText r (contents_by variables) text status
+  pub said : IsReport text status old new answer
+
+-- A report is answered, of the run that the call asks for.
+pub record IsReportAnswer (call : CallValue) (old new : List ℕ) (answer : Answer) : Type 0 where
+  pub format : Format
+  pub known : format_by call.format ≡ Some format
+  pub from_one : has_line_zero call.lines ≡ false
+  pub run : IsRunReport call.variables (request_by call format) old new answer
+
+-- What each fault says of the call; refused memory says nothing of it.
+abbrev pub SaysCallFault : CallValue → CallFault → Type 0
+SaysCallFault call UnknownFormat = format_by call.format ≡ None
+SaysCallFault call NotUtf8 = HasNoText call ⊎ Any IsNoVariable call.variables
+SaysCallFault call LineZero = has_line_zero call.lines ≡ true
+SaysCallFault call BadVariable = Any IsRefused call.variables
+SaysCallFault call (Run Memory) = Unit {0}
+SaysCallFault call (Run fault) = (format : Format) × (format_by call.format ≡ Some format) × IsUnread (request_by call format) fault
+
+-- A fault is answered: one that holds of the call, with its line and its status.
+pub record IsFaultAnswer (call : CallValue) (old new : List ℕ) (answer : Answer) : Type 0 where
+  pub fault : CallFault
+  pub says : SaysCallFault call fault
+  pub said : IsNoReport (line_of_call call fault) (status_of_call fault) old new answer
+
+-- What a call is answered: a report, or a fault. `Answer::has_report` says which.
+abbrev pub IsAnswer : CallValue → List ℕ → List ℕ → Answer → Type 0
+IsAnswer call old new answer = IsReportAnswer call old new answer ⊎ IsFaultAnswer call old new answer
+
+-- Proof machinery, from here on: a variable is in the sandbox, or why not.
+abbrev pub SaysPutOne : PairValue → SandboxValue → SandboxValue → Result (Unit {0}) CallFault → Type 0
+SaysPutOne v old new (Ok u) = (new.now ≡ with_env old.now v.name v.text) × (new.saved ≡ old.saved) × (put_refusal v.name v.text ≡ None)
+SaysPutOne v old new (Err NotUtf8) = IsNoVariable v
+SaysPutOne v old new (Err BadVariable) = IsRefused v
+SaysPutOne v old new (Err (Run Memory)) = Unit {0}
+SaysPutOne v old new (Err fault) = ⊥
+
+-- The variables are in the sandbox, and its layers are as before; or one of them can't be.
+abbrev pub SaysPut : List PairValue → SandboxValue → SandboxValue → Result (Unit {0}) CallFault → Type 0
+SaysPut variables old new (Ok u) = (new.now ≡ with_variables old.now variables) × (new.saved ≡ old.saved) × AreTaken variables
+SaysPut variables old new (Err NotUtf8) = Any IsNoVariable variables
+SaysPut variables old new (Err BadVariable) = Any IsRefused variables
+SaysPut variables old new (Err (Run Memory)) = Unit {0}
+SaysPut variables old new (Err fault) = ⊥
+
+-- Why a run of what was read has no report.
+abbrev pub SaysRunFault : List PairValue → Request → CallFault → Type 0
+SaysRunFault variables r NotUtf8 = Any IsNoVariable variables
+SaysRunFault variables r BadVariable = Any IsRefused variables
+SaysRunFault variables r (Run fault) = IsUnread r fault
+SaysRunFault variables r fault = ⊥
+
+-- This fault is answered, or refused memory in its place.
+pub record IsFaultSaid (read : ReadCall) (fault : CallFault) (old new : List ℕ) (answer : Answer) : Type 0 where
+  pub said_as : CallFault
+  pub same : (said_as ≡ fault) ⊎ (said_as ≡ Run Memory)
+  pub said : IsNoReport (line_of_read read said_as) (status_of_call said_as) old new answer
+
+-- A fault of a run of what was read is answered.
+pub record IsRunFault (variables : List PairValue) (read : ReadCall) (old new : List ℕ) (answer : Answer) : Type 0 where
+  pub fault : CallFault
+  pub says : SaysRunFault variables (request_read read) fault
+  pub said : IsFaultSaid read fault old new answer
+
+-- What a run of what was read is answered.
+abbrev pub IsRunAnswer : List PairValue → ReadCall → List ℕ → List ℕ → Answer → Type 0
+IsRunAnswer variables read old new answer = IsRunReport variables (request_read read) old new answer ⊎ IsRunFault variables read old new answer

@@ -1,0 +1,194 @@
+//! What a call hands over, and reading it.
+ghost use Rattle.std.specs.Prelude.{◌≡◌, map};
+ghost use Rattle.gk_c.specs.Call.{call_value, format_by, given, source_named, text_value, SaysCopy, SaysGiven, SaysLines, SaysOptions, SaysRead, SaysReadIn, SaysSource, SaysSources, SaysText, SaysTexts};
+
+use crate::call_fault::CallFault;
+use gk_cli::{Options, Source};
+use gk_report::{Format, Style};
+use std::alloc::Global;
+use std::str;
+
+/// A text of the caller's.
+#[repr(C)]
+#[derive(Clone, Copy)]
+pub struct Text<'a> {
+    pub bytes: &'a [u8],
+}
+
+/// A file or a variable of the caller's: its name, and its bytes.
+#[repr(C)]
+#[derive(Clone, Copy)]
+pub struct Named<'a> {
+    pub name: &'a [u8],
+    pub bytes: &'a [u8],
+}
+
+/// What a call hands over.
+#[repr(C)]
+#[derive(Clone, Copy)]
+pub struct Call<'a> {
+    /// The feature files, run in this order. Faults call them by their names, and so does the report in JSON.
+    pub sources: &'a [Named<'a>],
+    /// The texts of `--tags`.
+    pub tags: &'a [Text<'a>],
+    /// The numbers of `--line`, each at least 1.
+    pub lines: &'a [u32],
+    /// The variables of `--env`; of equal names the last counts.
+    pub variables: &'a [Named<'a>],
+    /// The library file, which counts only where `has_library` says so.
+    pub library: Named<'a>,
+    /// The hooks file, which counts only where `has_hooks` says so.
+    pub hooks: Named<'a>,
+    /// The steps are those of `library`, in place of the default library.
+    pub has_library: bool,
+    /// The hooks are those of `hooks`; else there are none.
+    pub has_hooks: bool,
+    pub dry_run: bool,
+    pub stop: bool,
+    pub no_skipped: bool,
+    /// 0 is plain, 1 progress, 2 JSON.
+    pub format: u8,
+}
+
+/// A library file or a hooks file, whose name is a text.
+#[derive(Clone, Copy)]
+pub struct GivenFile<'a> {
+    pub name: &'a str,
+    pub bytes: &'a [u8],
+}
+
+/// What a call asks for, but for its variables.
+#[derive(Drop)]
+pub struct ReadCall<'a> {
+    pub options: Options,
+    pub library: Option<GivenFile<'a>>,
+    pub hooks: Option<GivenFile<'a>>,
+    pub sources: Vec<Source>,
+}
+
+// The format of a number, if there is one.
+fn format_of_number(number: u8) -> Option<Format>
+    ensures { result ≡ format_by number }
+{
+    match number {
+        0 => Some(Format::Plain),
+        1 => Some(Format::Progress),
+        2 => Some(Format::Json),
+        _ => None,
+    }
+}
+
+pub fn text_from(bytes: &[u8]) -> Result<&str, CallFault>
+    ensures { SaysText bytes.now result }
+{
+    match str::from_utf8(bytes) {
+        Ok(text) => Ok(text),
+        Err(_) => Err(CallFault::NotUtf8),
+    }
+}
+
+fn source_from(alloc: Global, file: &Named) -> Result<Source, CallFault>
+    ensures { SaysSource (source_named file.now) result }
+{
+    let name = text_from(file.name)?;
+    Ok(Source {
+        name: String::from_str(alloc, name)?,
+        bytes: Vec::from_slice(alloc, file.bytes)?,
+    })
+}
+
+fn sources_from(alloc: Global, files: &[Named]) -> Result<Vec<Source>, CallFault>
+    ensures { SaysSources (map source_named files.now) result }
+{
+    let mut sources = Vec::new(alloc);
+    for file in files {
+        match source_from(alloc, file) {
+            Ok(source) => sources.push(source)?,
+            Err(fault) => return Err(fault),
+        }
+    }
+    Ok(sources)
+}
+
+fn copied_from(alloc: Global, text: &Text) -> Result<String, CallFault>
+    ensures { SaysCopy (text_value text.now) result }
+{
+    let text = text_from(text.bytes)?;
+    Ok(String::from_str(alloc, text)?)
+}
+
+fn texts_from(alloc: Global, texts: &[Text]) -> Result<Vec<String>, CallFault>
+    ensures { SaysTexts (map text_value texts.now) result }
+{
+    let mut copies = Vec::new(alloc);
+    for text in texts {
+        match copied_from(alloc, text) {
+            Ok(copy) => copies.push(copy)?,
+            Err(fault) => return Err(fault),
+        }
+    }
+    Ok(copies)
+}
+
+// The library file or the hooks file, where it is given.
+fn given_from<'a>(is_given: bool, file: &Named<'a>) -> Result<Option<GivenFile<'a>>, CallFault>
+    ensures { SaysGiven (given is_given file.now) result }
+{
+    if is_given {
+        let name = text_from(file.name)?;
+        Ok(Some(GivenFile {
+            name,
+            bytes: file.bytes,
+        }))
+    } else {
+        Ok(None)
+    }
+}
+
+// Lines begin at 1, so a line 0 is a mistake.
+fn lines_from(alloc: Global, lines: &[u32]) -> Result<Vec<u32>, CallFault>
+    ensures { SaysLines lines.now result }
+{
+    if lines.contains(&0) {
+        return Err(CallFault::LineZero);
+    }
+    Ok(Vec::from_slice(alloc, lines)?)
+}
+
+fn options_from(alloc: Global, call: &Call, format: Format) -> Result<Options, CallFault>
+    ensures { SaysOptions (call_value call.now) format result }
+{
+    Ok(Options {
+        tags: texts_from(alloc, call.tags)?,
+        lines: lines_from(alloc, call.lines)?,
+        dry_run: call.dry_run,
+        stop: call.stop,
+        style: Style {
+            format,
+            no_skipped: call.no_skipped,
+        },
+    })
+}
+
+fn read_in<'a>(alloc: Global, call: &Call<'a>, format: Format) -> Result<ReadCall<'a>, CallFault>
+    ensures { SaysReadIn (call_value call.now) format result }
+{
+    Ok(ReadCall {
+        options: options_from(alloc, call, format)?,
+        library: given_from(call.has_library, &call.library)?,
+        hooks: given_from(call.has_hooks, &call.hooks)?,
+        sources: sources_from(alloc, call.sources)?,
+    })
+}
+
+/// What a call asks for, but for its variables. A number of no format is `UnknownFormat`, and comes before the others. A
+/// name or a text of `--tags` that isn't UTF-8 is `NotUtf8`, a line 0 is `LineZero`. Refused memory may come in place
+/// of any answer.
+pub fn read_call<'a>(alloc: Global, call: &Call<'a>) -> Result<ReadCall<'a>, CallFault>
+    ensures { SaysRead (call_value call.now) result }
+{
+    match format_of_number(call.format) {
+        Some(format) => read_in(alloc, call, format),
+        None => Err(CallFault::UnknownFormat),
+    }
+}

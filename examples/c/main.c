@@ -1,0 +1,86 @@
+/* Runs feature files by the static library: main [OPTION].. FILE..
+ *
+ * It takes the program's options, each with its value as the next argument, and ends as the program does. */
+#include "gherkin_run.h"
+#include <stdio.h>
+#include <stdlib.h>
+#include <string.h>
+
+enum { MOST = 64 };
+
+static gherkin_text text_of(const char *text) {
+    gherkin_text made = {(const uint8_t *)text, strlen(text)};
+    return made;
+}
+
+/* The file of this name, whole. Ends the program where it can't be read. */
+static gherkin_named file_of(const char *name) {
+    FILE *file = fopen(name, "rb");
+    uint8_t *bytes = malloc(1);
+    size_t length = 0, size = 1, got;
+    if (!file || !bytes) {
+        fprintf(stderr, "%s: cannot read\n", name);
+        exit(3);
+    }
+    while ((got = fread(bytes + length, 1, size - length, file)) > 0) {
+        length += got;
+        if (length == size) bytes = realloc(bytes, size *= 2);
+        if (!bytes) exit(4);
+    }
+    fclose(file);
+    gherkin_named made = {text_of(name), {bytes, length}};
+    return made;
+}
+
+/* A variable of the form NAME=TEXT. */
+static gherkin_named variable_of(const char *text) {
+    const char *equals = strchr(text, '=');
+    if (!equals) {
+        fprintf(stderr, "bad variable\n");
+        exit(2);
+    }
+    gherkin_named made = {{(const uint8_t *)text, (size_t)(equals - text)}, text_of(equals + 1)};
+    return made;
+}
+
+static uint8_t format_of(const char *name) {
+    return strcmp(name, "json") == 0 ? GHERKIN_JSON : strcmp(name, "progress") == 0 ? GHERKIN_PROGRESS : GHERKIN_PLAIN;
+}
+
+int main(int count, char **words) {
+    gherkin_named sources[MOST], variables[MOST];
+    gherkin_text tags[MOST];
+    uint32_t lines[MOST];
+    gherkin_call call = GHERKIN_CALL;
+    call.sources = sources, call.variables = variables, call.tags = tags, call.lines = lines;
+    if (count > MOST) return 2;
+    for (int n = 1; n < count; n++) {
+        const char *word = words[n], *value = n + 1 < count ? words[n + 1] : "";
+        if (strcmp(word, "--dry-run") == 0) call.dry_run = true;
+        else if (strcmp(word, "--stop") == 0) call.stop = true;
+        else if (strcmp(word, "--no-skipped") == 0) call.no_skipped = true;
+        else if (strncmp(word, "--", 2) != 0) sources[call.source_count++] = file_of(word);
+        else if (n++, strcmp(word, "--tags") == 0) tags[call.tag_count++] = text_of(value);
+        else if (strcmp(word, "--line") == 0) lines[call.line_count++] = (uint32_t)strtoul(value, 0, 10);
+        else if (strcmp(word, "--env") == 0) variables[call.variable_count++] = variable_of(value);
+        else if (strcmp(word, "--format") == 0) call.format = format_of(value);
+        else if (strcmp(word, "--library") == 0) call.library = file_of(value), call.has_library = true;
+        else if (strcmp(word, "--hooks") == 0) call.hooks = file_of(value), call.has_hooks = true;
+        else return 2;
+    }
+    gherkin_answer answer;
+    size_t size = 1 << 16;
+    uint8_t *room = malloc(size);
+    if (!room) return 4;
+    gherkin_run(&call, room, size, &answer);
+    if (answer.length > size) {
+        size = answer.length;
+        free(room);
+        room = malloc(size);
+        if (!room) return 4;
+        gherkin_run(&call, room, size, &answer);
+    }
+    fwrite(room, 1, answer.length, answer.has_report ? stdout : stderr);
+    if (!answer.has_report) fputc('\n', stderr);
+    return answer.status;
+}
