@@ -10,7 +10,7 @@ use Rattle.gk_world.specs.State.{Contents, nothing_yet}
 use Rattle.gk_world.specs.Sandbox.{SandboxValue, with_env}
 use Rattle.gk_cli.specs.Arguments.{PairValue}
 use Rattle.gk_cli.specs.Inputs.{Request}
-use Rattle.gk_cli.specs.Suite.{Device, JudgedReport, Plain, IsPlain}
+use Rattle.gk_cli.specs.Suite.{Device, JudgedReport, OnlyReport, IsOnlyReport}
 use Rattle.gk_cli.specs.Source.{source_value}
 use Rattle.gk_cli.specs.declared.run_fault.RunFault.TheVariants.{Read, Library, Hooks, Select, Write, Memory}
 use Rattle.gk_report.specs.declared.report.Format.{Format}
@@ -73,20 +73,20 @@ judged_text r c old new text answer from to j = record {
   results = j.0;
   judged = j.2;
   text_is = appended old.bytes new.bytes text _ from to j.1.written;
-  status_is = j.1.answered;
+  status_is = j.1.returned;
 }
 
-plain_text : (r : Request) (c : Contents) (old new : Device) (text : List ℕ) (answer : ℕ) → old.bytes ≡ Some [] → new.bytes ≡ Some text → IsPlain r c old new answer → IsPlainText r c text answer
+plain_text : (r : Request) (c : Contents) (old new : Device) (text : List ℕ) (answer : ℕ) → old.bytes ≡ Some [] → new.bytes ≡ Some text → IsOnlyReport r c old new answer → IsPlainText r c text answer
 plain_text r c old new text answer from to p = record {
   inputs = p.inputs;
   read = p.read;
   text_is = appended old.bytes new.bytes text _ from to p.reported.written;
-  status_is = p.reported.answered;
+  status_is = p.reported.returned;
 }
 
 pub answered : (variables : List PairValue) (read : ReadCall) (old new : Device) (text before after : List ℕ) (ended : Result ℕ CallFault) (answer : Answer)
     → old.bytes ≡ Some [] → new.bytes ≡ Some text → OnOk ended (AreTaken variables)
-    → IfOk ended (JudgedReport (request_read read) (contents_by variables) old new) → IfOk ended (Plain (request_read read) (contents_by variables) old new)
+    → IfOk ended (JudgedReport (request_read read) (contents_by variables) old new) → IfOk ended (OnlyReport (request_read read) (contents_by variables) old new)
     → IfErr ended (SaysRunFault variables (request_read read))
     → IfOk ended (λ status. IsReport text status before after answer) → IfErr ended (λ fault. IsFaultSaid read fault before after answer)
     → IsRunAnswer variables read before after answer

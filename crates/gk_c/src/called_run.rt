@@ -3,7 +3,7 @@ ghost use Rattle.std.specs.Prelude.{◌≡◌, map, IfOk, IfErr, OnOk, option_ma
 ghost use Rattle.gk_world.specs.Sandbox.{depth, new_sandbox};
 ghost use Rattle.gk_cli.specs.Counted.{CountsCanRise};
 ghost use Rattle.gk_cli.specs.RunFault.{IsUnread};
-ghost use Rattle.gk_cli.specs.Suite.{device_of, JudgedReport, Plain};
+ghost use Rattle.gk_cli.specs.Suite.{device_of, JudgedReport, OnlyReport};
 ghost use Rattle.gk_c.specs.Answer.{IsNoReport, IsReport};
 ghost use Rattle.gk_c.specs.Call.{bytes_by, call_value, given_value, request_read, variable_named};
 ghost use Rattle.gk_c.specs.CallFault.{own_line, status_of_call};
@@ -39,7 +39,7 @@ fn run_read<W: Write>(
     requires outside { depth sandbox.old ≡ 0 }
     ensures judged { IfOk result (JudgedReport (request_read read.now) sandbox.old.now
         (device_of W.contents out.old) (device_of W.contents out.new)) }
-    ensures plain { IfOk result (Plain (request_read read.now) sandbox.old.now
+    ensures plain { IfOk result (OnlyReport (request_read read.now) sandbox.old.now
         (device_of W.contents out.old) (device_of W.contents out.new)) }
     ensures fault { IfErr result (IsUnread (request_read read.now)) }
 {
@@ -99,7 +99,7 @@ fn run_in<W: Write>(
     ensures judged { IfOk result (JudgedReport (request_read read.now)
         (contents_by (map variable_named variables.now))
         (device_of W.contents out.old) (device_of W.contents out.new)) }
-    ensures plain { IfOk result (Plain (request_read read.now)
+    ensures plain { IfOk result (OnlyReport (request_read read.now)
         (contents_by (map variable_named variables.now))
         (device_of W.contents out.old) (device_of W.contents out.new)) }
     ensures fault { IfErr result
@@ -126,7 +126,7 @@ fn run_fresh<W: Write>(
     ensures judged { IfOk result (JudgedReport (request_read read.now)
         (contents_by (map variable_named variables.now))
         (device_of W.contents out.old) (device_of W.contents out.new)) }
-    ensures plain { IfOk result (Plain (request_read read.now)
+    ensures plain { IfOk result (OnlyReport (request_read read.now)
         (contents_by (map variable_named variables.now))
         (device_of W.contents out.old) (device_of W.contents out.new)) }
     ensures fault { IfErr result
