@@ -418,14 +418,18 @@ class Refusals:
     def __init__(self, program, room, name, arguments, folder):
         self.program, self.room, self.name = program, room, name
         self.arguments, self.folder = arguments, folder
-        self.ample = Ample(arguments, driver.start(program, arguments, folder), self.whole())
+        self.ample = Ample(arguments, self.start(arguments), self.whole())
+
+    def start(self, arguments, environment=None):
+        """Runs the program: its status, and what was written."""
+        return driver.start(self.program, arguments, self.folder, environment)
 
     def whole(self):
         """The report of the same run that leaves nothing out."""
         if "--no-skipped" not in self.arguments:
             return None
         arguments = [it for it in self.arguments if it != "--no-skipped"]
-        _, printed, _ = driver.start(self.program, arguments, self.folder)
+        _, printed, _ = self.start(arguments)
         return Report.of(printed, Style(style_of(arguments).format, False))
 
     def ending(self, number):
@@ -436,7 +440,7 @@ class Refusals:
         if os.path.exists(log):
             os.remove(log)
         environment = driver.limited(self.room, REFUSE=number, REFUSE_LOG=log)
-        ended = driver.start(self.program, self.arguments, self.folder, environment)
+        ended = self.start(self.arguments, environment)
         met = driver.read(log).strip() if os.path.exists(log) else b"ended by a signal"
         ending = self.ample.ending(ended)
         if met == b"unmet" and ending == "unharmed":

@@ -1,0 +1,98 @@
+//! The test program whose growths of memory `tests/refused_inside.sh` refuses in turn. With a feature file, and a
+//! hooks file where it is named, it runs `run_suite` in an empty sandbox, and says what the sandbox has after it.
+//! Without arguments it removes a file in a layer, and says what became of it.
+#![tactic(auto)]
+
+ghost use Rattle.gk_cli.specs.Counted.{CountsCanRise};
+
+mod removed_file;
+mod whole_run;
+
+use gk_cli::Counted;
+use gk_world::Sandbox;
+use removed_file::remove_in_layer;
+use std::env;
+use std::io::Write;
+use std::process::ExitCode;
+use std::rt::{Env, Files};
+use whole_run::{read_inputs, run_in, status_of};
+
+// The arguments, the program's name first, if there was memory for them.
+fn arguments_of<R: Env + AllocGlobal>(rt: &R) -> Option<Vec<String>> {
+    env::args(rt).ok()?.collect(rt.alloc()).ok()
+}
+
+// What a run ends with that has no inputs.
+fn not_begun<R: Eprint>(rt: &R) -> u8 {
+    let _ = eprintln!(rt; "not begun");
+    4
+}
+
+// Writes which layers, changes and texts a sandbox has.
+fn show_sandbox<R: Eprint + AllocGlobal>(rt: &R, sandbox: &Sandbox) {
+    let _ = match sandbox.listing(rt.alloc()) {
+        Ok(listing) => eprintln!(rt;
+            "depth {}, recorded {}, files {:?}, variables {:?}, values {:?}",
+            sandbox.depth(),
+            sandbox.recorded(),
+            listing.files,
+            listing.env,
+            listing.values
+        ),
+        Err(_) => eprintln!(rt; "no listing"),
+    };
+}
+
+// Runs a feature file with the hooks of a file, and writes the report, the answer and what the sandbox has then.
+fn show_run<R: Env + Files + Eprint + AllocGlobal, W: Write>(
+    rt: &R,
+    feature: &str,
+    hooks: Option<&String>,
+    out: &mut Counted<W>,
+) -> u8
+    requires room { CountsCanRise out.old }
+{
+    let Some(inputs) = read_inputs(rt, feature, hooks) else {
+        return not_begun(rt);
+    };
+    let mut sandbox = Sandbox::new(rt.alloc());
+    let answer = run_in(rt.alloc(), &mut sandbox, &inputs, out);
+    let _ = out.flush();
+    let _ = eprintln!(rt; "{answer:?}");
+    show_sandbox(rt, &sandbox);
+    status_of(&answer)
+}
+
+// Removes a file in a layer, and writes what became of it.
+fn show_removed_file<R: Eprint + AllocGlobal>(rt: &R) -> u8 {
+    let mut sandbox = Sandbox::new(rt.alloc());
+    if sandbox.put_file("f", "one").is_err() {
+        return not_begun(rt);
+    }
+    let seen = remove_in_layer(&mut sandbox);
+    let _ = eprintln!(rt; "removal {:?}, next {:?}", seen.removal, seen.next);
+    let _ = eprintln!(rt; "in the layer {}", seen.is_there);
+    let _ = eprintln!(rt; "after it {:?} {:?}", sandbox.file("f"), sandbox.file("g"));
+    let _ = eprintln!(rt;
+        "depth {}, recorded {}",
+        sandbox.depth(),
+        sandbox.recorded()
+    );
+    0
+}
+
+fn main(rt: HostRuntime) -> ExitCode {
+    let status = match arguments_of(&rt) {
+        Some(arguments) => match arguments.get(1) {
+            Some(feature) => show_run(
+                &rt,
+                feature,
+                arguments.get(2),
+                &mut Counted::new(rt.stdout()),
+            ),
+            None => show_removed_file(&rt),
+        },
+        None => not_begun(&rt),
+    };
+    ExitCode::from(status)
+}

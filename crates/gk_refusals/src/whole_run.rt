@@ -1,0 +1,93 @@
+//! A run of a feature file, with the hooks of a file.
+ghost use Rattle.std.specs.Prelude.{◌≡◌};
+ghost use Rattle.gk_cli.specs.Counted.{CountsCanRise};
+ghost use Rattle.gk_world.specs.Sandbox.{depth};
+
+use gk_cli::{Counted, Options, RunFault, Source, read_source, run_suite};
+use gk_report::{Format, Style};
+use gk_world::Sandbox;
+use std::alloc::Global;
+use std::fs;
+use std::io::Write;
+use std::rt::Files;
+
+/// What a run is made from.
+#[derive(Drop)]
+pub struct Inputs {
+    options: Options,
+    hooks: Option<Vec<u8>>,
+    sources: Vec<Source>,
+}
+
+// Each scenario is run, and the report is plain.
+fn plain_options(alloc: Global) -> Options {
+    Options {
+        tags: Vec::new(alloc),
+        lines: Vec::new(alloc),
+        dry_run: false,
+        stop: false,
+        style: Style {
+            format: Format::Plain,
+            no_skipped: false,
+        },
+    }
+}
+
+// All the bytes of a file.
+fn bytes_of<R: Files + AllocGlobal>(rt: &R, name: &str) -> Option<Vec<u8>> {
+    let file = fs::open(rt, name).ok()?;
+    read_source(rt.alloc(), &mut Counted::new(file)).ok()
+}
+
+// The sources of a run of one file.
+fn sources_of<R: Files + AllocGlobal>(rt: &R, name: &str) -> Option<Vec<Source>> {
+    let bytes = bytes_of(rt, name)?;
+    let name = String::from_str(rt.alloc(), name).ok()?;
+    let mut sources = Vec::new(rt.alloc());
+    sources.push(Source { name, bytes }).ok()?;
+    Some(sources)
+}
+
+/// Reads a feature file, and a hooks file where it is named. Nothing is returned where one can't be read, or
+/// memory ran out.
+pub fn read_inputs<R: Files + AllocGlobal>(
+    rt: &R,
+    feature: &str,
+    hooks: Option<&String>,
+) -> Option<Inputs> {
+    let hooks = match hooks {
+        Some(name) => Some(bytes_of(rt, name)?),
+        None => None,
+    };
+    Some(Inputs {
+        options: plain_options(rt.alloc()),
+        hooks,
+        sources: sources_of(rt, feature)?,
+    })
+}
+
+/// Runs the inputs with the steps of the built-in library, as `run_suite` says.
+pub fn run_in<W: Write>(
+    alloc: Global,
+    sandbox: &mut Sandbox,
+    inputs: &Inputs,
+    out: &mut Counted<W>,
+) -> Result<u8, RunFault>
+    requires room { CountsCanRise out.old }
+    requires outside { depth sandbox.old ≡ 0 }
+{
+    let hooks = match &inputs.hooks {
+        Some(bytes) => Some(bytes.as_slice()),
+        None => None,
+    };
+    let sources = inputs.sources.as_slice();
+    run_suite(alloc, sandbox, &inputs.options, None, hooks, sources, out)
+}
+
+/// The status of a run, or that of its fault.
+pub fn status_of(answer: &Result<u8, RunFault>) -> u8 {
+    match answer {
+        Ok(status) => *status,
+        Err(fault) => fault.status(),
+    }
+}
