@@ -11,8 +11,8 @@ use std::alloc::Global;
 use std::rt::Files;
 use std::{fs, io};
 
-/// What files are read from. What is proved over a `System` holds of each, and so says of the real one only in
-/// which order it is asked for which files, and what becomes of its answers.
+/// What files are read from. What is proved over a `System` holds of each: in which order it is asked for which
+/// files, and what becomes of its answers, as far as its `reads` tells them apart. The code is the same for all.
 pub trait System {
     ghost use Rattle.std.specs.Prelude.{◌≤◌, ℕ, List, Result, IfOk, vec_len};
     ghost use Rattle.gk_cli.specs.declared.source.SourceFault.{SourceFault};
@@ -27,7 +27,8 @@ pub trait System {
         ensures within { IfOk result (λ bytes. vec_len bytes ≤ LIMIT) };
 }
 
-/// The files of the machine that the program runs on. Of what they give, nothing is said.
+/// The files of the machine that the program runs on. Its `reads` tells nothing apart, so no clause says which
+/// files it was asked for, or what they gave.
 #[derive(Drop)]
 pub struct Machine<'a, R: Files> {
     pub rt: &'a R,
