@@ -162,10 +162,7 @@ const EXPRESSIONS: [(&str, [bool; 8]); 12] = [
         "@a and not @a",
         [false, false, false, false, false, false, false, false],
     ),
-    (
-        "~@a,@b",
-        [true, false, true, true, true, false, true, true],
-    ),
+    ("~@a,@b", [true, false, true, true, true, false, true, true]),
 ];
 
 const TAG_SETS: [&[&str]; 8] = [
