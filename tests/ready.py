@@ -19,8 +19,8 @@ REPORT = open(os.path.join(HOME, "examples/first.report"), "rb").read()
 NOBODY = 65534
 SOURCE = "crates/gk_gherkin/src/lib.rt"
 # The commands that ./run may count on, and one for the stand-in.
-COMMANDS = ("cat chmod cp cut dirname du find mkdir mktemp mv python3 readlink rm sh sha256sum sort tail touch xargs "
-            "sleep").split()
+COMMANDS = ("awk cat chmod cp cut dirname du find mkdir mktemp mv python3 readlink rm sh sha256sum sort tail touch "
+            "xargs sleep").split()
 STAND_IN = """#!/bin/sh
 echo "$1 ${PWD##*/}" >> "$CALLS"
 case $1 in
@@ -246,7 +246,7 @@ def two_builds_at_once_are_one(clone):
 def an_interrupt_leaves_nothing_half_built(clone):
     clone.change()
     process = clone.start(EXAMPLE, with_rt=True, SLOW="30")
-    while not os.path.exists(clone.calls + ".pids"):
+    while not os.path.exists(clone.calls + ".pids") and process.poll() is None:
         time.sleep(0.05)
     time.sleep(0.3)
     began = time.monotonic()
