@@ -619,6 +619,38 @@ def many_entries():
                arguments=LIBRARY)
 
 
+ALIKE = "the user opens the order of the"
+
+
+def entries_alike(count):
+    """A library of so many entries that begin alike."""
+    return "".join(f"step {ALIKE} {{name}} at {number} => pass\n" for number in range(count))
+
+
+@large_run
+def many_entries_alike():
+    """Each entry is compared with those before it, and each begins as they do."""
+    steps = [f"Given {ALIKE} x at {number}" for number in (0, 17, 29_999)]
+    return Run({"a.feature": driver.feature(*steps), "l.steps": entries_alike(30_000)}, 0, one_passing(steps),
+               arguments=LIBRARY)
+
+
+@large_run
+def many_entries_of_literals_alike():
+    """Each entry begins as those before it, and is a literal to its end."""
+    library = "".join(f"step {ALIKE} {number} => pass\n" for number in range(30_000))
+    steps = [f"Given {ALIKE} {number}" for number in (0, 17, 29_999)]
+    return Run({"a.feature": driver.feature(*steps), "l.steps": library}, 0, one_passing(steps),
+               arguments=LIBRARY)
+
+
+@large_run
+def fault_of_the_last_of_many_entries_alike():
+    library = entries_alike(3000) + f"step {ALIKE} {{other}} at 17 => pass\n"
+    return Run({"a.feature": "", "l.steps": library}, 3, "",
+               "gherkin_run: l.steps:3001: ambiguous with an earlier line\n", arguments=LIBRARY)
+
+
 @large_run
 def fault_of_the_last_of_many_entries():
     library = entries_of(1000) + "step w7 {x} is {y} => pass\n"

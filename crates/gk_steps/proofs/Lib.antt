@@ -22,3 +22,4 @@ mod DigitLemmas
 mod NumberLemmas
 mod LeftmostLemmas
 mod LibraryLemmas
+mod EntryIndexLemmas

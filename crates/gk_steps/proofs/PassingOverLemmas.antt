@@ -63,7 +63,7 @@ back_more (Literal literal ∷ []) x text h = (x ++ h.0, ap (λ t. x ++ t) h.1 �
 back_more (FieldPiece name kind ∷ []) x text h = tt
 back_more (p ∷ q ∷ ps) x text h = back_more (q ∷ ps) x text h
 
-match_fits : (ps : List PieceValue) (text : List ℕ) (spans : List (List ℕ)) → Matches ps text spans → FitsEnd ps text
+pub match_fits : (ps : List PieceValue) (text : List ℕ) (spans : List (List ℕ)) → Matches ps text spans → FitsEnd ps text
 match_fits [] text spans m = tt
 match_fits (Literal literal ∷ []) text spans m = ([], m.whole ∙ append-nil literal)
 match_fits (FieldPiece name kind ∷ []) text spans m = tt

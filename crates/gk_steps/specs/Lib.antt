@@ -18,3 +18,4 @@ pub mod Columns
 pub mod TableRows
 pub mod Leftmost
 pub mod Digits
+pub mod EntryIndex

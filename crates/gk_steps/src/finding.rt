@@ -6,10 +6,12 @@ ghost use Rattle.gk_steps.specs.Finding as spec;
 ghost use Rattle.gk_steps.specs.Finding.{IsFoundOf, HasCandidate, HasCandidateFor, FindsWhatIsFound};
 ghost use Rattle.gk_steps.specs.Finding.{entries_said, library_value, found_value};
 ghost use Rattle.gk_steps.specs.FilledCells.{cells_of_type, cells_of_step};
+ghost use Rattle.gk_steps.specs.EntryIndex.{IsShelf};
 
 use crate::action::Action;
+use crate::entry_index::Shelf;
 use crate::filled_cells::Cells;
-use crate::library::{Entry, Library};
+use crate::library::Library;
 use crate::matching::match_from_left;
 use crate::pattern::{Field, Piece};
 use gk_gherkin::StepType;
@@ -40,18 +42,22 @@ fn is_same(a: Option<StepType>, b: Option<StepType>) -> bool
 pub(crate) fn find_of(
     cells: &mut Cells,
     alloc: Global,
-    entries: &[Entry],
+    shelf: &Shelf<'_>,
     step_type: Option<StepType>,
     text: &str,
 ) -> Result<Option<Found>, AllocError>
-    ensures found { IfOk result (λ found.
-        IsFoundOf (entries_said entries.now) step_type text.now (option_map found_value found)) }
+    requires { IsShelf shelf.now }
+    ensures found { let entries = entries_said shelf.now.entries.now in IfOk result (λ found.
+        IsFoundOf entries step_type text.now (option_map found_value found)) }
     ensures memory { IfErr result (λ e.
-        HasCandidate (entries_said entries.now) step_type text.now) }
-    ensures most { cells.new.filled
-        ≤ cells.old.filled + cells_of_type (entries_said entries.now) step_type text.now }
+        HasCandidate (entries_said shelf.now.entries.now) step_type text.now) }
+    ensures most { cells.new.filled ≤ cells.old.filled
+        + cells_of_type (entries_said shelf.now.entries.now) step_type text.now }
 {
-    for place in 0..entries.len() {
+    let entries = shelf.entries;
+    let mut tries: usize = 0;
+    let mut place = shelf.next(0, tries, text);
+    while place < entries.len() {
         let entry = &entries[place];
         if is_same(entry.step_type, step_type) && entry.pattern.can_match(text) {
             match match_from_left(cells, alloc, &entry.pattern.pieces, text)? {
@@ -62,6 +68,8 @@ pub(crate) fn find_of(
                 None => {}
             }
         }
+        tries = tries.saturating_add(1);
+        place = shelf.next(place + 1, tries, text);
     }
     Ok(None)
 }
@@ -122,8 +130,8 @@ impl Library {
         ensures most { cells.new.filled
             ≤ cells.old.filled + cells_of_step (library_value self.now) step_type text.now }
     {
-        let typed = &self.entries[..self.typed];
-        if let Some(found) = find_of(cells, alloc, typed, Some(step_type), text)? {
+        let typed = self.shelf(self.typed);
+        if let Some(found) = find_of(cells, alloc, &typed, Some(step_type), text)? {
             return Ok(Some(found));
         }
         self.find_any_counting(alloc, cells, text)
@@ -155,7 +163,8 @@ impl Library {
         ensures most { cells.new.filled
             ≤ cells.old.filled + cells_of_type (library_value self.now) None text.now }
     {
-        find_of(cells, alloc, &self.entries, None, text)
+        let all = self.whole();
+        find_of(cells, alloc, &all, None, text)
     }
 
     /// Whether a step finds an entry.

@@ -7,6 +7,7 @@ mod columns;
 mod decimal;
 mod default_file;
 mod digits;
+mod entry_index;
 mod filled_cells;
 mod finding;
 mod leftmost;

@@ -1,10 +1,14 @@
 //! Step libraries.
-ghost use Rattle.std.specs.Prelude.{◌≡◌, ◌≤◌, length, IsTrue};
+ghost use Rattle.std.specs.Prelude.{◌≡◌, ◌≤◌, ◌++◌, ◌∷◌, [], length, take, IsTrue, IfSome, OnOk};
+ghost use Rattle.std.proofs.Props.{props};
 ghost use Rattle.gk_steps.specs.Library.{are_for_each_from, is_for_one_before};
+ghost use Rattle.gk_steps.specs.EntryIndex.{AreListed, IsGrown, IsShelf};
 
 use crate::action::Action;
+use crate::entry_index::{Index, Shelf};
 use crate::pattern::Pattern;
 use gk_gherkin::StepType;
+use std::alloc::{AllocError, Global};
 
 /// A pattern and the action of the steps that it matches. An entry is for steps of one type, or with
 /// none for steps of each type. (behave's documentation: step implementations)
@@ -22,9 +26,12 @@ pub struct Library {
     /// How many of the entries there are up to and with the last that is for steps of one type, and 0 where
     /// none is. Those from this place on are for steps of each type, so a search for one type ends here.
     pub typed: usize,
+    /// Where the entries stand, by the literals at their patterns' ends. A library that was not read has none.
+    index: Option<Index>,
     ghost within: { typed ≤ length entries.items },
     ghost rest: { IsTrue (are_for_each_from typed entries.items) },
     ghost last: { IsTrue (is_for_one_before typed entries.items) },
+    ghost listed: { IfSome index (λ i. AreListed i entries.items) } by { Prim.hlevel props },
 }
 
 // How many entries there are up to and with the last for steps of one type.
@@ -40,12 +47,106 @@ fn typed_len(entries: &[Entry]) -> usize
     typed
 }
 
+/// The entries that were read so far, with their index.
+#[derive(Debug, Drop)]
+pub(crate) struct Growing {
+    pub entries: Vec<Entry>,
+    pub index: Index,
+}
+
+impl Growing {
+    /// No entries. Takes no memory.
+    pub(crate) fn new(alloc: Global) -> Growing
+        ensures items { result.entries.items ≡ [] }
+        ensures grown { IsGrown result }
+    {
+        Growing {
+            entries: Vec::new(alloc),
+            index: Index::new(alloc),
+        }
+    }
+
+    /// Adds an entry, as the last. The index is made once there are many, and anew with more room where it is full.
+    pub(crate) fn push(&mut self, alloc: Global, entry: Entry) -> Result<(), AllocError>
+        requires { IsGrown self.old }
+        ensures items { OnOk result
+            (self.new.entries.items ≡ self.old.entries.items ++ entry ∷ []) }
+        ensures grown { OnOk result (IsGrown self.new) }
+    {
+        let place = self.entries.len();
+        if self.index.has_room(place) {
+            self.index.add(alloc, place, &entry.pattern.pieces)?;
+            self.entries.push(entry)?;
+        } else {
+            self.entries.push(entry)?;
+            self.index = if place < 64 {
+                Index::new(alloc)
+            } else {
+                Index::of(alloc, &self.entries)?
+            };
+        }
+        Ok(())
+    }
+
+    /// The entries, to be searched.
+    pub(crate) fn shelf(&self) -> Shelf<'_>
+        requires { IsGrown self.now }
+        ensures entries { result.entries.now ≡ self.now.entries.items }
+        ensures listed { IsShelf result }
+    {
+        Shelf {
+            entries: &self.entries,
+            index: Some(&self.index),
+        }
+    }
+}
+
 impl Library {
     /// The library of these entries.
     pub fn new(entries: Vec<Entry>) -> Library
         ensures { result.entries ≡ entries }
     {
         let typed = typed_len(&entries);
-        Library { entries, typed }
+        Library {
+            entries,
+            typed,
+            index: None,
+        }
+    }
+
+    /// The library of the entries that were read.
+    pub(crate) fn grown(growing: Growing) -> Library
+        requires { IsGrown growing }
+        ensures { result.entries ≡ growing.entries }
+    {
+        let typed = typed_len(&growing.entries);
+        Library {
+            entries: growing.entries,
+            typed,
+            index: Some(growing.index),
+        }
+    }
+
+    /// All entries, to be searched.
+    pub(crate) fn whole(&self) -> Shelf<'_>
+        ensures entries { result.entries.now ≡ self.now.entries.items }
+        ensures listed { IsShelf result }
+    {
+        Shelf {
+            entries: &self.entries,
+            index: self.index.as_ref(),
+        }
+    }
+
+    /// The entries before a place, to be searched.
+    pub(crate) fn shelf(&self, size: usize) -> Shelf<'_>
+        requires { size ≤ length self.now.entries.items }
+        ensures entries { result.entries.now ≡ take size self.now.entries.items }
+        ensures listed { IsShelf result }
+    {
+        Shelf {
+            entries: &self.entries[..size],
+            index: self.index.as_ref(),
+        }
     }
 }

@@ -4,13 +4,14 @@ ghost use Rattle.gk_gherkin.specs.ReadFault.{LinesFaultSays};
 ghost use Rattle.gk_gherkin.specs.declared.read_fault.ReadFault.TheVariants.{Memory as ReadMemory};
 ghost use Rattle.gk_gherkin.specs.Lines.{borrowed_value, numbered_from, lines_of, IsText};
 ghost use Rattle.std.specs.Str.Lines.{lines};
+ghost use Rattle.gk_steps.specs.EntryIndex.{IsGrown};
 ghost use Rattle.gk_steps.specs.Finding.{LibraryValue, entries_said, library_value};
 ghost use Rattle.gk_steps.specs.LibraryFile.{ReadsLibrary, AnswersLibrary, LibraryReadingIsUnique};
 ghost use Rattle.gk_steps.specs.LibraryFault.{LibraryFaultSays};
 ghost use Rattle.gk_steps.specs.LibraryLine.{EntryFaultSays, LineFaultSays, LibraryLinesFaultSays};
 ghost use Rattle.gk_steps.specs.LibraryLine.{AddsEntry, AddsLine};
 
-use crate::library::{Entry, Library};
+use crate::library::{Growing, Library};
 use crate::library_fault::LibraryFault;
 use crate::library_line::{is_ignored, read_entry};
 use gk_gherkin::{BorrowedLine, LIMIT, ReadFault, borrowed_line, text_of};
@@ -31,18 +32,20 @@ fn lines_fault(fault: ReadFault) -> LibraryFault
 
 // Adds the entry that a line spells.
 fn add_entry(
-    entries: &mut Vec<Entry>,
+    growing: &mut Growing,
     alloc: Global,
     line: &BorrowedLine<'_>,
 ) -> Result<(), LibraryFault>
-    ensures added { OnOk result (AddsEntry (entries_said entries.old.items)
-        (borrowed_value line.now) (entries_said entries.new.items)) }
+    requires { IsGrown growing.old }
+    ensures grown { OnOk result (IsGrown growing.new) }
     ensures fault { IfErr result (λ f.
-        EntryFaultSays f (entries_said entries.old.items) (borrowed_value line.now)) }
+        EntryFaultSays f (entries_said growing.old.entries.items) (borrowed_value line.now)) }
+    ensures added { OnOk result (AddsEntry (entries_said growing.old.entries.items)
+        (borrowed_value line.now) (entries_said growing.new.entries.items)) }
 {
-    match read_entry(alloc, entries, line) {
+    match read_entry(alloc, &growing.shelf(), line) {
         Ok(entry) => {
-            entries.push(entry)?;
+            growing.push(alloc, entry)?;
             Ok(())
         }
         Err(fault) => Err(fault),
@@ -51,42 +54,45 @@ fn add_entry(
 
 // Adds what a line says, where it isn't ignored.
 fn add_line(
-    entries: &mut Vec<Entry>,
+    growing: &mut Growing,
     alloc: Global,
     line: &BorrowedLine<'_>,
 ) -> Result<(), LibraryFault>
-    ensures added { OnOk result (AddsLine (entries_said entries.old.items)
-        (borrowed_value line.now) (entries_said entries.new.items)) }
+    requires { IsGrown growing.old }
+    ensures grown { OnOk result (IsGrown growing.new) }
+    ensures added { OnOk result (AddsLine (entries_said growing.old.entries.items)
+        (borrowed_value line.now) (entries_said growing.new.entries.items)) }
     ensures fault { IfErr result (λ f.
-        LineFaultSays f (entries_said entries.old.items) (borrowed_value line.now)) }
+        LineFaultSays f (entries_said growing.old.entries.items) (borrowed_value line.now)) }
 {
     if is_ignored(line) {
         return Ok(());
     }
-    match add_entry(entries, alloc, line) {
+    match add_entry(growing, alloc, line) {
         Ok(()) => Ok(()),
         Err(fault) => Err(fault),
     }
 }
 
 // The entries that the lines of a text spell.
-fn read_entries(alloc: Global, text: &str) -> Result<Vec<Entry>, LibraryFault>
+fn read_entries(alloc: Global, text: &str) -> Result<Growing, LibraryFault>
     requires { length text.now ≤ LIMIT }
-    ensures found { IfOk result (λ es.
-        ReadsLibrary (numbered_from 1 (lines text.now)) (entries_said es.items)) }
+    ensures grown { IfOk result (λ g. IsGrown g) }
+    ensures found { IfOk result (λ g.
+        ReadsLibrary (numbered_from 1 (lines text.now)) (entries_said g.entries.items)) }
     ensures fault { IfErr result (λ f.
         LibraryLinesFaultSays f (numbered_from 1 (lines text.now))) }
 {
-    let mut entries = Vec::new(alloc);
+    let mut growing = Growing::new(alloc);
     let mut number: u32 = 1;
     for part in text.lines() {
-        match add_line(&mut entries, alloc, &borrowed_line(number, part)) {
+        match add_line(&mut growing, alloc, &borrowed_line(number, part)) {
             Ok(()) => {}
             Err(fault) => return Err(fault),
         }
         number += 1;
     }
-    Ok(entries)
+    Ok(growing)
 }
 
 /// The library that the bytes of a file spell. Blank lines and those that begin with `#` are ignored;
@@ -109,7 +115,7 @@ pub fn read_library(alloc: Global, bytes: &[u8]) -> Result<Library, LibraryFault
 {
     match text_of(bytes) {
         Ok(text) => match read_entries(alloc, text) {
-            Ok(entries) => Ok(Library::new(entries)),
+            Ok(growing) => Ok(Library::grown(growing)),
             Err(fault) => Err(fault),
         },
         Err(fault) => Err(lines_fault(fault)),

@@ -5,6 +5,7 @@ ghost use Rattle.gk_gherkin.specs.Lines.{borrowed_value};
 ghost use Rattle.gk_steps.specs.Pattern.{pattern_value, pieces_said, SpellsPattern};
 ghost use Rattle.gk_steps.specs.Pattern.{field_kind as field_kind_of};
 ghost use Rattle.gk_steps.specs.Finding.{entries_said, entry_value};
+ghost use Rattle.gk_steps.specs.EntryIndex.{IsShelf};
 ghost use Rattle.gk_steps.specs.LibraryFile as spec;
 ghost use Rattle.gk_steps.specs.LibraryFile.{Sides, SpellsEntry};
 ghost use Rattle.gk_steps.specs.Action as actions;
@@ -14,6 +15,7 @@ ghost use Rattle.gk_steps.specs.LibraryLine.{FitsAction, ActionFaultSays, Patter
 ghost use Rattle.gk_steps.specs.LibraryLine.{IsEntryText, EntryTextFaultSays, EntryFaultSays};
 
 use crate::action::{Action, row_named};
+use crate::entry_index::Shelf;
 use crate::filled_cells::Cells;
 use crate::finding::find_of;
 use crate::library::Entry;
@@ -197,16 +199,18 @@ fn action_at(line: u32, name: &str, pieces: &[Piece]) -> Result<Action, LibraryF
 // The entry of a line from what it says of it.
 fn entry_from(
     alloc: Global,
-    earlier: &[Entry],
+    earlier: &Shelf<'_>,
     line: &BorrowedLine<'_>,
     said: &EntryText<'_>,
 ) -> Result<Entry, LibraryFault>
-    requires { IsEntryText (borrowed_value line.now)
+    requires shelf { IsShelf earlier.now }
+    requires said { IsEntryText (borrowed_value line.now)
         said.now.step_type said.now.pattern.now said.now.action.now }
     ensures entry { IfOk result (λ e.
-        SpellsEntry (entries_said earlier.now) (borrowed_value line.now) (entry_value e)) }
+        SpellsEntry (entries_said earlier.now.entries.now)
+        (borrowed_value line.now) (entry_value e)) }
     ensures fault { IfErr result (λ f.
-        EntryFaultSays f (entries_said earlier.now) (borrowed_value line.now)) }
+        EntryFaultSays f (entries_said earlier.now.entries.now) (borrowed_value line.now)) }
 {
     let number = line.place.line;
     let pattern = match pattern_at(alloc, number, said.pattern) {
@@ -231,13 +235,15 @@ fn entry_from(
 /// The entry that a line spells after earlier ones.
 pub(crate) fn read_entry(
     alloc: Global,
-    earlier: &[Entry],
+    earlier: &Shelf<'_>,
     line: &BorrowedLine<'_>,
 ) -> Result<Entry, LibraryFault>
+    requires { IsShelf earlier.now }
     ensures entry { IfOk result (λ e.
-        SpellsEntry (entries_said earlier.now) (borrowed_value line.now) (entry_value e)) }
+        SpellsEntry (entries_said earlier.now.entries.now)
+        (borrowed_value line.now) (entry_value e)) }
     ensures fault { IfErr result (λ f.
-        EntryFaultSays f (entries_said earlier.now) (borrowed_value line.now)) }
+        EntryFaultSays f (entries_said earlier.now.entries.now) (borrowed_value line.now)) }
 {
     match entry_text(line) {
         Ok(said) => entry_from(alloc, earlier, line, &said),

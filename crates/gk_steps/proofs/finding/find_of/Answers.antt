@@ -1,60 +1,65 @@
-use Rattle.std.proofs.Common.{◌≤◌, ◌+◌, sym, map, drop, subst, refl, option_map}
+use Rattle.std.proofs.Common.{◌≤◌, ◌+◌, arith, sym, map, drop, subst, refl, option_map}
 use Rattle.gk_steps.specs.declared.filled_cells.Cells.{Cells}
 use Rattle.gk_steps.specs.FilledCells.{cells_of_type}
-use Rattle.gk_steps.specs.Finding.{entry_value}
-use Rattle.gk_steps.proofs.FilledCellsLemmas.{asked, passed_over, within_all}
+use Rattle.gk_steps.specs.Finding.{NoneBefore, entry_value}
+use Rattle.gk_steps.proofs.FilledCellsLemmas.{asked, passed_over}
 use Rattle.gk_steps.specs.Matching.{IsMatchResult, field_value}
 use Rattle.gk_steps.specs.Pattern.{piece_value}
 use Rattle.gk_steps.proofs.FindingLemmas.{none_more, none_all, first_at, candidate, of_fault}
+use Rattle.gk_steps.proofs.EntryIndexLemmas.{none_skipped, cells_skipped}
 use Rattle.gk_steps.proofs.finding.find_of.Goals as goal
 use Rattle.gk_steps.proofs.finding.find_of.Goals.{then-is_same+then-can_match+in_ok-fields+in-None, else-is_same, else-is_same-via-then-is_same+else-can_match, else-is_same-via-else-is_same}
 
 pub returns-in-Some-clause-found : goal.returns-in-Some-clause-found
 returns-in-Some-clause-found c =
-    first_at c.args.entries.now c.args.step_type c.args.text.now c.loop-place.place c.index-entries-place.result (map field_value c.in-Some.fields.items) c.loop-place-test.true c.index-entries-place.is c.if-is_same.ensures
+    first_at c.args.shelf.now.entries.now c.args.step_type c.args.text.now c.loop-place.place c.index-entries-place.result (map field_value c.in-Some.fields.items) c.loop-place-test.true c.index-entries-place.is c.if-is_same.ensures
     (subst (λ o. IsMatchResult (map piece_value c.index-entries-place.result.pattern.pieces.items) c.args.text.now (option_map (λ fields. map field_value fields.items) o)) c.in-Some.is
     (subst (λ ps. IsMatchResult (map piece_value ps) c.args.text.now (option_map (λ fields. map field_value fields.items) c.in_ok-fields.field-0)) c.deref.ensures.value c.in_ok-fields.ensures.found)) c.loop-place.invariant.0
 
 pub returns-clause-found : goal.returns-clause-found
-returns-clause-found c = none_all c.args.entries.now c.args.step_type c.args.text.now c.loop-place.place c.loop-place-test.false c.loop-place.invariant.0
+returns-clause-found c = none_all c.args.shelf.now.entries.now c.args.step_type c.args.text.now c.loop-place.place c.loop-place-test.false c.loop-place.invariant.0
 
 pub returns-in_err-fields-clause-memory : goal.returns-in_err-fields-clause-memory
 returns-in_err-fields-clause-memory c =
-    of_fault c.from_residual.result (candidate c.args.entries.now c.args.step_type c.args.text.now c.loop-place.place c.index-entries-place.result c.loop-place-test.true c.index-entries-place.is c.if-is_same.ensures (c.if-can_match.ensures.prefix refl, c.if-can_match.ensures.back refl))
+    of_fault c.from_residual.result (candidate c.args.shelf.now.entries.now c.args.step_type c.args.text.now c.loop-place.place c.index-entries-place.result c.loop-place-test.true c.index-entries-place.is c.if-is_same.ensures (c.if-can_match.ensures.prefix refl, c.if-can_match.ensures.back refl))
+
+pub loop-place-init : goal.loop-place-init
+loop-place-init c =
+    let entries = c.args.shelf.now.entries.now in
+    let next = c.next-place.result in
+    let start : c.args.cells.now.filled + cells_of_type (map entry_value entries) c.args.step_type c.args.text.now ≤ c.args.cells.now.filled + cells_of_type (map entry_value entries) c.args.step_type c.args.text.now = omega arith in (
+      none_skipped entries c.args.step_type c.args.text.now 0 next (λ earlier other less is same. absurd (omega arith)) c.next-place.ensures,
+      cells_skipped entries 0 next c.args.step_type c.args.text.now c.args.cells.now.filled c.args.cells.now.filled (omega arith) start,
+    )
 
 pub loop-place-preserved : goal.loop-place-preserved
 loop-place-preserved c =
-    elim c.if-is_same.branch [
+    let entries = c.args.shelf.now.entries.now in
+    let place = c.loop-place.place + 1 in
+    let next = c.next-place-in-loop-place.result in
+    let here : NoneBefore (c.loop-place.place + 1) (map entry_value c.args.shelf.now.entries.now) c.args.step_type c.args.text.now
+    × (c.if-is_same.cells.filled + cells_of_type (map entry_value (drop (c.loop-place.place + 1) c.args.shelf.now.entries.now)) c.args.step_type c.args.text.now ≤ c.args.cells.now.filled + cells_of_type (map entry_value c.args.shelf.now.entries.now) c.args.step_type c.args.text.now) = elim c.if-is_same.branch [
       | then-is_same+then-can_match+in_ok-fields+in-None w ↦ (
-        none_more c.args.entries.now c.args.step_type c.args.text.now c.loop-place.place c.index-entries-place.result c.loop-place-test.true c.index-entries-place.is
+        none_more c.args.shelf.now.entries.now c.args.step_type c.args.text.now c.loop-place.place c.index-entries-place.result c.loop-place-test.true c.index-entries-place.is
             (λ same. subst (λ o. IsMatchResult (map piece_value c.index-entries-place.result.pattern.pieces.items) c.args.text.now (option_map (λ fields. map field_value fields.items) o)) w.in-None.is
             (subst (λ ps. IsMatchResult (map piece_value ps) c.args.text.now (option_map (λ fields. map field_value fields.items) w.in_ok-fields.field-0)) w.deref.ensures.value w.in_ok-fields.ensures.found)) c.loop-place.invariant.0,
-        subst (λ (cells : Cells). cells.filled + cells_of_type (map entry_value (drop (c.loop-place.place + 1) c.args.entries.now)) c.args.step_type c.args.text.now ≤ c.args.cells.now.filled + cells_of_type (map entry_value c.args.entries.now) c.args.step_type c.args.text.now) (sym w.cells-is)
-            (asked c.args.entries.now c.loop-place.place c.index-entries-place.result c.args.step_type c.args.text.now w.deref.result.now c.args.cells.now.filled c.loop-place.cells.filled w.match_from_left.new.cells.filled c.loop-place-test.true c.index-entries-place.is w.if-is_same.ensures w.deref.ensures.value w.match_from_left.ensures.most c.loop-place.invariant.1),
+        subst (λ (cells : Cells). cells.filled + cells_of_type (map entry_value (drop (c.loop-place.place + 1) c.args.shelf.now.entries.now)) c.args.step_type c.args.text.now ≤ c.args.cells.now.filled + cells_of_type (map entry_value c.args.shelf.now.entries.now) c.args.step_type c.args.text.now) (sym w.cells-is)
+            (asked c.args.shelf.now.entries.now c.loop-place.place c.index-entries-place.result c.args.step_type c.args.text.now w.deref.result.now c.args.cells.now.filled c.loop-place.cells.filled w.match_from_left.new.cells.filled c.loop-place-test.true c.index-entries-place.is w.if-is_same.ensures w.deref.ensures.value w.match_from_left.ensures.most c.loop-place.invariant.1),
       )
       | else-is_same w ↦ (
         elim w.else-is_same.branch [
           | else-is_same-via-then-is_same+else-can_match v ↦
-              none_more c.args.entries.now c.args.step_type c.args.text.now c.loop-place.place c.index-entries-place.result c.loop-place-test.true c.index-entries-place.is
+              none_more c.args.shelf.now.entries.now c.args.step_type c.args.text.now c.loop-place.place c.index-entries-place.result c.loop-place-test.true c.index-entries-place.is
               (λ same. v.if-can_match.ensures.refused refl) c.loop-place.invariant.0
           | else-is_same-via-else-is_same v ↦
-              none_more c.args.entries.now c.args.step_type c.args.text.now c.loop-place.place c.index-entries-place.result c.loop-place-test.true c.index-entries-place.is
+              none_more c.args.shelf.now.entries.now c.args.step_type c.args.text.now c.loop-place.place c.index-entries-place.result c.loop-place-test.true c.index-entries-place.is
               (λ same. absurd (v.if-is_same.ensures same)) c.loop-place.invariant.0
         ],
-        subst (λ (cells : Cells). cells.filled + cells_of_type (map entry_value (drop (c.loop-place.place + 1) c.args.entries.now)) c.args.step_type c.args.text.now ≤ c.args.cells.now.filled + cells_of_type (map entry_value c.args.entries.now) c.args.step_type c.args.text.now) (sym w.cells-is)
-            (passed_over c.args.entries.now c.loop-place.place c.index-entries-place.result c.args.step_type c.args.text.now c.args.cells.now.filled c.loop-place.cells.filled c.loop-place-test.true c.index-entries-place.is c.loop-place.invariant.1),
+        subst (λ (cells : Cells). cells.filled + cells_of_type (map entry_value (drop (c.loop-place.place + 1) c.args.shelf.now.entries.now)) c.args.step_type c.args.text.now ≤ c.args.cells.now.filled + cells_of_type (map entry_value c.args.shelf.now.entries.now) c.args.step_type c.args.text.now) (sym w.cells-is)
+            (passed_over c.args.shelf.now.entries.now c.loop-place.place c.index-entries-place.result c.args.step_type c.args.text.now c.args.cells.now.filled c.loop-place.cells.filled c.loop-place-test.true c.index-entries-place.is c.loop-place.invariant.1),
       )
-    ]
-
-pub returns-in_err-fields-clause-most : goal.returns-in_err-fields-clause-most
-returns-in_err-fields-clause-most c =
-    within_all c.match_from_left.new.cells.filled (cells_of_type (map entry_value (drop (c.loop-place.place + 1) c.args.entries.now)) c.args.step_type c.args.text.now) c.args.cells.now.filled (cells_of_type (map entry_value c.args.entries.now) c.args.step_type c.args.text.now)
-    (asked c.args.entries.now c.loop-place.place c.index-entries-place.result c.args.step_type c.args.text.now c.deref.result.now c.args.cells.now.filled c.loop-place.cells.filled c.match_from_left.new.cells.filled c.loop-place-test.true c.index-entries-place.is c.if-is_same.ensures c.deref.ensures.value c.match_from_left.ensures.most c.loop-place.invariant.1)
-
-pub returns-in-Some-clause-most : goal.returns-in-Some-clause-most
-returns-in-Some-clause-most c =
-    within_all c.match_from_left.new.cells.filled (cells_of_type (map entry_value (drop (c.loop-place.place + 1) c.args.entries.now)) c.args.step_type c.args.text.now) c.args.cells.now.filled (cells_of_type (map entry_value c.args.entries.now) c.args.step_type c.args.text.now)
-    (asked c.args.entries.now c.loop-place.place c.index-entries-place.result c.args.step_type c.args.text.now c.deref.result.now c.args.cells.now.filled c.loop-place.cells.filled c.match_from_left.new.cells.filled c.loop-place-test.true c.index-entries-place.is c.if-is_same.ensures c.deref.ensures.value c.match_from_left.ensures.most c.loop-place.invariant.1)
-
-pub returns-clause-most : goal.returns-clause-most
-returns-clause-most c = within_all c.loop-place.cells.filled (cells_of_type (map entry_value (drop c.loop-place.place c.args.entries.now)) c.args.step_type c.args.text.now) c.args.cells.now.filled (cells_of_type (map entry_value c.args.entries.now) c.args.step_type c.args.text.now) c.loop-place.invariant.1
+    ] in
+    let later : place ≤ next = c.next-place-in-loop-place.ensures.low (omega (arith, c.loop-place-test.true)) in (
+      none_skipped entries c.args.step_type c.args.text.now place next here.0 c.next-place-in-loop-place.ensures,
+      cells_skipped entries place next c.args.step_type c.args.text.now c.args.cells.now.filled c.if-is_same.cells.filled later here.1,
+    )

@@ -11,16 +11,16 @@ use Rattle.gk_steps.proofs.library_line.entry_from.Goals as goal
 pub returns-in-Some-clause-fault : goal.returns-in-Some-clause-fault
 returns-in-Some-clause-fault c = (
   refl,
-  ambiguous_with (map entry_value c.args.earlier.now) (borrowed_value c.args.line.now) c.args.said.now.step_type c.args.said.now.pattern.now c.args.said.now.action.now (pattern_value c.in-Ok.pattern) c.in-Ok-action_at.action
-      (option_map found_value c.in_ok-find_of.field-0) (found_value c.in-Some.field-0) (ap (λ (o : Option Found). option_map found_value o) c.in-Some.is) c.requires c.in-Ok.ensures.pattern
+  ambiguous_with (map entry_value c.args.earlier.now.entries.now) (borrowed_value c.args.line.now) c.args.said.now.step_type c.args.said.now.pattern.now c.args.said.now.action.now (pattern_value c.in-Ok.pattern) c.in-Ok-action_at.action
+      (option_map found_value c.in_ok-find_of.field-0) (found_value c.in-Some.field-0) (ap (λ (o : Option Found). option_map found_value o) c.in-Some.is) c.requires.said c.in-Ok.ensures.pattern
       (subst (λ (q : List Piece). FitsAction c.args.said.now.action.now (map piece_value q) c.in-Ok-action_at.action) c.deref.ensures.value c.in-Ok-action_at.ensures.action) c.in_ok-find_of.ensures.found,
 )
 
 pub returns-in-None-clause-entry : goal.returns-in-None-clause-entry
-returns-in-None-clause-entry c = entry_with (map entry_value c.args.earlier.now) (borrowed_value c.args.line.now) c.args.said.now.step_type c.args.said.now.pattern.now c.args.said.now.action.now (pattern_value c.in-Ok.pattern) c.in-Ok-action_at.action
-    (option_map found_value c.in_ok-find_of.field-0) (ap (λ (o : Option Found). option_map found_value o) c.in-None.is) c.requires c.in-Ok.ensures.pattern
+returns-in-None-clause-entry c = entry_with (map entry_value c.args.earlier.now.entries.now) (borrowed_value c.args.line.now) c.args.said.now.step_type c.args.said.now.pattern.now c.args.said.now.action.now (pattern_value c.in-Ok.pattern) c.in-Ok-action_at.action
+    (option_map found_value c.in_ok-find_of.field-0) (ap (λ (o : Option Found). option_map found_value o) c.in-None.is) c.requires.said c.in-Ok.ensures.pattern
     (subst (λ (q : List Piece). FitsAction c.args.said.now.action.now (map piece_value q) c.in-Ok-action_at.action) c.deref.ensures.value c.in-Ok-action_at.ensures.action) c.in_ok-find_of.ensures.found
 
 pub returns-in_err-find_of-clause-fault : goal.returns-in_err-find_of-clause-fault
-returns-in_err-find_of-clause-fault c = memory_fault c.from_residual.result (map entry_value c.args.earlier.now) (borrowed_value c.args.line.now) c.from_residual.ensures.1
-    (pattern_needs (borrowed_value c.args.line.now) c.args.said.now.step_type c.args.said.now.pattern.now c.args.said.now.action.now (pattern_value c.in-Ok.pattern) c.requires c.in-Ok.ensures.pattern)
+returns-in_err-find_of-clause-fault c = memory_fault c.from_residual.result (map entry_value c.args.earlier.now.entries.now) (borrowed_value c.args.line.now) c.from_residual.ensures.1
+    (pattern_needs (borrowed_value c.args.line.now) c.args.said.now.step_type c.args.said.now.pattern.now c.args.said.now.action.now (pattern_value c.in-Ok.pattern) c.requires.said c.in-Ok.ensures.pattern)

@@ -1,0 +1,339 @@
+-- An index over the literals at the ends of patterns.
+use Rattle.std.proofs.Common.{◌≡◌, ℕ, Bool, zero, suc, ◌+◌, ◌-◌, ◌%◌, ◌<◌, ◌≤◌, ◌⊎◌, inl, inr, List, [], ◌∷◌, ◌++◌, length, take, drop, map, get_or, Option, Some, refl, ap, sym, subst, ◌∙◌, arith, length-append, Bor, None}
+use Rattle.std.specs.Prelude.{slice_get, slice_set, IfSome, option_copied, Vec, ◌==◌, true, false, Result, Ok, Err, OnOk}
+use Rattle.std.specs.declared.alloc.Global.{Global}
+use Rattle.std.proofs.Math.Nat.{eq-or-lt_of_le, mod-lt}
+use Rattle.std.proofs.lemmas.Bool.{cases_lt, eq-eqb}
+use Rattle.std.proofs.lemmas.List.{append-nil, take_at, drop_at}
+use Rattle.gk_steps.specs.declared.library.Entry.{Entry}
+use Rattle.gk_steps.specs.declared.pattern.Piece.{Piece}
+use Rattle.gk_steps.specs.declared.entry_index.Index.{Index}
+use Rattle.gk_steps.specs.Pattern.{PieceValue, Literal, FieldPiece, piece_value, pattern_value}
+use Rattle.gk_steps.specs.Matching.{Matches, MatchesNot, woven}
+use Rattle.gk_steps.specs.PassingOver.{FitsEnd}
+use Rattle.gk_gherkin.specs.declared.feature.StepType.{StepType}
+use Rattle.gk_steps.specs.Finding.{EntryValue, entry_value, NoneBefore}
+use Rattle.gk_steps.specs.FilledCells.{cells_of_type}
+use Rattle.gk_steps.specs.EntryIndex.{literal_of, first_literal, last_literal, key_more, key_over, first_key, ends_key, IsAmong, IsMarked, bucket_at, bucket_of, HasBuckets, Lists, AreListed, IsLeastFrom, Skips, HasKey, HasEnds, HasEndsAmong, IsShorter, IsAny, SkipsEntries}
+use Rattle.gk_steps.proofs.PassingOverLemmas.{match_fits}
+
+-- the last literal
+same_some : {A : Type 0} (x y : A) → ◌≡◌ {A = Option A} (Some x) (Some y) → x ≡ y
+same_some x y e = cc
+
+last_said : (pieces : List Piece) (n : ℕ) (p : Piece) → length pieces ≡ suc n → slice_get pieces n ≡ Some p → literal_of (piece_value p) ≡ last_literal (map piece_value pieces)
+last_said [] n p size e = absurd (omega arith)
+last_said (q ∷ []) zero p size e = ap (λ r. literal_of (piece_value r)) (sym (same_some q p e))
+last_said (q ∷ []) (suc n) p size e = absurd (omega arith)
+last_said (q ∷ r ∷ rest) zero p size e = absurd (omega arith)
+last_said (q ∷ r ∷ rest) (suc n) p size e = last_said (r ∷ rest) n p (omega arith) e
+
+not_empty : (pieces : List Piece) (p : Piece) → slice_get pieces (length pieces - 1) ≡ Some p → length pieces ≡ suc (length pieces - 1)
+not_empty [] p e = let bad : ⊥ = cc in absurd bad
+not_empty (q ∷ pieces) p e = omega arith
+
+pub last_is : (pieces : List Piece) (p : Piece) → slice_get pieces (length pieces - 1) ≡ Some p → literal_of (piece_value p) ≡ last_literal (map piece_value pieces)
+last_is pieces p e = last_said pieces (length pieces - 1) p (not_empty pieces p e) e
+
+-- places of a list
+pub get_at : {X : Type 0} (xs : List X) (i : ℕ) (x : X) → i < length xs → x ≡ get_or xs i x → slice_get xs i ≡ Some x
+get_at [] i x l e = absurd (omega arith)
+get_at (y ∷ ys) zero x l e = ap Some (sym e)
+get_at (y ∷ ys) (suc i) x l e = get_at ys i x (omega arith) e
+
+pub get_within : {X : Type 0} (xs : List X) (k : ℕ) (x : X) → slice_get xs k ≡ Some x → k < length xs
+get_within [] k x is = let bad : ⊥ = cc in absurd bad
+get_within (y ∷ ys) zero x is = omega arith
+get_within (y ∷ ys) (suc k) x is = let less = get_within ys k x is in omega arith
+
+among_push : (p q : ℕ) (xs : List ℕ) → IsAmong p xs → IsAmong p (xs ++ q ∷ [])
+among_push p q [] a = let bad : ⊥ = cc in absurd bad
+among_push p q (x ∷ xs) (zero, e) = (0, e)
+among_push p q (x ∷ xs) (suc k, e) = let more = among_push p q xs (k, e) in (suc more.0, more.1)
+
+among_new : (p : ℕ) (xs : List ℕ) → IsAmong p (xs ++ p ∷ [])
+among_new p [] = (0, refl)
+among_new p (x ∷ xs) = let more = among_new p xs in (suc more.0, more.1)
+
+-- a bucket with a place more
+pub kept_set : (bs : List (Vec ℕ Global)) (slot k : ℕ) (old new : Vec ℕ Global) (place p : ℕ) → slot < length bs → old ≡ get_or bs slot old → new.items ≡ old.items ++ place ∷ [] → IsAmong p (bucket_at bs k) → IsAmong p (bucket_at (slice_set bs slot new) k)
+kept_set [] slot k old new place p l e is a = absurd (omega arith)
+kept_set (b ∷ bs) zero zero old new place p l e is a = subst (IsAmong p) (sym is) (among_push p place old.items (subst (λ (v : Vec ℕ Global). IsAmong p v.items) (sym e) a))
+kept_set (b ∷ bs) zero (suc k) old new place p l e is a = a
+kept_set (b ∷ bs) (suc slot) zero old new place p l e is a = a
+kept_set (b ∷ bs) (suc slot) (suc k) old new place p l e is a = kept_set bs slot k old new place p (omega arith) e is a
+
+pub added_set : (bs : List (Vec ℕ Global)) (slot : ℕ) (old new : Vec ℕ Global) (place : ℕ) → slot < length bs → new.items ≡ old.items ++ place ∷ [] → IsAmong place (bucket_at (slice_set bs slot new) slot)
+added_set [] slot old new place l is = absurd (omega arith)
+added_set (b ∷ bs) zero old new place l is = subst (IsAmong place) (sym is) (among_new place old.items)
+added_set (b ∷ bs) (suc slot) old new place l is = added_set bs slot old new place (omega arith) is
+
+pub bucket_read : (bs : List (Vec ℕ Global)) (k : ℕ) (v : Vec ℕ Global) → k < length bs → v ≡ get_or bs k v → bucket_at bs k ≡ v.items
+bucket_read [] k v l e = absurd (omega arith)
+bucket_read (b ∷ bs) zero v l e = ap (λ (w : Vec ℕ Global). w.items) (sym e)
+bucket_read (b ∷ bs) (suc k) v l e = bucket_read bs k v (omega arith) e
+
+-- the bucket of a key
+mod_of : (key n : ℕ) → 0 < n → key % n < n
+mod_of key n l = mod-lt key {m = n} l
+
+pub slot_within : (bs : List (Vec ℕ Global)) (key n : ℕ) → n ≡ length bs → 0 < length bs → key % n < length bs
+slot_within bs key n size some = let there : 0 < n = omega (arith, size, some) in omega (arith, mod_of key n there, size)
+
+pub kept_of : (bs : List (Vec ℕ Global)) (key slot k n m : ℕ) (old new : Vec ℕ Global) (number : ℕ) → slot ≡ key % m → m ≡ length bs → 0 < length bs → length (slice_set bs slot new) ≡ length bs → old ≡ get_or bs slot old → new.items ≡ old.items ++ number ∷ [] → IsAmong n (bucket_of bs k) → IsAmong n (bucket_of (slice_set bs slot new) k)
+kept_of bs key slot k n m old new number at size some same e is a =
+    let less : slot < length bs = omega (arith, at, slot_within bs key m size some) in
+    subst (λ q. IsAmong n (bucket_at (slice_set bs slot new) (k % q))) (sym same) (kept_set bs slot (k % length bs) old new number n less e is a)
+
+pub added_of : (bs : List (Vec ℕ Global)) (key slot m : ℕ) (old new : Vec ℕ Global) (number : ℕ) → slot ≡ key % m → m ≡ length bs → 0 < length bs → length (slice_set bs slot new) ≡ length bs → new.items ≡ old.items ++ number ∷ [] → IsAmong number (bucket_of (slice_set bs slot new) key)
+added_of bs key slot m old new number at size some same is =
+    let less : slot < length bs = omega (arith, at, slot_within bs key m size some) in
+    let here : slot ≡ key % length (slice_set bs slot new) = at ∙ ap (λ q. key % q) (size ∙ sym same) in
+    subst (λ q. IsAmong number (bucket_at (slice_set bs slot new) q)) here (added_set bs slot old new number less is)
+
+-- keys
+key_taken : (key : ℕ) (bytes : List ℕ) (i : ℕ) → i < length bytes → key_more (key_over key (take i bytes)) (get_or bytes i 0) ≡ key_over key (take (suc i) bytes)
+key_taken key [] i l = absurd (omega arith)
+key_taken key (b ∷ bs) zero l = refl
+key_taken key (b ∷ bs) (suc i) l = key_taken (key_more key b) bs i (omega arith)
+
+pub key_before : (bytes : List ℕ) (size : ℕ) → 0 < size → size ≤ length bytes → key_more (key_over 0 (take (size - 1) bytes)) (get_or bytes (size - 1) 0) ≡ key_over 0 (take size bytes)
+key_before bytes zero some l = absurd (omega arith)
+key_before bytes (suc i) some l =
+    let same : suc i - 1 ≡ i = omega arith in
+    subst (λ q. key_more (key_over 0 (take q bytes)) (get_or bytes q 0) ≡ key_over 0 (take (suc i) bytes)) (sym same) (key_taken 0 bytes i (omega arith))
+
+get_number : (xs : List ℕ) (i : ℕ) → i < length xs → slice_get xs i ≡ Some (get_or xs i 0)
+get_number [] i l = absurd (omega arith)
+get_number (x ∷ xs) zero l = refl
+get_number (x ∷ xs) (suc i) l = get_number xs i (omega arith)
+
+-- what is listed stays so
+pub lists_kept : (old new : Index) (p : ℕ) (ps : List PieceValue) → ((k : ℕ) → IsMarked k old.firsts.items → IsMarked k new.firsts.items)
+    → ((k n : ℕ) → IsAmong n (bucket_of old.lasts.items k) → IsAmong n (bucket_of new.lasts.items k))
+    → ((k n : ℕ) → IsAmong n (bucket_of old.places.items k) → IsAmong n (bucket_of new.places.items k)) → Lists old p ps → Lists new p ps
+lists_kept old new p ps firsts lasts places h = record {
+  first = firsts (length (first_literal ps)) h.first;
+  last = lasts (first_key ps) (length (last_literal ps)) h.last;
+  listed = places (ends_key ps) p h.listed;
+}
+
+-- the ends of a text that a pattern matches
+match_begins : (ps : List PieceValue) (text : List ℕ) (spans : List (List ℕ)) → Matches ps text spans → (rest : List ℕ) × (text ≡ first_literal ps ++ rest)
+match_begins [] text spans m = (text, refl)
+match_begins (Literal literal ∷ ps) text spans m = (woven ps spans, m.whole)
+match_begins (FieldPiece name kind ∷ ps) text spans m = (text, refl)
+
+ends_so : (ps : List PieceValue) (text : List ℕ) → FitsEnd ps text → (prefix : List ℕ) × (text ≡ prefix ++ last_literal ps)
+ends_so [] text h = (text, sym (append-nil text))
+ends_so (Literal literal ∷ []) text h = h
+ends_so (FieldPiece name kind ∷ []) text h = (text, sym (append-nil text))
+ends_so (p ∷ q ∷ ps) text h = ends_so (q ∷ ps) text h
+
+match_ends : (ps : List PieceValue) (text : List ℕ) (spans : List (List ℕ)) → Matches ps text spans → (prefix : List ℕ) × (text ≡ prefix ++ last_literal ps)
+match_ends ps text spans m = ends_so ps text (match_fits ps text spans m)
+
+first_taken : (ps : List PieceValue) (text : List ℕ) (spans : List (List ℕ)) → Matches ps text spans → take (length (first_literal ps)) text ≡ first_literal ps
+first_taken ps text spans m = let a = match_begins ps text spans m in ap (take (length (first_literal ps))) a.1 ∙ take_at (first_literal ps) a.0 (length (first_literal ps)) refl
+
+last_taken : (ps : List PieceValue) (text : List ℕ) (spans : List (List ℕ)) → Matches ps text spans → drop (length text - length (last_literal ps)) text ≡ last_literal ps
+last_taken ps text spans m =
+    let b = match_ends ps text spans m in
+    let size : length b.0 ≡ length text - length (last_literal ps) = omega (arith, ap length b.1, length-append b.0 (last_literal ps)) in
+    ap (drop (length text - length (last_literal ps))) b.1 ∙ drop_at b.0 (last_literal ps) (length text - length (last_literal ps)) size
+
+fits_length : (ps : List PieceValue) (text : List ℕ) (spans : List (List ℕ)) → Matches ps text spans → (length (first_literal ps) ≤ length text) × (length (last_literal ps) ≤ length text)
+fits_length ps text spans m =
+    let a = match_begins ps text spans m in
+    let b = match_ends ps text spans m in
+    (omega (arith, ap length a.1, length-append (first_literal ps) a.0), omega (arith, ap length b.1, length-append b.0 (last_literal ps)))
+
+-- a pattern that is added
+pub index_some : {T E : Type 0} (r : Result T E) (old new : Index) → length new.lasts.items ≡ length old.lasts.items → OnOk r (length new.places.items ≡ length old.places.items) → HasBuckets old → OnOk r (HasBuckets new)
+index_some (Ok x) old new lasts places h = record { lasts = omega (arith, lasts, h.lasts); places = omega (arith, places, h.places) }
+index_some (Err e) old new lasts places h = tt
+
+pub index_kept : {T E : Type 0} (r : Result T E) (old new : Index) → ((k : ℕ) → IsMarked k old.firsts.items → IsMarked k new.firsts.items)
+    → ((k n : ℕ) → IsAmong n (bucket_of old.lasts.items k) → IsAmong n (bucket_of new.lasts.items k))
+    → OnOk r ((k n : ℕ) → IsAmong n (bucket_of old.places.items k) → IsAmong n (bucket_of new.places.items k)) → OnOk r ((p : ℕ) (ps : List PieceValue) → Lists old p ps → Lists new p ps)
+index_kept (Ok x) old new firsts lasts places = λ p ps h. lists_kept old new p ps firsts lasts places h
+index_kept (Err e) old new firsts lasts places = tt
+
+pub index_added : {T E : Type 0} (r : Result T E) (index : Index) (place key ends : ℕ) (first last : List ℕ) (ps : List PieceValue) → first ≡ first_literal ps → last ≡ last_literal ps → key ≡ key_over 0 first → ends ≡ key_over key last → IsMarked (length first) index.firsts.items
+    → IsAmong (length last) (bucket_of index.lasts.items key) → OnOk r (IsAmong place (bucket_of index.places.items ends)) → OnOk r (Lists index place ps)
+index_added (Ok x) index place key ends first last ps f g k e marked lasts places =
+    let first_is : key ≡ first_key ps = k ∙ ap (key_over 0) f in
+    let ends_is : ends ≡ ends_key ps = e ∙ ap (key_over key) g ∙ ap (λ q. key_over q (last_literal ps)) first_is in
+    record {
+      first = subst (λ t. IsMarked (length t) index.firsts.items) f marked;
+      last = subst (λ t. IsAmong (length t) (bucket_of index.lasts.items (first_key ps))) g (subst (λ q. IsAmong (length last) (bucket_of index.lasts.items q)) first_is lasts);
+      listed = subst (λ q. IsAmong place (bucket_of index.places.items q)) ends_is places;
+    }
+index_added (Err e) index place key ends first last ps f g k x marked lasts places = tt
+
+-- kinds of patterns
+pub skips_none : (IsKind : List PieceValue → Type 0) (index : Index) (from most : ℕ) (text : List ℕ) → ((place : ℕ) (ps : List PieceValue) (spans : List (List ℕ)) → IsKind ps → Lists index place ps → Matches ps text spans → ⊥) → Skips IsKind index from most text most
+skips_none IsKind index from most text h = record {
+  low = λ l. l;
+  high = omega arith;
+  skipped = λ place ps kind lists low under spans m. h place ps spans kind lists m;
+}
+
+pub skips_as : (IsOther IsKind : List PieceValue → Type 0) (index : Index) (from most result : ℕ) (text : List ℕ) → Skips IsOther index from most text result
+    → ((place : ℕ) (ps : List PieceValue) (spans : List (List ℕ)) → IsKind ps → Lists index place ps → Matches ps text spans → IsOther ps) → Skips IsKind index from most text result
+skips_as IsOther IsKind index from most result text h cover = record {
+  low = h.low;
+  high = h.high;
+  skipped = λ place ps kind lists low under spans m. h.skipped place ps (cover place ps spans kind lists m) lists low under spans m;
+}
+
+pub skips_more : (IsOne IsOther IsKind : List PieceValue → Type 0) (index : Index) (from most least next : ℕ) (text : List ℕ) → Skips IsOne index from most text least → Skips IsOther index from least text next
+    → ((place : ℕ) (ps : List PieceValue) (spans : List (List ℕ)) → IsKind ps → Lists index place ps → Matches ps text spans → IsOne ps ⊎ IsOther ps) → Skips IsKind index from most text next
+skips_more IsOne IsOther IsKind index from most least next text h more cover = record {
+  low = λ l. more.low (h.low l);
+  high = omega (arith, h.high, more.high);
+  skipped = λ place ps kind lists low under spans m. elim (cover place ps spans kind lists m) [
+    | inl one ↦ h.skipped place ps one lists low (omega (arith, under, more.high)) spans m
+    | inr other ↦ more.skipped place ps other lists low under spans m
+  ];
+}
+
+-- both ends
+pub ends_short : (index : Index) (key last from most : ℕ) (text : List ℕ) → length text < last → Skips (HasEnds key last) index from most text most
+ends_short index key last from most text short = skips_none (HasEnds key last) index from most text (λ place ps spans kind lists m. omega (arith, short, kind.1, (fits_length ps text spans m).1))
+
+pub ends_bucket : (index : Index) (key last from most result : ℕ) (text back bucket : List ℕ) (ends : ℕ) → back ≡ drop (length text - last) text → ends ≡ key_over key back → bucket ≡ bucket_of index.places.items ends → IsLeastFrom bucket from most result → Skips (HasEnds key last) index from most text result
+ends_bucket index key last from most result text back bucket ends b e is h = record {
+  low = h.low;
+  high = h.high;
+  skipped = λ place ps kind lists low under spans m.
+      let back_is : back ≡ last_literal ps = b ∙ ap (λ n. drop (length text - n) text) kind.1 ∙ last_taken ps text spans m in
+      let ends_is : ends ≡ ends_key ps = e ∙ ap (key_over key) back_is ∙ ap (λ k. key_over k (last_literal ps)) kind.0 in
+      let here : bucket ≡ bucket_of index.places.items (ends_key ps) = is ∙ ap (bucket_of index.places.items) ends_is in
+      omega (arith, under, h.least place (subst (IsAmong place) (sym here) lists.listed) low);
+}
+
+-- the last literals beside a first one
+pub among_more : (index : Index) (key count from most least next : ℕ) (lasts text : List ℕ) → count < length lasts → Skips (HasEndsAmong key lasts count) index from most text least → Skips (HasEnds key (get_or lasts count 0)) index from least text next → Skips (HasEndsAmong key lasts (count + 1)) index from most text next
+among_more index key count from most least next lasts text l h more =
+    skips_more (HasEndsAmong key lasts count) (HasEnds key (get_or lasts count 0)) (HasEndsAmong key lasts (count + 1)) index from most least next text h more (λ place ps spans kind lists m.
+    elim (let le : kind.1 ≤ count = omega (arith, kind.2) in eq-or-lt_of_le le) [
+      | inr old ↦ inl (kind.0, kind.1, old, kind.3)
+      | inl same ↦ inr (kind.0, same_some (get_or lasts count 0) (length (last_literal ps)) (sym (get_number lasts count l) ∙ ap (slice_get lasts) (sym same) ∙ kind.3))
+    ])
+
+pub among_all : (index : Index) (key count from most least : ℕ) (lasts text : List ℕ) → length lasts ≤ count → lasts ≡ bucket_of index.lasts.items key → Skips (HasEndsAmong key lasts count) index from most text least → Skips (HasKey key) index from most text least
+among_all index key count from most least lasts text past is h =
+    skips_as (HasEndsAmong key lasts count) (HasKey key) index from most least text h (λ place ps spans kind lists m.
+    let a : IsAmong (length (last_literal ps)) lasts = subst (IsAmong (length (last_literal ps))) (sym (is ∙ ap (bucket_of index.lasts.items) kind)) lists.last in
+    (kind, a.0, omega (arith, past, get_within lasts a.0 (length (last_literal ps)) a.1), a.1))
+
+-- the first literals
+pub first_more : (index : Index) (first key from most least next : ℕ) (text : List ℕ) → key ≡ key_over 0 (take first text) → Skips (IsShorter first) index from most text least → Skips (HasKey key) index from least text next → Skips (IsShorter (first + 1)) index from most text next
+first_more index first key from most least next text e h more =
+    skips_more (IsShorter first) (HasKey key) (IsShorter (first + 1)) index from most least next text h more (λ place ps spans kind lists m.
+    elim (let le : length (first_literal ps) ≤ first = omega (arith, kind) in eq-or-lt_of_le le) [
+      | inr old ↦ inl old
+      | inl same ↦ inr (e ∙ ap (λ n. key_over 0 (take n text)) (sym same) ∙ ap (key_over 0) (first_taken ps text spans m))
+    ])
+
+pub first_unmarked : (index : Index) (marked : Bool) (first from most least : ℕ) (text : List ℕ) → first < length index.firsts.items → marked ≡ get_or index.firsts.items first marked → ◌≡◌ marked false → Skips (IsShorter first) index from most text least → Skips (IsShorter (first + 1)) index from most text least
+first_unmarked index marked first from most least text l e not h =
+    skips_as (IsShorter first) (IsShorter (first + 1)) index from most least text h (λ place ps spans kind lists m.
+    elim (let le : length (first_literal ps) ≤ first = omega (arith, kind) in eq-or-lt_of_le le) [
+      | inr old ↦ old
+      | inl same ↦
+          let bad : ◌≡◌ false true = sym not ∙ same_some marked true (sym (get_at index.firsts.items first marked l e) ∙ ap (slice_get index.firsts.items) (sym same) ∙ lists.first) in
+          absurd (let none : ⊥ = cc in none)
+    ])
+
+pub first_short : (index : Index) (first from most least : ℕ) (text : List ℕ) → length text < first → Skips (IsShorter first) index from most text least → Skips IsAny index from most text least
+first_short index first from most least text short h = skips_as (IsShorter first) IsAny index from most least text h (λ place ps spans kind lists m. omega (arith, short, (fits_length ps text spans m).0))
+
+pub first_all : (index : Index) (first from most least : ℕ) (text : List ℕ) → length index.firsts.items ≤ first → Skips (IsShorter first) index from most text least → Skips IsAny index from most text least
+first_all index first from most least text past h = skips_as (IsShorter first) IsAny index from most least text h (λ place ps spans kind lists m. omega (arith, past, get_within index.firsts.items (length (first_literal ps)) true lists.first))
+
+-- the entries
+pub skips_entries : (index : Index) (entries : List Entry) (from most result : ℕ) (text : List ℕ) → most ≡ length entries → 0 < length index.places.items → AreListed index entries → Skips IsAny index from most text result → SkipsEntries entries from text result
+skips_entries index entries from most result text size some listed h = record {
+  low = λ le. h.low (omega (arith, size, le));
+  skipped = λ place entry is low under spans m. listed some place entry is (λ lists. h.skipped place (pattern_value entry.pattern) tt lists low under spans m);
+}
+
+-- one entry more is listed
+pub listed_more : (old new : Index) (entries : List Entry) (count : ℕ) (x : Entry) → count < length entries → x ≡ get_or entries count x → ((p : ℕ) (ps : List PieceValue) → Lists old p ps → Lists new p ps) → Lists new count (pattern_value x.pattern)
+    → ((place : ℕ) (entry : Entry) → place < count → slice_get entries place ≡ Some entry → Lists old place (pattern_value entry.pattern))
+    → (place : ℕ) (entry : Entry) → place < count + 1 → slice_get entries place ≡ Some entry → Lists new place (pattern_value entry.pattern)
+listed_more old new entries count x l e kept added h place entry less is = elim (let le : place ≤ count = omega arith in eq-or-lt_of_le le) [
+  | inr before ↦ kept place (pattern_value entry.pattern) (h place entry before is)
+  | inl same ↦
+      let entry_is : x ≡ entry = same_some x entry (sym (get_at entries count x l e) ∙ ap (slice_get entries) (sym same) ∙ is) in
+      subst (λ n. Lists new n (pattern_value entry.pattern)) (sym same) (subst (λ (v : Entry). Lists new count (pattern_value v.pattern)) entry_is added)
+]
+
+pub listed_all : (index : Index) (entries : List Entry) (count : ℕ) → length entries ≤ count → ((place : ℕ) (entry : Entry) → place < count → slice_get entries place ≡ Some entry → Lists index place (pattern_value entry.pattern)) → AreListed index entries
+listed_all index entries count past h some place entry is bad = bad (h place entry (omega (arith, get_within entries place entry is)) is)
+
+-- whether there are buckets
+pub not_zero : (n : ℕ) → ◌≡◌ false (n == 0) → 0 < n
+not_zero zero e = let same : ◌≡◌ false true = e ∙ eq-eqb 0 0 refl in let bad : ⊥ = cc in absurd bad
+not_zero (suc n) e = omega arith
+
+pub bucket_here : (bs : List (Vec ℕ Global)) (key : ℕ) (v : Vec ℕ Global) (xs : List ℕ) → ◌≡◌ false (length bs == 0) → xs ≡ v.items → v ≡ get_or bs (key % length bs) v → xs ≡ bucket_of bs key
+bucket_here bs key v xs some same is = same ∙ sym (bucket_read bs (key % length bs) v (mod_of key (length bs) (not_zero (length bs) some)) is)
+
+-- entries that are skipped
+get_map : (entries : List Entry) (k : ℕ) (other : EntryValue) → slice_get (map entry_value entries) k ≡ Some other → (x : Entry) × (slice_get entries k ≡ Some x) × (entry_value x ≡ other)
+get_map [] k other e = let bad : ⊥ = cc in absurd bad
+get_map (x ∷ xs) zero other e = (x, refl, same_some (entry_value x) other e)
+get_map (x ∷ xs) (suc k) other e = get_map xs k other e
+
+pub none_skipped : (entries : List Entry) (step_type : Option StepType) (text : List ℕ) (place next : ℕ) → NoneBefore place (map entry_value entries) step_type text → SkipsEntries entries place text next → NoneBefore next (map entry_value entries) step_type text
+none_skipped entries step_type text place next h s = λ earlier other less is same. elim (cases_lt earlier place) [
+  | inl before ↦ h earlier other before is same
+  | inr le ↦ let x = get_map entries earlier other is in subst (λ (v : EntryValue). MatchesNot v.pattern text) x.2 (s.skipped earlier x.0 x.1 le less)
+]
+
+later_cells : (entries : List Entry) (n m : ℕ) (step_type : Option StepType) (text : List ℕ) → n ≤ m → cells_of_type (map entry_value (drop m entries)) step_type text ≤ cells_of_type (map entry_value (drop n entries)) step_type text
+later_cells [] zero zero step_type text le = omega arith
+later_cells [] zero (suc m) step_type text le = omega arith
+later_cells [] (suc n) zero step_type text le = absurd (omega arith)
+later_cells [] (suc n) (suc m) step_type text le = omega arith
+later_cells (x ∷ xs) zero zero step_type text le = omega arith
+later_cells (x ∷ xs) zero (suc m) step_type text le = omega (arith, later_cells xs 0 m step_type text (omega arith))
+later_cells (x ∷ xs) (suc n) zero step_type text le = absurd (omega arith)
+later_cells (x ∷ xs) (suc n) (suc m) step_type text le = later_cells xs n m step_type text (omega arith)
+
+pub cells_skipped : (entries : List Entry) (place next : ℕ) (step_type : Option StepType) (text : List ℕ) (start old : ℕ) → place ≤ next → old + cells_of_type (map entry_value (drop place entries)) step_type text ≤ start + cells_of_type (map entry_value entries) step_type text
+    → old + cells_of_type (map entry_value (drop next entries)) step_type text ≤ start + cells_of_type (map entry_value entries) step_type text
+cells_skipped entries place next step_type text start old le h = omega (arith, h, later_cells entries place next step_type text le)
+
+-- an entry more is listed
+get_push : {X : Type 0} (xs : List X) (x : X) (k : ℕ) (y : X) → slice_get (xs ++ x ∷ []) k ≡ Some y → (slice_get xs k ≡ Some y) ⊎ ((k ≡ length xs) × (x ≡ y))
+get_push [] x zero y e = inr (refl, same_some x y e)
+get_push [] x (suc k) y e = let bad : ⊥ = cc in absurd bad
+get_push (z ∷ zs) x zero y e = inl e
+get_push (z ∷ zs) x (suc k) y e = elim (get_push zs x k y e) [ inl a ↦ inl a | inr b ↦ inr (ap suc b.0, b.1) ]
+
+pub listed_push : (old new : Index) (entries items : List Entry) (x : Entry) (n : ℕ) (pieces : List Piece) → n ≡ length entries → items ≡ entries ++ x ∷ [] → pieces ≡ x.pattern.pieces.items → ((p : ℕ) (ps : List PieceValue) → Lists old p ps → Lists new p ps) → Lists new n (map piece_value pieces) → 0 < length old.places.items → AreListed old entries → AreListed new items
+listed_push old new entries items x n pieces size same said kept added before_some h some place entry is bad = elim (get_push entries x place entry (ap (λ es. slice_get es place) (sym same) ∙ is)) [
+  | inl before ↦ h before_some place entry before (λ lists. bad (kept place (pattern_value entry.pattern) lists))
+  | inr last ↦
+      let at : n ≡ place = size ∙ sym last.0 in
+      let own : Lists new n (pattern_value x.pattern) = subst (λ q. Lists new n (map piece_value q)) said added in
+      bad (subst (λ k. Lists new k (pattern_value entry.pattern)) at (subst (λ (v : Entry). Lists new n (pattern_value v.pattern)) last.1 own))
+]
+
+-- the first entries alone
+get_taken : {X : Type 0} (xs : List X) (n i : ℕ) (x : X) → slice_get (take n xs) i ≡ Some x → slice_get xs i ≡ Some x
+get_taken xs zero i x e = let bad : ⊥ = cc in absurd bad
+get_taken [] (suc n) i x e = let bad : ⊥ = cc in absurd bad
+get_taken (y ∷ ys) (suc n) zero x e = e
+get_taken (y ∷ ys) (suc n) (suc i) x e = get_taken ys n i x e
+
+pub listed_taken : (index : Index) (entries slice : List Entry) (n : ℕ) → slice ≡ take n entries → AreListed index entries → AreListed index slice
+listed_taken index entries slice n same h some place entry is = h some place entry (get_taken entries n place entry (ap (λ es. slice_get es place) (sym same) ∙ is))
+
+pub if_taken : (o : Option (Bor Index)) (p : Option Index) (entries slice : List Entry) (n : ℕ) → option_copied o ≡ p → slice ≡ take n entries → IfSome p (λ i. AreListed i entries) → IfSome o (λ i. AreListed i.now slice)
+if_taken None p entries slice n e same h = tt
+if_taken (Some i) p entries slice n e same h = listed_taken i.now entries slice n same (subst (λ q. IfSome q (λ j. AreListed j entries)) (sym e) h)

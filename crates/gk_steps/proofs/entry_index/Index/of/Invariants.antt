@@ -1,0 +1,12 @@
+use Rattle.std.proofs.Common.{◌≡◌, ◌<◌, ℕ, Some}
+use Rattle.std.specs.Prelude.{slice_get}
+use Rattle.gk_steps.specs.declared.library.Entry.{Entry}
+use Rattle.gk_steps.specs.Pattern.{pattern_value}
+use Rattle.gk_steps.specs.EntryIndex.{HasBuckets, Lists}
+use Rattle.gk_steps.proofs.entry_index.Index.of.Given as goal
+
+abbrev pub invariant-loop-place : goal.invariant-loop-place
+invariant-loop-place l = record {
+  some : HasBuckets l.index;
+  listed : (p : ℕ) (entry : Entry) → p < l.place → slice_get l.entries p ≡ Some entry → Lists l.index p (pattern_value entry.pattern);
+}

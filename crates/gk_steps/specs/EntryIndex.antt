@@ -1,0 +1,120 @@
+-- Proof machinery: where an index lists the entries of a library, by the literals at their patterns' ends.
+use Rattle.std.specs.Prelude.{◌≡◌, ◌+◌, ◌*◌, ◌%◌, ◌<◌, ◌≤◌, ℕ, zero, suc, Bool, true, List, [], ◌∷◌, length, slice_get, Vec, Some, IfSome}
+use Rattle.std.specs.declared.alloc.Global.{Global}
+use Rattle.gk_steps.specs.declared.library.Entry.{Entry}
+use Rattle.gk_steps.specs.declared.library.Growing.{Growing}
+use Rattle.gk_steps.specs.declared.entry_index.Index.{Index}
+use Rattle.gk_steps.specs.declared.entry_index.Shelf.{Shelf}
+use Rattle.gk_steps.specs.Pattern.{PieceValue, Literal, FieldPiece, pattern_value}
+use Rattle.gk_steps.specs.Matching.{MatchesNot}
+
+-- The bytes of a literal; none of a field.
+abbrev pub literal_of : PieceValue → List ℕ
+literal_of (Literal text) = text
+literal_of (FieldPiece name kind) = []
+
+-- The literal that a pattern begins with; empty where it begins with a field.
+abbrev pub first_literal : List PieceValue → List ℕ
+first_literal [] = []
+first_literal (p ∷ ps) = literal_of p
+
+-- The literal that a pattern ends with; empty where it ends with a field.
+abbrev pub last_literal : List PieceValue → List ℕ
+last_literal [] = []
+last_literal (p ∷ []) = literal_of p
+last_literal (p ∷ q ∷ ps) = last_literal (q ∷ ps)
+
+-- A key with a byte more.
+abbrev pub key_more : ℕ → ℕ → ℕ
+key_more key byte = (key * 33 + byte) % 16777216
+
+-- A key with more bytes.
+abbrev pub key_over : ℕ → List ℕ → ℕ
+key_over key [] = key
+key_over key (b ∷ bs) = key_over (key_more key b) bs
+
+-- The key of the literal that a pattern begins with.
+abbrev pub first_key : List PieceValue → ℕ
+first_key ps = key_over 0 (first_literal ps)
+
+-- The key of the literals at both ends.
+abbrev pub ends_key : List PieceValue → ℕ
+ends_key ps = key_over (first_key ps) (last_literal ps)
+
+-- A number stands in a bucket.
+abbrev pub IsAmong : ℕ → List ℕ → Type 0
+IsAmong number bucket = (k : ℕ) × (slice_get bucket k ≡ Some number)
+
+-- The bucket of a number; empty where there is none.
+abbrev pub bucket_at : List (Vec ℕ Global) → ℕ → List ℕ
+bucket_at [] k = []
+bucket_at (b ∷ bs) zero = b.items
+bucket_at (b ∷ bs) (suc k) = bucket_at bs k
+
+-- The bucket of a key; empty where there is none.
+abbrev pub bucket_of : List (Vec ℕ Global) → ℕ → List ℕ
+bucket_of buckets key = bucket_at buckets (key % length buckets)
+
+-- A length is marked.
+abbrev pub IsMarked : ℕ → List Bool → Type 0
+IsMarked size marks = slice_get marks size ≡ Some true
+
+-- An index lists a pattern at a place: by the length of its first literal; by that of its last one, in the bucket of the first one's key; and in the bucket of the key of both.
+pub record Lists (index : Index) (place : ℕ) (ps : List PieceValue) : Type 0 where
+  pub first : IsMarked (length (first_literal ps)) index.firsts.items
+  pub last : IsAmong (length (last_literal ps)) (bucket_of index.lasts.items (first_key ps))
+  pub listed : IsAmong place (bucket_of index.places.items (ends_key ps))
+
+-- An index has buckets.
+pub record HasBuckets (index : Index) : Type 0 where
+  pub lasts : 0 < length index.lasts.items
+  pub places : 0 < length index.places.items
+
+-- An index that has buckets lists each of these entries at its place. Said twice negated, so that it is a fact that a type can keep.
+abbrev pub AreListed : Index → List Entry → Type 0
+AreListed index entries = 0 < length index.places.items → (place : ℕ) (entry : Entry) → slice_get entries place ≡ Some entry → (Lists index place (pattern_value entry.pattern) → ⊥) → ⊥
+
+-- The least place of a bucket from a place on, or a larger one that is given where none is less.
+pub record IsLeastFrom (bucket : List ℕ) (from most result : ℕ) : Type 0 where
+  pub low : from ≤ most → from ≤ result
+  pub high : result ≤ most
+  pub least : (place : ℕ) → IsAmong place bucket → from ≤ place → result ≤ place
+
+-- No pattern of a kind that is listed at a place between two matches.
+pub record Skips (IsKind : List PieceValue → Type 0) (index : Index) (from most : ℕ) (text : List ℕ) (result : ℕ) : Type 0 where
+  pub low : from ≤ most → from ≤ result
+  pub high : result ≤ most
+  pub skipped : (place : ℕ) (ps : List PieceValue) → IsKind ps → Lists index place ps → from ≤ place → place < result → MatchesNot ps text
+
+-- Patterns whose first literal has a key.
+abbrev pub HasKey : ℕ → List PieceValue → Type 0
+HasKey key ps = key ≡ first_key ps
+
+-- Those of them whose last literal has a length.
+abbrev pub HasEnds : ℕ → ℕ → List PieceValue → Type 0
+HasEnds key last ps = (key ≡ first_key ps) × (last ≡ length (last_literal ps))
+
+-- Those of them whose last literal has one of the first of some lengths.
+abbrev pub HasEndsAmong : ℕ → List ℕ → ℕ → List PieceValue → Type 0
+HasEndsAmong key lasts count ps = (key ≡ first_key ps) × (k : ℕ) × (k < count) × (slice_get lasts k ≡ Some (length (last_literal ps)))
+
+-- Patterns whose first literal is shorter than a length.
+abbrev pub IsShorter : ℕ → List PieceValue → Type 0
+IsShorter size ps = length (first_literal ps) < size
+
+-- Each pattern.
+abbrev pub IsAny : List PieceValue → Type 0
+IsAny ps = Unit {0}
+
+-- No entry at a place between two matches.
+pub record SkipsEntries (entries : List Entry) (from : ℕ) (text : List ℕ) (result : ℕ) : Type 0 where
+  pub low : from ≤ length entries → from ≤ result
+  pub skipped : (place : ℕ) (entry : Entry) → slice_get entries place ≡ Some entry → from ≤ place → place < result → MatchesNot (pattern_value entry.pattern) text
+
+-- The index of a shelf lists its entries.
+abbrev pub IsShelf : Shelf → Type 0
+IsShelf shelf = IfSome shelf.index (λ i. AreListed i.now shelf.entries.now)
+
+-- The index of the entries that were read so far lists them.
+abbrev pub IsGrown : Growing → Type 0
+IsGrown growing = AreListed growing.index growing.entries.items
