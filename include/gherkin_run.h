@@ -56,9 +56,14 @@ enum { GHERKIN_PLAIN, GHERKIN_PROGRESS, GHERKIN_JSON };
 
 typedef struct {
     size_t length;   /* of the whole text; as much of it as there is room for was written */
+    size_t source;   /* where input is GHERKIN_SOURCE, the place of that file in `sources`, from 0; else 0 */
+    uint32_t line;   /* the line of the file that a fault is of; 0 where it is of no line */
+    uint8_t input;   /* the file that a fault is of: GHERKIN_LIBRARY, GHERKIN_HOOKS, GHERKIN_SOURCE; 0 where it is of none */
     uint8_t status;  /* the status that the program would end with: 0, 1, 2, 3 or 4 */
     bool has_report; /* the text is the report; else it is one line, without a line feed, that says why there is none */
 } gherkin_answer;
+
+enum { GHERKIN_NO_INPUT, GHERKIN_LIBRARY, GHERKIN_HOOKS, GHERKIN_SOURCE };
 
 /* A call that hands nothing over. */
 #define GHERKIN_NO_BYTES ((const uint8_t *)"")

@@ -72,10 +72,39 @@ static void refusals(size_t length, uint8_t status) {
     }
 }
 
-/* A call that is refused with this line and status 2. */
-static void refuses(const char *line) {
+/* A call that is refused with this line, status and place. */
+static void refuses_at(const char *line, uint8_t status, uint8_t input, size_t place, uint32_t number) {
     gherkin_run(&call, room, LARGEST, &answer);
-    expect(!answer.has_report && answer.status == 2 && answer.length == strlen(line) && memcmp(room, line, answer.length) == 0, line, 0);
+    expect(!answer.has_report && answer.status == status && answer.length == strlen(line) && memcmp(room, line, answer.length) == 0, line, 0);
+    expect(answer.input == input && answer.source == place && answer.line == number, "another place of the fault", number);
+}
+
+static void refuses(const char *line) {
+    refuses_at(line, 2, GHERKIN_NO_INPUT, 0, 0);
+}
+
+static gherkin_named named(const char *name, const char *text) {
+    gherkin_named made = {{(const uint8_t *)name, strlen(name)}, {(const uint8_t *)text, strlen(text)}};
+    return made;
+}
+
+/* The place of a fault of each file, whose names hold colons. */
+static void places(void) {
+    gherkin_named three[3] = {source, named("b:7: c", "Feature: F\n\nFeature: G\n"), source};
+    gherkin_named bad_library = named("a:1", "\ngiven a => none\n"), bad_hooks = named("a:2", "@never\n");
+    gherkin_text tag = {(const uint8_t *)"@a and", 6};
+    gherkin_call before = call;
+    call.sources = three, call.source_count = 3;
+    refuses_at("b:7: c:3: unexpected line", 3, GHERKIN_SOURCE, 1, 3);
+    call.hooks = bad_hooks, call.has_hooks = true;
+    refuses_at("a:2:1: unexpected line", 3, GHERKIN_HOOKS, 0, 1);
+    call.library = bad_library, call.has_library = true;
+    refuses_at("a:1:2: unknown action", 3, GHERKIN_LIBRARY, 0, 2);
+    call.tags = &tag, call.tag_count = 1;
+    refuses("bad tag expression");
+    call = before;
+    gherkin_run(&call, room, LARGEST, &answer);
+    expect(answer.has_report && answer.input == GHERKIN_NO_INPUT && answer.source == 0 && answer.line == 0, "a report has a place", 0);
 }
 
 static void hostile(void) {
@@ -112,6 +141,7 @@ int main(int count, char **words) {
     rooms(length);
     refusals(length, status);
     hostile();
+    places();
     expect(gherkin_run_version(room, LARGEST) > 0, "no version", 0);
     printf("%d passed, %d failed\n", passed, failed);
     return failed != 0;

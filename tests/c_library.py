@@ -64,6 +64,11 @@ def main():
     for feature in features:
         name = os.path.relpath(feature, HOME)
         compare([*arguments_of(feature), name], HOME, name)
+    shown = ended([embedded, "--show", "examples/uneven.feature"], HOME)[2].splitlines()
+    with open(os.path.join(HOME, "examples", "uneven.feature"), "rb") as file:
+        wanted = file.read().split(b"\n")[int(shown[0].split(b":")[1]) - 1]
+    passed += shown[1:] == [wanted]
+    failed += shown[1:] != [wanted]
     sources = []
     for feature in features:
         with open(feature, "rb") as file:

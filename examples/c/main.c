@@ -1,6 +1,7 @@
 /* Runs feature files by the static library: main [OPTION].. FILE..
  *
- * It takes the program's options, each with its value as the next argument, and ends as the program does. */
+ * It takes the program's options, each with its value as the next argument, and ends as the program does. With --show it
+ * prints the line that a fault is of, too. */
 #include "gherkin_run.h"
 #include <stdio.h>
 #include <stdlib.h>
@@ -47,7 +48,21 @@ static uint8_t format_of(const char *name) {
     return strcmp(name, "json") == 0 ? GHERKIN_JSON : strcmp(name, "progress") == 0 ? GHERKIN_PROGRESS : GHERKIN_PLAIN;
 }
 
+/* Prints the line that a fault is of, where it is of one. */
+static void show(const gherkin_call *call, const gherkin_answer *answer) {
+    const gherkin_named *file = answer->input == GHERKIN_LIBRARY  ? &call->library
+                                : answer->input == GHERKIN_HOOKS  ? &call->hooks
+                                : answer->input == GHERKIN_SOURCE ? &call->sources[answer->source]
+                                                                  : NULL;
+    if (!file || answer->line == 0) return;
+    const uint8_t *at = file->bytes.bytes, *end = at + file->bytes.length;
+    for (uint32_t line = 1; line < answer->line && at < end; at++) line += *at == '\n';
+    for (; at < end && *at != '\n'; at++) fputc(*at, stderr);
+    fputc('\n', stderr);
+}
+
 int main(int count, char **words) {
+    bool shows = false;
     gherkin_named sources[MOST], variables[MOST];
     gherkin_text tags[MOST];
     uint32_t lines[MOST];
@@ -56,7 +71,8 @@ int main(int count, char **words) {
     if (count > MOST) return 2;
     for (int n = 1; n < count; n++) {
         const char *word = words[n], *value = n + 1 < count ? words[n + 1] : "";
-        if (strcmp(word, "--dry-run") == 0) call.dry_run = true;
+        if (strcmp(word, "--show") == 0) shows = true;
+        else if (strcmp(word, "--dry-run") == 0) call.dry_run = true;
         else if (strcmp(word, "--stop") == 0) call.stop = true;
         else if (strcmp(word, "--no-skipped") == 0) call.no_skipped = true;
         else if (strncmp(word, "--", 2) != 0) sources[call.source_count++] = file_of(word);
@@ -69,7 +85,9 @@ int main(int count, char **words) {
         else return 2;
     }
     gherkin_answer answer;
+    /* Most reports have at most so many bytes, and room that isn't written takes no memory. */
     size_t size = 1 << 16;
+    for (size_t n = 0; n < call.source_count; n++) size += 8 * sources[n].bytes.length;
     uint8_t *room = malloc(size);
     if (!room) return 4;
     gherkin_run(&call, room, size, &answer);
@@ -82,5 +100,6 @@ int main(int count, char **words) {
     }
     fwrite(room, 1, answer.length, answer.has_report ? stdout : stderr);
     if (!answer.has_report) fputc('\n', stderr);
+    if (shows) show(&call, &answer);
     return answer.status;
 }

@@ -17,7 +17,7 @@ use Rattle.gk_report.specs.declared.report.Format.{Format}
 use Rattle.gk_c.specs.Answer.{IsReport, IsNoReport}
 use Rattle.gk_c.specs.CalledRun.{AreTaken, IsAnswer, IsFaultSaid, IsJudgedText, IsNoVariable, IsPlainText, IsRefused, IsRunAnswer, IsRunReport, SaysPut, SaysPutOne, SaysCallFault, SaysRunFault, contents_by, with_variables}
 use Rattle.gk_c.specs.Call.{CallValue, IsReadIn, SaysRead, format_by, given_value, request_by, request_read, variable_named}
-use Rattle.gk_c.specs.CallFault.{line_in, line_of_call, line_of_read, own_line, status_of_call}
+use Rattle.gk_c.specs.CallFault.{line_in, line_of_call, line_of_read, own_line, place_of_call, status_of_call}
 use Rattle.gk_c.specs.declared.answer.Answer.{Answer}
 use Rattle.gk_c.specs.declared.call.Named.{Named}
 use Rattle.gk_c.specs.declared.call.ReadCall.{ReadCall}
@@ -133,11 +133,11 @@ unread_call call format (Run Write) known says = (format, known, says)
 unread_call call format _ known says = absurd says
 
 said_call : (call : CallValue) (format : Format) (read : ReadCall) (fault : CallFault) (before after : List ℕ) (answer : Answer) → IsReadIn call format read → SaysCallFault call fault
-    → (said_as : CallFault) → (said_as ≡ fault) ⊎ (said_as ≡ Run Memory) → IsNoReport (line_of_read read said_as) (status_of_call said_as) before after answer → IsAnswer call before after answer
+    → (said_as : CallFault) → (said_as ≡ fault) ⊎ (said_as ≡ Run Memory) → IsNoReport (line_of_read read said_as) (status_of_call said_as) (place_of_call said_as) before after answer → IsAnswer call before after answer
 said_call call format read fault before after answer is says said_as (inl same) said =
-    inr record { fault = said_as; says = subst (SaysCallFault call) (sym same) says; said = subst (λ l. IsNoReport l (status_of_call said_as) before after answer) (line_is call format read said_as is) said }
+    inr record { fault = said_as; says = subst (SaysCallFault call) (sym same) says; said = subst (λ l. IsNoReport l (status_of_call said_as) (place_of_call said_as) before after answer) (line_is call format read said_as is) said }
 said_call call format read fault before after answer is says said_as (inr same) said =
-    inr record { fault = said_as; says = subst (SaysCallFault call) (sym same) tt; said = subst (λ l. IsNoReport l (status_of_call said_as) before after answer) (line_is call format read said_as is) said }
+    inr record { fault = said_as; says = subst (SaysCallFault call) (sym same) tt; said = subst (λ l. IsNoReport l (status_of_call said_as) (place_of_call said_as) before after answer) (line_is call format read said_as is) said }
 
 pub from_read : (call : CallValue) (read : ReadCall) (before after : List ℕ) (answer : Answer) → SaysRead call (Ok read) → IsRunAnswer call.variables read before after answer → IsAnswer call before after answer
 from_read call read before after answer says (inl run) =
@@ -147,7 +147,7 @@ from_read call read before after answer says (inr run) =
     (unread_call call says.0 run.fault says.1 (subst (λ r. SaysRunFault call.variables r run.fault) (request_is call says.0 read says.2) run.says)) run.said.said_as run.said.same run.said.said
 
 -- a call that can't be read
-pub from_unread : (call : CallValue) (fault : CallFault) (before after : List ℕ) (answer : Answer) → SaysRead call (Err fault) → IsNoReport (own_line fault) (status_of_call fault) before after answer → IsAnswer call before after answer
+pub from_unread : (call : CallValue) (fault : CallFault) (before after : List ℕ) (answer : Answer) → SaysRead call (Err fault) → IsNoReport (own_line fault) (status_of_call fault) (place_of_call fault) before after answer → IsAnswer call before after answer
 from_unread call UnknownFormat before after answer says said = inr record { fault = UnknownFormat; says = says; said = said }
 from_unread call NotUtf8 before after answer says said = inr record { fault = NotUtf8; says = inl says; said = said }
 from_unread call LineZero before after answer says said = inr record { fault = LineZero; says = says; said = said }

@@ -1,22 +1,32 @@
 -- What a call is answered, and a text in the caller's room.
 use Rattle.std.specs.Prelude.{◌≡◌, ℕ, true, false, List, ◌++◌, length, take, drop, min, codes}
+use Rattle.gk_c.specs.FaultPlace.{nowhere}
 use Rattle.gk_c.specs.declared.answer.Answer.{Answer}
+use Rattle.gk_c.specs.declared.fault_place.FaultPlace.{FaultPlace}
 
 -- A text over the beginning of what was there, as far as there is room; the rest stays.
 abbrev pub put_over : List ℕ → List ℕ → List ℕ
 put_over text old = take (min (length text) (length old)) text ++ drop (min (length text) (length old)) old
 
+-- The answer names this place.
+pub record NamesPlace (place : FaultPlace) (answer : Answer) : Type 0 where
+  pub input_is : answer.input ≡ place.input
+  pub source_is : answer.source ≡ place.source
+  pub line_is : answer.line ≡ place.line
+
 -- The answer is that of a report with this status, written as far as there is room.
 pub record IsReport (text : List ℕ) (status : ℕ) (old new : List ℕ) (answer : Answer) : Type 0 where
   pub has_report : answer.has_report ≡ true
   pub status_is : answer.status ≡ status
+  pub placed : NamesPlace nowhere answer
   pub counted : answer.length ≡ length text
   pub written : new ≡ put_over text old
 
--- The answer is that of a fault with this text and this status, the text written as far as there is room.
-pub record IsNoReport (text : List ℕ) (status : ℕ) (old new : List ℕ) (answer : Answer) : Type 0 where
+-- The answer is that of a fault with this text, this status and this place, the text written as far as there is room.
+pub record IsNoReport (text : List ℕ) (status : ℕ) (place : FaultPlace) (old new : List ℕ) (answer : Answer) : Type 0 where
   pub has_report : answer.has_report ≡ false
   pub status_is : answer.status ≡ status
+  pub placed : NamesPlace place answer
   pub counted : answer.length ≡ length text
   pub written : new ≡ put_over text old
 

@@ -11,13 +11,20 @@ use Rattle.gk_cli.specs.declared.source.Source.{Source}
 use Rattle.gk_c.specs.Call.{CallValue, given_value}
 use Rattle.gk_c.specs.declared.call.GivenFile.{GivenFile}
 use Rattle.gk_c.specs.declared.call.ReadCall.{ReadCall}
+use Rattle.gk_c.specs.FaultPlace.{nowhere, place_of_run}
 use Rattle.gk_c.specs.declared.call_fault.CallFault.{CallFault}
 use Rattle.gk_c.specs.declared.call_fault.CallFault.TheVariants.{UnknownFormat, NotUtf8, LineZero, BadVariable, Run}
+use Rattle.gk_c.specs.declared.fault_place.FaultPlace.{FaultPlace}
 
 -- The status that the program would end with.
 abbrev pub status_of_call : CallFault → ℕ
 status_of_call (Run fault) = status_of_fault fault
 status_of_call fault = 2
+
+-- Where a fault is, as numbers; one that is none of a run is nowhere.
+abbrev pub place_of_call : CallFault → FaultPlace
+place_of_call (Run fault) = place_of_run fault
+place_of_call fault = nowhere
 
 -- A text after the name of its file and the line, where they are known.
 abbrev pub placed_at : Option (List ℕ) → Option ℕ → List ℕ → List ℕ

@@ -16,7 +16,7 @@ use Rattle.gk_cli.specs.declared.run_fault.RunFault.TheVariants.{Memory}
 use Rattle.gk_cli.specs.Suite.{AreJudged, run_with}
 use Rattle.gk_c.specs.Answer.{IsReport, IsNoReport}
 use Rattle.gk_c.specs.Call.{CallValue, HasNoText, IsNoText, format_by, has_line_zero, request_by, request_read}
-use Rattle.gk_c.specs.CallFault.{line_of_call, line_of_read, status_of_call}
+use Rattle.gk_c.specs.CallFault.{line_of_call, line_of_read, place_of_call, status_of_call}
 use Rattle.gk_c.specs.declared.answer.Answer.{Answer}
 use Rattle.gk_c.specs.declared.call.ReadCall.{ReadCall}
 use Rattle.gk_c.specs.declared.call_fault.CallFault.{CallFault}
@@ -82,11 +82,11 @@ SaysCallFault call BadVariable = Any IsRefused call.variables
 SaysCallFault call (Run Memory) = Unit {0}
 SaysCallFault call (Run fault) = (format : Format) × (format_by call.format ≡ Some format) × IsUnread (request_by call format) fault
 
--- A fault is answered: one that holds of the call, with its line and its status.
+-- A fault is answered: one that holds of the call, with its line, its status and its place.
 pub record IsFaultAnswer (call : CallValue) (old new : List ℕ) (answer : Answer) : Type 0 where
   pub fault : CallFault
   pub says : SaysCallFault call fault
-  pub said : IsNoReport (line_of_call call fault) (status_of_call fault) old new answer
+  pub said : IsNoReport (line_of_call call fault) (status_of_call fault) (place_of_call fault) old new answer
 
 -- What a call is answered: a report, or a fault. `Answer::has_report` says which.
 abbrev pub IsAnswer : CallValue → List ℕ → List ℕ → Answer → Type 0
@@ -119,7 +119,7 @@ SaysRunFault variables r fault = ⊥
 pub record IsFaultSaid (read : ReadCall) (fault : CallFault) (old new : List ℕ) (answer : Answer) : Type 0 where
   pub said_as : CallFault
   pub same : (said_as ≡ fault) ⊎ (said_as ≡ Run Memory)
-  pub said : IsNoReport (line_of_read read said_as) (status_of_call said_as) old new answer
+  pub said : IsNoReport (line_of_read read said_as) (status_of_call said_as) (place_of_call said_as) old new answer
 
 -- A fault of a run of what was read is answered.
 pub record IsRunFault (variables : List PairValue) (read : ReadCall) (old new : List ℕ) (answer : Answer) : Type 0 where

@@ -2,12 +2,21 @@
 ghost use Rattle.std.specs.Prelude.{◌≡◌, length};
 ghost use Rattle.gk_c.specs.Answer.{put_over, IsReport, IsNoReport};
 
+use crate::fault_place::{FaultPlace, NOWHERE};
+
 /// What a call is answered beside the text.
 #[repr(C)]
 #[derive(Clone, Copy)]
 pub struct Answer {
     /// How many bytes the whole text has. Of these, as many are written as there is room for.
     pub length: usize,
+    /// Where `input` is 3, the place of that file among the call's sources, from 0; else 0.
+    pub source: usize,
+    /// The line that a fault is of; 0 where it is of no line, and beside a report.
+    pub line: u32,
+    /// The file that a fault is of: 1 is the library, 2 the hooks file, 3 a source; 0 where it is of no file, and
+    /// beside a report.
+    pub input: u8,
     /// The status that the program would end with: 0 to 4.
     pub status: u8,
     /// The text is the whole report; else it says in one line why there is none.
@@ -31,17 +40,23 @@ pub fn report_answer(status: u8, report: &[u8], room: &mut [u8]) -> Answer
 {
     Answer {
         length: put_out(report, room),
+        source: NOWHERE.source,
+        line: NOWHERE.line,
+        input: NOWHERE.input,
         status,
         has_report: true,
     }
 }
 
-/// The answer without a report, whose text says why.
-pub fn fault_answer(status: u8, text: &str, room: &mut [u8]) -> Answer
-    ensures { IsNoReport text.now status room.old room.new result }
+/// The answer without a report, whose text says why, of a fault at this place.
+pub fn fault_answer(status: u8, place: FaultPlace, text: &str, room: &mut [u8]) -> Answer
+    ensures { IsNoReport text.now status place room.old room.new result }
 {
     Answer {
         length: put_out(text.as_bytes(), room),
+        source: place.source,
+        line: place.line,
+        input: place.input,
         status,
         has_report: false,
     }

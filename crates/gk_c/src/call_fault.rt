@@ -1,9 +1,10 @@
 //! Why a call has no report, in one line and a status.
 ghost use Rattle.std.specs.Prelude.{◌≡◌, ◌++◌, codes, option_map, Some, IfOk, string_bytes};
 ghost use Rattle.std.specs.Fmt.{DisplaysOnOk};
-ghost use Rattle.gk_c.specs.CallFault.{name_given, name_within, own_line, placed_at, status_of_call, text_of_run};
+ghost use Rattle.gk_c.specs.CallFault.{name_given, name_within, own_line, placed_at, place_of_call, status_of_call, text_of_run};
 
 use crate::call::{GivenFile, ReadCall};
+use crate::fault_place::{FaultPlace, NOWHERE, place_of};
 use gk_cli::{RunFault, Source};
 use gk_select::SelectFault;
 use std::alloc::{AllocError, AllocFailed, Global};
@@ -32,6 +33,16 @@ impl CallFault {
         match self {
             CallFault::Run(fault) => fault.status(),
             _ => 2,
+        }
+    }
+
+    /// Where the fault is: nowhere, where it is none of a run.
+    pub fn place(&self) -> FaultPlace
+        ensures { result ≡ place_of_call self.now }
+    {
+        match self {
+            CallFault::Run(fault) => place_of(fault),
+            _ => NOWHERE,
         }
     }
 }

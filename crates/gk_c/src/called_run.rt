@@ -6,13 +6,14 @@ ghost use Rattle.gk_cli.specs.RunFault.{IsUnread};
 ghost use Rattle.gk_cli.specs.Suite.{device_of, JudgedReport, OnlyReport};
 ghost use Rattle.gk_c.specs.Answer.{IsNoReport, IsReport};
 ghost use Rattle.gk_c.specs.Call.{bytes_by, call_value, given_value, request_read, variable_named};
-ghost use Rattle.gk_c.specs.CallFault.{own_line, status_of_call};
+ghost use Rattle.gk_c.specs.CallFault.{own_line, place_of_call, status_of_call};
 ghost use Rattle.gk_c.specs.declared.call_fault.CallFault.TheVariants.{Run};
 ghost use Rattle.gk_c.specs.CalledRun.{AreTaken, IsAnswer, IsFaultSaid, IsRunAnswer, SaysPut, SaysPutOne, SaysRunFault, contents_by};
 
 use crate::answer::{Answer, fault_answer, report_answer};
 use crate::call::{Call, GivenFile, Named, ReadCall, read_call, text_from};
 use crate::call_fault::{CallFault, line_of_own, line_of_run};
+use crate::fault_place::place_of;
 use gk_cli::{Counted, RunFault, run_suite};
 use gk_world::{Sandbox, WorldFault};
 use std::alloc::Global;
@@ -138,9 +139,10 @@ fn run_fresh<W: Write>(
 
 // Says a fault that names no file.
 fn say_own(fault: &CallFault, room: &mut [u8]) -> Answer
-    ensures { IsNoReport (own_line fault.now) (status_of_call fault.now) room.old room.new result }
+    ensures { IsNoReport (own_line fault.now) (status_of_call fault.now) (place_of_call fault.now)
+        room.old room.new result }
 {
-    fault_answer(fault.status(), line_of_own(fault), room)
+    fault_answer(fault.status(), fault.place(), line_of_own(fault), room)
 }
 
 // Says a fault of a run. Where there is no memory for its line, refused memory is said in its place.
@@ -148,7 +150,7 @@ fn say_run(alloc: Global, read: &ReadCall, fault: RunFault, room: &mut [u8]) -> 
     ensures { IsFaultSaid read.now (Run fault) room.old room.new result }
 {
     match line_of_run(alloc, read, fault) {
-        Ok(line) => fault_answer(fault.status(), line.as_str(), room),
+        Ok(line) => fault_answer(fault.status(), place_of(&fault), line.as_str(), room),
         Err(_) => say_own(&CallFault::Run(RunFault::Memory), room),
     }
 }

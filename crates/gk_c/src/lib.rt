@@ -11,6 +11,7 @@ mod answer;
 mod call;
 mod call_fault;
 mod called_run;
+mod fault_place;
 
 pub use answer::Answer;
 use answer::put_out;
