@@ -1,0 +1,76 @@
+#!/usr/bin/env python3
+"""Makes the page, one file with all that it needs: make_page.py MODULE > try.html
+
+It has the page and the scripts of web/source, the WebAssembly module, and the features of examples/ with their arguments.
+"""
+
+import base64
+import json
+import os
+import sys
+
+HOME = os.path.dirname(os.path.dirname(os.path.dirname(os.path.realpath(__file__))))
+FLAGS = {"--dry-run": "dryRun", "--stop": "stop", "--no-skipped": "noSkipped"}
+TEXTS = {"--tags": "tags", "--line": "lines", "--env": "variables"}
+FILES = {"--library": "library", "--hooks": "hooks"}
+
+
+def read(*path):
+    """The text of a file of the repository."""
+    with open(os.path.join(HOME, *path), encoding="utf-8") as file:
+        return file.read()
+
+
+def inputs_of(words):
+    """The fields of the page for a command line."""
+    made = {"files": [], "tags": "", "lines": "", "variables": ""}
+    words = iter(words)
+    for word in words:
+        if word in FLAGS:
+            made[FLAGS[word]] = True
+        elif word in TEXTS:
+            made[TEXTS[word]] = "\n".join(filter(None, [made[TEXTS[word]], next(words)]))
+        elif word in FILES:
+            name = next(words)
+            made[FILES[word]], made[f"{FILES[word]}Name"] = read(name), name
+        elif word == "--format":
+            made["format"] = next(words)
+        elif word.startswith("--"):
+            sys.exit(f"make_page.py: the page has no field for {word}")
+        else:
+            made["files"].append([word, read(word)])
+    made["lines"] = made["lines"].replace("\n", " ")
+    return made
+
+
+def examples():
+    """The inputs of each example, by its name."""
+    found = {}
+    for name in sorted(os.listdir(os.path.join(HOME, "examples"))):
+        stem, ending = os.path.splitext(name)
+        if ending == ".feature":
+            own = os.path.join("examples", f"{stem}.arguments")
+            words = read(own).splitlines() if os.path.exists(os.path.join(HOME, own)) else []
+            found[name] = inputs_of([*words, f"examples/{name}"])
+    return json.dumps(found, ensure_ascii=False).replace("<", "\\u003c")
+
+
+def main():
+    """Puts the parts together."""
+    with open(sys.argv[1], "rb") as file:
+        module = base64.b64encode(file.read()).decode()
+    caller = read("web", "source", "gherkin_run.js").replace("export ", "")
+    parts = {"module": module, "worker": "\n" + caller + read("web", "source", "worker.js"), "examples": examples(),
+             "page": read("web", "source", "page.js")}
+    page = read("web", "source", "page.html")
+    for name, text in parts.items():
+        if "</script" in text or page.count("{%s}" % name) != 1:
+            sys.exit(f"make_page.py: {name} doesn't fit into the page")
+    for name, text in parts.items():
+        before, after = page.split("{%s}" % name)
+        page = before + text + after
+    sys.stdout.buffer.write(page.encode("utf-8"))
+
+
+if __name__ == "__main__":
+    main()

@@ -1,0 +1,18 @@
+// Runs what the page asks for, one request after the other. The first message is the module, as base64.
+let running;
+
+onmessage = async ({ data }) => {
+    if (data.module !== undefined) {
+        const bytes = Uint8Array.from(atob(data.module), (it) => it.charCodeAt(0));
+        running = load(bytes);
+        return;
+    }
+    try {
+        const run = await running;
+        const begun = performance.now();
+        const answer = run(data.request);
+        postMessage({ number: data.number, answer, time: performance.now() - begun });
+    } catch (error) {
+        postMessage({ number: data.number, error: String(error) });
+    }
+};
