@@ -75,8 +75,11 @@ def code_names():
     member = re.compile(r"^\s*(?:pub\s+)?([A-Za-z_][A-Za-z0-9_]*)\s*(?:[,({:=]|$)", re.MULTILINE)
     spec = re.compile(r"^\s*(?:(?:abbrev|unfoldable|ghost)\s+)*(?:pub\s+)?(?:record\s+|data\s+|mod\s+|law\s+|lemma\s+)?([A-Za-z_][A-Za-z0-9_]*)\s*[:({]", re.MULTILINE)
     header = re.compile(r"^\s*(?:(?:abbrev|unfoldable)\s+)*pub\s+(?:record\s+|data\s+|mod\s+)?([A-Za-z_][A-Za-z0-9_]*)", re.MULTILINE)
+    callers = re.compile(r"\b(GHERKIN_[A-Z_]+|(?<=^import )[a-z]+)\b", re.MULTILINE)
     for path in FILES:
         names.add(os.path.splitext(os.path.basename(path))[0])
+        if path.startswith(("include/", "python/")) and path.endswith((".h", ".py")):
+            names.update(callers.findall(read(path)))
         if not path.startswith("crates/"):
             continue
         if path.endswith((".rt", ".antt")):
