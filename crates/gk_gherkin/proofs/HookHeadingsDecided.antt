@@ -4,7 +4,7 @@ use Rattle.std.proofs.lemmas.Bool.Decides.{nat_tests}
 use Rattle.std.proofs.lemmas.Slice.Eq.{bytes_eq-Decides}
 use Rattle.std.specs.List.{AllByRecursion}
 use Rattle.gk_gherkin.specs.declared.hooks.HookKind.{HookKind}
-use Rattle.gk_gherkin.specs.declared.hooks.HookKind.TheVariants.{BeforeAll, AfterAll, BeforeFeature, AfterFeature, BeforeScenario, AfterScenario, BeforeTag, AfterTag}
+use Rattle.gk_gherkin.specs.declared.hooks.HookKind.TheVariants.{BeforeAll, AfterAll, BeforeFeature, AfterFeature, BeforeRule, AfterRule, BeforeScenario, AfterScenario, BeforeTag, AfterTag}
 use Rattle.gk_gherkin.specs.Hooks.{HookValue, place_of_kind, is_same_kind, is_same_tag}
 use Rattle.gk_gherkin.specs.HookHeadings.{HookHeading}
 use Rattle.gk_gherkin.specs.HooksGrammar.{heading_of, AreDistinct}
@@ -26,9 +26,11 @@ kind_at zero = BeforeAll
 kind_at (suc zero) = AfterAll
 kind_at (suc (suc zero)) = BeforeFeature
 kind_at (suc (suc (suc zero))) = AfterFeature
-kind_at (suc (suc (suc (suc zero)))) = BeforeScenario
-kind_at (suc (suc (suc (suc (suc zero))))) = AfterScenario
-kind_at (suc (suc (suc (suc (suc (suc zero)))))) = BeforeTag
+kind_at (suc (suc (suc (suc zero)))) = BeforeRule
+kind_at (suc (suc (suc (suc (suc zero))))) = AfterRule
+kind_at (suc (suc (suc (suc (suc (suc zero)))))) = BeforeScenario
+kind_at (suc (suc (suc (suc (suc (suc (suc zero))))))) = AfterScenario
+kind_at (suc (suc (suc (suc (suc (suc (suc (suc zero)))))))) = BeforeTag
 kind_at _ = AfterTag
 
 kind_back : (k : HookKind) → kind_at (place_of_kind k) ≡ k
@@ -37,6 +39,8 @@ kind_back BeforeAll = refl
 kind_back AfterAll = refl
 kind_back BeforeFeature = refl
 kind_back AfterFeature = refl
+kind_back BeforeRule = refl
+kind_back AfterRule = refl
 kind_back BeforeScenario = refl
 kind_back AfterScenario = refl
 kind_back BeforeTag = refl

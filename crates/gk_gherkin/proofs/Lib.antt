@@ -22,6 +22,7 @@ pub mod ReadingSteps
 pub mod FeaturePlaceComplete
 pub mod HooksPlaceComplete
 pub mod Prefixes
+pub mod RuleCounts
 pub mod FreshHookHeadings
 pub mod RowStops
 pub mod ReadingStops

@@ -197,6 +197,9 @@ background_lines ls rest x = own_lines (λ a b. IsBackground a x b) (λ a b p. b
 pub scenario_lines : IsConcatenation IsScenario
 scenario_lines ls rest x = own_lines (λ a b. IsScenario a x b) (λ a b p. scenario_prefix a x b p) ls rest
 
+pub container_lines : (Ignored : LineValue → Type 0) (kind : Class) → IsConcatenation (IsContainer Ignored kind)
+container_lines Ignored kind ls rest x = own_lines (λ a b. IsContainer Ignored kind a x b) (λ a b p. container_prefix Ignored kind a x b p) ls rest
+
 pub rule_lines : IsConcatenation IsRule
 rule_lines ls rest x = own_lines (λ a b. IsRule a x b) (λ a b p. rule_prefix a x b p) ls rest
 

@@ -2,7 +2,7 @@
 use Rattle.std.specs.Prelude.{codes, ◌≡◌, ℕ, List, Some, None, refl}
 use Rattle.gk_gherkin.specs.declared.class.Class.TheVariants.{StepLine}
 use Rattle.gk_gherkin.specs.declared.hook_headings.HooksClass.TheVariants.{HookLine, Plain}
-use Rattle.gk_gherkin.specs.declared.hooks.HookKind.TheVariants.{AfterScenario, BeforeTag, AfterTag}
+use Rattle.gk_gherkin.specs.declared.hooks.HookKind.TheVariants.{BeforeRule, AfterScenario, BeforeTag, AfterTag}
 use Rattle.gk_gherkin.specs.Lines.{LineValue, line_at}
 use Rattle.gk_gherkin.specs.Class.{class, class_of, class_of_words}
 use Rattle.gk_gherkin.specs.HookHeadings.{hooks_class, hook_heading}
@@ -23,11 +23,11 @@ heading_with_colon : hook_heading (line (codes "before_tag\t @a:b: ")) ≡ Some 
 unfolding hook_heading
 heading_with_colon = refl
 
--- Rules and steps have no hooks.
-heading_of_rule : (hooks_class (line (codes "before_rule:")) ≡ HookLine) × (hook_heading (line (codes "before_rule:")) ≡ None)
+heading_of_rule : (hooks_class (line (codes "before_rule:")) ≡ HookLine) × (hook_heading (line (codes "before_rule:")) ≡ Some (record { kind = BeforeRule; tag = None }))
 unfolding hooks_class hook_heading
 heading_of_rule = (refl, refl)
 
+-- Steps have no hooks.
 heading_of_step : (hooks_class (line (codes "before_step:")) ≡ HookLine) × (hook_heading (line (codes "before_step:")) ≡ None)
 unfolding hooks_class hook_heading
 heading_of_step = (refl, refl)

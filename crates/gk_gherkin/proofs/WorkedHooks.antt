@@ -1,7 +1,7 @@
 -- Worked hooks files and what they read as, or which fault they have, by computation.
 use Rattle.std.specs.Prelude.{[], ◌∷◌, codes, List, Some, None, refl}
 use Rattle.gk_gherkin.specs.declared.feature.StepType.TheVariants.{Given, Then}
-use Rattle.gk_gherkin.specs.declared.hooks.HookKind.TheVariants.{BeforeAll, AfterScenario, BeforeTag}
+use Rattle.gk_gherkin.specs.declared.hooks.HookKind.TheVariants.{BeforeAll, BeforeRule, AfterRule, AfterScenario, BeforeTag}
 use Rattle.gk_gherkin.specs.declared.read_fault.ReadFault.TheVariants.{Unexpected, BadHook, BadRow, CellCount, UnclosedText}
 use Rattle.gk_gherkin.specs.Lines.{Lines, lines_of}
 use Rattle.gk_gherkin.specs.Class.{class, class_of, class_of_words, step_keyword, step_text}
@@ -74,11 +74,18 @@ reads_two_hooks : ReadsHooks two_hooks two_hooks_say
 unfolding class class_of class_of_words step_keyword step_text cells_of parts_of unescaped closes content_of type_after on_row on_block on_body hooks_class hook_heading on_hook on_hook_body on_hooks_place on step run_by finish reading
 reads_two_hooks = hooks_sound two_hooks two_hooks_say refl
 
--- A hook line that is no heading.
-rule_hook : HooksFault (BadHook 1) (lines_of (codes "before_rule:"))
-unfolding class class_of class_of_words step_keyword step_text cells_of parts_of unescaped closes content_of type_after on_row on_block on_body hooks_class hook_heading on_hook on_hook_body on_hooks_place on step run_by finish reading
-rule_hook = hooks_faulty (lines_of (codes "before_rule:")) (BadHook 1) refl
+-- Hooks for rules.
+abbrev rule_hooks : Lines
+rule_hooks = lines_of (codes "before_rule:\nGiven x\nafter_rule:")
 
+abbrev rule_hooks_say : List HookValue
+rule_hooks_say = record { kind = BeforeRule; tag = None; line = 1; steps = record { keyword = codes "Given"; step_type = Given; text = codes "x"; block = Empty; line = 2 } ∷ [] } ∷ record { kind = AfterRule; tag = None; line = 3; steps = [] } ∷ []
+
+reads_rule_hooks : ReadsHooks rule_hooks rule_hooks_say
+unfolding class class_of class_of_words step_keyword step_text cells_of parts_of unescaped closes content_of type_after on_row on_block on_body hooks_class hook_heading on_hook on_hook_body on_hooks_place on step run_by finish reading
+reads_rule_hooks = hooks_sound rule_hooks rule_hooks_say refl
+
+-- A hook line that is no heading.
 step_hook : HooksFault (BadHook 2) (lines_of (codes "before_all:\nafter_step:"))
 unfolding class class_of class_of_words step_keyword step_text cells_of parts_of unescaped closes content_of type_after on_row on_block on_body hooks_class hook_heading on_hook on_hook_body on_hooks_place on step run_by finish reading
 step_hook = hooks_faulty (lines_of (codes "before_all:\nafter_step:")) (BadHook 2) refl
@@ -144,6 +151,6 @@ unfolding class class_of class_of_words step_keyword step_text cells_of parts_of
 open_text = hooks_faulty (lines_of (codes "before_all:\nGiven x\n```\n\nafter_all:\n")) (UnclosedText 3) refl
 
 -- Of two faulty lines the first.
-first_of_two : HooksFault (BadHook 1) (lines_of (codes "before_rule:\nFeature: a"))
+first_of_two : HooksFault (BadHook 1) (lines_of (codes "before_step:\nFeature: a"))
 unfolding class class_of class_of_words step_keyword step_text cells_of parts_of unescaped closes content_of type_after on_row on_block on_body hooks_class hook_heading on_hook on_hook_body on_hooks_place on step run_by finish reading
-first_of_two = hooks_faulty (lines_of (codes "before_rule:\nFeature: a")) (BadHook 1) refl
+first_of_two = hooks_faulty (lines_of (codes "before_step:\nFeature: a")) (BadHook 1) refl

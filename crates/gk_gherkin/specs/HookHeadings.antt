@@ -3,7 +3,7 @@ use Rattle.std.specs.Prelude.{codes, not, nat_eq, ℕ, ◌||◌, ◌&&◌, List,
 use Rattle.std.specs.List.{list_all, ends_with, before_last}
 use Rattle.std.specs.Str.{bytes_eq}
 use Rattle.gk_gherkin.specs.declared.hooks.HookKind.{HookKind}
-use Rattle.gk_gherkin.specs.declared.hooks.HookKind.TheVariants.{BeforeAll, AfterAll, BeforeFeature, AfterFeature, BeforeScenario, AfterScenario, BeforeTag, AfterTag}
+use Rattle.gk_gherkin.specs.declared.hooks.HookKind.TheVariants.{BeforeAll, AfterAll, BeforeFeature, AfterFeature, BeforeRule, AfterRule, BeforeScenario, AfterScenario, BeforeTag, AfterTag}
 use Rattle.gk_gherkin.specs.declared.hook_headings.Heading.{Heading}
 use Rattle.gk_gherkin.specs.declared.hook_headings.HooksClass.{HooksClass}
 use Rattle.gk_gherkin.specs.declared.hook_headings.HooksClass.TheVariants.{HookLine, Plain}
@@ -32,6 +32,7 @@ abbrev pub plain_headings : List PlainHeading
 plain_headings =
     record { text = codes "before_all:"; kind = BeforeAll } ∷ record { text = codes "after_all:"; kind = AfterAll }
     ∷ record { text = codes "before_feature:"; kind = BeforeFeature } ∷ record { text = codes "after_feature:"; kind = AfterFeature }
+    ∷ record { text = codes "before_rule:"; kind = BeforeRule } ∷ record { text = codes "after_rule:"; kind = AfterRule }
     ∷ record { text = codes "before_scenario:"; kind = BeforeScenario } ∷ record { text = codes "after_scenario:"; kind = AfterScenario } ∷ []
 
 -- The heading without a tag that a text is.

@@ -3,7 +3,7 @@ use Rattle.std.specs.Prelude.{ℕ, Bool, true, false, ◌==◌, ◌&&◌, List, 
 use Rattle.std.specs.Str.{bytes_eq}
 use Rattle.std.specs.String.{string_bytes}
 use Rattle.gk_gherkin.specs.declared.hooks.HookKind.{HookKind}
-use Rattle.gk_gherkin.specs.declared.hooks.HookKind.TheVariants.{BeforeAll, AfterAll, BeforeFeature, AfterFeature, BeforeScenario, AfterScenario, BeforeTag, AfterTag}
+use Rattle.gk_gherkin.specs.declared.hooks.HookKind.TheVariants.{BeforeAll, AfterAll, BeforeFeature, AfterFeature, BeforeRule, AfterRule, BeforeScenario, AfterScenario, BeforeTag, AfterTag}
 use Rattle.gk_gherkin.specs.declared.hooks.Hook.{Hook}
 use Rattle.gk_gherkin.specs.declared.hooks.HookFile.{HookFile}
 use Rattle.gk_gherkin.specs.Feature.{StepValue, step_value}
@@ -29,10 +29,12 @@ place_of_kind BeforeAll = 0
 place_of_kind AfterAll = 1
 place_of_kind BeforeFeature = 2
 place_of_kind AfterFeature = 3
-place_of_kind BeforeScenario = 4
-place_of_kind AfterScenario = 5
-place_of_kind BeforeTag = 6
-place_of_kind AfterTag = 7
+place_of_kind BeforeRule = 4
+place_of_kind AfterRule = 5
+place_of_kind BeforeScenario = 6
+place_of_kind AfterScenario = 7
+place_of_kind BeforeTag = 8
+place_of_kind AfterTag = 9
 
 -- Whether two kinds are the same.
 abbrev pub is_same_kind : HookKind → HookKind → Bool

@@ -1,6 +1,6 @@
 //! The grammar of a feature file: reading a file by it, and what its relations say of whole lists of
 //! lines.
-ghost use Rattle.std.specs.Prelude.{Option, option_map, IfOk, IfErr};
+ghost use Rattle.std.specs.Prelude.{ℕ, ◌<◌, ◌^◌, List, length, Option, Some, option_map, IfOk, IfErr};
 ghost use Rattle.gk_gherkin.specs.Lines.{lines_of, IsText};
 ghost use Rattle.gk_gherkin.specs.Feature.{FeatureValue, feature_value};
 ghost use Rattle.gk_gherkin.specs.Grammar.{Reads};
@@ -66,6 +66,13 @@ pub fn parts_are_concatenations()
 /// No list of lines says two different things. (the grammar of this project's profile)
 pub fn reading_is_unique()
     ensures { HasOneReading }
+{}
+
+/// What `read_feature` answers has fewer than 2^32 rules, as each has a line of its own. (this project's
+/// profile)
+pub fn rules_are_counted()
+    ensures { (bytes : List ℕ) (f : FeatureValue) → IsText bytes → Reads (lines_of bytes) (Some f)
+        → length f.rules < 2 ^ 32 }
 {}
 
 /// No bytes have two faults as a feature file, and none have two as a hooks file: neither of two

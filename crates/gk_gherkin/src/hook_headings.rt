@@ -54,6 +54,10 @@ fn plain_kind(text: &str) -> Option<HookKind>
         Some(HookKind::BeforeFeature)
     } else if is_word(text, "after_feature:") {
         Some(HookKind::AfterFeature)
+    } else if is_word(text, "before_rule:") {
+        Some(HookKind::BeforeRule)
+    } else if is_word(text, "after_rule:") {
+        Some(HookKind::AfterRule)
     } else if is_word(text, "before_scenario:") {
         Some(HookKind::BeforeScenario)
     } else if is_word(text, "after_scenario:") {

@@ -5,14 +5,16 @@ ghost use Rattle.gk_gherkin.specs.Hooks as spec;
 
 use crate::feature::Step;
 
-/// When the steps of a hook are run: before or after the whole run, a feature, a scenario, or what
-/// has the hook's tag. (behave's documentation: environment file functions)
+/// When the steps of a hook are run: before or after the whole run, a feature, a rule, a scenario, or
+/// what has the hook's tag. (behave's documentation: environment file functions)
 #[derive(Clone, Copy, Debug, PartialEq, Eq)]
 pub enum HookKind {
     BeforeAll,
     AfterAll,
     BeforeFeature,
     AfterFeature,
+    BeforeRule,
+    AfterRule,
     BeforeScenario,
     AfterScenario,
     BeforeTag,

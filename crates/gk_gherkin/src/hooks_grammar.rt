@@ -14,8 +14,8 @@ use std::alloc::Global;
 /// The hooks that the bytes spell, in order. A file of blank lines and comments alone has none.
 ///
 /// A hook is a heading and the steps under it, each with a table or a doc string, as in a feature
-/// file. Its heading is `before_` or `after_` and `all:`, `feature:` or `scenario:`, or `tag`, blanks, a tag
-/// without blanks, and `:`. (behave's documentation: environment file functions; this project's
+/// file. Its heading is `before_` or `after_` and `all:`, `feature:`, `rule:` or `scenario:`, or `tag`, blanks,
+/// a tag without blanks, and `:`. (behave's documentation: environment file functions; this project's
 /// profile)
 ///
 /// `TooLong` and `NotUtf8` come as from `read_lines`, before any fault of a line. Of the faults of

@@ -23,7 +23,9 @@ mod tags;
 pub mod text;
 
 pub use feature::{Background, Block, Examples, Feature, Row, Rule, Scenario, Step, StepType};
-pub use grammar::{fault_is_unique, parts_are_concatenations, read_feature, reading_is_unique};
+pub use grammar::{
+    fault_is_unique, parts_are_concatenations, read_feature, reading_is_unique, rules_are_counted,
+};
 pub use hooks::{Hook, HookFile, HookKind};
 pub use hooks_grammar::{hooks_reading_is_unique, read_hooks};
 pub use lines::{BorrowedLine, Document, LIMIT, Line, Place, borrowed_line, read_lines, text_of};

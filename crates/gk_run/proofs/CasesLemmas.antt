@@ -1,8 +1,8 @@
--- Cases and features, one after another.
+-- Cases, one after another.
 use Rattle.std.specs.List.{list_any}
-use Rattle.std.specs.Prelude.{Err, IfOk, Ok, Result}
-use Rattle.std.proofs.Common.{◌⊎◌, inl, inr, Bool, List, [], ap, append_assoc, arith, cond, drop, false, get_or, length, map, refl, subst, sym, true, ℕ, ◌&&◌, ◌++◌, ◌+◌, ◌<◌, ◌≤◌, ◌||◌, ◌∙◌, ◌∷◌, ◌≡◌}
-use Rattle.std.proofs.lemmas.List.{append-nil, at_drop_all, at_drop_more}
+use Rattle.std.specs.Prelude.{Err, IfOk, None, Ok, Result, Some}
+use Rattle.std.proofs.Common.{◌⊎◌, inl, inr, Bool, List, [], ap, append_assoc, arith, cond, drop, false, get_or, length, map, refl, suc, subst, sym, true, ℕ, ◌&&◌, ◌++◌, ◌+◌, ◌<◌, ◌≤◌, ◌||◌, ◌∙◌, ◌∷◌, ◌≡◌}
+use Rattle.std.proofs.lemmas.List.{append-nil, at_drop_all, at_drop_more, map_push}
 use Rattle.gk_gherkin.specs.Feature.{StepValue}
 use Rattle.gk_select.specs.declared.case.Case.{Case}
 use Rattle.gk_world.specs.State.{State}
@@ -18,11 +18,20 @@ use Rattle.gk_run.specs.Acting.{CleanupValue, passes}
 use Rattle.gk_run.specs.Run.{Run}
 use Rattle.gk_run.specs.Running.{reached_row, unrun_row, unreached_row, unselected_row, IsReached, marks_of}
 use Rattle.gk_run.specs.Walk.{row_of_step, rows_of_steps, IsWalked}
-use Rattle.gk_run.specs.Chosen.{ChosenValue, MemberValue, has_selected, members_of}
+use Rattle.gk_run.specs.Chosen.{MemberValue, has_selected, member_of, members_of}
 use Rattle.gk_run.specs.Ending.{has_passed}
-use Rattle.gk_run.specs.Features.{case_of, case_statuses, cases_of, feature_row_of, feature_verdict, happened_in, section_state, stays_open, AreCases, IsFeatureEnd, IsFeatureResult, IsSectionEnd}
-use Rattle.gk_run.specs.Results.{CaseRow, FeatureRow, StepRow, case_row}
-use Rattle.gk_run.specs.Section.{Cut, around_of, nowhere}
+use Rattle.gk_run.specs.Cases.{all_stay_open, case_of, cases_of, members_in, stays_open, AreCases, RunsCases, TakesMember}
+use Rattle.gk_run.specs.Grouping.{falls_from, members_of_rank}
+use Rattle.gk_run.proofs.GroupingLemmas.{and_left, first_of_rank, none_of_rank, not_of_rank}
+use Rattle.gk_run.specs.declared.cases.Cases.{Cases}
+use Rattle.gk_run.specs.declared.cases.Member.{Member}
+use Rattle.std.specs.Prelude.{Vec}
+use Rattle.std.specs.declared.alloc.Global.{Global}
+use Rattle.gk_select.specs.RuleOrder as order
+use Rattle.std.proofs.lemmas.Bool.{eq-eqb}
+use Rattle.gk_run.specs.declared.results.RuleResult.{RuleResult}
+use Rattle.gk_run.specs.Results.{CaseRow, RuleRow, StepRow, case_row, rule_row}
+use Rattle.gk_run.specs.Section.{Cut, nowhere}
 use Rattle.gk_run.specs.SectionHooks.{begun}
 use Rattle.gk_run.proofs.Nothing.{nothing_in}
 use Rattle.gk_run.proofs.SectionLemmas.{passed_state}
@@ -31,6 +40,16 @@ use Rattle.gk_run.proofs.SectionLemmas.{passed_state}
 pub statuses_any : (p : Status → Bool) (cases : List CaseResult) → list_any p (map (λ (row : CaseRow). row.status) (map case_row cases)) ≡ list_any (λ (c : CaseResult). p c.status) cases
 statuses_any p [] = refl
 statuses_any p (c ∷ cs) = ap (λ b. p c.status || b) (statuses_any p cs)
+
+-- the same of rules
+pub arounds_any : (p : Status → Bool) (rules : List RuleResult) → list_any p (map (λ (row : RuleRow). row.around) (map rule_row rules)) ≡ list_any (λ (r : RuleResult). p r.around) rules
+arounds_any p [] = refl
+arounds_any p (r ∷ rs) = ap (λ b. p r.around || b) (arounds_any p rs)
+
+-- how a section's own hooks and cleanups ended, or those of a rule
+pub around_or : (p : Status → Bool) (rules : List RuleResult) (around : Status) (a b both : Bool) → a ≡ p around → b ≡ list_any (λ (r : RuleResult). p r.around) rules → both ≡ (a || b) →
+    both ≡ list_any p (around ∷ map (λ (row : RuleRow). row.around) (map rule_row rules))
+around_or p rules around a b both first others is = is ∙ ap (λ x. x || b) first ∙ ap (λ x. p around || x) (others ∙ sym (arounds_any p rules))
 
 -- the same of the cases so far, and of those that are left
 abbrev pub GoesAny : (Status → Bool) → List CaseResult → ℕ → Bool → Bool → Type 0
@@ -136,40 +155,89 @@ pub if_ok : {A E : Type 0} (P Q : A → Type 0) (x : Result A E) → ((a : A) �
 if_ok P Q (Ok a) f h = f a h
 if_ok P Q (Err e) f h = h
 
--- ---- features
+-- ---- the cases of a rank
 
-pub feature_ends : (run : Run) (level : Level) (outside : State) (tags : List (List ℕ)) (members : List MemberValue) (b : Ending) (s : State) (cs : List CleanupValue) (p : Bool) (around : Status) (rows : List CaseRow) →
-    IsWalked (begun run.library run.hooks level tags outside) b s cs → p ≡ has_passed b → AreCases run s p members rows → IsSectionEnd run level tags outside around (has_passed b) →
-    IsFeatureEnd run level outside true tags members around rows
-feature_ends run level outside tags members b s cs p around rows walked passes cases end =
-    let section = section_state run level tags outside in
-    let known = cases section (λ o. passed_state (begun run.library run.hooks level tags outside) b s cs walked (sym passes ∙ o)) in
+-- the cases that were taken so far, and those of the rank that are left
+pub record GoesOn (run : Run) (first : State) (is_open : Bool) (old now : Cases) (all_stay : Bool) : Type 0 where
+  pub rows : List CaseRow
+  pub told : map case_row now.results.items ≡ map case_row old.results.items ++ rows
+  pub goes : GoesCases run first is_open (members_of_rank old.rank (members_in old)) rows (is_open && all_stay) (members_of_rank old.rank (members_in now))
+  pub stay : all_stay ≡ all_stay_open run rows
+  pub rank : now.rank ≡ old.rank
+  pub others : (other : ℕ) → old.rank < other → members_of_rank other (members_in now) ≡ members_of_rank other (members_in old)
+
+apart : (r other n : ℕ) → r < other → n ≡ r → n ≡ other → ⊥
+apart r other n lt this that = omega (arith, lt, this, that)
+
+and_true : (a : Bool) → (a && true) ≡ a
+and_true true = refl
+and_true false = refl
+
+and_assoc : (a b c : Bool) → ((a && b) && c) ≡ (a && (b && c))
+and_assoc true b c = refl
+and_assoc false b c = refl
+
+pub goes_first : (run : Run) (first : State) (is_open : Bool) (old : Cases) → GoesOn run first is_open old old true
+goes_first run first is_open old =
+    let all = members_of_rank old.rank (members_in old) in
     record {
-      cuts = record { own = end.cut; cases = known.0 };
-      hooks = end.hooks;
-      cases = known.1 ∙ ap (λ (x : Bool). cases_of run section x known.0 members) (passes ∙ end.ready);
+      rows = [];
+      told = sym (append-nil (map case_row old.results.items));
+      goes = subst (λ (b : Bool). GoesCases run first is_open all [] b all) (sym (and_true is_open)) (cases_first run first is_open all);
+      stay = refl;
+      rank = refl;
+      others = λ other lt. refl;
     }
 
-pub not_begun : (run : Run) (level : Level) (outside now : State) (tags : List (List ℕ)) (members : List MemberValue) (is_begun : Bool) (rows : List CaseRow) → is_begun ≡ false →
-    AreCases run now false members rows → IsFeatureEnd run level outside is_begun tags members statuses.Passed rows
-not_begun run level outside now tags members true rows h cases = let no : ⊥ = cc in absurd no
-not_begun run level outside now tags members false rows h cases =
-    let known = cases (section_state run level tags outside) (λ o. let no : ⊥ = cc in absurd no) in
-    record { cuts = record { own = nowhere; cases = known.0 }; hooks = refl; cases = known.1 }
+all_stay_push : (run : Run) (rows : List CaseRow) (row : CaseRow) → all_stay_open run (rows ++ row ∷ []) ≡ (all_stay_open run rows && stays_open run row.status)
+all_stay_push run [] row = and_true (stays_open run row.status)
+all_stay_push run (r ∷ rows) row = ap (λ b. stays_open run r.status && b) (all_stay_push run rows row) ∙ sym (and_assoc (stays_open run r.status) (all_stay_open run rows) (stays_open run row.status))
 
-pub begun_end : (run : Run) (level : Level) (outside : State) (tags : List (List ℕ)) (members : List MemberValue) (is_begun : Bool) (around : Status) (rows : List CaseRow) → is_begun ≡ true →
-    IsFeatureEnd run level outside true tags members around rows → IsFeatureEnd run level outside is_begun tags members around rows
-begun_end run level outside tags members is_begun around rows h end = subst (λ (x : Bool). IsFeatureEnd run level outside x tags members around rows) (sym h) end
+pub goes_on : (run : Run) (first now_state : State) (is_open : Bool) (old now taken next : Cases) (m : Member) (row : CaseResult) (all_stay opens stays : Bool) →
+    GoesOn run first is_open old now all_stay → TakesMember now (Some m) taken → opens ≡ (is_open && all_stay) → now_state ≡ first →
+    ((section : State) → (opens ≡ true → now_state ≡ section) → (cut : Cut) × (case_row row ≡ case_of run section opens cut (member_of m.case m.selected))) → stays ≡ (all_stay && stays_open run row.status) →
+    next.rank ≡ taken.rank → members_in next ≡ members_in taken → next.results.items ≡ taken.results.items ++ row ∷ [] → GoesOn run first is_open old next stays
+goes_on run first now_state is_open old now taken next m row all_stay opens stays so_far takes open_is same one stays_is rank_is members_is pushed =
+    let r = old.rank in
+    let all = members_of_rank r (members_in old) in
+    let this = member_of m.case m.selected in
+    let behind = members_in taken in
+    let rows = so_far.rows in
+    let of_rank = takes.1 ∙ so_far.rank in
+    let told : map case_row next.results.items ≡ map case_row old.results.items ++ (rows ++ case_row row ∷ []) =
+    ap (map case_row) pushed ∙ map_push case_row taken.results.items row ∙ ap (λ (rs : Vec CaseResult Global). map case_row rs.items ++ case_row row ∷ []) takes.3 ∙ ap (λ rs. rs ++ case_row row ∷ []) so_far.told
+    ∙ append_assoc (map case_row old.results.items) rows (case_row row ∷ []) in
+    let first_is : members_of_rank r (members_in now) ≡ this ∷ members_of_rank r behind = ap (members_of_rank r) takes.0 ∙ first_of_rank r this behind (eq-eqb (order.rank m.case.rule) r of_rank) in
+    let before : GoesCases run first is_open all rows (is_open && all_stay) (this ∷ members_of_rank r behind) = subst (λ (left : List MemberValue). GoesCases run first is_open all rows (is_open && all_stay) left) first_is so_far.goes in
+    let here : (section : State) → ((is_open && all_stay) ≡ true → now_state ≡ section) → (cut : Cut) × (case_row row ≡ case_of run section (is_open && all_stay) cut this) =
+    subst (λ (b : Bool). (section : State) → (b ≡ true → now_state ≡ section) → (cut : Cut) × (case_row row ≡ case_of run section b cut this)) open_is one in
+    let after : GoesCases run first is_open all (rows ++ case_row row ∷ []) (is_open && stays) (members_of_rank r behind) =
+    cases_on run first now_state is_open all rows (rows ++ case_row row ∷ []) (case_row row) (is_open && all_stay) (is_open && stays) this (members_of_rank r behind) same (and_left is_open all_stay) here
+    (ap (λ b. is_open && b) stays_is ∙ sym (and_assoc is_open all_stay (stays_open run row.status))) refl before in
+    record {
+      rows = rows ++ case_row row ∷ [];
+      told = told;
+      goes = subst (λ (ms : List MemberValue). GoesCases run first is_open all (rows ++ case_row row ∷ []) (is_open && stays) (members_of_rank r ms)) (sym members_is) after;
+      stay = stays_is ∙ ap (λ b. b && stays_open run row.status) so_far.stay ∙ sym (all_stay_push run rows (case_row row));
+      rank = rank_is ∙ takes.2 ∙ so_far.rank;
+      others = λ other lt.
+      ap (members_of_rank other) members_is ∙ sym (not_of_rank other this behind (λ is. let no : ⊥ = apart r other (order.rank m.case.rule) lt of_rank is in no)) ∙ ap (members_of_rank other) (sym takes.0) ∙ so_far.others other lt;
+    }
 
-pub and_left : (a b : Bool) → (a && b) ≡ true → a ≡ true
-and_left true b h = refl
-and_left false b h = let no : ⊥ = cc in absurd no
-
-pub feature_is : (run : Run) (now : State) (is_open is_begun : Bool) (f : ChosenValue) (status around : Status) (rows : List CaseRow) → is_begun ≡ (is_open && has_selected f.members) →
-    status ≡ feature_verdict around (case_statuses rows) → ((outside : State) → (is_begun ≡ true → now ≡ outside) → IsFeatureEnd run levels.Feature outside is_begun f.tags f.members around rows) →
-    IsFeatureResult run now is_open f (record { source = f.source; name = f.name; line = f.line; status = status; around = around; cases = rows })
-feature_is run now is_open is_begun f status around rows begins verdict ends outside opens =
-    let end = subst (λ (x : Bool). IsFeatureEnd run levels.Feature outside x f.tags f.members around rows) begins (ends outside (λ b. opens (and_left is_open (has_selected f.members) (sym begins ∙ b)))) in
-    let row : Status → FeatureRow = λ s. record { source = f.source; name = f.name; line = f.line; status = s; around = around; cases = rows } in
-    let a_of = around_of (happened_in run levels.Feature f.tags outside (is_open && has_selected f.members) end.cuts.own) in
-    (end.cuts, ap row verdict ∙ ap (λ (a : Status). feature_row_of f a rows) end.hooks ∙ ap (feature_row_of f a_of) end.cases)
+pub goes_last : (run : Run) (first : State) (is_open : Bool) (old now last : Cases) (all_stay : Bool) → GoesOn run first is_open old now all_stay → TakesMember now None last → RunsCases run first is_open old last all_stay
+goes_last run first is_open old now last all_stay so_far none =
+    let r = old.rank in
+    let all = members_of_rank r (members_in old) in
+    let falls : falls_from (suc r) now.waiting.items ≡ true = subst (λ (n : ℕ). falls_from (suc n) now.waiting.items ≡ true) so_far.rank none.1 in
+    let nothing = none_of_rank r now.waiting.items now.selected.items falls in
+    record {
+      rows = so_far.rows;
+      told = ap (λ (c : Cases). map case_row c.results.items) none.0 ∙ so_far.told;
+      are = cases_last run first is_open all so_far.rows (is_open && all_stay) (members_of_rank r (members_in now)) nothing so_far.goes;
+      stay = so_far.stay;
+      left = record {
+        rank = ap (λ (c : Cases). c.rank) none.0 ∙ so_far.rank;
+        falls = subst (λ (c : Cases). falls_from (suc r) c.waiting.items ≡ true) (sym none.0) falls;
+        others = λ other lt. ap (λ (c : Cases). members_of_rank other (members_in c)) none.0 ∙ so_far.others other lt;
+      };
+    }

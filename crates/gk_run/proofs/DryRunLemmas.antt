@@ -13,10 +13,11 @@ use Rattle.gk_run.specs.declared.results.Status.TheVariants as statuses
 use Rattle.gk_run.specs.Running.{row_of_case, unrun_row, unselected_row, marks_of}
 use Rattle.gk_run.specs.Walk.{row_of_step, looked_up, IsLookedUp}
 use Rattle.gk_run.specs.Chosen.{ChosenValue, MemberValue}
-use Rattle.gk_run.specs.DryRun.{AreDrySteps, IsDryStep, dry_case_of, dry_cases_of, dry_events, dry_feature_of, dry_row, dry_verdict}
+use Rattle.gk_run.specs.DryRun.{AreDrySteps, IsDryStep, dry_case_of, dry_cases_of, dry_events, dry_feature_of, dry_row, dry_rules_of, dry_verdict}
 use Rattle.gk_run.specs.Ending.{is_memory_mark}
-use Rattle.gk_run.specs.Features.{FeatureCuts, case_statuses, feature_verdict}
-use Rattle.gk_run.specs.Results.{CaseRow, FeatureRow, StepRow}
+use Rattle.gk_run.specs.Cases.{case_statuses}
+use Rattle.gk_run.specs.Features.{FeatureCuts, feature_verdict, rule_statuses}
+use Rattle.gk_run.specs.Results.{CaseRow, FeatureRow, RuleRow, StepRow}
 use Rattle.gk_run.specs.Section.{Cut, Events, cut_marks, happened, in_steps, nowhere}
 use Rattle.gk_run.proofs.EndingLemmas.{cut_is_memory}
 
@@ -132,8 +133,11 @@ pub dry_cases_last : (library : LibraryValue) (all : List MemberValue) (rows : L
 dry_cases_last library all rows [] none goes = let whole = goes [] in (whole.0, sym (append-nil rows) ∙ whole.1)
 dry_cases_last library all rows (m ∷ left) none goes = let no : ⊥ = cc in absurd no
 
-pub dry_feature_is : (library : LibraryValue) (f : ChosenValue) (status : Status) (rows : List CaseRow) → status ≡ feature_verdict statuses.Passed (case_statuses rows) → (cuts : List Cut) × (rows ≡ dry_cases_of library cuts f.members) →
-    (cuts : FeatureCuts) × (record { source = f.source; name = f.name; line = f.line; status = status; around = statuses.Passed; cases = rows } ≡ dry_feature_of library cuts f)
-dry_feature_is library f status rows verdict known =
-    let row : Status → List CaseRow → FeatureRow = λ s rs. record { source = f.source; name = f.name; line = f.line; status = s; around = statuses.Passed; cases = rs } in
-    (record { own = nowhere; cases = known.0 }, ap (λ (s : Status). row s rows) verdict ∙ ap (λ rs. row (feature_verdict statuses.Passed (case_statuses rs)) rs) known.1)
+pub dry_feature_is : (library : LibraryValue) (f : ChosenValue) (status : Status) (rules : List RuleRow) (rows : List CaseRow) → status ≡ feature_verdict statuses.Passed (rule_statuses rules) (case_statuses rows) →
+    rules ≡ dry_rules_of f.rules → (cuts : List Cut) × (rows ≡ dry_cases_of library cuts f.members) →
+    (cuts : FeatureCuts) × (record { source = f.source; name = f.name; line = f.line; status = status; around = statuses.Passed; rules = rules; cases = rows } ≡ dry_feature_of library cuts f)
+dry_feature_is library f status rules rows verdict known_rules known =
+    let row : Status → List RuleRow → List CaseRow → FeatureRow = λ s rrs rs. record { source = f.source; name = f.name; line = f.line; status = s; around = statuses.Passed; rules = rrs; cases = rs } in
+    (record { own = nowhere; cases = known.0; rules = [] }, ap (λ (s : Status). row s rules rows) verdict
+    ∙ ap (λ rrs. row (feature_verdict statuses.Passed (rule_statuses rrs) (case_statuses rows)) rrs rows) known_rules
+    ∙ ap (λ rs. row (feature_verdict statuses.Passed (rule_statuses (dry_rules_of f.rules)) (case_statuses rs)) (dry_rules_of f.rules) rs) known.1)

@@ -6,7 +6,8 @@ use Rattle.gk_run.specs.declared.results.Status.TheVariants as statuses
 use Rattle.gk_run.specs.Run.{Run}
 use Rattle.gk_run.specs.Chosen.{ChosenValue}
 use Rattle.gk_run.specs.DryRun.{dry_feature_of, dry_features_of}
-use Rattle.gk_run.specs.Features.{FeatureCuts, first_or, later, uncut_feature}
+use Rattle.gk_run.specs.Cases.{first_or, later}
+use Rattle.gk_run.specs.Features.{FeatureCuts, uncut_feature}
 use Rattle.gk_run.specs.Judged.{Cuts, DryRunsAreJudged, UnfinishedDryRunsAreJudged, dry_results, results_from, results_of}
 use Rattle.gk_run.specs.Results.{FeatureRow, Results}
 use Rattle.gk_run.specs.Section.{nowhere}

@@ -7,7 +7,10 @@ pub mod WalkLemmas
 pub mod CleanLemmas
 pub mod StepsLemmas
 pub mod SectionLemmas
+pub mod GroupingLemmas
 pub mod CasesLemmas
+pub mod RulesLemmas
+pub mod FeaturesLemmas
 pub mod DryRunLemmas
 pub mod JudgedLemmas
 pub mod OpenRunLemmas

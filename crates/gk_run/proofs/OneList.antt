@@ -16,11 +16,15 @@ use Rattle.gk_run.specs.Run.{Run}
 use Rattle.gk_run.specs.Running.{all_marks, alone, reached_row, row_of_case, unreached_row, unselected_row, verdict_of}
 use Rattle.gk_run.specs.Walk.{looked_up}
 use Rattle.gk_run.specs.Chosen.{ChosenValue, MemberValue, has_selected}
-use Rattle.gk_run.specs.DryRun.{dry_case_of, dry_cases_of, dry_events, dry_feature_of, dry_features_of, dry_row, dry_verdict}
+use Rattle.gk_run.specs.DryRun.{dry_case_of, dry_cases_of, dry_events, dry_feature_of, dry_features_of, dry_row, dry_rules_of, dry_verdict}
 use Rattle.gk_run.specs.Ending.{around_status, ended_of, is_memory_mark, verdict_status}
-use Rattle.gk_run.specs.Features.{FeatureCuts, case_of, cases_of, feature_of, feature_row_of, features_of, first_or, happened_in, later, section_events, section_state, stays_open, uncut_feature}
-use Rattle.gk_run.specs.Judged.{Cuts, OneList, dry_results, has_memory, is_memory_case, is_memory_feature, results_from, uncut}
-use Rattle.gk_run.specs.Results.{CaseRow, FeatureRow, Results, is_memory}
+use Rattle.gk_run.specs.Cases.{all_stay_open, case_of, cases_of, first_or, later, stays_open}
+use Rattle.gk_run.specs.Features.{FeatureCuts, feature_of, feature_row_of, features_of, inside_by, inside_of, uncut_feature}
+use Rattle.gk_run.specs.Grouping.{Group, own_members, rule_groups}
+use Rattle.gk_run.specs.OpenSection.{SectionRow, happened_in, section_events, section_of, section_state}
+use Rattle.gk_run.specs.Rules.{Inside, RuleCuts, rule_of, rule_stays_open, rules_of, uncut_rule}
+use Rattle.gk_run.specs.Judged.{Cuts, OneList, dry_results, has_memory, is_memory_case, is_memory_feature, is_memory_rule, results_from, uncut}
+use Rattle.gk_run.specs.Results.{CaseRow, FeatureRow, RuleRow, Results, is_memory}
 use Rattle.gk_run.specs.Section.{Cut, Events, around_of, before_passed, cut_marks, cut_outcomes, happened, in_after, in_before, in_cleanups, in_steps, is_place, marks_around, nowhere}
 use Rattle.gk_run.proofs.EndingLemmas.{cut_ends, cut_is_memory}
 use Rattle.gk_run.proofs.SectionLemmas.{memory_later, memory_first, outcomes_cut}
@@ -32,6 +36,10 @@ or_left true b h = h
 or_right : (a b : Bool) → (a || b) ≡ false → b ≡ false
 or_right false b h = h
 or_right true b h = absurd (true≢false h)
+
+or_all : (a b : Bool) → a ≡ false → b ≡ false → (a || b) ≡ false
+or_all false b h k = k
+or_all true b h k = h
 
 -- a cut is none unless what happened has an ending in memory
 uncut_by : (b : Bool) (now e : Events) (f : Events → Ending) → (b ≡ true → f now ≡ endings.Memory) → (f (cond b now e) ≡ endings.Memory → ⊥) → cond b now e ≡ e
@@ -118,6 +126,61 @@ happened_kept run level tags outside true cut h =
     let es = section_events run level tags outside in
     section_uncut run level tags outside cut (not_around (ended_of (marks_around (happened cut es))) h)
 
+-- what a section comes to in which no memory was refused
+section_kept : {A : Type 0} (run : Run) (level : Level) (tags : List (List ℕ)) (outside : State) (is_begun : Bool) (cut : Cut) (inside uncut_inside : State → Bool → A) →
+    (let end = section_of run level tags outside is_begun cut inside in is_memory end.around ≡ false) →
+    (let events = happened_in run level tags outside is_begun cut in let section = section_state run level tags outside in inside section (is_begun && before_passed events) ≡ uncut_inside section (is_begun && before_passed events)) →
+    section_of run level tags outside is_begun cut inside ≡ section_of run level tags outside is_begun nowhere uncut_inside
+section_kept {A} run level tags outside is_begun cut inside uncut_inside h same =
+    let section = section_state run level tags outside in
+    let events = happened_in run level tags outside is_begun cut in
+    let with_inside : A → SectionRow A = λ x. record { around = around_of events; inside = x } in
+    let whole : Events → SectionRow A = λ es. record { around = around_of es; inside = uncut_inside section (is_begun && before_passed es) } in
+    ap with_inside same ∙ ap whole (happened_kept run level tags outside is_begun cut h)
+
+append_left : (xs ys : List CaseRow) → list_any is_memory_case (xs ++ ys) ≡ false → list_any is_memory_case xs ≡ false
+append_left [] ys h = refl
+append_left (x ∷ xs) ys h = or_all (is_memory_case x) (list_any is_memory_case xs) (or_left (is_memory_case x) (list_any is_memory_case (xs ++ ys)) h) (append_left xs ys (or_right (is_memory_case x) (list_any is_memory_case (xs ++ ys)) h))
+
+append_right : (xs ys : List CaseRow) → list_any is_memory_case (xs ++ ys) ≡ false → list_any is_memory_case ys ≡ false
+append_right [] ys h = h
+append_right (x ∷ xs) ys h = append_right xs ys (or_right (is_memory_case x) (list_any is_memory_case (xs ++ ys)) h)
+
+-- a rule
+rule_kept : (run : Run) (outside : State) (is_open : Bool) (cuts : RuleCuts) (g : Group) →
+    (let end = rule_of run outside is_open cuts g in is_memory end.around ≡ false) → (let end = rule_of run outside is_open cuts g in list_any is_memory_case end.inside ≡ false) →
+    rule_of run outside is_open cuts g ≡ rule_of run outside is_open uncut_rule g
+rule_kept run outside is_open cuts g around cases =
+    let is_begun = is_open && has_selected g.members in
+    let is_ready = is_begun && before_passed (happened_in run levels.Rule g.head.tags outside is_begun cuts.own) in
+    section_kept run levels.Rule g.head.tags outside is_begun cuts.own (λ section is_ready. cases_of run section is_ready cuts.cases g.members) (λ section is_ready. cases_of run section is_ready [] g.members) around
+    (cases_kept run (section_state run levels.Rule g.head.tags outside) is_ready cuts.cases g.members cases)
+
+rules_kept : (run : Run) (outside : State) (is_open : Bool) (cuts : List RuleCuts) (gs : List Group) →
+    (let inside = rules_of run outside is_open cuts gs in list_any is_memory_rule inside.rules ≡ false) → (let inside = rules_of run outside is_open cuts gs in list_any is_memory_case inside.cases ≡ false) →
+    rules_of run outside is_open cuts gs ≡ rules_of run outside is_open [] gs
+rules_kept run outside is_open cuts [] h k = refl
+rules_kept run outside is_open cuts (g ∷ gs) h k =
+    let end = rule_of run outside is_open (first_or uncut_rule cuts) g in
+    let opens : SectionRow (List CaseRow) → Bool = λ e. is_open && rule_stays_open run e in
+    let next = rules_of run outside (opens end) (later cuts) gs in
+    let row : SectionRow (List CaseRow) → RuleRow = λ e. record { line = g.head.line; around = e.around } in
+    let both : SectionRow (List CaseRow) → Inside → Inside = λ e n. record { rules = row e ∷ n.rules; cases = e.inside ++ n.cases } in
+    ap (both end) (rules_kept run outside (opens end) (later cuts) gs (or_right (is_memory end.around) (list_any is_memory_rule next.rules) h) (append_right end.inside next.cases k))
+    ∙ ap (λ e. both e (rules_of run outside (opens e) [] gs))
+    (rule_kept run outside is_open (first_or uncut_rule cuts) g (or_left (is_memory end.around) (list_any is_memory_rule next.rules) h) (append_left end.inside next.cases k))
+
+inside_kept : (run : Run) (section : State) (is_open : Bool) (cuts : List Cut) (rule_cuts : List RuleCuts) (own : List MemberValue) (gs : List Group) →
+    (let inside = inside_by run section is_open cuts rule_cuts own gs in list_any is_memory_rule inside.rules ≡ false) → (let inside = inside_by run section is_open cuts rule_cuts own gs in list_any is_memory_case inside.cases ≡ false) →
+    inside_by run section is_open cuts rule_cuts own gs ≡ inside_by run section is_open [] [] own gs
+inside_kept run section is_open cuts rule_cuts own gs h k =
+    let rows = cases_of run section is_open cuts own in
+    let opens : List CaseRow → Bool = λ rs. is_open && all_stay_open run rs in
+    let next = rules_of run section (opens rows) rule_cuts gs in
+    let both : List CaseRow → Inside → Inside = λ rs n. record { rules = n.rules; cases = rs ++ n.cases } in
+    ap (both rows) (rules_kept run section (opens rows) rule_cuts gs h (append_right rows next.cases k))
+    ∙ ap (λ rs. both rs (rules_of run section (opens rs) [] gs)) (cases_kept run section is_open cuts own (append_left rows next.cases k))
+
 feature_kept : (run : Run) (outside : State) (is_open : Bool) (cuts : FeatureCuts) (f : ChosenValue) →
     is_memory_feature (feature_of run outside is_open cuts f) ≡ false → feature_of run outside is_open cuts f ≡ feature_of run outside is_open uncut_feature f
 feature_kept run outside is_open cuts f h =
@@ -125,10 +188,13 @@ feature_kept run outside is_open cuts f h =
     let section = section_state run levels.Feature f.tags outside in
     let events = happened_in run levels.Feature f.tags outside is_begun cuts.own in
     let is_ready = is_begun && before_passed events in
-    let cases = cases_of run section is_ready cuts.cases f.members in
-    let whole : Events → FeatureRow = λ es. feature_row_of f (around_of es) (cases_of run section (is_begun && before_passed es) [] f.members) in
-    ap (feature_row_of f (around_of events)) (cases_kept run section is_ready cuts.cases f.members (or_right (is_memory (around_of events)) (list_any is_memory_case cases) h))
-    ∙ ap whole (happened_kept run levels.Feature f.tags outside is_begun cuts.own (or_left (is_memory (around_of events)) (list_any is_memory_case cases) h))
+    let inside = inside_by run section is_ready cuts.cases cuts.rules (own_members f) (rule_groups f) in
+    let row : SectionRow Inside → FeatureRow = λ end. feature_row_of f end.around end.inside in
+    let others = or_right (is_memory (around_of events)) (list_any is_memory_rule inside.rules || list_any is_memory_case inside.cases) h in
+    ap row (section_kept run levels.Feature f.tags outside is_begun cuts.own (inside_of run cuts f) (inside_of run uncut_feature f)
+    (or_left (is_memory (around_of events)) (list_any is_memory_rule inside.rules || list_any is_memory_case inside.cases) h)
+    (inside_kept run section is_ready cuts.cases cuts.rules (own_members f) (rule_groups f)
+    (or_left (list_any is_memory_rule inside.rules) (list_any is_memory_case inside.cases) others) (or_right (list_any is_memory_rule inside.rules) (list_any is_memory_case inside.cases) others)))
 
 features_kept : (run : Run) (outside : State) (is_open : Bool) (cuts : List FeatureCuts) (fs : List ChosenValue) →
     list_any is_memory_feature (features_of run outside is_open cuts fs) ≡ false → features_of run outside is_open cuts fs ≡ features_of run outside is_open [] fs
@@ -190,7 +256,10 @@ dry_cases_kept library cuts (m ∷ ms) h =
     ∙ ap (λ (r : CaseRow). r ∷ dry_cases_of library [] ms) (dry_case_kept library (first_or nowhere cuts) m (or_left (is_memory_case row) (list_any is_memory_case rest) h))
 
 dry_feature_kept : (library : LibraryValue) (cuts : FeatureCuts) (f : ChosenValue) → is_memory_feature (dry_feature_of library cuts f) ≡ false → dry_feature_of library cuts f ≡ dry_feature_of library uncut_feature f
-dry_feature_kept library cuts f h = ap (feature_row_of f statuses.Passed) (dry_cases_kept library cuts.cases f.members h)
+dry_feature_kept library cuts f h =
+    let rules = dry_rules_of f.rules in
+    let whole : List CaseRow → FeatureRow = λ rows. feature_row_of f statuses.Passed (record { rules = rules; cases = rows }) in
+    ap whole (dry_cases_kept library cuts.cases f.members (or_right (list_any is_memory_rule rules) (list_any is_memory_case (dry_cases_of library cuts.cases f.members)) h))
 
 dry_features_kept : (library : LibraryValue) (cuts : List FeatureCuts) (fs : List ChosenValue) → list_any is_memory_feature (dry_features_of library cuts fs) ≡ false → dry_features_of library cuts fs ≡ dry_features_of library [] fs
 dry_features_kept library cuts [] h = refl

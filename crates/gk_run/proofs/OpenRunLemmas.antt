@@ -10,7 +10,9 @@ use Rattle.gk_run.specs.Run.{Run}
 use Rattle.gk_run.specs.Chosen.{ChosenValue}
 use Rattle.gk_run.specs.Cleanups.{cleanups_value}
 use Rattle.gk_run.specs.Ending.{has_passed}
-use Rattle.gk_run.specs.Features.{FeatureCuts, feature_of, features_of, first_or, later, section_events, section_state, stays_open, uncut_feature}
+use Rattle.gk_run.specs.Cases.{first_or, later, stays_open}
+use Rattle.gk_run.specs.Features.{FeatureCuts, feature_of, features_of, uncut_feature}
+use Rattle.gk_run.specs.OpenSection.{section_events, section_state}
 use Rattle.gk_run.specs.Judged.{Cuts, results_of}
 use Rattle.gk_run.specs.OpenRun.{FinishedRunsAreJudged, UnfinishedRunsAreJudged}
 use Rattle.gk_run.specs.Results.{FeatureRow, Results}
@@ -25,12 +27,12 @@ pub judged_all : FinishedRunsAreJudged
 judged_all run old new suite features rows around started known_by end =
     let start = state_of old.now in
     let outside = section_state run levels.Run [] start in
-    let known = known_by outside (λ o. passed_state (begun run.library run.hooks levels.Run [] start) suite.before (state_of new.now) (cleanups_value suite.cleanups) started.walked (sym started.opened ∙ o)) in
+    let known = known_by outside (λ o. passed_state (begun run.library run.hooks levels.Run [] start) suite.section.before (state_of new.now) (cleanups_value suite.section.cleanups) started.opened.begins (sym started.passed ∙ o)) in
     let cuts : Cuts = record { own = end.cut; features = known.0 } in
     let with_features : List FeatureRow → Results = λ rs. record { features = rs; around = around } in
     let with_open : Bool → Results = λ x. record { features = features_of run outside x known.0 features; around = around } in
     let with_around : Status → Results = λ x. record { features = features_of run outside (before_passed (happened end.cut (section_events run levels.Run [] start))) known.0 features; around = x } in
-    (cuts, ap with_features known.1 ∙ ap with_open (started.opened ∙ end.ready) ∙ ap with_around end.hooks ∙ ap (results_by run old.now cuts features) (sym started.runs))
+    (cuts, ap with_features known.1 ∙ ap with_open (started.passed ∙ end.ready) ∙ ap with_around end.hooks ∙ ap (results_by run old.now cuts features) (sym started.runs))
 
 features_begin : (run : Run) (outside : State) (is_open : Bool) (cuts : List FeatureCuts) (fs others : List ChosenValue) →
     (more : List FeatureRow) × (features_of run outside is_open (cuts_of_all cuts fs) (fs ++ others) ≡ features_of run outside is_open cuts fs ++ more)
@@ -53,8 +55,8 @@ pub judged_so_far : UnfinishedRunsAreJudged
 judged_so_far run old new suite features others rows started known_by =
     let start = state_of old.now in
     let outside = section_state run levels.Run [] start in
-    let known = known_by outside (λ o. passed_state (begun run.library run.hooks levels.Run [] start) suite.before (state_of new.now) (cleanups_value suite.cleanups) started.walked (sym started.opened ∙ o)) in
-    let opens = opened_by run start suite.before (state_of new.now) (cleanups_value suite.cleanups) started.walked in
+    let known = known_by outside (λ o. passed_state (begun run.library run.hooks levels.Run [] start) suite.section.before (state_of new.now) (cleanups_value suite.section.cleanups) started.opened.begins (sym started.passed ∙ o)) in
+    let opens = opened_by run start suite.section.before (state_of new.now) (cleanups_value suite.section.cleanups) started.opened.begins in
     let cuts : Cuts = record { own = opens.0; features = cuts_of_all known.0 features } in
     let begins = features_begin run outside suite.is_open known.0 features others in
     let features_by : Bool → List FeatureRow = λ x. (let r = results_by run old.now cuts (features ++ others) x in r.features) in (
@@ -62,7 +64,7 @@ judged_so_far run old new suite features others rows started known_by =
       begins.0,
       (cuts, refl),
       ap features_by started.runs
-          ∙ ap (λ (x : Bool). features_of run outside x (cuts_of_all known.0 features) (features ++ others)) (sym (started.opened ∙ opens.1))
+          ∙ ap (λ (x : Bool). features_of run outside x (cuts_of_all known.0 features) (features ++ others)) (sym (started.passed ∙ opens.1))
           ∙ begins.1
           ∙ ap (λ (rs : List FeatureRow). rs ++ begins.0) (sym known.1),
     )

@@ -49,7 +49,7 @@ tag_hook kind tag texts = record { kind = kind; tag = Some tag; line = 1; steps 
 
 -- a selected scenario with tags
 abbrev tagged : List (List ℕ) → List StepValue → MemberValue
-tagged tags steps = record { scenario = record { name = codes "S"; keyword = codes "Scenario"; line = 1; tags = tags; own_tags = tags; steps = steps }; selected = true }
+tagged tags steps = record { scenario = record { name = codes "S"; keyword = codes "Scenario"; line = 1; rule = None; tags = tags; own_tags = tags; steps = steps }; selected = true }
 
 -- a selected scenario
 abbrev scenario : List (List ℕ) → MemberValue
@@ -61,7 +61,7 @@ unselected texts = record (scenario texts) { selected = false }
 
 -- a feature
 abbrev feature : List MemberValue → ChosenValue
-feature members = record { source = codes "f"; name = codes "f"; line = 1; tags = []; members = members }
+feature members = record { source = codes "f"; name = codes "f"; line = 1; tags = []; rules = []; members = members }
 
 -- a run that isn't dry and doesn't stop at a failure
 abbrev run : List HookValue → LibraryValue → Run
@@ -341,7 +341,7 @@ not_selected = simple Skipped (with_status Skipped ∷ [])
 
 -- A feature whose before list failed: the after hook still runs, and memory may be refused in it.
 after_a_failed_before_list : one_cut
-    (run (hook kinds.BeforeFeature (codes "skip" ∷ []) ∷ hook kinds.AfterFeature (codes "pass" ∷ []) ∷ []) common) (record { own = in_after 0; cases = [] }) two_scenarios ≡
+    (run (hook kinds.BeforeFeature (codes "skip" ∷ []) ∷ hook kinds.AfterFeature (codes "pass" ∷ []) ∷ []) common) (record { own = in_after 0; cases = []; rules = [] }) two_scenarios ≡
     comes_to Memory Memory (two_untested ∷ not_selected ∷ [])
 unfolding found found_any match_of act
 after_a_failed_before_list = refl
@@ -353,7 +353,7 @@ unfolding found found_any match_of act
 failed_before_list = refl
 
 -- Memory was refused in its before list: its scenarios are untested.
-cut_before_feature : one_cut (run (hook kinds.BeforeFeature (codes "pass" ∷ codes "pass" ∷ []) ∷ []) common) (record { own = in_before 1; cases = in_steps 0 ∷ [] }) two_scenarios ≡
+cut_before_feature : one_cut (run (hook kinds.BeforeFeature (codes "pass" ∷ codes "pass" ∷ []) ∷ []) common) (record { own = in_before 1; cases = in_steps 0 ∷ []; rules = [] }) two_scenarios ≡
     comes_to Memory Memory (two_untested ∷ not_selected ∷ [])
 unfolding found found_any match_of act
 cut_before_feature = refl
@@ -374,7 +374,7 @@ abbrev same_steps : MemberValue
 same_steps = scenario (codes "absent f" ∷ codes "write f x" ∷ codes "is f x" ∷ codes "pass" ∷ [])
 
 -- Memory was refused in the third step of the second scenario: it alone is spoilt, and the third starts from the feature's state.
-spoilt_alone : one_cut (run [] (of_name (codes "absent ") actions.FileAbsent ∷ write ∷ is ∷ pass ∷ [])) (record { own = nowhere; cases = nowhere ∷ in_steps 2 ∷ [] }) (same_steps ∷ same_steps ∷ same_steps ∷ []) ≡
+spoilt_alone : one_cut (run [] (of_name (codes "absent ") actions.FileAbsent ∷ write ∷ is ∷ pass ∷ [])) (record { own = nowhere; cases = nowhere ∷ in_steps 2 ∷ []; rules = [] }) (same_steps ∷ same_steps ∷ same_steps ∷ []) ≡
     comes_to Memory Passed (simple Passed (ok ∷ ok ∷ ok ∷ ok ∷ []) ∷ simple Memory (ok ∷ ok ∷ with_status Memory ∷ with_status Untested ∷ []) ∷ simple Passed (ok ∷ ok ∷ ok ∷ ok ∷ []) ∷ [])
 unfolding found found_any match_of is_utf8 chars lib.Utf8.encode act
 spoilt_alone = refl
@@ -415,7 +415,7 @@ unfolding found found_any match_of act
 runs_on = refl
 
 -- Memory in a scenario stops it, too.
-stops_at_memory : run_seen (results_from (stopping true) start (record uncut { features = record { own = nowhere; cases = in_steps 0 ∷ [] } ∷ [] }) two_features) ≡
+stops_at_memory : run_seen (results_from (stopping true) start (record uncut { features = record { own = nowhere; cases = in_steps 0 ∷ []; rules = [] } ∷ [] }) two_features) ≡
     record {
       around = Failed;
       features = record { verdict = Memory; around = Failed; cases = simple Memory (with_status Memory ∷ []) ∷ one_untested ∷ one_untested ∷ one_untested ∷ [] } ∷ record { verdict = Untested; around = Passed; cases = one_untested ∷ [] } ∷ [];
@@ -450,7 +450,7 @@ unfolding found found_any match_of act
 looked_up_alone contents = refl
 
 -- Memory was refused while the second step was looked up; there is no hook to refuse it in.
-cut_in_a_dry_run : (contents : Contents) → dry_one (record { own = in_before 0; cases = in_steps 1 ∷ in_before 0 ∷ [] }) (looked_at ∷ looked_at ∷ []) contents ≡
+cut_in_a_dry_run : (contents : Contents) → dry_one (record { own = in_before 0; cases = in_steps 1 ∷ in_before 0 ∷ []; rules = [] }) (looked_at ∷ looked_at ∷ []) contents ≡
     comes_to Memory Passed
     (simple Memory (with_status Untested ∷ with_status Memory ∷ with_status Untested ∷ []) ∷ simple Untested (with_status Untested ∷ with_status Untested ∷ with_status Undefined ∷ []) ∷ [])
 unfolding found found_any match_of act

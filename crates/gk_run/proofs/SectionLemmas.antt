@@ -17,13 +17,13 @@ use Rattle.gk_run.specs.Acting.{CleanupValue}
 use Rattle.gk_run.specs.Run.{Run}
 use Rattle.gk_run.specs.Walk.{Steps, rows_of_steps, steps_after, AreStepsRun, AreStepped, IsWalked, ended_after, Walked, stepped}
 use Rattle.gk_run.specs.Running.{alone, verdict_of, IsCaseEnd, IsReached, ran}
-use Rattle.gk_run.specs.Closing.{closing, IsClosed}
+use Rattle.gk_run.specs.Closing.{closing, IsClosed, IsClosedAfter}
 use Rattle.gk_run.specs.Ending.{around_status, ended_of, has_passed, verdict_status, worse}
-use Rattle.gk_run.specs.Features.{section_events, IsSectionEnd}
+use Rattle.gk_run.specs.OpenSection.{SectionRow, section_events, section_of, section_state, IsSectionEnd}
 use Rattle.gk_run.specs.Results.{CaseRow, StepRow}
-use Rattle.gk_run.specs.Section.{Events, around_of, before_passed, cut_marks, cut_outcomes, happened, in_after, in_before, in_cleanups, in_steps, is_place, nowhere}
+use Rattle.gk_run.specs.Section.{Cut, Events, around_of, before_passed, cut_marks, cut_outcomes, happened, in_after, in_before, in_cleanups, in_steps, is_place, nowhere}
 use Rattle.gk_run.specs.SectionHooks.{begun}
-use Rattle.gk_run.proofs.EndingLemmas.{cut_acted, cut_ends, ended_append, place_acted, worse_assoc, worse_memory, worse_passed}
+use Rattle.gk_run.proofs.EndingLemmas.{cut_acted, cut_ends, ended_append, not_memory, place_acted, worse_assoc, worse_memory, worse_passed}
 use Rattle.gk_run.proofs.StepsLemmas.{after_ends}
 use Rattle.gk_run.proofs.WalkLemmas.{exact}
 
@@ -221,6 +221,21 @@ before_not library endings.Passed s cs steps rows e last ls stepped m h = let no
 before_not library endings.Failed s cs steps rows e last ls stepped m h = let no : ⊥ = cc in no
 before_not library endings.Skipped s cs steps rows e last ls stepped m h = let no : ⊥ = cc in no
 
+-- a case ended, whatever was closed of it
+pub case_ends : (run : Run) (outside : State) (c : CaseValue) (b : Ending) (s : State) (cs : List CleanupValue) (rows : List StepRow) (e : Ending) (last : State) (ls : List CleanupValue) (l : Ending) (reported : List Outcome) →
+    IsWalked (begun run.library run.hooks levels.Scenario c.own_tags outside) b s cs → AreStepped run.library b s cs c.steps rows e last ls → IsClosedAfter e (closing run.library run.hooks levels.Scenario c.own_tags last ls) l reported →
+    IsCaseEnd run outside c (verdict_status (worse e l)) (around_status (worse b l)) reported rows
+case_ends run outside c b s cs rows endings.Memory last ls l reported walked stepped closed =
+    subst (λ x. IsCaseEnd run outside c statuses.Memory (around_status (worse b x)) reported rows) (sym closed.0)
+    (subst (λ x. IsCaseEnd run outside c statuses.Memory (around_status x) reported rows) (sym (worse_passed b))
+    (subst (λ x. IsCaseEnd run outside c statuses.Memory (around_status b) x rows) (sym closed.1) (case_ends_early run outside c b s cs rows endings.Memory last ls walked stepped refl)))
+case_ends run outside c b s cs rows endings.Passed last ls l reported walked stepped closed =
+    case_closed run outside c b s cs rows endings.Passed last ls l reported (before_not run.library b s cs c.steps rows endings.Passed last ls stepped (not_memory endings.Passed refl)) (not_memory endings.Passed refl) walked stepped closed
+case_ends run outside c b s cs rows endings.Failed last ls l reported walked stepped closed =
+    case_closed run outside c b s cs rows endings.Failed last ls l reported (before_not run.library b s cs c.steps rows endings.Failed last ls stepped (not_memory endings.Failed refl)) (not_memory endings.Failed refl) walked stepped closed
+case_ends run outside c b s cs rows endings.Skipped last ls l reported walked stepped closed =
+    case_closed run outside c b s cs rows endings.Skipped last ls l reported (before_not run.library b s cs c.steps rows endings.Skipped last ls stepped (not_memory endings.Skipped refl)) (not_memory endings.Skipped refl) walked stepped closed
+
 -- ---- a section beside its cases
 
 pub section_in_before : (run : Run) (level : Level) (tags : List (List ℕ)) (outside : State) (s : State) (cs : List CleanupValue) → IsWalked (begun run.library run.hooks level tags outside) endings.Memory s cs → IsSectionEnd run level tags outside statuses.Memory false
@@ -284,12 +299,29 @@ section_closed run level tags outside b s cs l reported m walked closed =
     section_by run level tags outside b l reported x.0
     (subst (λ k. IsClosed (closing run.library run.hooks level tags w.state k) l reported) x.2 (subst (λ t. IsClosed (closing run.library run.hooks level tags t cs) l reported) x.1 closed))
 
+-- a section ended, whatever was closed of it
+pub section_ends : (run : Run) (level : Level) (tags : List (List ℕ)) (outside : State) (b : Ending) (s : State) (cs : List CleanupValue) (l : Ending) (reported : List Outcome) →
+    IsWalked (begun run.library run.hooks level tags outside) b s cs → IsClosedAfter b (closing run.library run.hooks level tags s cs) l reported → IsSectionEnd run level tags outside (around_status (worse b l)) (has_passed b)
+section_ends run level tags outside endings.Memory s cs l reported walked closed = section_in_before run level tags outside s cs walked
+section_ends run level tags outside endings.Passed s cs l reported walked closed = section_closed run level tags outside endings.Passed s cs l reported (not_memory endings.Passed refl) walked closed
+section_ends run level tags outside endings.Failed s cs l reported walked closed = section_closed run level tags outside endings.Failed s cs l reported (not_memory endings.Failed refl) walked closed
+section_ends run level tags outside endings.Skipped s cs l reported walked closed = section_closed run level tags outside endings.Skipped s cs l reported (not_memory endings.Skipped refl) walked closed
+
 -- a section whose before list passed whole has its state
 pub passed_state : (w : Walked) (b : Ending) (s : State) (cs : List CleanupValue) → IsWalked w b s cs → has_passed b ≡ true → s ≡ w.state
 passed_state w endings.Passed s cs h p = h.1
 passed_state w endings.Failed s cs h p = let no : ⊥ = cc in absurd no
 passed_state w endings.Skipped s cs h p = let no : ⊥ = cc in absurd no
 passed_state w endings.Memory s cs h p = let no : ⊥ = cc in absurd no
+
+-- what a section comes to that was begun, from how it ended and from what is inside of it
+pub section_is : {A : Type 0} (run : Run) (level : Level) (tags : List (List ℕ)) (outside : State) (b : Ending) (passed : Bool) (around : Status) (x : A) (inside : State → Bool → A) → passed ≡ has_passed b →
+    IsSectionEnd run level tags outside around (has_passed b) → x ≡ inside (section_state run level tags outside) passed → (cut : Cut) × (record { around = around; inside = x } ≡ section_of run level tags outside true cut inside)
+section_is {A} run level tags outside b passed around x inside passes end known =
+    let events = happened end.cut (section_events run level tags outside) in
+    let with_around : Status → SectionRow A = λ a. record { around = a; inside = x } in
+    let with_inside : A → SectionRow A = λ i. record { around = around_of events; inside = i } in
+    (end.cut, ap with_around end.hooks ∙ ap with_inside (known ∙ ap (inside (section_state run level tags outside)) (passes ∙ end.ready)))
 
 -- the row of a case, from what it came to
 pub row_is : (run : Run) (section : State) (c : CaseValue) (status around : Status) (reported : List Outcome) (rows : List StepRow) →

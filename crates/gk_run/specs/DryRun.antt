@@ -8,13 +8,14 @@ use Rattle.gk_run.specs.declared.results.Status.{Status}
 use Rattle.gk_run.specs.declared.results.Status.TheVariants as statuses
 use Rattle.gk_run.specs.declared.results.Mark.{Mark}
 use Rattle.gk_run.specs.declared.results.Mark.TheVariants.{Untested}
-use Rattle.gk_run.specs.Results.{StepRow, CaseRow, FeatureRow}
+use Rattle.gk_run.specs.Results.{StepRow, CaseRow, RuleRow, FeatureRow}
 use Rattle.gk_run.specs.Ending.{is_memory_mark}
 use Rattle.gk_run.specs.Section.{is_place, cut_marks, Events, Cut, nowhere, happened}
 use Rattle.gk_run.specs.Walk.{rows_of_steps, looked_up, IsLookedUp}
 use Rattle.gk_run.specs.Running.{row_of_case, unselected_row}
-use Rattle.gk_run.specs.Chosen.{MemberValue, ChosenValue}
-use Rattle.gk_run.specs.Features.{FeatureCuts, uncut_feature, first_or, later, feature_row_of}
+use Rattle.gk_run.specs.Chosen.{HeadValue, MemberValue, ChosenValue}
+use Rattle.gk_run.specs.Cases.{first_or, later}
+use Rattle.gk_run.specs.Features.{FeatureCuts, uncut_feature, feature_row_of}
 
 -- The events of a selected case: its steps alone, which are looked up, and untested where the library matches them. (behave's documentation: `--dry-run`)
 abbrev pub dry_events : LibraryValue → CaseValue → Events
@@ -37,9 +38,13 @@ abbrev pub dry_cases_of : LibraryValue → List Cut → List MemberValue → Lis
 dry_cases_of library cuts [] = []
 dry_cases_of library cuts (m ∷ ms) = dry_case_of library (first_or nowhere cuts) m ∷ dry_cases_of library (later cuts) ms
 
--- The result of a feature. It isn't begun: its hooks don't run, so a cut in them is none.
+-- The results of rules, none of which is begun.
+abbrev pub dry_rules_of : List HeadValue → List RuleRow
+dry_rules_of heads = map (λ (h : HeadValue). record { line = h.line; around = statuses.Passed }) heads
+
+-- The result of a feature. Neither it nor a rule of it is begun: their hooks don't run, so a cut in them is none.
 abbrev pub dry_feature_of : LibraryValue → FeatureCuts → ChosenValue → FeatureRow
-dry_feature_of library cuts f = feature_row_of f statuses.Passed (dry_cases_of library cuts.cases f.members)
+dry_feature_of library cuts f = feature_row_of f statuses.Passed (record { rules = dry_rules_of f.rules; cases = dry_cases_of library cuts.cases f.members })
 
 -- The results of features in order, whatever the ones before them are.
 abbrev pub dry_features_of : LibraryValue → List FeatureCuts → List ChosenValue → List FeatureRow

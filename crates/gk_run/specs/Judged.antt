@@ -4,11 +4,12 @@ use Rattle.std.specs.List.{list_any}
 use Rattle.gk_world.specs.State.{Contents, State, state_of}
 use Rattle.gk_run.specs.declared.results.Status.TheVariants as statuses
 use Rattle.gk_run.specs.declared.section.Level.TheVariants as levels
-use Rattle.gk_run.specs.Results.{CaseRow, FeatureRow, Results, is_memory}
+use Rattle.gk_run.specs.Results.{CaseRow, RuleRow, FeatureRow, Results, is_memory}
 use Rattle.gk_run.specs.Chosen.{ChosenValue}
-use Rattle.gk_run.specs.Section.{Cut, nowhere, happened, before_passed, around_of}
+use Rattle.gk_run.specs.Section.{Cut, nowhere}
 use Rattle.gk_run.specs.Run.{Run}
-use Rattle.gk_run.specs.Features.{FeatureCuts, section_state, section_events, features_of}
+use Rattle.gk_run.specs.Features.{FeatureCuts, features_of}
+use Rattle.gk_run.specs.OpenSection.{section_of}
 use Rattle.gk_run.specs.DryRun.{dry_features_of, AreDryFeatures}
 
 -- The cuts of a run: in its own hooks and cleanups, and in its features.
@@ -23,11 +24,8 @@ uncut = record { own = nowhere; features = [] }
 -- The results of a run that starts from a plain state. No feature is begun unless the before_all hook passed whole.
 abbrev pub results_from : Run → State → Cuts → List ChosenValue → Results
 results_from run start cuts features =
-    let events = happened cuts.own (section_events run levels.Run [] start) in
-    record {
-      features = features_of run (section_state run levels.Run [] start) (before_passed events) cuts.features features;
-      around = around_of events;
-    }
+    let end = section_of run levels.Run [] start true cuts.own (λ section is_open. features_of run section is_open cuts.features features) in
+    record { features = end.inside; around = end.around }
 
 -- The results of a dry run: those of its features. No hook and no cleanup runs, so whether the run stops at a failure has no effect. (behave's documentation: `--dry-run`)
 abbrev pub dry_results : Run → Cuts → List ChosenValue → Results
@@ -49,9 +47,13 @@ plain_results run contents features = results_of run contents uncut features
 abbrev pub is_memory_case : CaseRow → Bool
 is_memory_case row = is_memory row.status
 
--- Memory was refused in a feature: in its own hooks and cleanups, or in a case.
+-- Memory was refused in a rule's hooks and cleanups.
+abbrev pub is_memory_rule : RuleRow → Bool
+is_memory_rule row = is_memory row.around
+
+-- Memory was refused in a feature: in its own hooks and cleanups, in those of a rule, or in a case.
 abbrev pub is_memory_feature : FeatureRow → Bool
-is_memory_feature row = is_memory row.around || list_any is_memory_case row.cases
+is_memory_feature row = is_memory row.around || (list_any is_memory_rule row.rules || list_any is_memory_case row.cases)
 
 -- Memory was refused somewhere in a run.
 abbrev pub has_memory : Results → Bool

@@ -8,8 +8,12 @@ pub mod Run
 pub mod Walk
 pub mod SectionHooks
 pub mod Closing
+pub mod OpenSection
 pub mod Running
 pub mod Chosen
+pub mod Grouping
+pub mod Cases
+pub mod Rules
 pub mod Features
 pub mod DryRun
 pub mod Judged

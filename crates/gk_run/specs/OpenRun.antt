@@ -7,30 +7,23 @@ use Rattle.gk_run.specs.declared.open_run.state.Suite.{Suite}
 use Rattle.gk_run.specs.declared.results.Status.{Status}
 use Rattle.gk_run.specs.Results.{FeatureRow}
 use Rattle.gk_run.specs.Ending.{has_passed}
-use Rattle.gk_run.specs.Cleanups.{cleanups_value}
-use Rattle.gk_run.specs.SectionHooks.{begun}
 use Rattle.gk_run.specs.Run.{Run}
 use Rattle.gk_run.specs.Chosen.{ChosenValue}
-use Rattle.gk_run.specs.Features.{FeatureCuts, features_of, IsSectionEnd}
+use Rattle.gk_run.specs.Features.{FeatureCuts, features_of}
+use Rattle.gk_run.specs.OpenSection.{IsOpened, IsSectionEnd}
 use Rattle.gk_run.specs.Judged.{Judged, BeginsJudged}
-use Rattle.gk_run.specs.Walk.{IsWalked}
 
 -- A run that isn't dry was begun in a layer of its own, and its before list walked through. (behave's documentation: context layers, environment file functions)
 pub record IsStarted (run : Run) (old new : SandboxValue) (suite : Suite) : Type 0 where
   pub runs : run.dry_run ≡ false
-  pub walked : IsWalked (begun run.library run.hooks levels.Run [] (state_of old.now)) suite.before (state_of new.now) (cleanups_value suite.cleanups)
-  pub opened : suite.is_open ≡ has_passed suite.before
+  pub opened : IsOpened run levels.Run [] old new suite.section
+  pub passed : suite.is_open ≡ has_passed suite.section.before
   pub stops : suite.stop ≡ run.stop
   pub unfailed : suite.has_failed ≡ false
-  pub layer : suite.layer ≡ depth new
-  pub saved : new.saved ≡ old.now ∷ old.saved
-  pub marks : new.marks ≡ length old.entries ∷ old.marks
 
 -- All of an open run is as it was, but whether a feature failed, and whether further features are begun.
 pub record IsKept (old new : Suite) : Type 0 where
-  pub layer : new.layer ≡ old.layer
-  pub before : new.before ≡ old.before
-  pub cleanups : cleanups_value new.cleanups ≡ cleanups_value old.cleanups
+  pub section : new.section ≡ old.section
   pub stops : new.stop ≡ old.stop
 
 -- The rows of features are those of some cuts, from the run's state where they are begun.
@@ -40,7 +33,7 @@ AreFeatures run now is_open features rows = (outside : State) → (is_open ≡ t
 -- A run that was begun, whose features were run, and that was finished has judged results.
 abbrev pub FinishedRunsAreJudged : Type 0
 FinishedRunsAreJudged = (run : Run) (old new : SandboxValue) (suite : Suite) (features : List ChosenValue) (rows : List FeatureRow) (around : Status) →
-    IsStarted run old new suite → AreFeatures run (state_of new.now) suite.is_open features rows → IsSectionEnd run levels.Run [] (state_of old.now) around (has_passed suite.before) →
+    IsStarted run old new suite → AreFeatures run (state_of new.now) suite.is_open features rows → IsSectionEnd run levels.Run [] (state_of old.now) around (has_passed suite.section.before) →
     Judged run old.now features (record { features = rows; around = around })
 
 -- A run that was begun, of which some features were run, and that isn't finished has results that begin judged results, whatever features come after them.

@@ -5,6 +5,8 @@ use Rattle.gk_select.specs.declared.case.Case.{Case}
 use Rattle.gk_run.specs.declared.reserved.Heading.{Heading}
 use Rattle.gk_run.specs.declared.reserved.ReservedCase.{ReservedCase}
 use Rattle.gk_run.specs.declared.reserved.ReservedCases.{ReservedCases}
+use Rattle.gk_run.specs.declared.reserved.ReservedRules.{ReservedRules}
+use Rattle.gk_run.specs.declared.chosen.RuleHead.{RuleHead}
 use Rattle.gk_run.specs.Chosen.{MemberValue, members_of}
 
 -- The heading of a case.
@@ -21,6 +23,10 @@ pub record IsCaseReserved (case : Case) (reserved : ReservedCase) : Type 0 where
 pub record AreCasesReserved (cases : Vec Case Global) (selected : Vec Bool Global) (reserved : ReservedCases) : Type 0 where
   pub same_cases : reserved.cases ≡ cases
   pub same_choice : reserved.selected ≡ selected
+
+-- The same rules, now with room for their results, which the record itself holds.
+abbrev pub AreRulesReserved : Vec RuleHead Global → ReservedRules → Type 0
+AreRulesReserved heads reserved = reserved.heads ≡ heads
 
 -- Cases, each with whether it is selected.
 abbrev pub members_in : ReservedCases → List MemberValue

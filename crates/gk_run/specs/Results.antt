@@ -6,6 +6,7 @@ use Rattle.gk_run.specs.declared.results.Reason.{Reason}
 use Rattle.gk_run.specs.declared.results.Outcome.{Outcome}
 use Rattle.gk_run.specs.declared.results.StepResult.{StepResult}
 use Rattle.gk_run.specs.declared.results.CaseResult.{CaseResult}
+use Rattle.gk_run.specs.declared.results.RuleResult.{RuleResult}
 use Rattle.gk_run.specs.declared.results.FeatureResult.{FeatureResult}
 
 -- The result of a step: its status, and where it failed the reason.
@@ -26,13 +27,19 @@ pub record CaseRow : Type 0 where
   pub cleanups : List Outcome
   pub steps : List StepRow
 
--- The result of a feature: its verdict, how its own hooks and cleanups ended, and its cases in file order.
+-- The result of a rule beside its cases: how its hooks and cleanups ended.
+pub record RuleRow : Type 0 where
+  pub line : ℕ
+  pub around : Status
+
+-- The result of a feature: its verdict, how its own hooks and cleanups ended, its rules, and its cases in file order.
 pub record FeatureRow : Type 0 where
   pub source : List ℕ
   pub name : List ℕ
   pub line : ℕ
   pub status : Status
   pub around : Status
+  pub rules : List RuleRow
   pub cases : List CaseRow
 
 -- The results of a run: its features in order, and how its own hooks and cleanups ended.
@@ -48,9 +55,13 @@ step_row r = record { keyword = string_bytes r.keyword; text = string_bytes r.te
 abbrev pub case_row : CaseResult → CaseRow
 case_row r = record { keyword = string_bytes r.keyword; name = string_bytes r.name; line = r.line; status = r.status; around = r.around; cleanups = r.cleanups.items; steps = map step_row r.steps.items }
 
+-- What a `RuleResult` says.
+abbrev pub rule_row : RuleResult → RuleRow
+rule_row r = record { line = r.line; around = r.around }
+
 -- What a `FeatureResult` says.
 abbrev pub feature_row : FeatureResult → FeatureRow
-feature_row r = record { source = string_bytes r.source; name = string_bytes r.name; line = r.line; status = r.status; around = r.around; cases = map case_row r.cases.items }
+feature_row r = record { source = string_bytes r.source; name = string_bytes r.name; line = r.line; status = r.status; around = r.around; rules = map rule_row r.rules.items; cases = map case_row r.cases.items }
 
 -- A status is the one that is asked for, which comes first.
 abbrev pub is_status : Status → Status → Bool

@@ -1,5 +1,5 @@
 -- Running a case: what plain maps give it alone from its section's state.
-use Rattle.std.specs.Prelude.{List, [], ◌++◌, map, ◌≡◌, String, string_bytes, length, ℕ}
+use Rattle.std.specs.Prelude.{None, List, [], ◌++◌, map, ◌≡◌, String, string_bytes, length, ℕ}
 use Rattle.std.specs.declared.alloc.Global.{Global}
 use Rattle.gk_gherkin.specs.Feature.{StepValue, step_value, texts}
 use Rattle.gk_select.specs.Case.{CaseValue}
@@ -15,21 +15,16 @@ use Rattle.gk_run.specs.declared.results.Status.TheVariants as statuses
 use Rattle.gk_run.specs.declared.run.Run as shared
 use Rattle.gk_run.specs.declared.running.CaseEnd.{CaseEnd}
 use Rattle.gk_run.specs.declared.section.Level.TheVariants as levels
-use Rattle.gk_run.specs.Closing.{closing}
 use Rattle.gk_run.specs.Ending.{ended_of, verdict_status}
 use Rattle.gk_run.specs.Results.{StepRow, CaseRow, step_row}
 use Rattle.gk_run.specs.Run.{run_value, Run}
 use Rattle.gk_run.specs.Section.{Events, Cut, happened, around_of}
-use Rattle.gk_run.specs.SectionHooks.{begun}
-use Rattle.gk_run.specs.Walk.{steps_after, rows_of_steps}
+use Rattle.gk_run.specs.OpenSection.{events_with, its_steps}
+use Rattle.gk_run.specs.Walk.{rows_of_steps}
 
 -- The events of a case from its section's state, which it enters with a layer of its own: its before list, its steps, its after lists and its cleanups. (behave's documentation: context layers, environment file functions, cleanups)
 abbrev pub alone : Run → State → CaseValue → Events
-alone run section c =
-    let before = begun run.library run.hooks levels.Scenario c.own_tags section in
-    let steps = steps_after run.library (ended_of before.marks) before.state before.cleanups c.steps in
-    let last = closing run.library run.hooks levels.Scenario c.own_tags steps.state steps.cleanups in
-    record { before = before.marks; steps = steps.marks; after = last.after; cleanups = last.cleanups }
+alone run section c = events_with (its_steps run.library c.steps) run levels.Scenario c.own_tags section
 
 -- What became of each event of a case.
 abbrev pub all_marks : Events → List Mark
@@ -78,7 +73,7 @@ marks_of mark c = map (λ step. mark) c.steps
 
 -- What is run of a case: its own tags and its steps.
 abbrev pub ran : List (List ℕ) → List StepValue → CaseValue
-ran own_tags steps = record { keyword = []; name = []; line = 0; steps = steps; tags = []; own_tags = own_tags }
+ran own_tags steps = record { keyword = []; name = []; line = 0; rule = None; steps = steps; tags = []; own_tags = own_tags }
 
 -- What a case comes to is that of some cut.
 pub record IsCaseEnd (run : Run) (outside : State) (c : CaseValue) (status around : Status) (reported : List Outcome) (rows : List StepRow) : Type 0 where

@@ -1,4 +1,4 @@
--- The hooks of a section: of the run, of a feature, of a scenario.
+-- The hooks of a section: of the run, of a feature, of a rule, of a scenario.
 use Rattle.std.specs.Prelude.{cond, List, [], ◌∷◌, ◌++◌, map, Option, String, Some, None, ℕ}
 use Rattle.std.specs.declared.alloc.Global.{Global}
 use Rattle.gk_gherkin.specs.Feature.{StepValue, texts}
@@ -24,18 +24,21 @@ use Rattle.gk_run.specs.Walk.{walk, IsWalked, Walked, at_rest}
 abbrev pub before_kind : Level → HookKind
 before_kind levels.Run = kinds.BeforeAll
 before_kind levels.Feature = kinds.BeforeFeature
+before_kind levels.Rule = kinds.BeforeRule
 before_kind levels.Scenario = kinds.BeforeScenario
 
 -- The hook after a section. (behave's documentation: environment file functions)
 abbrev pub after_kind : Level → HookKind
 after_kind levels.Run = kinds.AfterAll
 after_kind levels.Feature = kinds.AfterFeature
+after_kind levels.Rule = kinds.AfterRule
 after_kind levels.Scenario = kinds.AfterScenario
 
 -- Where the steps of a before hook are carried out: only in that of a scenario may they skip.
 abbrev pub before_site : Level → Site
 before_site levels.Run = sites.Hook
 before_site levels.Feature = sites.Hook
+before_site levels.Rule = sites.Hook
 before_site levels.Scenario = sites.CaseHook
 
 -- The steps of a hook; one that isn't in the hooks file has none.

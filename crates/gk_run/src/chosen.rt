@@ -2,8 +2,18 @@
 
 use gk_select::Case;
 
-/// A feature with its cases in file order, and for each case whether it is selected. `selected` has as
-/// many elements as `cases`.
+/// The heading of a rule.
+#[derive(Debug, Drop)]
+pub struct RuleHead {
+    /// The line of the heading, counted from 1.
+    pub line: u32,
+    /// The tags of the rule alone, each with its `@`.
+    pub tags: Vec<String>,
+}
+
+/// A feature with its rules and its cases in file order, and for each case whether it is selected.
+/// `selected` has as many elements as `cases`. The rule of a case, where it has one, is a place in
+/// `rules`, and never falls from one case to the next; cases without a rule come first.
 #[derive(Debug, Drop)]
 pub struct Chosen {
     /// The name of the source that the feature was read from.
@@ -11,6 +21,7 @@ pub struct Chosen {
     pub name: String,
     pub line: u32,
     pub tags: Vec<String>,
+    pub rules: Vec<RuleHead>,
     pub cases: Vec<Case>,
     pub selected: Vec<bool>,
 }

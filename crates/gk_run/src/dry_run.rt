@@ -4,18 +4,22 @@ ghost use Rattle.gk_gherkin.specs.Feature.{step_value};
 ghost use Rattle.gk_select.specs.Case.{case_value};
 ghost use Rattle.gk_steps.specs.Finding.{library_value};
 ghost use Rattle.gk_run.specs.declared.results.Status.TheVariants as statuses;
-ghost use Rattle.gk_run.specs.Results.{step_row, case_row, feature_row};
+ghost use Rattle.gk_run.specs.Results.{step_row, case_row, rule_row, feature_row};
 ghost use Rattle.gk_run.specs.Section.{Cut};
-ghost use Rattle.gk_run.specs.Chosen.{member_of, chosen_value, IsPaired};
+ghost use Rattle.gk_run.specs.Chosen.{head_value, member_of, chosen_value, IsPaired};
 ghost use Rattle.gk_run.specs.Features.{FeatureCuts};
-ghost use Rattle.gk_run.specs.DryRun.{dry_row, dry_case_of, dry_cases_of, dry_feature_of, IsDryStep, AreDrySteps};
+ghost use Rattle.gk_run.specs.DryRun.{dry_row, dry_case_of, dry_cases_of, dry_rules_of, dry_feature_of, IsDryStep, AreDrySteps};
 ghost use Rattle.gk_run.specs.Reserved.{members_in};
 
 use crate::chosen::Chosen;
 use crate::ending::is_memory_mark;
-use crate::features::{either, feature_status};
-use crate::reserved::{ReservedCase, ReservedCases, ReservedSteps, reserve_case, reserve_cases};
-use crate::results::{CaseResult, FeatureResult, Mark, NoRoom, Status, StepResult};
+use crate::cases::either;
+use crate::features::feature_status;
+use crate::reserved::{
+    ReservedCase, ReservedCases, ReservedRules, ReservedSteps, reserve_case, reserve_cases,
+    reserve_rules,
+};
+use crate::results::{CaseResult, FeatureResult, Mark, NoRoom, RuleResult, Status, StepResult};
 use crate::running::{CaseEnd, case_result, unrun_case};
 use crate::walk::{look_up, row_of};
 use gk_gherkin::Step;
@@ -124,6 +128,20 @@ fn dry_cases(
     Ok(results)
 }
 
+// The results of rules, none of which is begun.
+fn dry_rules(rules: ReservedRules) -> Vec<RuleResult>
+    ensures { map rule_row result.items ≡ dry_rules_of (map head_value rules.heads.items) }
+{
+    let ReservedRules { heads, mut results } = rules;
+    for head in heads {
+        results.push_reserved(RuleResult {
+            line: head.line,
+            around: Status::Passed,
+        });
+    }
+    results
+}
+
 /// The result of a feature in a dry run. No hook, no step and no cleanup runs: each step of a selected
 /// case is untested where the library matches it and undefined where it doesn't, and the case is
 /// untested. Where memory is refused while a step is looked up, that step and the case are `Memory`,
@@ -143,17 +161,20 @@ pub fn dry_feature(
         name,
         line,
         tags: _,
+        rules,
         cases,
         selected,
     } = chosen;
+    let rules = dry_rules(reserve_rules(alloc, rules)?);
     let reserved = reserve_cases(alloc, cases, selected)?;
     let cases = dry_cases(alloc, library, reserved)?;
     Ok(FeatureResult {
         source,
         name,
         line,
-        status: feature_status(Status::Passed, cases.as_slice()),
+        status: feature_status(Status::Passed, rules.as_slice(), cases.as_slice()),
         around: Status::Passed,
+        rules,
         cases,
     })
 }

@@ -1,20 +1,24 @@
 //! Running cases, features and whole runs. A library, hooks, a sandbox and the cases of a feature come
 //! in; the result of each step, case and feature goes out. Each case has the result that plain maps give
-//! it alone from its feature's state, unless memory was refused in it, and the sandbox is as it was. In a
+//! it alone from its section's state, unless memory was refused in it, and the sandbox is as it was. In a
 //! dry run steps are only looked up.
 #![tactic(auto)]
 
 mod acting;
+mod cases;
 mod chosen;
 mod cleanups;
 mod closing;
+mod content;
 mod dry_run;
 mod ending;
 mod features;
 mod judged;
 mod open_run;
+mod open_section;
 mod reserved;
 mod results;
+mod rules;
 mod run;
 mod running;
 mod section;
@@ -22,7 +26,7 @@ mod section_hooks;
 mod walk;
 
 pub use acting::{Site, act};
-pub use chosen::Chosen;
+pub use chosen::{Chosen, RuleHead};
 pub use cleanups::Cleanups;
 pub use dry_run::dry_feature;
 pub use features::run_feature;
@@ -30,5 +34,5 @@ pub use judged::{
     dry_runs_are_judged, unfinished_dry_runs_are_judged, without_memory_there_is_one_list,
 };
 pub use open_run::{Suite, finished_runs_are_judged, unfinished_runs_are_judged};
-pub use results::{CaseResult, FeatureResult, NoRoom, Outcome, Reason, Status, StepResult};
+pub use results::{CaseResult, FeatureResult, NoRoom, Outcome, Reason, RuleResult, Status, StepResult};
 pub use running::run_case;

@@ -2,39 +2,36 @@
 ghost use Rattle.std.specs.Prelude.{◌≡◌, ◌<◌, ◌&&◌, ◌||◌, Bool, suc, [], IfOk, OnErr};
 ghost use Rattle.gk_world.specs.State.{State, state_of, layers};
 ghost use Rattle.gk_world.specs.Sandbox.{depth, Ends};
-ghost use Rattle.gk_gherkin.specs.Hooks.{hooks_value};
-ghost use Rattle.gk_steps.specs.Finding.{library_value};
-ghost use Rattle.gk_run.specs.Cleanups.{cleanups_value};
 ghost use Rattle.gk_run.specs.Results.{feature_row};
 ghost use Rattle.gk_run.specs.Ending as endings;
-ghost use Rattle.gk_run.specs.SectionHooks.{begun};
 ghost use Rattle.gk_run.specs.Run.{run_of};
-ghost use Rattle.gk_run.specs.Chosen.{chosen_value, IsPaired};
-ghost use Rattle.gk_run.specs.Features.{is_bad, stays_open_by, IsSectionEnd, IsFeatureResult};
+ghost use Rattle.gk_run.specs.Chosen.{chosen_value, IsFormed};
+ghost use Rattle.gk_run.specs.Cases.{is_bad, stays_open_by};
+ghost use Rattle.gk_run.specs.Features.{IsFeatureResult};
+ghost use Rattle.gk_run.specs.OpenSection.{IsBegun, IsSectionEnd};
 ghost use Rattle.gk_run.specs.Running.{IsSame};
-ghost use Rattle.gk_run.specs.Walk.{IsWalked};
 ghost use Rattle.gk_run.specs.OpenRun.{IsStarted, IsKept, FinishedRunsAreJudged, UnfinishedRunsAreJudged};
 
 mod state;
 
+use crate::cases::{both, either, is_bad, stays_open};
 use crate::chosen::Chosen;
-use crate::cleanups::Cleanups;
 use crate::ending::has_passed;
-use crate::features::{both, close_section, either, feature_in, is_bad, stays_open};
+use crate::features::feature_in;
+use crate::open_section::{end_around, open_section};
 use crate::results::{FeatureResult, NoRoom, Status};
 use crate::run::Run;
 use crate::section::{Level, Section};
-use crate::section_hooks::walk_before;
 use gk_gherkin::HookFile;
 use gk_steps::Library;
-use gk_world::{Sandbox, layers_enter};
+use gk_world::Sandbox;
 pub use state::Suite;
 use std::alloc::Global;
 
 impl Suite {
     /// Begins a run: its layer, and the before hook of all. Takes no memory but what the hook's steps
-    /// take. With `stop`, once a scenario or a feature is failed or memory, later scenarios are untested
-    /// and later features aren't begun; what was begun is ended as always. No feature has failed yet.
+    /// take. With `stop`, once a scenario, a rule or a feature is failed or memory, later scenarios are
+    /// untested and later rules and features aren't begun; what was begun is ended as always. No feature has failed yet.
     /// (behave's documentation: context layers, environment file functions, `--stop`)
     pub fn start(
         alloc: Global,
@@ -43,7 +40,7 @@ impl Suite {
         hooks: &HookFile,
         stop: bool,
     ) -> Suite
-        requires { suc (suc (depth sandbox.old)) < layers }
+        requires { suc (suc (suc (depth sandbox.old))) < layers }
         ensures { IsStarted (run_of library.now hooks.now stop) sandbox.old sandbox.new result }
     {
         let run = Run {
@@ -52,22 +49,17 @@ impl Suite {
             hooks,
             stop,
         };
-        // No code runs here: the law says that the layer's state is the one outside, entered.
-        layers_enter();
-        let layer = sandbox.begin();
-        let mut cleanups = Cleanups::new(alloc);
         let section = Section {
             level: Level::Run,
             tags: &[],
         };
-        let before = walk_before(&run, sandbox, &mut cleanups, &section);
+        let section = open_section(&run, sandbox, &section);
+        let is_open = has_passed(section.before);
         Suite {
-            layer,
-            before,
-            cleanups,
+            section,
             stop,
             has_failed: false,
-            is_open: has_passed(before),
+            is_open,
         }
     }
 
@@ -82,8 +74,8 @@ impl Suite {
         hooks: &HookFile,
         chosen: Chosen,
     ) -> Result<FeatureResult, NoRoom>
-        requires innermost { self.old.layer ≡ depth sandbox.old }
-        requires paired { IsPaired chosen }
+        requires innermost { self.old.section.layer ≡ depth sandbox.old }
+        requires formed { IsFormed chosen }
         ensures row { IfOk result (λ r. IsFeatureResult
             (run_of library.now hooks.now self.old.stop) (state_of sandbox.old.now)
             self.old.is_open (chosen_value chosen) (feature_row r)) }
@@ -118,19 +110,16 @@ impl Suite {
         library: &Library,
         hooks: &HookFile,
     ) -> Status
-        requires innermost { self.layer ≡ depth sandbox.old }
+        requires innermost { self.section.layer ≡ depth sandbox.old }
         ensures around { (outside : State) (stop : Bool) →
-            IsWalked
-            (begun (library_value library.now) (hooks_value hooks.now) Level.Run [] outside)
-            self.before (state_of sandbox.old.now) (cleanups_value self.cleanups) →
+            IsBegun (run_of library.now hooks.now stop) Level.Run [] outside self.section
+            sandbox.old →
             IsSectionEnd (run_of library.now hooks.now stop) Level.Run [] outside result
-            (endings.has_passed self.before) }
+            (endings.has_passed self.section.before) }
         ensures ends { Ends sandbox.old sandbox.new }
     {
         let Suite {
-            layer,
-            before,
-            cleanups,
+            section: opened,
             stop,
             has_failed: _,
             is_open: _,
@@ -145,9 +134,7 @@ impl Suite {
             level: Level::Run,
             tags: &[],
         };
-        let around = close_section(&run, sandbox, &section, before, cleanups);
-        sandbox.end(layer);
-        around
+        end_around(&run, sandbox, &section, opened)
     }
 }
 

@@ -3,10 +3,11 @@ ghost use Rattle.std.specs.Prelude.{◌≡◌, ◌≤◌, [], length, vec_capaci
 
 mod reserving;
 
-use crate::results::{CaseResult, StepResult};
+use crate::chosen::RuleHead;
+use crate::results::{CaseResult, RuleResult, StepResult};
 use gk_gherkin::Step;
 use gk_select::Case;
-pub use reserving::{reserve_case, reserve_cases};
+pub use reserving::{reserve_case, reserve_cases, reserve_rules};
 
 /// The heading of a case.
 #[derive(Drop)]
@@ -31,6 +32,15 @@ pub struct ReservedCase {
     pub heading: Heading,
     pub own_tags: Vec<String>,
     pub steps: ReservedSteps,
+}
+
+/// The headings of rules, with room for the result of each.
+#[derive(Drop)]
+pub struct ReservedRules {
+    pub heads: Vec<RuleHead>,
+    pub results: Vec<RuleResult>,
+    ghost empty: { results.items ≡ [] },
+    ghost room: { length heads.items ≤ vec_capacity results },
 }
 
 /// Cases, each with whether it is selected, and with room for the result of each.

@@ -112,6 +112,15 @@ pub struct CaseResult {
     pub steps: Vec<StepResult>,
 }
 
+/// The result of a rule beside its scenarios, which stand among those of its feature.
+#[derive(Clone, Copy, Debug, PartialEq, Eq)]
+pub struct RuleResult {
+    /// The line of the rule's heading, counted from 1.
+    pub line: u32,
+    /// How its hooks and cleanups ended: `Passed`, `Failed` or `Memory`.
+    pub around: Status,
+}
+
 /// The result of a feature, with the name of the source that it was read from.
 #[derive(Debug, Drop)]
 pub struct FeatureResult {
@@ -121,5 +130,7 @@ pub struct FeatureResult {
     pub status: Status,
     /// How its own hooks and cleanups ended: `Passed`, `Failed` or `Memory`.
     pub around: Status,
+    /// One for each rule, in file order.
+    pub rules: Vec<RuleResult>,
     pub cases: Vec<CaseResult>,
 }

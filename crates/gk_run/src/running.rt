@@ -2,26 +2,24 @@
 ghost use Rattle.std.specs.Prelude.{◌≡◌, ◌<◌, map, IfOk, false};
 ghost use Rattle.gk_gherkin.specs.Feature.{step_value};
 ghost use Rattle.gk_select.specs.Case.{case_value};
-ghost use Rattle.gk_world.specs.State.{State, state_of, enter, layers};
-ghost use Rattle.gk_world.specs.Sandbox.{depth, KeepsLayers};
+ghost use Rattle.gk_world.specs.State.{state_of, layers};
+ghost use Rattle.gk_world.specs.Sandbox.{depth};
 ghost use Rattle.gk_run.specs.Results.{step_row, case_row};
 ghost use Rattle.gk_run.specs.Run.{run_of, run_value};
 ghost use Rattle.gk_run.specs.Running.{unrun_row, IsSame, IsReached, marks_of, EndsCase, row_with};
 ghost use Rattle.gk_run.specs.Walk.{row_of_step};
 
-use crate::cleanups::Cleanups;
-use crate::closing::close;
-use crate::ending::{around_status, is_memory, verdict_status, worse};
+use crate::ending::{around_status, verdict_status, worse};
+use crate::open_section::{end_section, open_section};
 use crate::reserved::{Heading, ReservedCase, ReservedSteps, reserve_case};
 use crate::results::{CaseResult, Mark, NoRoom, Outcome, Status, StepResult};
 use crate::run::Run;
 use crate::section::{Level, Section};
-use crate::section_hooks::walk_before;
 use crate::walk::{StepsEnd, row_of, run_steps};
 use gk_gherkin::HookFile;
 use gk_select::Case;
 use gk_steps::Library;
-use gk_world::{Sandbox, layers_enter};
+use gk_world::Sandbox;
 use std::alloc::Global;
 
 /// What a case comes to.
@@ -59,29 +57,21 @@ pub fn case_result(heading: Heading, end: CaseEnd) -> CaseResult
     }
 }
 
-// Runs a case in the layer that was begun for it.
-fn in_layer(run: &Run<'_>, sandbox: &mut Sandbox, tags: &[String], steps: ReservedSteps) -> CaseEnd
-    requires in_layer { 0 < depth sandbox.old }
-    ensures end { (outside : State) → state_of sandbox.old.now ≡ enter outside →
-        EndsCase run.now tags.now steps outside result }
-    ensures layers { KeepsLayers sandbox.old sandbox.new }
+// Runs a case in a layer of its own.
+fn run_alone(run: &Run<'_>, sandbox: &mut Sandbox, tags: &[String], steps: ReservedSteps) -> CaseEnd
+    requires room { depth sandbox.old < layers }
+    ensures end { EndsCase run.now tags.now steps (state_of sandbox.old.now) result }
+    ensures same { IsSame sandbox.old sandbox.new }
 {
     let section = Section {
         level: Level::Scenario,
         tags,
     };
-    let mut cleanups = Cleanups::new(run.alloc);
-    let before = walk_before(run, sandbox, &mut cleanups, &section);
-    let StepsEnd { ending, results } = run_steps(run, sandbox, &mut cleanups, before, steps);
-    if is_memory(ending) {
-        return CaseEnd {
-            status: Status::Memory,
-            around: around_status(before),
-            cleanups: cleanups.none(),
-            steps: results,
-        };
-    }
-    let closed = close(run, sandbox, cleanups, &section);
+    let mut opened = open_section(run, sandbox, &section);
+    let before = opened.before;
+    let StepsEnd { ending, results } =
+        run_steps(run, sandbox, &mut opened.cleanups, before, steps);
+    let closed = end_section(run, sandbox, &section, opened, ending);
     CaseEnd {
         status: verdict_status(worse(ending, closed.ending)),
         around: around_status(worse(before, closed.ending)),
@@ -107,11 +97,7 @@ pub(crate) fn case_in(
         own_tags,
         steps,
     } = reserved;
-    // No code runs here: the law says that the layer's state is the section's, entered.
-    layers_enter();
-    let layer = sandbox.begin();
-    let end = in_layer(run, sandbox, own_tags.as_slice(), steps);
-    sandbox.end(layer);
+    let end = run_alone(run, sandbox, own_tags.as_slice(), steps);
     Ok(case_result(heading, end))
 }
 

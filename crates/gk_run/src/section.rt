@@ -1,10 +1,11 @@
-//! The sections of a run: the run itself, a feature, a scenario.
+//! The sections of a run: the run itself, a feature, a rule, a scenario.
 
 /// What a section of a run is, which has a layer of its own. (behave's documentation: context layers)
 #[derive(Clone, Copy, Debug, PartialEq, Eq)]
 pub enum Level {
     Run,
     Feature,
+    Rule,
     Scenario,
 }
 

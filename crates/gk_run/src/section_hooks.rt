@@ -22,6 +22,7 @@ pub fn before_kind(level: Level) -> HookKind
     match level {
         Level::Run => HookKind::BeforeAll,
         Level::Feature => HookKind::BeforeFeature,
+        Level::Rule => HookKind::BeforeRule,
         Level::Scenario => HookKind::BeforeScenario,
     }
 }
@@ -33,6 +34,7 @@ pub fn after_kind(level: Level) -> HookKind
     match level {
         Level::Run => HookKind::AfterAll,
         Level::Feature => HookKind::AfterFeature,
+        Level::Rule => HookKind::AfterRule,
         Level::Scenario => HookKind::AfterScenario,
     }
 }
@@ -43,7 +45,7 @@ pub fn before_site(level: Level) -> Site
 {
     match level {
         Level::Run => Site::Hook,
-        Level::Feature => Site::Hook,
+        Level::Feature | Level::Rule => Site::Hook,
         Level::Scenario => Site::CaseHook,
     }
 }

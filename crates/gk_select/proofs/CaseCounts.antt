@@ -13,14 +13,14 @@ plain_scenarios : (i : InheritedValue) (scenarios : List ScenarioValue) → AreP
 plain_scenarios i [] plain = refl
 plain_scenarios i (s ∷ scenarios) plain = rw (plain.0, plain_scenarios i scenarios plain.1) refl
 
-plain_rules : (f : FeatureValue) (rules : List RuleValue) → AllByRecursion (λ (r : RuleValue). ArePlain r.scenarios) rules
-    → flat_map (rule_cases f) rules ≡ flat_map (λ (r : RuleValue). map (plain_case (inherited_in_rule f r)) r.scenarios) rules
-plain_rules f [] plain = refl
-plain_rules f (r ∷ rules) plain = rw (plain_scenarios (inherited_in_rule f r) r.scenarios plain.0, plain_rules f rules plain.1) refl
+plain_rules : (f : FeatureValue) (n : ℕ) (rules : List RuleValue) → AllByRecursion (λ (r : RuleValue). ArePlain r.scenarios) rules
+    → flat_map (rule_cases f) (enumerate_from n rules) ≡ flat_map (λ (r : ℕ × RuleValue). map (plain_case (inherited_in_rule f r.0 r.1)) r.1.scenarios) (enumerate_from n rules)
+plain_rules f n [] plain = refl
+plain_rules f n (r ∷ rules) plain = rw (plain_scenarios (inherited_in_rule f n r) r.scenarios plain.0, plain_rules f (n + 1) rules plain.1) refl
 
 pub without_outlines : (f : FeatureValue) → HasNoOutline f → cases f ≡ plain_cases f
 unfolding cases
-without_outlines f plain = rw (plain_scenarios (inherited_in_feature f) f.scenarios plain.0, plain_rules f f.rules plain.1) refl
+without_outlines f plain = rw (plain_scenarios (inherited_in_feature f) f.scenarios plain.0, plain_rules f 0 f.rules plain.1) refl
 
 -- The length of a list that is made part by part.
 length-flat_map : {A B : Type 0} (F : A → List B) (G : A → ℕ) → ((x : A) → length (F x) ≡ G x) → (xs : List A) → length (flat_map F xs) ≡ sum_by G xs
@@ -42,10 +42,17 @@ scenario_counted i s = elim (cases_Bool (is_outline s)) [
   | inr f ↦ rw f refl
 ]
 
+abbrev rule_count : RuleValue → ℕ
+rule_count r = sum_by case_count_of r.scenarios
+
+rule_counted : (f : FeatureValue) (r : ℕ × RuleValue) → length (rule_cases f r) ≡ rule_count r.1
+rule_counted f r = let inherited = inherited_in_rule f r.0 r.1 in length-flat_map (scenario_cases inherited) case_count_of (scenario_counted inherited) r.1.scenarios
+
 pub cases_counted : (f : FeatureValue) → length (cases f) ≡ case_count f
 unfolding cases
-cases_counted f = length-append (flat_map (scenario_cases (inherited_in_feature f)) f.scenarios) (flat_map (rule_cases f) f.rules)
+cases_counted f = length-append (flat_map (scenario_cases (inherited_in_feature f)) f.scenarios) (flat_map (rule_cases f) (enumerate_from 0 f.rules))
     ∙ rw (
       length-flat_map (scenario_cases (inherited_in_feature f)) case_count_of (scenario_counted (inherited_in_feature f)) f.scenarios,
-      length-flat_map (rule_cases f) (λ (r : RuleValue). sum_by case_count_of r.scenarios) (λ (r : RuleValue). length-flat_map (scenario_cases (inherited_in_rule f r)) case_count_of (scenario_counted (inherited_in_rule f r)) r.scenarios) f.rules,
+      length-flat_map (rule_cases f) (λ (r : ℕ × RuleValue). rule_count r.1) (rule_counted f) (enumerate_from 0 f.rules),
+      sum_enumerate rule_count 0 f.rules,
     ) refl

@@ -11,6 +11,7 @@ pub mod TagTextWords
 pub mod TagReading
 pub mod ReadableRows
 pub mod CaseCounts
+pub mod CaseRules
 pub mod ChosenLines
 pub mod WorkedOutlines
 pub mod WorkedChoices

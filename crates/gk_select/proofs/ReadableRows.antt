@@ -1,5 +1,5 @@
--- Features that the grammar reads have rows as wide as their header.
-use Rattle.std.proofs.Common.{◌≡◌, ℕ, List, Some, length, sym, subst, inl, inr}
+-- Features that the grammar reads have rows as wide as their header, and few enough rules.
+use Rattle.std.proofs.Common.{◌≡◌, ◌<◌, ◌^◌, ℕ, List, Some, length, sym, subst, inl, inr}
 use Rattle.std.specs.List.{AllByRecursion}
 use Rattle.gk_gherkin.specs.Lines.{Lines}
 use Rattle.gk_gherkin.specs.Feature.{RowValue, ExamplesValue, ScenarioValue, RuleValue, FeatureValue}
@@ -28,5 +28,5 @@ scenarios_fit many = each_part IsScenario (λ (s : ScenarioValue). AllByRecursio
 rule_fits : (ls : Lines) (r : RuleValue) (rest : Lines) → IsRule ls r rest → RowsFit r.scenarios
 rule_fits ls r rest i = scenarios_fit i.scenarios
 
-pub readable_rows_fit : (ls : Lines) (f : FeatureValue) → Reads ls (Some f) → IsExpandable f
-readable_rows_fit ls f r = (scenarios_fit r.1.container.scenarios, each_part IsRule (λ (r : RuleValue). RowsFit r.scenarios) rule_fits r.1.rules)
+pub expandable : (ls : Lines) (f : FeatureValue) → Reads ls (Some f) → length f.rules < 2 ^ 32 → IsExpandable f
+expandable ls f r counted = (scenarios_fit r.1.container.scenarios, each_part IsRule (λ (r : RuleValue). RowsFit r.scenarios) rule_fits r.1.rules, counted)

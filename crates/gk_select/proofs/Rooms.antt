@@ -67,14 +67,22 @@ scenario_counted inherited s = elim (cases_Bool (is_outline s)) [
   | inr f ↦ rw f (alone (length (inherited.steps ++ s.steps)) ∙ length-append inherited.steps s.steps)
 ]
 
-rule_counted : (f : FeatureValue) (r : RuleValue) → sum_by steps_of (rule_cases f r) ≡ rule_steps (length (background_steps f.background)) r
-rule_counted f r = sum_flat_map steps_of (scenario_cases (inherited_in_rule f r)) (scenario_steps (length (inherited_in_rule f r).steps)) (scenario_counted (inherited_in_rule f r)) r.scenarios
-    ∙ ap (λ (n : ℕ). sum_by (scenario_steps n) r.scenarios) (length-append (background_steps f.background) (background_steps r.background))
+rule_counted : (f : FeatureValue) (r : ℕ × RuleValue) → sum_by steps_of (rule_cases f r) ≡ rule_steps (length (background_steps f.background)) r.1
+rule_counted f r =
+    let inherited = inherited_in_rule f r.0 r.1 in
+    sum_flat_map steps_of (scenario_cases inherited) (scenario_steps (length inherited.steps)) (scenario_counted inherited) r.1.scenarios
+    ∙ ap (λ (n : ℕ). sum_by (scenario_steps n) r.1.scenarios) (length-append (background_steps f.background) (background_steps r.1.background))
 
 pub counted : (f : FeatureValue) → step_count f ≡ feature_steps f
 unfolding cases
-counted f = sum_by-append steps_of (flat_map (scenario_cases (inherited_in_feature f)) f.scenarios) (flat_map (rule_cases f) f.rules)
-    ∙ rw (sum_flat_map steps_of (scenario_cases (inherited_in_feature f)) (scenario_steps (length (background_steps f.background))) (scenario_counted (inherited_in_feature f)) f.scenarios, sum_flat_map steps_of (rule_cases f) (rule_steps (length (background_steps f.background))) (rule_counted f) f.rules) refl
+counted f =
+    let inherited = length (background_steps f.background) in
+    sum_by-append steps_of (flat_map (scenario_cases (inherited_in_feature f)) f.scenarios) (flat_map (rule_cases f) (enumerate_from 0 f.rules))
+    ∙ rw (
+      sum_flat_map steps_of (scenario_cases (inherited_in_feature f)) (scenario_steps inherited) (scenario_counted (inherited_in_feature f)) f.scenarios,
+      sum_flat_map steps_of (rule_cases f) (λ (r : ℕ × RuleValue). rule_steps inherited r.1) (rule_counted f) (enumerate_from 0 f.rules),
+      sum_enumerate (rule_steps inherited) 0 f.rules,
+    ) refl
 
 -- What the loop over Examples has to come to.
 pub outline_total : (inherited own : ℕ) (s : ScenarioValue) → own ≡ length s.steps → is_outline s ≡ true → sum_by (examples_steps (inherited + own)) s.examples ≡ scenario_steps inherited s

@@ -61,7 +61,7 @@ empty_between rule (inr r) = cc (r.new_form)
 
 -- A case with tags, on line 10.
 case_with : List (List ℕ) → CaseValue
-case_with tags = record { name = []; keyword = codes "Scenario"; line = 10; tags = tags; own_tags = []; steps = [] }
+case_with tags = record { name = []; keyword = codes "Scenario"; line = 10; rule = None; tags = tags; own_tags = []; steps = [] }
 
 abbrev slow : List ℕ
 slow = codes "@slow"

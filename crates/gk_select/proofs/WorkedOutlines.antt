@@ -1,5 +1,5 @@
 -- Worked examples of outlines and of what scenarios inherit.
-use Rattle.std.specs.Prelude.{codes, ◌≡◌, ℕ, List, [], ◌∷◌, map, Some, None, refl}
+use Rattle.std.specs.Prelude.{codes, ◌≡◌, ℕ, List, [], ◌∷◌, map, Option, Some, None, refl}
 use Rattle.std.specs.Fmt.{digits}
 use Rattle.gk_gherkin.specs.declared.feature.StepType.TheVariants.{Given, Then}
 use Rattle.gk_gherkin.specs.Feature.{Empty, StepValue, ExamplesValue, ScenarioValue, FeatureValue}
@@ -121,16 +121,17 @@ inheriting = record {
 record Shown : Type 0 where
   name : List ℕ
   line : ℕ
+  rule : Option ℕ
   tags : List (List ℕ)
   own_tags : List (List ℕ)
   steps : List (List ℕ)
 
 shown : CaseValue → Shown
-shown c = record { name = c.name; line = c.line; tags = c.tags; own_tags = c.own_tags; steps = map (λ (s : StepValue). s.text) c.steps }
+shown c = record { name = c.name; line = c.line; rule = c.rule; tags = c.tags; own_tags = c.own_tags; steps = map (λ (s : StepValue). s.text) c.steps }
 
 inherited : map shown (cases inheriting)
-    ≡ record { name = codes "p <a>"; line = 5; tags = codes "@f" ∷ codes "@p" ∷ []; own_tags = codes "@p" ∷ []; steps = codes "first <a>" ∷ codes "plain" ∷ [] }
-    ∷ record { name = codes "t 1 -- @1.1"; line = 14; tags = codes "@f" ∷ codes "@r" ∷ codes "@s" ∷ codes "@e" ∷ []; own_tags = codes "@s" ∷ codes "@e" ∷ []; steps = codes "first <a>" ∷ codes "second" ∷ codes "own 1" ∷ [] }
+    ≡ record { name = codes "p <a>"; line = 5; rule = None; tags = codes "@f" ∷ codes "@p" ∷ []; own_tags = codes "@p" ∷ []; steps = codes "first <a>" ∷ codes "plain" ∷ [] }
+    ∷ record { name = codes "t 1 -- @1.1"; line = 14; rule = Some 0; tags = codes "@f" ∷ codes "@r" ∷ codes "@s" ∷ codes "@e" ∷ []; own_tags = codes "@s" ∷ codes "@e" ∷ []; steps = codes "first <a>" ∷ codes "second" ∷ codes "own 1" ∷ [] }
     ∷ []
 unfolding cases filled filled_from cell_under digits given_step shown
 inherited = refl

@@ -1,17 +1,18 @@
 -- A scenario as it is run.
-use Rattle.std.specs.Prelude.{ℕ, List, map, string_bytes}
+use Rattle.std.specs.Prelude.{ℕ, List, map, Option, string_bytes}
 use Rattle.gk_gherkin.specs.Feature.{texts, StepValue, step_value}
 use Rattle.gk_select.specs.declared.case.Case.{Case}
 
--- A case: a plain scenario, or an outline filled from one row.
+-- A case: a plain scenario, or an outline filled from one row. Its rule is a place among the rules of the feature, counted from 0; a case of the feature itself has none.
 pub record CaseValue : Type 0 where
   pub name : List ℕ
   pub keyword : List ℕ
   pub line : ℕ
+  pub rule : Option ℕ
   pub tags : List (List ℕ)
   pub own_tags : List (List ℕ)
   pub steps : List StepValue
 
 -- What a `Case` says.
 abbrev pub case_value : Case → CaseValue
-case_value c = record { name = string_bytes c.name; keyword = string_bytes c.keyword; line = c.line; tags = texts c.tags.items; own_tags = texts c.own_tags.items; steps = map step_value c.steps.items }
+case_value c = record { name = string_bytes c.name; keyword = string_bytes c.keyword; line = c.line; rule = c.rule; tags = texts c.tags.items; own_tags = texts c.own_tags.items; steps = map step_value c.steps.items }

@@ -1,5 +1,5 @@
 -- The cases of a feature.
-use Rattle.std.specs.Prelude.{◌≡◌, ◌<◌, ◌+◌, ℕ, false, List, [], ◌∷◌, ◌++◌, length, map, flat_map, sum_by, if◌then◌else◌}
+use Rattle.std.specs.Prelude.{◌≡◌, ◌<◌, ◌+◌, ◌^◌, ℕ, false, List, [], ◌∷◌, ◌++◌, length, map, flat_map, sum_by, if◌then◌else◌}
 use Rattle.std.specs.List.{AllByRecursion, enumerate_from}
 use Rattle.gk_gherkin.specs.declared.feature.Row.{Row}
 use Rattle.gk_gherkin.specs.declared.feature.Examples.{Examples}
@@ -21,6 +21,7 @@ row_case inherited s e examples r row = let fill = filled examples.header row.ce
   name = outline_name (fill s.name) e r examples.name;
   keyword = s.keyword;
   line = row.line;
+  rule = inherited.rule;
   tags = inherited.tags ++ s.tags ++ examples.tags;
   own_tags = s.tags ++ examples.tags;
   steps = inherited.steps ++ map (filled_step fill) s.steps;
@@ -32,6 +33,7 @@ plain_case inherited s = record {
   name = s.name;
   keyword = s.keyword;
   line = s.line;
+  rule = inherited.rule;
   tags = inherited.tags ++ s.tags;
   own_tags = s.tags;
   steps = inherited.steps ++ s.steps;
@@ -49,13 +51,13 @@ examples_cases inherited s e = map (λ (r : ℕ × RowValue). row_case inherited
 abbrev pub scenario_cases : InheritedValue → ScenarioValue → List CaseValue
 scenario_cases inherited s = if is_outline s then flat_map (examples_cases inherited s) (enumerate_from 1 s.examples) else plain_case inherited s ∷ []
 
--- The cases of a rule. (Cucumber's Gherkin reference: rule)
-abbrev pub rule_cases : FeatureValue → RuleValue → List CaseValue
-rule_cases f r = flat_map (scenario_cases (inherited_in_rule f r)) r.scenarios
+-- The cases of the rule at a place. (Cucumber's Gherkin reference: rule)
+abbrev pub rule_cases : FeatureValue → ℕ × RuleValue → List CaseValue
+rule_cases f r = flat_map (scenario_cases (inherited_in_rule f r.0 r.1)) r.1.scenarios
 
--- The cases of a feature, in file order: those of its scenarios, and then those of its rules. (Cucumber's Gherkin reference: feature, rule)
+-- The cases of a feature, in file order: those of its scenarios, and then those of its rules, whose places are counted from 0. (Cucumber's Gherkin reference: feature, rule)
 unfoldable pub cases : FeatureValue → List CaseValue
-cases f = flat_map (scenario_cases (inherited_in_feature f)) f.scenarios ++ flat_map (rule_cases f) f.rules
+cases f = flat_map (scenario_cases (inherited_in_feature f)) f.scenarios ++ flat_map (rule_cases f) (enumerate_from 0 f.rules)
 
 -- How many steps the cases have.
 abbrev pub step_count : FeatureValue → ℕ
@@ -73,9 +75,9 @@ HasTooManySteps f = step_limit < step_count f
 abbrev pub RowsFit : List ScenarioValue → Type 0
 RowsFit scenarios = AllByRecursion (λ (s : ScenarioValue). AllByRecursion AllFit s.examples) scenarios
 
--- Each row of Examples in the feature has as many cells as its header.
+-- Each row of Examples in the feature has as many cells as its header, and there are fewer than 2^32 rules.
 abbrev pub IsExpandable : FeatureValue → Type 0
-IsExpandable f = RowsFit f.scenarios × AllByRecursion (λ (r : RuleValue). RowsFit r.scenarios) f.rules
+IsExpandable f = RowsFit f.scenarios × AllByRecursion (λ (r : RuleValue). RowsFit r.scenarios) f.rules × (length f.rules < 2 ^ 32)
 
 -- Scenarios none of which is an outline. (Cucumber's Gherkin reference: scenario outline)
 abbrev pub ArePlain : List ScenarioValue → Type 0
@@ -87,7 +89,7 @@ HasNoOutline f = ArePlain f.scenarios × AllByRecursion (λ (r : RuleValue). Are
 
 -- The cases of a feature without outlines: its scenarios, and then those of its rules, each with what it inherits. (Cucumber's Gherkin reference: example, rule)
 abbrev pub plain_cases : FeatureValue → List CaseValue
-plain_cases f = map (plain_case (inherited_in_feature f)) f.scenarios ++ flat_map (λ (r : RuleValue). map (plain_case (inherited_in_rule f r)) r.scenarios) f.rules
+plain_cases f = map (plain_case (inherited_in_feature f)) f.scenarios ++ flat_map (λ (r : ℕ × RuleValue). map (plain_case (inherited_in_rule f r.0 r.1)) r.1.scenarios) (enumerate_from 0 f.rules)
 
 -- How many cases a scenario has: an outline as many as its tables have rows under their headers, else one. (Cucumber's Gherkin reference: scenario outline)
 abbrev pub case_count_of : ScenarioValue → ℕ
@@ -121,6 +123,6 @@ cases_of_parts i s parts = flat_map (examples_cases (inherited_value i) (scenari
 abbrev pub cases_of_scenarios : Inherited → List Scenario → List CaseValue
 cases_of_scenarios i scenarios = flat_map (scenario_cases (inherited_value i)) (map scenario_value scenarios)
 
--- The cases of rules.
-abbrev pub cases_of_rules : Feature → List Rule → List CaseValue
-cases_of_rules f rules = flat_map (rule_cases (feature_value f)) (map rule_value rules)
+-- The cases of rules, whose places are counted from n.
+abbrev pub cases_of_rules : Feature → ℕ → List Rule → List CaseValue
+cases_of_rules f n rules = flat_map (rule_cases (feature_value f)) (enumerate_from n (map rule_value rules))

@@ -3,14 +3,15 @@ use Rattle.std.specs.Prelude.{ℕ, List, [], ◌++◌, map, Option, Some, None}
 use Rattle.gk_gherkin.specs.Feature.{texts, StepValue, BackgroundValue, RuleValue, FeatureValue, step_value}
 use Rattle.gk_select.specs.declared.inherited.Inherited.{Inherited}
 
--- What scenarios inherit: tags, and the steps of Backgrounds. (Cucumber's Gherkin reference: background, tag inheritance)
+-- What scenarios have in common: the place of their rule, if they stand in one, and what they inherit, tags and the steps of Backgrounds. (Cucumber's Gherkin reference: rule, background, tag inheritance)
 pub record InheritedValue : Type 0 where
+  pub rule : Option ℕ
   pub tags : List (List ℕ)
   pub steps : List StepValue
 
 -- What an `Inherited` says.
 abbrev pub inherited_value : Inherited → InheritedValue
-inherited_value i = record { tags = texts i.feature_tags.now ++ texts i.rule_tags.now; steps = map step_value i.feature_steps.now ++ map step_value i.rule_steps.now }
+inherited_value i = record { rule = i.rule; tags = texts i.feature_tags.now ++ texts i.rule_tags.now; steps = map step_value i.feature_steps.now ++ map step_value i.rule_steps.now }
 
 -- The steps of a Background, and none where there is none. (Cucumber's Gherkin reference: background)
 abbrev pub background_steps : Option BackgroundValue → List StepValue
@@ -19,8 +20,8 @@ background_steps (Some background) = background.steps
 
 -- What a feature's own scenarios inherit. (Cucumber's Gherkin reference: background, tag inheritance)
 abbrev pub inherited_in_feature : FeatureValue → InheritedValue
-inherited_in_feature f = record { tags = f.tags; steps = background_steps f.background }
+inherited_in_feature f = record { rule = None; tags = f.tags; steps = background_steps f.background }
 
--- What a rule's scenarios inherit: the tags and the Background of the feature, and then those of the rule. (Cucumber's Gherkin reference: rule, background, tag inheritance)
-abbrev pub inherited_in_rule : FeatureValue → RuleValue → InheritedValue
-inherited_in_rule f r = record { tags = f.tags ++ r.tags; steps = background_steps f.background ++ background_steps r.background }
+-- What the scenarios of the rule at this place inherit: the tags and the Background of the feature, and then those of the rule. (Cucumber's Gherkin reference: rule, background, tag inheritance)
+abbrev pub inherited_in_rule : FeatureValue → ℕ → RuleValue → InheritedValue
+inherited_in_rule f place r = record { rule = Some place; tags = f.tags ++ r.tags; steps = background_steps f.background ++ background_steps r.background }

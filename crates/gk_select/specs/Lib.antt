@@ -5,6 +5,7 @@ pub mod Copies
 pub mod Inherited
 pub mod Outline
 pub mod Expansion
+pub mod RuleOrder
 pub mod Counting
 pub mod TagWords
 pub mod TagGrammar

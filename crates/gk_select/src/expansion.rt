@@ -1,7 +1,7 @@
 //! The cases of a feature.
-ghost use Rattle.std.specs.Prelude.{◌≡◌, ◌++◌, length, map, nat_lt, MatchBool, IfOk, IfErr, Some, Err};
+ghost use Rattle.std.specs.Prelude.{◌≡◌, ◌<◌, ◌^◌, ◌++◌, length, map, nat_lt, MatchBool, IfOk, IfErr, Some, Err, List, ℕ};
 ghost use Rattle.std.specs.List.{AllByRecursion};
-ghost use Rattle.gk_gherkin.specs.Lines.{Lines};
+ghost use Rattle.gk_gherkin.specs.Lines.{lines_of, IsText};
 ghost use Rattle.gk_gherkin.specs.Grammar.{Reads};
 ghost use Rattle.std.specs.String.{string_bytes};
 ghost use Rattle.gk_gherkin.specs.Feature.{FeatureValue, texts, step_value, row_value, examples_value, scenario_value, rule_value, feature_value};
@@ -10,6 +10,7 @@ ghost use Rattle.gk_select.specs.Copies.{Appends, filled_by};
 ghost use Rattle.gk_select.specs.Filling.{filled_step};
 ghost use Rattle.gk_select.specs.Expansion as spec;
 ghost use Rattle.gk_select.specs.Expansion.{cases, step_count, step_limit, HasTooManySteps, IsExpandable, RowsFit};
+ghost use Rattle.gk_select.specs.RuleOrder.{FallIntoRules};
 ghost use Rattle.gk_select.specs.Expansion.{HasNoOutline, plain_cases, case_count};
 ghost use Rattle.gk_select.specs.Expansion.{name_of_row, case_of_row, cases_of_rows, FitPart};
 ghost use Rattle.gk_select.specs.Expansion.{cases_of_parts, cases_of_scenarios, cases_of_rules};
@@ -27,7 +28,7 @@ use crate::inherited::{
 };
 use crate::outline::{case_name, is_outline};
 use crate::select_fault::SelectFault;
-use gk_gherkin::{Examples, Feature, Row, Rule, Scenario, Step};
+use gk_gherkin::{Examples, Feature, Row, Rule, Scenario, Step, rules_are_counted};
 use std::alloc::{AllocError, Global};
 use std::mem::replace;
 
@@ -62,6 +63,7 @@ fn plain_case(
         name,
         keyword,
         line,
+        rule: inherited.rule,
         tags,
         own_tags,
         steps: after_inherited_steps(alloc, inherited, steps)?,
@@ -174,6 +176,7 @@ fn row_case(
         name: row_name(alloc, part, row_number, row)?,
         keyword: String::from_str(alloc, scenario.keyword.as_str())?,
         line: row.line,
+        rule: inherited.rule,
         tags: row_tags(alloc, inherited, scenario, examples)?,
         own_tags: own_row_tags(alloc, scenario, examples)?,
         steps: row_steps(alloc, inherited, scenario, &examples.header, &row.cells)?,
@@ -257,15 +260,16 @@ fn push_rule_cases(
     alloc: Global,
     cases: &mut Vec<Case>,
     feature: &Feature,
+    place: u32,
     rule: Rule,
 ) -> Result<(), AllocError>
     requires { RowsFit (map scenario_value rule.scenarios.items) }
     ensures { Appends case_value result cases.old.items cases.new.items
-        (spec.rule_cases (feature_value feature.now) (rule_value rule)) }
+        (spec.rule_cases (feature_value feature.now) (place, rule_value rule)) }
 {
     let mut rule = rule;
     let scenarios = replace(&mut rule.scenarios, Vec::new(alloc));
-    let inherited = inherited_in_rule(feature, &rule);
+    let inherited = inherited_in_rule(feature, place, &rule);
     push_scenarios_cases(alloc, cases, &inherited, scenarios)
 }
 
@@ -275,12 +279,15 @@ fn push_rules_cases(
     feature: &Feature,
     rules: Vec<Rule>,
 ) -> Result<(), AllocError>
-    requires { AllByRecursion (λ r. RowsFit r.scenarios) (map rule_value rules.items) }
+    requires fit { AllByRecursion (λ r. RowsFit r.scenarios) (map rule_value rules.items) }
+    requires counted { length rules.items < 2 ^ 32 }
     ensures { Appends case_value result cases.old.items cases.new.items
-        (cases_of_rules feature.now rules.items) }
+        (cases_of_rules feature.now 0 rules.items) }
 {
+    let mut place: u32 = 0;
     for rule in rules {
-        push_rule_cases(alloc, cases, feature, rule)?;
+        push_rule_cases(alloc, cases, feature, place, rule)?;
+        place += 1;
     }
     Ok(())
 }
@@ -322,6 +329,7 @@ fn copied_case(
         name: String::from_str(alloc, scenario.name.as_str())?,
         keyword: String::from_str(alloc, scenario.keyword.as_str())?,
         line: scenario.line,
+        rule: inherited.rule,
         tags,
         own_tags,
         steps,
@@ -370,8 +378,8 @@ fn copied_cases(alloc: Global, feature: &Feature) -> Result<Vec<Case>, AllocErro
     let mut cases = Vec::new(alloc);
     let inherited = inherited_in_feature(feature);
     push_copied_scenarios(alloc, &mut cases, &inherited, &feature.scenarios)?;
-    for rule in &feature.rules {
-        let inherited = inherited_in_rule(feature, rule);
+    for (place, rule) in feature.rules.iter().enumerate() {
+        let inherited = inherited_in_rule(feature, place as u32, rule);
         push_copied_scenarios(alloc, &mut cases, &inherited, &rule.scenarios)?;
     }
     Ok(cases)
@@ -422,10 +430,14 @@ pub fn into_cases(alloc: Global, feature: Feature) -> Result<Vec<Case>, SelectFa
 }
 
 /// Features that `read_feature` answers meet the condition of `expand` and `into_cases`: in what the grammar reads each
-/// row of Examples has as many cells as its header. (Cucumber's Gherkin reference: examples)
+/// row of Examples has as many cells as its header, and each rule has a line of its own. (Cucumber's Gherkin reference:
+/// examples, rule)
 pub fn read_features_are_expandable()
-    ensures { (lines : Lines) (f : FeatureValue) → Reads lines (Some f) → IsExpandable f }
-{}
+    ensures { (bytes : List ℕ) (f : FeatureValue) → IsText bytes → Reads (lines_of bytes) (Some f)
+        → IsExpandable f }
+{
+    rules_are_counted();
+}
 
 /// Where no scenario is an outline, the cases are the scenarios, each with the tags and steps that it
 /// inherits before its own. (Cucumber's Gherkin reference: example, background, tag inheritance)
@@ -437,4 +449,10 @@ pub fn plain_scenarios_are_cases()
 /// (Cucumber's Gherkin reference: scenario outline)
 pub fn rows_are_cases()
     ensures { (f : FeatureValue) → length (cases f) ≡ case_count f }
+{}
+
+/// The rules of the cases are places among the feature's rules, and never fall from one case to the next; a case
+/// without a rule counts lowest. (Cucumber's Gherkin reference: rule)
+pub fn cases_fall_into_rules()
+    ensures { (f : FeatureValue) → FallIntoRules (length f.rules) (map (λ c. c.rule) (cases f)) }
 {}

@@ -10,9 +10,11 @@ use crate::copies::{push_steps, push_texts};
 use gk_gherkin::{Background, Feature, Rule, Step};
 use std::alloc::{AllocError, Global};
 
-/// Tags and steps of Backgrounds that scenarios inherit: those of the feature, and then those of the rule.
+/// The place of the rule that scenarios stand in, if there is one, and the tags and steps of Backgrounds that
+/// they inherit: those of the feature, and then those of the rule.
 #[derive(Clone, Copy, Debug)]
 pub struct Inherited<'a> {
+    pub rule: Option<u32>,
     pub feature_tags: &'a [String],
     pub rule_tags: &'a [String],
     pub feature_steps: &'a [Step],
@@ -34,6 +36,7 @@ pub fn inherited_in_feature<'a>(feature: &'a Feature) -> Inherited<'a>
     ensures { inherited_value result ≡ spec.inherited_in_feature (feature_value feature.now) }
 {
     Inherited {
+        rule: None,
         feature_tags: &feature.tags,
         rule_tags: &[],
         feature_steps: steps_of(&feature.background),
@@ -41,12 +44,13 @@ pub fn inherited_in_feature<'a>(feature: &'a Feature) -> Inherited<'a>
     }
 }
 
-/// What a rule's scenarios inherit.
-pub fn inherited_in_rule<'a>(feature: &'a Feature, rule: &'a Rule) -> Inherited<'a>
+/// What the scenarios of the rule at this place inherit.
+pub fn inherited_in_rule<'a>(feature: &'a Feature, place: u32, rule: &'a Rule) -> Inherited<'a>
     ensures { inherited_value result ≡
-        spec.inherited_in_rule (feature_value feature.now) (rule_value rule.now) }
+        spec.inherited_in_rule (feature_value feature.now) place (rule_value rule.now) }
 {
     Inherited {
+        rule: Some(place),
         feature_tags: &feature.tags,
         rule_tags: &rule.tags,
         feature_steps: steps_of(&feature.background),

@@ -21,7 +21,8 @@ pub use case::Case;
 pub use choice::Choice;
 pub use counting::STEP_LIMIT;
 pub use expansion::{
-    expand, into_cases, plain_scenarios_are_cases, read_features_are_expandable, rows_are_cases,
+    cases_fall_into_rules, expand, into_cases, plain_scenarios_are_cases,
+    read_features_are_expandable, rows_are_cases,
 };
 pub use filling::texts_have_one_cut;
 pub use select_fault::SelectFault;

@@ -6,9 +6,9 @@ use Rattle.std.specs.Ordering.{nat_cmp}
 use Rattle.std.specs.Cmp.Lexicographic.{slice_cmp}
 use Rattle.std.specs.FinMap as finite
 
--- How many layers can be open: run, feature and scenario. (behave's documentation: context layers)
+-- How many layers can be open: run, feature, rule and scenario. (behave's documentation: context layers)
 abbrev pub layers : ℕ
-layers = 3
+layers = 4
 
 -- A finite map from names to texts.
 abbrev pub Texts : Type 0

@@ -5,7 +5,7 @@ ghost use Rattle.gk_world.specs.Cells.{Cell, cell_at, IsOnly};
 use std::mem::replace;
 
 /// How many layers can be open. (behave's documentation: context layers)
-pub const LAYERS: usize = 3;
+pub const LAYERS: usize = 4;
 
 /// A fixed number of cells.
 pub trait Cells: Drop {
@@ -74,7 +74,7 @@ impl Cells for [Option<String>; LAYERS] {
     ghost cells = { λ c. map (option_map string_bytes) c };
 
     fn only(cell: usize, text: String) -> Self {
-        let mut cells = [None, None, None];
+        let mut cells = [None, None, None, None];
         cells[cell] = Some(text);
         cells
     }

@@ -1,8 +1,9 @@
 //! Reserving room for results.
 ghost use Rattle.std.specs.Prelude.{IfOk};
-ghost use Rattle.gk_run.specs.Reserved.{IsCaseReserved, AreCasesReserved};
+ghost use Rattle.gk_run.specs.Reserved.{IsCaseReserved, AreCasesReserved, AreRulesReserved};
 
-use crate::reserved::{Heading, ReservedCase, ReservedCases, ReservedSteps};
+use crate::chosen::RuleHead;
+use crate::reserved::{Heading, ReservedCase, ReservedCases, ReservedRules, ReservedSteps};
 use crate::results::NoRoom;
 use gk_select::Case;
 use std::alloc::{AllocError, Global};
@@ -17,6 +18,7 @@ pub fn reserve_case(alloc: Global, case: Case) -> Result<ReservedCase, NoRoom>
         line,
         steps,
         own_tags,
+        rule: _,
         tags: _,
     } = case;
     let results = match Vec::with_capacity(alloc, steps.len()) {
@@ -32,6 +34,17 @@ pub fn reserve_case(alloc: Global, case: Case) -> Result<ReservedCase, NoRoom>
         own_tags,
         steps: ReservedSteps { steps, results },
     })
+}
+
+/// Reserves room for the results of rules.
+pub fn reserve_rules(alloc: Global, heads: Vec<RuleHead>) -> Result<ReservedRules, NoRoom>
+    ensures { IfOk result (AreRulesReserved heads) }
+{
+    let results = match Vec::with_capacity(alloc, heads.len()) {
+        Ok(results) => results,
+        Err(AllocError) => return Err(NoRoom),
+    };
+    Ok(ReservedRules { heads, results })
 }
 
 /// Reserves room for the results of cases.

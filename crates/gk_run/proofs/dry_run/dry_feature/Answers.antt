@@ -3,11 +3,14 @@ use Rattle.gk_select.specs.declared.case.Case.{Case}
 use Rattle.gk_steps.specs.Finding.{library_value}
 use Rattle.gk_run.specs.declared.results.CaseResult.{CaseResult}
 use Rattle.gk_run.specs.declared.results.Status.TheVariants as statuses
-use Rattle.gk_run.specs.Results.{case_row}
+use Rattle.gk_run.specs.Results.{case_row, rule_row}
 use Rattle.gk_run.specs.Section.{Cut}
-use Rattle.gk_run.specs.Chosen.{MemberValue, chosen_value, members_of}
-use Rattle.gk_run.specs.Features.{case_statuses, feature_verdict}
-use Rattle.gk_run.specs.DryRun.{dry_cases_of}
+use Rattle.gk_run.specs.Chosen.{MemberValue, chosen_value, head_value, members_of}
+use Rattle.gk_run.specs.declared.results.RuleResult.{RuleResult}
+use Rattle.gk_run.specs.declared.chosen.RuleHead.{RuleHead}
+use Rattle.gk_run.specs.Cases.{case_statuses}
+use Rattle.gk_run.specs.Features.{feature_verdict, rule_statuses}
+use Rattle.gk_run.specs.DryRun.{dry_cases_of, dry_rules_of}
 use Rattle.gk_run.specs.Reserved.{members_in}
 use Rattle.gk_run.proofs.DryRunLemmas.{dry_feature_is}
 use Rattle.gk_run.proofs.dry_run.dry_feature.Goals as goal
@@ -20,8 +23,12 @@ returns c =
     let reserved = c.in_ok-reserved.ensures in
     let members : members_in c.in_ok-reserved.reserved ≡ f.members =
     ap (λ (cs : List Case). members_of cs c.in_ok-reserved.reserved.selected.items) (ap (λ cs. cs.items) reserved.same_cases) ∙ ap (members_of c.args.chosen.cases.items) (ap (λ ss. ss.items) reserved.same_choice) in
-    let verdict : c.feature_status.result ≡ feature_verdict statuses.Passed (case_statuses rows) =
-    c.feature_status.ensures ∙ ap (λ (cs : List CaseResult). feature_verdict statuses.Passed (case_statuses (map case_row cs))) c.as_slice.ensures.value in
+    let results = c.dry_rules-rules.result.items in
+    let rules = map rule_row results in
+    let are_rules : rules ≡ dry_rules_of f.rules = c.dry_rules-rules.ensures ∙ ap (λ (hs : List RuleHead). dry_rules_of (map head_value hs)) (ap (λ hs. hs.items) c.in_ok-reserve_rules.ensures) in
+    let verdict : c.feature_status.result ≡ feature_verdict statuses.Passed (rule_statuses rules) (case_statuses rows) =
+    c.feature_status.ensures ∙ ap (λ (rs : List RuleResult). feature_verdict statuses.Passed (rule_statuses (map rule_row rs)) (case_statuses (map case_row c.as_slice-2.result.now))) c.as_slice.ensures.value
+    ∙ ap (λ (cs : List CaseResult). feature_verdict statuses.Passed (rule_statuses rules) (case_statuses (map case_row cs))) c.as_slice-2.ensures.value in
     let known : (cuts : List Cut) × (rows ≡ dry_cases_of library cuts f.members) =
     subst (λ (ms : List MemberValue). (cuts : List Cut) × (rows ≡ dry_cases_of library cuts ms)) members c.in_ok-cases.ensures in
-    record { row = dry_feature_is library f c.feature_status.result rows verdict known }
+    record { row = dry_feature_is library f c.feature_status.result rules rows verdict are_rules known }

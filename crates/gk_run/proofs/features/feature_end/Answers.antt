@@ -1,14 +1,18 @@
-use Rattle.std.proofs.Common.{map}
+use Rattle.std.proofs.Common.{map, subst, sym, Bool}
 use Rattle.gk_gherkin.specs.Feature.{texts}
 use Rattle.gk_world.specs.State.{state_of}
-use Rattle.gk_run.specs.declared.section.Level.TheVariants as levels
-use Rattle.gk_run.specs.Results.{case_row}
-use Rattle.gk_run.specs.Run.{run_of}
-use Rattle.gk_run.specs.Reserved.{members_in}
-use Rattle.gk_run.proofs.CasesLemmas.{not_begun}
+use Rattle.gk_run.specs.declared.features.FeatureEnd.{FeatureEnd}
+use Rattle.gk_run.specs.Cases.{members_in}
+use Rattle.gk_run.specs.Chosen.{head_value}
+use Rattle.gk_run.specs.Features.{EndsFeature, inside_value}
+use Rattle.gk_run.specs.Grouping.{groups_from, members_of_rank}
+use Rattle.gk_run.specs.Run.{run_value}
+use Rattle.gk_run.proofs.CasesLemmas.{if_ok}
+use Rattle.gk_run.proofs.FeaturesLemmas.{feature_unbegun}
 use Rattle.gk_run.proofs.features.feature_end.Goals as goal
 
 pub returns-clause-end : goal.returns-clause-end
-returns-clause-end c = λ outside opens.
-    not_begun (run_of c.args.run.now.library.now c.args.run.now.hooks.now c.args.run.now.stop) levels.Feature outside (state_of c.args.sandbox.now.now) (texts c.args.tags.now) (members_in c.args.cases) c.args.is_begun (map case_row c.in_ok-cases.cases.items)
-    c.if-is_begun.false c.in_ok-cases.ensures.rows
+returns-clause-end c =
+    let members = members_in c.args.content.cases in
+    feature_unbegun (run_value c.args.run.now) (state_of c.args.sandbox.now.now) c.args.is_begun (texts c.args.tags.now) (members_of_rank 0 members) (groups_from 1 (map head_value c.args.content.rules.heads.items) members) (inside_value c.in_ok-inside.inside)
+    c.if-is_begun.false c.in_ok-inside.ensures.inside

@@ -1,33 +1,47 @@
-use Rattle.std.proofs.Common.{◌≡◌, ◌∙◌, ◌&&◌, ℕ, Bool, List, map, sym, ap, subst}
+use Rattle.std.proofs.Common.{◌≡◌, ◌∙◌, ◌&&◌, ℕ, Bool, List, map, sym, ap, subst, true}
 use Rattle.std.specs.List.{list_any}
 use Rattle.gk_gherkin.specs.Feature.{texts}
 use Rattle.gk_select.specs.declared.case.Case.{Case}
 use Rattle.gk_world.specs.State.{state_of}
+use Rattle.gk_run.specs.declared.chosen.RuleHead.{RuleHead}
 use Rattle.gk_run.specs.declared.results.CaseResult.{CaseResult}
-use Rattle.gk_run.specs.declared.section.Level.TheVariants as levels
-use Rattle.gk_run.specs.Results.{case_row}
-use Rattle.gk_run.specs.Chosen.{MemberValue, members_of, chosen_value, has_selected}
-use Rattle.gk_run.specs.Features.{feature_verdict, case_statuses, IsFeatureEnd}
-use Rattle.gk_run.specs.Reserved.{members_in}
+use Rattle.gk_run.specs.declared.results.RuleResult.{RuleResult}
+use Rattle.gk_run.specs.Cases.{case_statuses, members_in}
+use Rattle.gk_run.specs.Chosen.{HeadValue, MemberValue, chosen_value, has_selected, head_value, members_of}
+use Rattle.gk_run.specs.Features.{IsFeatureEnd, feature_verdict, inside_value, rule_statuses}
+use Rattle.gk_run.specs.Grouping.{falls_from, groups_from, members_of_rank}
+use Rattle.gk_run.specs.OpenSection.{SectionRow}
+use Rattle.gk_run.specs.Results.{case_row, rule_row}
+use Rattle.gk_run.specs.Rules.{Inside}
 use Rattle.gk_run.specs.Run.{run_value}
-use Rattle.gk_run.proofs.CasesLemmas.{feature_is, selected_any}
+use Rattle.gk_run.proofs.CasesLemmas.{selected_any}
+use Rattle.gk_run.proofs.FeaturesLemmas.{feature_is}
+use Rattle.gk_run.proofs.GroupingLemmas.{falls_into}
 use Rattle.gk_run.proofs.features.feature_in.Goals as goal
+
+pub new-cases-requires-clause-falls : goal.new-cases-requires-clause-falls
+new-cases-requires-clause-falls c =
+    subst (λ (cs : List Case). falls_from 0 cs ≡ true) (sym (ap (λ cs. cs.items) c.in_ok-reserve_cases.ensures.same_cases)) (falls_into _ 0 c.args.chosen.cases.items c.requires.formed.falls)
 
 pub returns-clause-row : goal.returns-clause-row
 returns-clause-row c =
     let run = run_value c.args.run.now in
+    let now = state_of c.args.sandbox.now.now in
     let f = chosen_value c.args.chosen in
-    let around = c.in_ok-end.end.around in
-    let rows = map case_row c.in_ok-end.end.cases.items in
+    let end : SectionRow Inside = record { around = c.in_ok-end.end.around; inside = inside_value c.in_ok-end.end.inside } in
     let cases = c.args.chosen.cases.items in
-    let reserved = c.in_ok-reserved.ensures in
-    let members : members_in c.in_ok-reserved.reserved ≡ f.members =
-    ap (λ (cs : List Case). members_of cs c.in_ok-reserved.reserved.selected.items) (ap (λ cs. cs.items) reserved.same_cases) ∙ ap (members_of cases) (ap (λ ss. ss.items) reserved.same_choice) in
+    let reserved = c.in_ok-reserve_cases.ensures in
+    let begun_with = c.new-cases.ensures in
+    let waiting = begun_with.waiting ∙ ap (λ cs. cs.items) reserved.same_cases in
+    let selected = begun_with.selected ∙ ap (λ ss. ss.items) reserved.same_choice in
+    let members : members_in c.new-cases.result ≡ f.members = ap (λ (cs : List Case). members_of cs c.new-cases.result.selected.items) waiting ∙ ap (members_of cases) selected in
+    let heads : map head_value c.in_ok-rules.rules.heads.items ≡ f.rules = ap (λ hs. map head_value hs.items) c.in_ok-rules.ensures in
     let begins : c.both-is_begun.result ≡ (c.args.is_open && has_selected f.members) =
-    c.both-is_begun.ensures ∙ ap (λ (b : Bool). c.args.is_open && b) (c.has_selected.ensures ∙ ap (λ (ss : List Bool). list_any (λ (s : Bool). s) ss) c.as_slice.ensures.value ∙ sym (selected_any cases c.args.chosen.selected.items c.requires.paired)) in
-    let verdict : c.feature_status.result ≡ feature_verdict around (case_statuses rows) =
-    c.feature_status.ensures ∙ ap (λ (cs : List CaseResult). feature_verdict around (case_statuses (map case_row cs))) c.as_slice-3.ensures.value in
-    feature_is run (state_of c.args.sandbox.now.now) c.args.is_open c.both-is_begun.result f c.feature_status.result around rows begins verdict
-    (λ outside o.
-    subst (λ (ms : List MemberValue). IsFeatureEnd run levels.Feature outside c.both-is_begun.result f.tags ms around rows) members
-    (subst (λ (ts : List (List ℕ)). IsFeatureEnd run levels.Feature outside c.both-is_begun.result ts (members_in c.in_ok-reserved.reserved) around rows) (ap texts c.as_slice-2.ensures.value) (c.in_ok-end.ensures.end outside o)))
+    c.both-is_begun.ensures ∙ ap (λ (b : Bool). c.args.is_open && b) (c.has_selected.ensures ∙ ap (λ (ss : List Bool). list_any (λ (s : Bool). s) ss) c.as_slice.ensures.value ∙ sym (selected_any cases c.args.chosen.selected.items c.requires.formed.paired)) in
+    let verdict : c.feature_status.result ≡ feature_verdict end.around (rule_statuses end.inside.rules) (case_statuses end.inside.cases) =
+    c.feature_status.ensures ∙ ap (λ (rs : List RuleResult). feature_verdict end.around (rule_statuses (map rule_row rs)) (case_statuses (map case_row c.as_slice-4.result.now))) c.as_slice-3.ensures.value
+    ∙ ap (λ (cs : List CaseResult). feature_verdict end.around (rule_statuses end.inside.rules) (case_statuses (map case_row cs))) c.as_slice-4.ensures.value in
+    feature_is run now c.args.is_open c.both-is_begun.result f c.feature_status.result end begins verdict
+    (subst (λ (ms : List MemberValue). IsFeatureEnd run now c.both-is_begun.result f.tags (members_of_rank 0 ms) (groups_from 1 f.rules ms) end) members
+    (subst (λ (hs : List HeadValue). IsFeatureEnd run now c.both-is_begun.result f.tags (members_of_rank 0 (members_in c.new-cases.result)) (groups_from 1 hs (members_in c.new-cases.result)) end) heads
+    (subst (λ (ts : List (List ℕ)). IsFeatureEnd run now c.both-is_begun.result ts (members_of_rank 0 (members_in c.new-cases.result)) (groups_from 1 (map head_value c.in_ok-rules.rules.heads.items) (members_in c.new-cases.result)) end) (ap texts c.as_slice-2.ensures.value) c.in_ok-end.ensures.end)))

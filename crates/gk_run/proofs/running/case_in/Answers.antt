@@ -1,7 +1,7 @@
 use Rattle.std.proofs.Common.{◌≡◌, ◌∙◌, map, ap, subst, sym}
 use Rattle.gk_gherkin.specs.Feature.{step_value, texts}
 use Rattle.gk_select.specs.Case.{case_value}
-use Rattle.gk_world.specs.State.{state_of, enter}
+use Rattle.gk_world.specs.State.{state_of}
 use Rattle.gk_run.specs.declared.reserved.Heading.{Heading}
 use Rattle.gk_run.specs.Results.{CaseRow, step_row}
 use Rattle.gk_run.specs.Running.{row_with, IsCaseEnd, IsReached, ran}
@@ -14,14 +14,12 @@ returns-clause-row c =
     let run = run_value c.args.run.now in
     let section = state_of c.args.sandbox.now.now in
     let case = case_value c.args.case in
-    let end = c.in_layer-end.result in
+    let end = c.run_alone-end.result in
     let rows = map step_row end.steps.items in
-    let inside = state_of c.begin-layer.new.self.now in
-    let enters : inside ≡ enter section = ap (λ s. state_of s.now) c.begin-layer.ensures.ok ∙ c.layers_enter.ensures c.args.sandbox.now.now in
     let reserved = c.in_ok-reserved.ensures in
     let tags = ap texts c.as_slice.ensures.value ∙ ap (λ ts. texts ts.items) reserved.own_tags in
     let steps = ap (λ ss. map step_value ss.items) reserved.steps in
-    let ended = c.in_layer-end.ensures.end section enters in
+    let ended = c.run_alone-end.ensures.end in
     let known : IsCaseEnd run section (ran case.own_tags case.steps) end.status end.around end.cleanups.items rows =
     subst (λ ss. IsCaseEnd run section (ran case.own_tags ss) end.status end.around end.cleanups.items rows) steps
     (subst (λ ts. IsCaseEnd run section (ran ts (map step_value c.in_ok-reserved.reserved.steps.steps.items)) end.status end.around end.cleanups.items rows) tags ended) in

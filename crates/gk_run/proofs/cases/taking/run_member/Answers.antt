@@ -8,14 +8,14 @@ use Rattle.gk_run.specs.Section.{Cut, nowhere}
 use Rattle.gk_run.specs.Run.{run_of}
 use Rattle.gk_run.specs.Running.{unrun_row, IsReached, marks_of}
 use Rattle.gk_run.specs.Chosen.{member_of}
-use Rattle.gk_run.specs.Features.{case_of}
+use Rattle.gk_run.specs.Cases.{case_of}
 use Rattle.gk_run.proofs.CasesLemmas.{if_ok, reached_is, unselected_is, unreached_is}
-use Rattle.gk_run.proofs.features.run_member.Goals as goal
+use Rattle.gk_run.proofs.cases.taking.run_member.Goals as goal
 
 pub returns-then-not-selected-clause-row : goal.returns-then-not-selected-clause-row
 returns-then-not-selected-clause-row c =
     let run = run_of c.args.run.now.library.now c.args.run.now.hooks.now c.args.run.now.stop in
-    let m = member_of c.args.case c.args.selected in
+    let m = member_of c.args.member.case c.args.member.selected in
     if_ok (λ (r : CaseResult). case_row r ≡ unrun_row m.scenario statuses.Skipped (marks_of marks.Skipped m.scenario))
     (λ (r : CaseResult). (section : State) → (c.args.is_open ≡ true → state_of c.args.sandbox.now.now ≡ section) → (x : Cut) × (case_row r ≡ case_of run section c.args.is_open x m))
     c.unrun_case.result (λ r e section opens. (nowhere, unselected_is run section c.args.is_open m (case_row r) c.if-not-selected.true e)) c.unrun_case.ensures
@@ -23,7 +23,7 @@ returns-then-not-selected-clause-row c =
 pub returns-then-not-is_open-clause-row : goal.returns-then-not-is_open-clause-row
 returns-then-not-is_open-clause-row c =
     let run = run_of c.args.run.now.library.now c.args.run.now.hooks.now c.args.run.now.stop in
-    let m = member_of c.args.case c.args.selected in
+    let m = member_of c.args.member.case c.args.member.selected in
     if_ok (λ (r : CaseResult). case_row r ≡ unrun_row m.scenario statuses.Untested (marks_of marks.Untested m.scenario))
     (λ (r : CaseResult). (section : State) → (c.args.is_open ≡ true → state_of c.args.sandbox.now.now ≡ section) → (x : Cut) × (case_row r ≡ case_of run section c.args.is_open x m))
     c.unrun_case-then-not-is_open.result (λ r e section opens. (nowhere, unreached_is run section c.args.is_open m (case_row r) c.if-not-selected.false c.if-not-is_open.true e)) c.unrun_case-then-not-is_open.ensures
@@ -31,7 +31,7 @@ returns-then-not-is_open-clause-row c =
 pub returns-clause-row : goal.returns-clause-row
 returns-clause-row c =
     let run = run_of c.args.run.now.library.now c.args.run.now.hooks.now c.args.run.now.stop in
-    let m = member_of c.args.case c.args.selected in
+    let m = member_of c.args.member.case c.args.member.selected in
     let now = state_of c.args.sandbox.now.now in
     if_ok (λ (r : CaseResult). IsReached run now m.scenario (case_row r)) (λ (r : CaseResult). (section : State) → (c.args.is_open ≡ true → now ≡ section) → (x : Cut) × (case_row r ≡ case_of run section c.args.is_open x m))
     c.case_in.result

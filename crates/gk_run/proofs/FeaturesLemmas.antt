@@ -1,0 +1,67 @@
+-- What is inside of a feature, and what it comes to.
+use Rattle.std.proofs.Common.{Bool, List, [], ap, arith, false, map, refl, subst, suc, sym, true, zero, ℕ, ◌&&◌, ◌++◌, ◌<◌, ◌≤◌, ◌∙◌, ◌≡◌}
+use Rattle.gk_world.specs.State.{State}
+use Rattle.gk_run.specs.declared.cases.Cases.{Cases}
+use Rattle.gk_run.specs.declared.results.RuleResult.{RuleResult}
+use Rattle.gk_run.specs.declared.results.Status.{Status}
+use Rattle.gk_run.specs.declared.results.Status.TheVariants as statuses
+use Rattle.gk_run.specs.declared.section.Level.TheVariants as levels
+use Rattle.gk_run.specs.Cases.{RunsCases, all_stay_open, case_statuses, cases_of, members_in}
+use Rattle.gk_run.specs.Chosen.{ChosenValue, HeadValue, MemberValue, has_selected}
+use Rattle.gk_run.specs.Features.{IsFeatureEnd, IsFeatureResult, IsInside, feature_row_of, feature_verdict, inside_by, rule_statuses}
+use Rattle.gk_run.specs.Grouping.{Group, groups_from, members_of_rank, own_members, rule_groups}
+use Rattle.gk_run.specs.OpenSection.{SectionRow, section_of, section_state}
+use Rattle.gk_run.specs.Results.{CaseRow, FeatureRow, RuleRow, case_row, rule_row}
+use Rattle.gk_run.specs.Rules.{Inside, RuleCuts, RunsRules, rules_of}
+use Rattle.gk_run.specs.Run.{Run}
+use Rattle.gk_run.specs.Section.{Cut, nowhere}
+use Rattle.gk_run.proofs.GroupingLemmas.{and_left, groups_same}
+
+later_rank : (first other : ℕ) → first ≡ 0 → suc zero ≤ other → first < other
+later_rank first other is le = omega (arith, is, le)
+
+-- what is inside, from its own cases and its rules
+pub inside_is : (run : Run) (now then : State) (is_open all_stay : Bool) (heads : List HeadValue) (old mid new : Cases) (results : List RuleResult) → old.rank ≡ 0 → old.results.items ≡ [] → then ≡ now →
+    RunsCases run now is_open old mid all_stay → RunsRules run then (is_open && all_stay) heads mid new results →
+    IsInside run now is_open (members_of_rank 0 (members_in old)) (groups_from 1 heads (members_in old)) (record { rules = map rule_row results; cases = map case_row new.results.items })
+inside_is run now then is_open all_stay heads old mid new results first nothing same cases rules section opens =
+    let own = members_of_rank 0 (members_in old) in
+    let groups = groups_from 1 heads (members_in old) in
+    let own_is : members_of_rank old.rank (members_in old) ≡ own = ap (λ (r : ℕ). members_of_rank r (members_in old)) first in
+    let mine = cases.are section opens in
+    let theirs = rules.are section (λ o. same ∙ opens (and_left is_open all_stay o)) in
+    let rows_are : cases.rows ≡ cases_of run section is_open mine.0 own = mine.1 ∙ ap (cases_of run section is_open mine.0) own_is in
+    let groups_are : groups_from (suc mid.rank) heads (members_in mid) ≡ groups =
+    ap (λ (r : ℕ). groups_from (suc r) heads (members_in mid)) (cases.left.rank ∙ first) ∙ groups_same 1 heads (members_in mid) (members_in old) (λ other le. cases.left.others other (later_rank old.rank other first le)) in
+    let told : map case_row new.results.items ≡ cases.rows ++ rules.rows =
+    rules.told ∙ ap (λ (rs : List CaseRow). rs ++ rules.rows) (cases.told ∙ ap (λ rs. map case_row rs ++ cases.rows) nothing) in
+    let both : List CaseRow → Inside → Inside = λ rs n. record { rules = n.rules; cases = rs ++ n.cases } in
+    let whole : List CaseRow → Inside = λ rs. both rs (rules_of run section (is_open && all_stay_open run rs) theirs.0 groups) in
+    (
+      mine.0,
+      theirs.0,
+      ap (λ (rs : List CaseRow). record { rules = map rule_row results; cases = rs }) told
+      ∙ ap (both cases.rows) theirs.1
+      ∙ ap (λ (gs : List Group). both cases.rows (rules_of run section (is_open && all_stay) theirs.0 gs)) groups_are
+      ∙ ap (λ (b : Bool). both cases.rows (rules_of run section (is_open && b) theirs.0 groups)) cases.stay
+      ∙ ap whole rows_are,
+    )
+
+-- a feature that isn't begun
+pub feature_unbegun : (run : Run) (now : State) (is_begun : Bool) (tags : List (List ℕ)) (own : List MemberValue) (groups : List Group) (inside : Inside) → is_begun ≡ false → IsInside run now false own groups inside →
+    IsFeatureEnd run now is_begun tags own groups (record { around = statuses.Passed; inside = inside })
+feature_unbegun run now true tags own groups inside unbegun is outside opens = let no : ⊥ = cc in absurd no
+feature_unbegun run now false tags own groups inside unbegun is outside opens =
+    let known = is (section_state run levels.Feature tags outside) (λ o. let no : ⊥ = cc in absurd no) in
+    (nowhere, known.0, known.1, ap (λ (i : Inside). record { around = statuses.Passed; inside = i }) known.2)
+
+-- the row of a feature, from what it came to
+pub feature_is : (run : Run) (now : State) (is_open is_begun : Bool) (f : ChosenValue) (status : Status) (end : SectionRow Inside) → is_begun ≡ (is_open && has_selected f.members) →
+    status ≡ feature_verdict end.around (rule_statuses end.inside.rules) (case_statuses end.inside.cases) → IsFeatureEnd run now is_begun f.tags (own_members f) (rule_groups f) end →
+    IsFeatureResult run now is_open f (record { source = f.source; name = f.name; line = f.line; status = status; around = end.around; rules = end.inside.rules; cases = end.inside.cases })
+feature_is run now is_open is_begun f status end begins verdict ends outside opens =
+    let known = ends outside (λ b. opens (and_left is_open (has_selected f.members) (sym begins ∙ b))) in
+    let row : Status → FeatureRow = λ s. record { source = f.source; name = f.name; line = f.line; status = s; around = end.around; rules = end.inside.rules; cases = end.inside.cases } in
+    let inside : State → Bool → Inside = λ section is_ready. inside_by run section is_ready known.1 known.2 (own_members f) (rule_groups f) in
+    let by_end : SectionRow Inside → FeatureRow = λ e. feature_row_of f e.around e.inside in
+    (record { own = known.0; cases = known.1; rules = known.2 }, ap row verdict ∙ ap by_end (known.3 ∙ ap (λ (b : Bool). section_of run levels.Feature f.tags outside b known.0 inside) begins))

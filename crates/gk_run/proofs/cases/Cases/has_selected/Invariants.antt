@@ -1,0 +1,16 @@
+use Rattle.std.proofs.Common.{◌≡◌, ◌≤◌, ◌-◌, true, drop, length}
+use Rattle.gk_run.specs.Cases.{members_in}
+use Rattle.gk_run.specs.Chosen.{has_selected, members_of}
+use Rattle.gk_run.specs.Grouping.{falls_from, members_of_rank}
+use Rattle.gk_run.proofs.cases.Cases.has_selected.Given as goal
+
+-- no case of the rank before this place is selected
+abbrev pub invariant-loop-place : goal.invariant-loop-place
+invariant-loop-place l = record {
+  selects : has_selected (members_of_rank l.self.rank (members_of (drop l.place l.self.waiting.items) (drop l.place l.self.selected.items))) ≡ has_selected (members_of_rank l.self.rank (members_in l.self));
+  falls : falls_from l.self.rank (drop l.place l.self.waiting.items) ≡ true;
+  inside : l.place ≤ length l.self.waiting.items;
+}
+
+abbrev pub decreases-loop-place : goal.decreases-loop-place
+decreases-loop-place l = length l.self.waiting.items - l.place

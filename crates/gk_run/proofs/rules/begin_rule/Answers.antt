@@ -1,0 +1,38 @@
+use Rattle.std.proofs.Common.{◌∙◌, ◌&&◌, Bool, ap, subst, sym}
+use Rattle.gk_gherkin.specs.Feature.{texts}
+use Rattle.gk_world.specs.State.{State, state_of}
+use Rattle.gk_run.specs.declared.section.Level.TheVariants as levels
+use Rattle.gk_run.specs.Cases.{all_stay_open, cases_of, members_in, stays_open}
+use Rattle.gk_run.specs.Cleanups.{cleanups_value}
+use Rattle.gk_run.specs.Grouping.{members_of_rank}
+use Rattle.gk_run.specs.OpenSection.{section_state}
+use Rattle.gk_run.specs.Run.{run_value}
+use Rattle.gk_run.specs.SectionHooks.{begun}
+use Rattle.gk_run.specs.Walk.{IsWalked}
+use Rattle.gk_run.proofs.SectionLemmas.{passed_state, section_is}
+use Rattle.gk_run.proofs.rules.begin_rule.Goals as goal
+
+pub returns-in-Ok-clause-rule : goal.returns-in-Ok-clause-rule
+returns-in-Ok-clause-rule c =
+    let run = run_value c.args.run.now in
+    let outside = state_of c.args.sandbox.now.now in
+    let tags = texts c.args.tags.now in
+    let opened = c.open_section-opened.result in
+    let b = opened.before in
+    let s = state_of c.open_section-opened.new.sandbox.now in
+    let cs = cleanups_value opened.cleanups in
+    let before = begun run.library run.hooks levels.Rule tags outside in
+    let walked = c.open_section-opened.ensures.opened.begins in
+    let members = members_of_rank c.args.cases.now.rank (members_in c.args.cases.now) in
+    let ran = c.in-Ok.ensures.cases in
+    let around = c.end_around-around.result in
+    let known = ran.are (section_state run levels.Rule tags outside) (λ o. passed_state before b s cs walked (sym c.has_passed.ensures ∙ o)) in
+    let end = c.end_around-around.ensures.around outside run.stop (subst (λ (x : State). IsWalked before b x cs) (sym (ap state_of c.in-Ok.ensures.same.contents)) walked) in
+    let row = section_is run levels.Rule tags outside b c.has_passed.result around ran.rows (λ section is_ready. cases_of run section is_ready known.0 members) c.has_passed.ensures end known.1 in
+    record {
+      rows = ran.rows;
+      told = ran.told;
+      is = (row.0, known.0, row.1);
+      stay = c.both.ensures ∙ ap (λ (x : Bool). x && c.in-Ok.all_stay) c.stays_open.ensures ∙ ap (λ (x : Bool). stays_open run around && x) ran.stay;
+      left = ran.left;
+    }

@@ -1,0 +1,48 @@
+use Rattle.std.proofs.Common.{◌∙◌, ◌&&◌, Bool, ap, subst, sym, true}
+use Rattle.gk_gherkin.specs.Feature.{texts}
+use Rattle.gk_world.specs.State.{state_of}
+use Rattle.gk_run.specs.declared.results.Status.TheVariants as statuses
+use Rattle.gk_run.specs.declared.rules.RuleEnd.{RuleEnd}
+use Rattle.gk_run.specs.Cases.{all_stay_open, members_in, stays_open}
+use Rattle.gk_run.specs.Chosen.{head_value}
+use Rattle.gk_run.specs.Grouping.{Group, members_of_rank}
+use Rattle.gk_run.specs.Rules.{BeginsRule, RunsRule}
+use Rattle.gk_run.specs.Run.{run_value}
+use Rattle.gk_run.proofs.CasesLemmas.{if_ok}
+use Rattle.gk_run.proofs.RulesLemmas.{passed_stays, rule_begun, rule_unbegun}
+use Rattle.gk_run.proofs.rules.run_rule.Goals as goal
+
+pub returns-then-both-clause-rule : goal.returns-then-both-clause-rule
+returns-then-both-clause-rule c =
+    let run = run_value c.args.run.now in
+    let now = state_of c.args.sandbox.now.now in
+    let old = c.args.cases.now in
+    let head = head_value c.args.head.now in
+    let g : Group = record { head = head; members = members_of_rank old.rank (members_in old) } in
+    let begins = c.both.ensures ∙ ap (λ (b : Bool). c.args.is_open && b) c.has_selected.ensures in
+    if_ok (λ (end : RuleEnd). BeginsRule c.args.run.now now c.as_slice.result.now old c.begin_rule.new.cases end) (λ (end : RuleEnd). RunsRule run now c.args.is_open head old c.begin_rule.new.cases end)
+    c.begin_rule.result
+    (λ end h. record {
+      rows = h.rows;
+      told = h.told;
+      is = rule_begun run now c.args.is_open c.both.result (texts c.as_slice.result.now) g (record { around = end.around; inside = h.rows }) begins c.if-both.true (ap texts c.as_slice.ensures.value) h.is;
+      stay = h.stay;
+      left = h.left;
+    })
+    c.begin_rule.ensures.rule
+
+pub returns-clause-rule : goal.returns-clause-rule
+returns-clause-rule c =
+    let run = run_value c.args.run.now in
+    let now = state_of c.args.sandbox.now.now in
+    let old = c.args.cases.now in
+    let g : Group = record { head = head_value c.args.head.now; members = members_of_rank old.rank (members_in old) } in
+    let begins = c.both.ensures ∙ ap (λ (b : Bool). c.args.is_open && b) c.has_selected.ensures in
+    let ran = c.in_ok-run_cases.ensures.cases in
+    record {
+      rows = ran.rows;
+      told = ran.told;
+      is = rule_unbegun run now c.args.is_open c.both.result g ran.rows begins c.if-both.false ran.are;
+      stay = ran.stay ∙ ap (λ (b : Bool). b && all_stay_open run ran.rows) (sym (passed_stays run));
+      left = ran.left;
+    }

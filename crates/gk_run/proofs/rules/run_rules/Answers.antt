@@ -1,0 +1,64 @@
+use Rattle.std.proofs.Common.{◌≡◌, ◌∙◌, ◌∷◌, List, [], ap, arith, length, map, refl, subst, sym}
+use Rattle.std.specs.Vec.Iter.{into_iter_items, into_iter_len}
+use Rattle.gk_world.specs.State.{state_of}
+use Rattle.gk_run.specs.declared.chosen.RuleHead.{RuleHead}
+use Rattle.gk_run.specs.declared.results.RuleResult.{RuleResult}
+use Rattle.gk_run.specs.Chosen.{HeadValue, head_value, members_of}
+use Rattle.gk_run.specs.Run.{run_of}
+use Rattle.gk_run.proofs.Nothing.{nothing_in}
+use Rattle.gk_run.proofs.RulesLemmas.{GoesRules, rules_first, rules_last, rules_on}
+use Rattle.gk_run.proofs.rules.run_rules.Goals as goal
+
+pub loop-head-init : goal.loop-head-init
+loop-head-init c =
+    let run = run_of c.args.run.now.library.now c.args.run.now.hooks.now c.args.run.now.stop in
+    let first = state_of c.args.sandbox.now.now in
+    let old = c.args.cases.now in
+    let heads = map head_value c.args.rules.heads.items in
+    let here : into_iter_items c.into_iter-head-iterator.result ≡ c.args.rules.heads.items = c.into_iter-head-iterator.ensures.into_iter_gives.0 in
+    let none : c.args.rules.results.items ≡ [] = c.args.rules.empty in
+    record {
+      goes = subst (λ (rs : List RuleResult). GoesRules run first c.args.is_open heads old old c.args.is_open rs (map head_value (into_iter_items c.into_iter-head-iterator.result))) (sym none)
+          (subst (λ (hs : List RuleHead). GoesRules run first c.args.is_open heads old old c.args.is_open [] (map head_value hs)) (sym here) (rules_first run first c.args.is_open heads old c.requires.falls));
+      same = record { contents = refl; saved = refl; marks = refl; recorded = refl };
+      room = omega (arith, c.args.rules.room, c.args.rules.results.ok.0, ap length none, ap length here);
+      ranks = omega (arith, c.args.rules.room, c.requires.first, ap length here);
+      counted = omega (arith, c.args.rules.heads.ok.0, ap length here, c.into_iter-head-iterator.ensures.into_iter_gives.1);
+    }
+
+pub loop-head-preserved : goal.loop-head-preserved
+loop-head-preserved c =
+    let run = run_of c.args.run.now.library.now c.args.run.now.hooks.now c.args.run.now.stop in
+    let first = state_of c.args.sandbox.now.now in
+    let heads = map head_value c.args.rules.heads.items in
+    let old = c.args.cases.now in
+    let now = c.loop-head.cases in
+    let taken = c.next_rank.new.self in
+    let left = into_iter_items c.next.new.self in
+    let head = head_value c.in-Some.head in
+    let taken_first : into_iter_items c.loop-head.head-iterator ≡ c.in-Some.head ∷ left = c.in-Some.ensures.steps.0 in
+    let before = c.loop-head.invariant.same in
+    let same = c.in_ok-end.ensures.same in
+    let ran = c.in_ok-end.ensures.rule in
+    let so_far : GoesRules run first c.args.is_open heads old now c.loop-head.is_open c.loop-head.results.items (head ∷ map head_value left) =
+    subst (λ (hs : List RuleHead). GoesRules run first c.args.is_open heads old now c.loop-head.is_open c.loop-head.results.items (map head_value hs)) taken_first c.loop-head.invariant.goes in
+    let counted = ap length taken_first in
+    record {
+      goes = rules_on run first (state_of c.loop-head.sandbox.now) c.args.is_open heads old now taken c.run_rule.new.cases c.loop-head.is_open c.both-is_open.result c.loop-head.results.items c.push_reserved.new.self.items head (map head_value left) c.in_ok-end.end _
+          so_far (ap state_of before.contents) c.next_rank.ensures.rank
+          (ap (λ q. members_of q.items taken.selected.items) c.next_rank.ensures.waiting ∙ ap (λ q. members_of now.waiting.items q.items) c.next_rank.ensures.selected)
+          c.next_rank.ensures.results ran c.both-is_open.ensures c.push_reserved.ensures.items refl;
+      same = record { contents = same.contents ∙ before.contents; saved = same.saved ∙ before.saved; marks = same.marks ∙ before.marks; recorded = same.recorded ∙ before.recorded };
+      room = omega (arith, counted, c.loop-head.invariant.room, c.push_reserved.ensures.len, c.push_reserved.ensures.capacity);
+      ranks = omega (arith, counted, c.loop-head.invariant.ranks, c.next_rank.ensures.rank, ran.left.rank, c.push_reserved.ensures.capacity);
+      counted = omega (arith, counted, c.loop-head.invariant.counted, c.in-Some.ensures.steps.1);
+    }
+
+pub returns-clause-rules : goal.returns-clause-rules
+returns-clause-rules c =
+    let run = run_of c.args.run.now.library.now c.args.run.now.hooks.now c.args.run.now.stop in
+    let first = state_of c.args.sandbox.now.now in
+    let heads = map head_value c.args.rules.heads.items in
+    let none : into_iter_items c.loop-head.head-iterator ≡ [] = nothing_in (into_iter_items c.loop-head.head-iterator) (c.loop-head.invariant.counted ∙ c.in-None.ensures.steps.0) in
+    rules_last run first c.args.is_open heads c.args.cases.now c.loop-head.cases c.loop-head.is_open c.loop-head.results.items
+    (subst (λ (hs : List RuleHead). GoesRules run first c.args.is_open heads c.args.cases.now c.loop-head.cases c.loop-head.is_open c.loop-head.results.items (map head_value hs)) none c.loop-head.invariant.goes)

@@ -1,0 +1,40 @@
+-- The cases of a feature by their rules.
+use Rattle.std.specs.List.{filter}
+use Rattle.std.specs.Prelude.{suc, Bool, true, ◌&&◌, nat_le, List, [], ◌∷◌, ◌≡◌, ℕ, nat_eq, map, length, flat_map, ◌++◌}
+use Rattle.gk_select.specs.RuleOrder.{rank, FallIntoRules}
+use Rattle.gk_select.specs.declared.case.Case.{Case}
+use Rattle.gk_run.specs.Chosen.{HeadValue, MemberValue, ChosenValue}
+
+-- The cases of this rank, in order: of rank 0 those without a rule, and then those of one rule after another.
+abbrev pub members_of_rank : ℕ → List MemberValue → List MemberValue
+members_of_rank r members = filter (λ (m : MemberValue). nat_eq (rank m.scenario.rule) r) members
+
+-- A rule with its cases.
+pub record Group : Type 0 where
+  pub head : HeadValue
+  pub members : List MemberValue
+
+-- Rules, each with its cases; the first of them has this rank.
+abbrev pub groups_from : ℕ → List HeadValue → List MemberValue → List Group
+groups_from r [] members = []
+groups_from r (head ∷ heads) members = record { head = head; members = members_of_rank r members } ∷ groups_from (suc r) heads members
+
+-- The cases of a feature that aren't in a rule. (Cucumber's Gherkin reference: rule)
+abbrev pub own_members : ChosenValue → List MemberValue
+own_members f = members_of_rank 0 f.members
+
+-- The rules of a feature, each with its cases. (Cucumber's Gherkin reference: rule)
+abbrev pub rule_groups : ChosenValue → List Group
+rule_groups f = groups_from 1 f.rules f.members
+
+-- Where the cases of a feature fall into its rules, its own cases and then those of each rule are all of them, in file order.
+abbrev pub GroupsAreAll : Type 0
+GroupsAreAll = (f : ChosenValue) → FallIntoRules (length f.rules) (map (λ (m : MemberValue). m.scenario.rule) f.members) →
+    own_members f ++ flat_map (λ (g : Group). g.members) (rule_groups f) ≡ f.members
+
+-- Proof machinery, from here on: what the code's calls do.
+
+-- The rules of these cases never fall from one to the next, from this rank on.
+abbrev pub falls_from : ℕ → List Case → Bool
+falls_from least [] = true
+falls_from least (c ∷ cs) = nat_le least (rank c.rule) && falls_from (rank c.rule) cs

@@ -1,0 +1,31 @@
+//! The cases of a feature, taken one after another.
+ghost use Rattle.std.specs.Prelude.{◌≡◌, true, ◌+◌, ◌≤◌, length, vec_capacity};
+ghost use Rattle.gk_run.specs.Grouping.{falls_from};
+
+mod taking;
+
+use crate::results::CaseResult;
+use gk_select::Case;
+use std::collections::VecDeque;
+pub use taking::{both, either, is_bad, run_cases, stays_open};
+
+/// A case, and whether it is selected.
+#[derive(Drop)]
+pub struct Member {
+    pub case: Case,
+    pub selected: bool,
+}
+
+/// The cases of a feature that are still to come, each with whether it is selected, and the results of
+/// those before, with room for the results of all.
+#[derive(Drop)]
+pub struct Cases {
+    /// Which cases come next: 0 for those without a rule, 1 for those of the first rule, and so on.
+    pub rank: usize,
+    pub waiting: VecDeque<Case>,
+    pub selected: VecDeque<bool>,
+    pub results: Vec<CaseResult>,
+    ghost paired: { length selected.items ≡ length waiting.items },
+    ghost room: { length results.items + length waiting.items ≤ vec_capacity results },
+    ghost falls: { falls_from rank waiting.items ≡ true },
+}

@@ -1,0 +1,122 @@
+//! The way that a section goes: it is begun and its before list walked through, what is inside of it
+//! runs, and it is closed and ended. The run, a feature, a rule and a scenario go it.
+ghost use Rattle.std.specs.Prelude.{◌≡◌, ◌<◌, Bool};
+ghost use Rattle.gk_gherkin.specs.Feature.{texts};
+ghost use Rattle.gk_world.specs.State.{State, layers};
+ghost use Rattle.gk_world.specs.Sandbox.{depth, KeepsLayers, Ends};
+ghost use Rattle.gk_run.specs.Ending as endings;
+ghost use Rattle.gk_run.specs.Closing.{ClosesAfter};
+ghost use Rattle.gk_run.specs.OpenSection.{IsBegun, IsOpened, IsSectionEnd};
+ghost use Rattle.gk_run.specs.Run.{run_of, run_value};
+
+use crate::cleanups::Cleanups;
+use crate::closing::{Closed, close};
+use crate::ending::{Ending, around_status, is_memory, worse};
+use crate::results::Status;
+use crate::run::Run;
+use crate::section::Section;
+use crate::section_hooks::walk_before;
+use gk_world::{Layer, Sandbox, layers_enter};
+
+/// A section that was begun. It has to be ended. (behave's documentation: context layers)
+pub struct OpenSection {
+    pub layer: Layer,
+    /// How its before list ended.
+    pub before: Ending,
+    /// The cleanups that are registered in it.
+    pub cleanups: Cleanups,
+}
+
+/// Begins a section: its layer, and the walk through its before list.
+pub fn open_section(run: &Run<'_>, sandbox: &mut Sandbox, section: &Section<'_>) -> OpenSection
+    requires room { depth sandbox.old < layers }
+    ensures opened { IsOpened (run_value run.now) section.now.level (texts section.now.tags.now)
+        sandbox.old sandbox.new result }
+{
+    // No code runs here: the law says that the layer's state is the one outside, entered.
+    layers_enter();
+    let layer = sandbox.begin();
+    let mut cleanups = Cleanups::new(run.alloc);
+    let before = walk_before(run, sandbox, &mut cleanups, section);
+    OpenSection {
+        layer,
+        before,
+        cleanups,
+    }
+}
+
+// Closes a section that ended so before. After refused memory nothing more runs in it.
+fn close_after(
+    run: &Run<'_>,
+    sandbox: &mut Sandbox,
+    section: &Section<'_>,
+    cleanups: Cleanups,
+    ending: Ending,
+) -> Closed
+    requires in_layer { 0 < depth sandbox.old }
+    ensures closed { ClosesAfter ending run.now section.now cleanups sandbox.old result }
+    ensures layers { KeepsLayers sandbox.old sandbox.new }
+{
+    if is_memory(ending) {
+        return Closed {
+            ending: Ending::Passed,
+            outcomes: cleanups.none(),
+        };
+    }
+    close(run, sandbox, cleanups, section)
+}
+
+/// Ends a section that ended so before: closes it, unless memory was refused in it, and ends its layer.
+pub fn end_section(
+    run: &Run<'_>,
+    sandbox: &mut Sandbox,
+    section: &Section<'_>,
+    opened: OpenSection,
+    ending: Ending,
+) -> Closed
+    requires innermost { opened.layer ≡ depth sandbox.old }
+    ensures closed { ClosesAfter ending run.now section.now opened.cleanups sandbox.old result }
+    ensures ends { Ends sandbox.old sandbox.new }
+{
+    let OpenSection {
+        layer,
+        before: _,
+        cleanups,
+    } = opened;
+    let closed = close_after(run, sandbox, section, cleanups, ending);
+    sandbox.end(layer);
+    closed
+}
+
+/// Ends a section without steps of its own. Returns how its hooks and cleanups ended.
+pub fn end_around(
+    run: &Run<'_>,
+    sandbox: &mut Sandbox,
+    section: &Section<'_>,
+    opened: OpenSection,
+) -> Status
+    requires innermost { opened.layer ≡ depth sandbox.old }
+    ensures around { (outside : State) (stop : Bool) →
+        IsBegun (run_of run.now.library.now run.now.hooks.now stop) section.now.level
+        (texts section.now.tags.now) outside opened sandbox.old →
+        IsSectionEnd (run_of run.now.library.now run.now.hooks.now stop) section.now.level
+        (texts section.now.tags.now) outside result (endings.has_passed opened.before) }
+    ensures ends { Ends sandbox.old sandbox.new }
+{
+    let before = opened.before;
+    let closed = end_section(run, sandbox, section, opened, before);
+    around_status(worse(before, closed.ending))
+}
+
+/// Ends a section in which results couldn't be reserved: its layer alone.
+pub fn leave_section(sandbox: &mut Sandbox, opened: OpenSection)
+    requires innermost { opened.layer ≡ depth sandbox.old }
+    ensures ends { Ends sandbox.old sandbox.new }
+{
+    let OpenSection {
+        layer,
+        before: _,
+        cleanups: _,
+    } = opened;
+    sandbox.end(layer);
+}

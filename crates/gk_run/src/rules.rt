@@ -1,0 +1,112 @@
+//! Running the rules of a feature.
+ghost use Rattle.std.specs.Prelude.{◌≡◌, true, ◌+◌, ◌≤◌, ◌<◌, ◌^◌, suc, [], map, length, vec_capacity, IfOk};
+ghost use Rattle.gk_world.specs.State.{state_of, layers};
+ghost use Rattle.gk_world.specs.Sandbox.{depth};
+ghost use Rattle.gk_run.specs.Grouping.{falls_from};
+ghost use Rattle.gk_run.specs.Chosen.{head_value};
+ghost use Rattle.gk_run.specs.Rules.{BeginsRule, RunsRule, RunsRules};
+ghost use Rattle.gk_run.specs.Run.{run_value};
+ghost use Rattle.gk_run.specs.Running.{IsSame};
+
+use crate::cases::{Cases, both, run_cases, stays_open};
+use crate::chosen::RuleHead;
+use crate::ending::has_passed;
+use crate::open_section::{end_around, leave_section, open_section};
+use crate::reserved::ReservedRules;
+use crate::results::{NoRoom, RuleResult, Status};
+use crate::run::Run;
+use crate::section::{Level, Section};
+use gk_world::Sandbox;
+
+/// What a rule comes to beside its cases.
+#[derive(Drop)]
+pub struct RuleEnd {
+    pub around: Status,
+    /// Whether what comes after it is still reached.
+    pub stays_open: bool,
+}
+
+// Runs a rule in a layer of its own.
+fn begin_rule(
+    run: &Run<'_>,
+    sandbox: &mut Sandbox,
+    tags: &[String],
+    cases: &mut Cases,
+) -> Result<RuleEnd, NoRoom>
+    requires layer { suc (depth sandbox.old) < layers }
+    ensures rule { IfOk result (BeginsRule run.now (state_of sandbox.old.now) tags.now
+        cases.old cases.new) }
+    ensures same { IsSame sandbox.old sandbox.new }
+{
+    let section = Section {
+        level: Level::Rule,
+        tags,
+    };
+    let opened = open_section(run, sandbox, &section);
+    match run_cases(run, sandbox, has_passed(opened.before), cases) {
+        Err(NoRoom) => {
+            leave_section(sandbox, opened);
+            Err(NoRoom)
+        }
+        Ok(all_stay) => {
+            let around = end_around(run, sandbox, &section, opened);
+            Ok(RuleEnd {
+                around,
+                stays_open: both(stays_open(run.stop, around), all_stay),
+            })
+        }
+    }
+}
+
+// Runs a rule of a feature that is open, or isn't.
+fn run_rule(
+    run: &Run<'_>,
+    sandbox: &mut Sandbox,
+    is_open: bool,
+    head: &RuleHead,
+    cases: &mut Cases,
+) -> Result<RuleEnd, NoRoom>
+    requires layer { suc (depth sandbox.old) < layers }
+    ensures rule { IfOk result (RunsRule (run_value run.now) (state_of sandbox.old.now) is_open
+        (head_value head.now) cases.old cases.new) }
+    ensures same { IsSame sandbox.old sandbox.new }
+{
+    if both(is_open, cases.has_selected()) {
+        return begin_rule(run, sandbox, head.tags.as_slice(), cases);
+    }
+    Ok(RuleEnd {
+        around: Status::Passed,
+        stays_open: run_cases(run, sandbox, false, cases)?,
+    })
+}
+
+/// Runs the rules of a feature that is open, or isn't, one after another. No case is left of the
+/// cases' rank, so those of the next one are the first rule's.
+pub fn run_rules(
+    run: &Run<'_>,
+    sandbox: &mut Sandbox,
+    is_open: bool,
+    rules: ReservedRules,
+    cases: &mut Cases,
+) -> Result<Vec<RuleResult>, NoRoom>
+    requires layer { suc (depth sandbox.old) < layers }
+    requires falls { falls_from (suc cases.old.rank) cases.old.waiting.items ≡ true }
+    requires first { cases.old.rank ≡ 0 }
+    ensures rules { IfOk result (λ results. RunsRules (run_value run.now)
+        (state_of sandbox.old.now) is_open (map head_value rules.heads.items)
+        cases.old cases.new results.items) }
+    ensures same { IsSame sandbox.old sandbox.new }
+{
+    let ReservedRules { heads, mut results } = rules;
+    let mut is_open = is_open;
+    for head in heads {
+        cases.next_rank();
+        let end = run_rule(run, sandbox, is_open, &head, cases)?;
+        is_open = both(is_open, end.stays_open);
+        results.push_reserved(RuleResult {
+            line: head.line,
+            around: end.around,
+        });
+    }
+    Ok(results)
+}
