@@ -45,7 +45,8 @@ step a =>|step a } => pass|# c||step {a}{b}{c}{d}x => pass|given {name} => dance
 step {name:d} => file_is|step a => b => pass"""
 HOOK_LINES = """before_all:|after_all:|before_feature:|after_feature:|before_scenario:|
 after_scenario:|before_tag @a:|after_tag @a:|before_tag @a:b:|before_tag @:|before_all :|
-before_rule:|after_|Given it passes|And it fails|When the scenario is skipped|* nothing knows this|
+before_rule:|after_rule:|before_step:|after_|Given it passes|And it fails|
+When the scenario is skipped|* nothing knows this|
 Given at cleanup it passes|And at cleanup at cleanup it passes|Given a file named "f" with:|""\"|
 text|Given these files:|/| name /| text /||/| f /| x /||# c||@a|Feature: f|stray"""
 OPTIONS = [
@@ -57,7 +58,16 @@ OPTIONS = [
     "--format=", "--stop=x",
 ]
 # What the random hooks and the random options run.
-PASSING = "@a\nFeature: f\n@a\nScenario: s\nGiven it passes\n"
+PASSING = """@a
+Feature: f
+@a
+Scenario: s
+Given it passes
+@a
+Rule: r
+Scenario: t
+Given it passes
+"""
 OPTION_FILES = {
     "a.feature": b"@a\nFeature: f\nScenario: s\nGiven it passes\n",
     "l.steps": b"step it passes => pass\n",

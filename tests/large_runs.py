@@ -132,9 +132,10 @@ def json_case(number):
             f'"status":"passed","steps":[{steps}]}}')
 
 
-def json_feature(name, line, scenarios, source, status):
-    """The object of a feature."""
-    return (f'{{"around":"passed","line":{line},"name":"{name}","scenarios":[{scenarios}],'
+def json_feature(name, line, scenarios, source, status, rules=""):
+    """The object of a feature. One with rules has the objects of these, too."""
+    ruled = f'"rules":[{rules}],' if rules else ""
+    return (f'{{"around":"passed","line":{line},"name":"{name}",{ruled}"scenarios":[{scenarios}],'
             f'"source":"{source}","status":"{status}"}}')
 
 
@@ -244,6 +245,85 @@ def many_rules_examples_and_rows():
         text += f"Rule: r{number}\nBackground:\nGiven it passes\nExample: e{number}\n"
         cases.append(case(f"e{number}", "passed", [("Given it passes", "passed")], "Example"))
     return Run({"a.feature": text}, 0, part("passed", cases) + closing(1, 900, 900))
+
+
+# ---- rules with hooks
+
+# A rule's hook grows the feature's number, and the first of its two scenarios what that gave. The hook of a tag fails.
+RULE_HOOKS = """before_feature:
+* the number "n" is set to 1
+before_rule:
+* the number "n" grows by 10
+after_tag @odd:
+* the number "n" should be 1
+after_feature:
+* the number "n" should be 1
+"""
+GROWN = ['When the number "n" grows by 100', 'Then the number "n" should be 111']
+SEEN_AGAIN = ['Then the number "n" should be 11']
+
+
+def ruled_feature(count):
+    """A feature of so many rules of two scenarios, and the line of each rule. Each second has the tag of the hook that
+    fails."""
+    lines, places = ["Feature: f"], []
+    for number in range(count):
+        lines += ["@odd"] if number % 2 else []
+        lines += [f"Rule: r{number}"]
+        places.append(len(lines))
+        lines += ["Scenario: a", *GROWN, "Scenario: b", *SEEN_AGAIN]
+    return "\n".join(lines) + "\n", places
+
+
+def ruled_run(count, report, options=()):
+    """A run of so many rules with hooks, of which each second fails."""
+    files = {"a.feature": ruled_feature(count)[0], "h.hooks": RULE_HOOKS}
+    return Run(files, 1, report, arguments=[*options, *HOOKS])
+
+
+@large_run
+def many_rules_with_hooks():
+    below, (_, places) = [], ruled_feature(1000)
+    for number, line in enumerate(places):
+        below += [case("a", "passed", rows(GROWN, "passed")), case("b", "passed", rows(SEEN_AGAIN, "passed"))]
+        if number % 2:
+            below.append(f"  (rule, line {line}: hooks and cleanups) ... failed\n")
+    return ruled_run(1000, part("failed", below) + closing((0, 1), 2000, 3000))
+
+
+@large_run
+def many_rules_with_hooks_as_json():
+    scenarios, rules, (_, places) = [], [], ruled_feature(1000)
+    for number, line in enumerate(places):
+        first = ",".join([json_step("When", line + 2, 'the number \\"n\\" grows by 100'),
+                          json_step("Then", line + 3, 'the number \\"n\\" should be 111')])
+        second = json_step("Then", line + 5, 'the number \\"n\\" should be 11')
+        scenarios += [f'{{"around":"passed","keyword":"Scenario","line":{at},"name":"{name}",'
+                      f'"status":"passed","steps":[{steps}]}}'
+                      for at, name, steps in ((line + 1, "a", first), (line + 4, "b", second))]
+        rules.append(f'{{"around":"{"failed" if number % 2 else "passed"}","line":{line}}}')
+    own = json_feature("f", 1, ",".join(scenarios), "a.feature", "failed", ",".join(rules))
+    report = json_report([own], 1, features={"failed": 1}, scenarios={"passed": 2000}, steps={"passed": 3000})
+    return ruled_run(1000, report, JSON)
+
+
+@large_run
+def many_rules_after_the_one_that_stops_the_run():
+    """The second rule fails after its scenarios, so those of the 998 behind it are untested."""
+    report = f"a.feature  ....{'U' * 1996}  failed\n" + counted("feature", 0, 1)
+    report += counted("scenario", 4).replace("\n", ", 1996 untested\n")
+    report += counted("step", 6, undefined=0).replace("\n", ", 2994 untested\n")
+    return ruled_run(1000, report, ["--stop", *PROGRESS])
+
+
+@large_run
+def rule_of_many_scenarios():
+    """100,000 scenarios of one rule, each of which finds what the rule's hook made."""
+    names = [f"s{number}" for number in range(100_000)]
+    steps = ['Then the number "n" should be 11', 'When the number "n" grows by 1']
+    text = "Feature: f\nRule: r\n" + "".join(scenario(name, steps) for name in names)
+    report = passing("f", names, steps) + closing(1, 100_000, 200_000)
+    return Run({"a.feature": text, "h.hooks": RULE_HOOKS}, 0, report, arguments=HOOKS)
 
 
 # ---- lines

@@ -19,9 +19,9 @@ CHANGES = 40  # in a scenario, at most
 REFUSALS = 12  # runs of a feature with a growth refused
 NAMES = ["a", "b", "c", "d e", "\u00e9", "n" * 255]
 BAD_NAME = "n" * 256
-# In the three layers of a suite: the run's, a feature's and a scenario's.
+# In the four layers of a suite: the run's, a feature's, a rule's and a scenario's.
 LAYERED = 12
-CARRIED_OUT = (300, 300, 400)
+CARRIED_OUT = (300, 200, 200, 300)
 BETWEEN_CHECKS = 20  # changes
 MANY_NAMES = [*NAMES, *(f"name {number}" for number in range(40 - len(NAMES)))]
 OUTSIDE = {"a": "from outside", "name 0": "0", "name 39": "x=y", "left": "alone"}
@@ -197,7 +197,7 @@ def judged(head, scenarios):
     return Feature(head, verdict(statuses, statuses), scenarios)
 
 
-# ---- changes in three layers
+# ---- changes in four layers
 
 def all_checked(world):
     """The steps that check each name."""
@@ -228,7 +228,7 @@ def lines_of(heading, steps):
 
 
 def last_layer(world, chance, number, changes):
-    """The lines of a scenario, and the scenario in the report. The second of a feature fails."""
+    """The lines of a scenario, and the scenario in the report. That of number 1 fails."""
     world.begin()
     steps = carried_out(world, chance, changes)
     world.end()
@@ -239,26 +239,35 @@ def last_layer(world, chance, number, changes):
     return lines_of(name, steps), Scenario(name, "failed" if number == 1 else "passed", rows)
 
 
-def layered(seed):
-    """The same of a run that changes 40 names in each of its three layers.
+def hooked(world, chance, name, changes):
+    """The lines of hooks around a section whose layer begins: one changes it, the other checks that all is there again."""
+    world.begin()
+    changed = lines_of(f"before_{name}:", carried_out(world, chance, changes))
+    return [*changed, *lines_of(f"after_{name}:", all_checked(world))]
 
-    The run's layer and the features' are changed by hooks, and the hooks after them check that all
-    is there again. What the scenarios of the first feature did changes nothing in the second."""
+
+def layered(seed):
+    """The same of a run that changes 40 names in each of its four layers.
+
+    The layers of the run, of the features and of the rules are changed by hooks, and the hooks after them check that
+    all is there again. What the scenarios of the first feature and of its first rule did changes nothing in those
+    after them. A scenario of no rule finds what the feature's hook left."""
     chance, world = random.Random(seed), World(MANY_NAMES)
-    of_run, of_feature, of_scenario = CARRIED_OUT
+    of_run, of_feature, of_rule, of_scenario = CARRIED_OUT
     world.env = dict(OUTSIDE)
-    world.begin()
-    hooks = lines_of("before_all:", carried_out(world, chance, of_run))
-    hooks += lines_of("after_all:", all_checked(world))
-    world.begin()
-    hooks += lines_of("before_feature:", carried_out(world, chance, of_feature))
-    hooks += lines_of("after_feature:", all_checked(world))
+    hooks = hooked(world, chance, "all", of_run) + hooked(world, chance, "feature", of_feature)
+    outside = [last_layer(world, chance, number, changes) for number, changes in ((8, of_scenario), (9, 0))]
+    hooks += hooked(world, chance, "rule", of_rule)
     files, features = {"h.hooks": "\n".join(hooks) + "\n"}, []
-    for name, changes in (("a", of_scenario), ("b", 0)):
-        made = [last_layer(world, chance, number, changes) for number in range(3)]
-        lines = [f"Feature: {name}", *(line for own, _ in made for line in own)]
+    for name, before, changes in (("a", outside, of_scenario), ("b", outside[1:], 0)):
+        rules = [[last_layer(world, chance, number, changes if number < 3 else 0) for number in numbers]
+                 for numbers in ((0, 1, 2), (3, 4))]
+        made = [before, *rules]
+        headings = [f"Feature: {name}", "Rule: one", "Rule: two"]
+        lines = [line for heading, part in zip(headings, made)
+                 for line in (heading, *(line for own, _ in part for line in own))]
         files[f"{name}.feature"] = "\n".join(lines) + "\n"
-        features.append(judged(f"Feature: {name}", [row for _, row in made]))
+        features.append(judged(f"Feature: {name}", [row for part in made for _, row in part]))
     options = [f"--env={name}={text}" for name, text in OUTSIDE.items()]
     arguments = ["--hooks", "h.hooks", *options, "a.feature", "b.feature"]
     return arguments, files, Report(PLAIN, features)

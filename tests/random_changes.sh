@@ -4,8 +4,8 @@
 # Some ten thousand random changes of files, variables and values, in scenarios that pass and fail.
 # After each change every name is checked against plain maps that a few lines of Python keep, and
 # the report has to be the one that these maps give. Then runs with 300 changes in the run's layer,
-# 300 in a feature's and 400 in a scenario's, each carried out, over 40 names, all of which have to be
-# as before after the end of each layer. Then the same with a random growth of memory
+# 200 in a feature's, 200 in a rule's and 300 in a scenario's, each carried out, over 40 names, all of
+# which have to be as before after the end of each layer. Then the same with a random growth of memory
 # refused: a run has to end in one of the three ways of tests/refused_memory.sh. PROGRAM is the
 # built program; without it, the one that ./run runs. A C compiler, cc, is needed. Closes with one
 # line 'N passed, M failed'; a run is one test.

@@ -5,6 +5,7 @@ random_runs.py PROGRAM ROOM KEPT SEED COUNT, called by tests/random_runs.sh, whi
 compared.
 """
 
+import collections
 import json
 import os
 import random
@@ -12,7 +13,7 @@ import shutil
 import sys
 
 import driver
-from reports import Feature, Report, Scenario, Style, verdict
+from reports import Feature, Report, Rule, Scenario, Style, verdict
 
 TAGS = ["@a", "@b", "@c"]
 TEXTS = ["x", "x", "yy", "1", "-7", "9223372036854775807"]
@@ -40,6 +41,7 @@ given count {name} {n:d} => set_number
 step more {name} {n:d} => add_number
 then count {name} {n:d} => number_is
 step keep {name} {text} => set_value
+step held {name} {text} => value_is
 when lose {name} => delete_value
 step files => write_files
 step later {step} => at_cleanup
@@ -54,10 +56,20 @@ the file "f" should contain "x"|at cleanup STEP"""
 OWN_CHANGES = "put F as T|keep V T|ok|ok|see f as x|later STEP"
 OWN = """put F as T|put T on F|drop F|see F as T|see F|no F|count V N|more V N|count V N|keep V T|
 lose V|leave|ok|ok|ok|bad|later STEP|later STEP|what F"""
-# Steps that pass, of the built-in library and of the other.
-BUILT_IN_PASSING = ['a file named "f" containing "x"', 'the number "v" is set to 1', "it passes"]
-OWN_PASSING = ["put f as x", "keep v 1", "ok"]
+# Steps that mostly pass, of the built-in library and of the other; the first two make what the next two change.
+BUILT_IN_PASSING = ['a file named "f" containing "x"', 'the value "v" is set to "1"',
+                    'the file "f" is extended with "x"', 'the number "v" grows by 1', "it passes"]
+OWN_PASSING = ["put f as x", "keep v 1", "put x on f", "more v 1", "ok"]
+# What is there, each by a step that passes where it is.
+BUILT_IN_CHECKS = [*(f'the value "v" should be "{number}"' for number in range(1, 6)),
+                   *(f'the file "f" should be "{"x" * number}"' for number in range(1, 6))]
+OWN_CHECKS = [*(f"held v {number}" for number in range(1, 6)), *(f"see f as {'x' * number}" for number in range(1, 6))]
 KEYWORDS = ("Given", "When", "Then", "And", "But", "*")
+# The sections from the run inwards, as hooks call them.
+SECTIONS = ["all", "feature", "rule", "scenario"]
+
+# A feature or a rule: its tags, its heading, the steps of its background or None, and the lines of each of its scenarios.
+Part = collections.namedtuple("Part", "tags heading background scenarios")
 
 
 def texts_in(table):
@@ -73,6 +85,8 @@ class Maker:
         self.is_own = seed % 2 == 1
         self.texts = texts_in(OWN if self.is_own else BUILT_IN)
         self.changes = texts_in(OWN_CHANGES if self.is_own else BUILT_IN_CHANGES)
+        self.passing = OWN_PASSING if self.is_own else BUILT_IN_PASSING
+        self.checks = OWN_CHECKS if self.is_own else BUILT_IN_CHECKS
 
     def word(self, kind):
         """What stands in place of a word in capitals."""
@@ -182,41 +196,84 @@ class Maker:
                 *self.steps(1), *self.tags(), "Examples: e", "| name | row |", *rows]
 
     def part(self, heading, name):
-        """The lines of a heading with its background, and those of each of its scenarios."""
+        """A part with this heading, whose scenarios have names that begin so."""
         chance = self.chance
-        background = ["Background:", *self.steps(2)] if chance.random() < 0.4 else []
+        background = self.steps(2) if chance.random() < 0.4 else None
         count = chance.randrange(5)
         scenarios = [self.scenario(f"{name}{number}") for number in range(count)]
-        return [*self.tags(), heading, *background], scenarios
+        return Part(self.tags(), heading, background, scenarios)
 
     def feature(self, name):
         """A feature's part, and those of its rules."""
-        count = self.chance.choice([0, 0, 0, 1, 2])
+        count = self.chance.choice([0, 0, 1, 2, 3])
         rules = [self.part(f"Rule: r{number}", f"{name} r{number} ") for number in range(count)]
         return [self.part(f"Feature: {name}", f"{name} "), *rules]
 
     def hooks(self):
-        """The lines of a hooks file, with most of its headings missing."""
-        kinds = ["all", "feature", "scenario", *(f"tag {it}" for it in TAGS)]
-        headings = [f"{when}_{kind}:" for when in ("before", "after") for kind in kinds]
-        chosen = [it for it in headings if self.chance.random() < 0.3]
-        return [line for it in chosen for line in [it, *self.hook_step(), *self.hook_step()]]
+        """The steps of hooks by their names, as `before_rule` and `after_tag @a`; most are missing."""
+        kinds = [*SECTIONS, *(f"tag {it}" for it in TAGS)]
+        names = [f"{when}_{kind}" for when in ("before", "after") for kind in kinds]
+        chosen = [it for it in names if self.chance.random() < 0.3]
+        hooks = {it: [*self.hook_step(it), *self.hook_step(it)] for it in chosen}
+        if self.chance.random() < 0.6:
+            first = [f"Given {it}" for it in self.passing[:2]]
+            hooks["before_feature"] = [*first, *hooks.get("before_feature", [])]
+        return hooks
 
-    def hook_step(self):
-        """Mostly a step that passes, so that something runs."""
-        if self.chance.random() < 0.2:
+    def hook_step(self, name):
+        """Mostly a step that passes or registers one that does, so that something runs. A hook after something may check
+        what is there."""
+        kind = self.chance.random()
+        if kind < 0.15:
             return self.step()
-        return ["Given " + self.chance.choice(OWN_PASSING if self.is_own else BUILT_IN_PASSING)]
+        may_fail = name.startswith("after") and self.chance.random() < 0.4
+        step = self.chance.choice(self.checks if may_fail else self.passing)
+        cleanup = ("later " if self.is_own else "at cleanup ") if kind < 0.35 else ""
+        return [f"Given {cleanup}{step}"]
 
 
 def text_of(parts):
     """The text of a feature file with these parts."""
     lines = []
-    for heading, scenarios in parts:
-        lines += heading
+    for tags, heading, background, scenarios in parts:
+        lines += [*tags, heading, *([] if background is None else ["Background:", *background])]
         for own in scenarios:
             lines += own
     return "\n".join(lines) + "\n"
+
+
+def text_of_hooks(hooks):
+    """The text of a hooks file with these hooks."""
+    return "".join("\n".join([f"{name}:", *steps, ""]) for name, steps in hooks.items())
+
+
+def first_given(steps):
+    """The same steps where others stand before them: the first has the type that it had at the beginning."""
+    keyword, _, text = steps[0].partition(" ") if steps else ("", "", "")
+    return [f"Given {text}", *steps[1:]] if keyword in ("And", "But", "*") else steps
+
+
+def joined_hooks(hooks, *names):
+    """The steps of hooks, one after another."""
+    return [line for name in names for line in first_given(hooks.get(name, []))]
+
+
+def moved_out(hooks, tags):
+    """The hooks by which a feature with these tags becomes the run, and its rules features."""
+    of_tags = {name: steps for name, steps in hooks.items() if name.startswith(("before_tag", "after_tag"))}
+    moved = {
+        "before_all": joined_hooks(hooks, *(f"before_tag {it}" for it in tags), "before_feature"),
+        "after_all": joined_hooks(hooks, "after_feature", *(f"after_tag {it}" for it in tags)),
+        "before_feature": hooks.get("before_rule", []), "after_feature": hooks.get("after_rule", [])}
+    inmost = {name: hooks.get(name, []) for name in ("before_scenario", "after_scenario")}
+    return {**moved, **inmost, **of_tags}
+
+
+def moved_rule(feature, rule):
+    """A rule as a feature of its own, with the feature's background in its own."""
+    backgrounds = [it for it in (feature.background, rule.background) if it is not None]
+    background = [line for it in backgrounds for line in first_given(it)] if backgrounds else None
+    return [Part(rule.tags, rule.heading.replace("Rule:", "Feature:"), background, rule.scenarios)]
 
 
 class Suite:
@@ -225,7 +282,7 @@ class Suite:
     def __init__(self, program, room, seed):
         self.program, self.seed, self.runs = program, seed, 0
         self.folder = os.path.join(room, str(seed))
-        maker = Maker(seed)
+        maker = self.maker = Maker(seed)
         self.chance = maker.chance
         names = [f"f{number}" for number in range(1, maker.chance.randrange(2, 5))]
         self.features = {f"{name[1:]}.feature": maker.feature(name) for name in names}
@@ -233,12 +290,12 @@ class Suite:
         if maker.is_own:
             self.write("l.steps", LIBRARY)
             self.options += ["--library", "l.steps"]
-        hooks = maker.hooks()
-        if hooks:
-            self.write("h.hooks", "\n".join(hooks) + "\n")
-            self.options += ["--hooks", "h.hooks"]
         if self.chance.random() < 0.3:
             self.options += ["--env", "v=x"]
+        self.others, self.hooks = list(self.options), maker.hooks()  # the options but for the hooks, and these
+        if self.hooks:
+            self.write("h.hooks", text_of_hooks(self.hooks))
+            self.options += ["--hooks", "h.hooks"]
         texts = [maker.expression(), maker.expression(), maker.alternatives()]
         self.texts = self.chance.sample(texts, self.chance.randrange(1, 3))
         tags = [it for text, _ in self.texts for it in ("--tags", text)]
@@ -250,18 +307,19 @@ class Suite:
         """Writes one of its files."""
         driver.write(self.folder, {name: text})
 
-    def run(self, options, files=None):
-        """What a run prints, and its status."""
+    def run(self, options, files=None, hooks=None):
+        """What a run prints, and its status. It has the hooks of the suite, or those of a file."""
         self.runs += 1
-        arguments = [*self.options, *options, *(files or self.features)]
+        own = self.options if hooks is None else [*self.others, "--hooks", hooks]
+        arguments = [*own, *options, *(files or self.features)]
         status, printed, err = driver.start(self.program, arguments, self.folder)
         if err or status not in (0, 1):
             raise ValueError(f"{options}, {files}: status {status}, {err}")
         return printed, status
 
-    def json(self, options, files=None):
+    def json(self, options, files=None, hooks=None):
         """The JSON report of a run, read."""
-        printed, status = self.run(["--format", "json", *options], files)
+        printed, status = self.run(["--format", "json", *options], files, hooks)
         report = Report.of(printed, Style("json", "--no-skipped" in options))
         document = json.loads(printed)
         if not report.is_read_well() or document["status"] != status:
@@ -280,6 +338,7 @@ class Suite:
             yield from self.dry(chosen)
             yield from self.in_formats(chosen)
             yield from self.stopped(chosen)
+            yield from self.rules_as_features()
         except ValueError as trouble:
             yield str(trouble)
 
@@ -311,7 +370,8 @@ class Suite:
                 alone = self.json(["--line", str(line)], [feature["source"]])
                 found = alone["features"][0]
                 own = [it for it in found["scenarios"] if it["line"] == line]
-                hooks, wanted = (found["around"], alone["run"]), (feature["around"], whole["run"])
+                hooks = found["around"], alone["run"], found.get("rules")
+                wanted = feature["around"], whole["run"], rules_alone(feature, line)
                 if own != [scenario] or hooks != wanted:
                     yield (f"{feature['source']}:{line} alone: {own}, and not {scenario}, "
                            "or other hooks")
@@ -328,7 +388,7 @@ class Suite:
 
     def turned(self, parts):
         """The parts of a feature, the scenarios of each in another order, and the rules, too."""
-        shuffled = [(heading, self.shuffled(scenarios)) for heading, scenarios in parts]
+        shuffled = [it._replace(scenarios=self.shuffled(it.scenarios)) for it in parts]
         return [shuffled[0], *self.shuffled(shuffled[1:])]
 
     def shuffled(self, items):
@@ -351,7 +411,7 @@ class Suite:
     def dry(self, whole):
         """A dry run calls undefined what the run does, and nothing that the run carried out."""
         dry = self.json(["--dry-run", *self.choices])
-        if dry != self.json(["--dry-run", "--stop", *self.choices]) or dry["run"] != "passed":
+        if dry != self.json(["--dry-run", "--stop", *self.choices]) or set(arounds(dry)) != {"passed"}:
             yield "--stop has an effect in a dry run, or hooks ran"
         for feature, other in zip(whole["features"], dry["features"], strict=True):
             for scenario, own in zip(feature["scenarios"], other["scenarios"], strict=True):
@@ -382,6 +442,69 @@ class Suite:
         if stopped["run"] != whole["run"]:
             yield "--stop changes the run's own hooks"
 
+    def rules_as_features(self):
+        """The rules of a feature have the rows of features, where the feature is the run: each hook moved out by one
+        section. The hooks of the run, which have no section further out, are left out, and so are scenarios of no rule.
+        Each rule has scenarios more, of which those pass that find what its hooks made."""
+        hooks = {name: steps for name, steps in self.hooks.items() if not name.endswith("_all")}
+        checks = [[f"Scenario: {it}", f"Then {it}"] for it in self.maker.checks]
+        for name, (feature, *rules) in self.features.items():
+            if not rules:
+                continue
+            rules = [it._replace(scenarios=[*it.scenarios, *checks]) for it in rules]
+            tags = [tag for line in feature.tags for tag in line.split()]
+            files = {f"rule{number}.feature": text_of(moved_rule(feature, it)) for number, it in enumerate(rules)}
+            self.write("inner.hooks", text_of_hooks(hooks))
+            self.write("outer.hooks", text_of_hooks(moved_out(hooks, tags)))
+            self.write("inner.feature", text_of([feature._replace(scenarios=[]), *rules]))
+            for file, text in files.items():
+                self.write(file, text)
+            for options in ([], ["--stop"]):
+                inner = by_rules(self.json(options, ["inner.feature"], "inner.hooks")["features"][0])
+                outer = by_features(self.json(options, list(files), "outer.hooks"))
+                if inner != outer:
+                    yield f"{options}: the rules of {name} give {inner}, and as features {outer}"
+
+
+def by_rules(feature):
+    """How a feature's hooks ended, and for each rule how its own did and what its scenarios gave."""
+    rules = [(it["around"], []) for it in feature["rules"]]
+    for scenario in feature["scenarios"]:
+        rules[place_of_rule(feature, scenario["line"])][1].append(without_lines(scenario))
+    return feature["around"], rules
+
+
+def by_features(report):
+    """How a run's hooks ended, and for each feature how its own did and what its scenarios gave."""
+    features = [(it["around"], [without_lines(own) for own in it["scenarios"]]) for it in report["features"]]
+    return report["run"], features
+
+
+def without_lines(scenario):
+    """A scenario without what differs where it stands in another file: its line, and its steps' lines and keywords."""
+    steps = [without(it, "line", "keyword") for it in scenario["steps"]]
+    return {**without(scenario, "line"), "steps": steps}
+
+
+def place_of_rule(feature, line):
+    """The place of the rule of the scenario in a line, or None."""
+    above = [at for at, it in enumerate(feature.get("rules", [])) if it["line"] < line]
+    return above[-1] if above else None
+
+
+def rules_alone(feature, line):
+    """A feature's rules where the scenario in a line alone is run: no other rule than its own is begun."""
+    own = place_of_rule(feature, line)
+    rules = [it if at == own else {**it, "around": "passed"} for at, it in enumerate(feature.get("rules", []))]
+    return rules or None
+
+
+def arounds(report):
+    """How the hooks and cleanups of a run, its features, their rules and their scenarios ended."""
+    features = report["features"]
+    rows = [row for it in features for row in (it, *it.get("rules", []), *it["scenarios"])]
+    return [report["run"], *(it["around"] for it in rows)]
+
 
 def without(row, *keys):
     """An object of a JSON report without some of its keys."""
@@ -389,10 +512,14 @@ def without(row, *keys):
 
 
 def by_name(feature):
-    """The scenarios of a feature by their names, without lines."""
-    rows = {it["name"]: without(it, "line") for it in feature["scenarios"]}
-    return {name: {**row, "steps": [without(it, "line") for it in row["steps"]]}
-            for name, row in rows.items()}
+    """The scenarios of a feature by their names, without lines, each with how the hooks of its rule ended."""
+    rows, rules = {}, feature.get("rules", [])
+    for row in feature["scenarios"]:
+        place = place_of_rule(feature, row["line"])
+        around = None if place is None else rules[place]["around"]
+        steps = [without(it, "line") for it in row["steps"]]
+        rows[row["name"]] = {**without(row, "line"), "steps": steps, "rule": around}
+    return rows
 
 
 def agree(scenario, status, dry_scenario, dry_status):
@@ -430,6 +557,16 @@ def converted_scenario(row):
     return Scenario(head, row["status"], steps, row["around"])
 
 
+def converted_rules(feature):
+    """The rules of a JSON report that a plain one has a line for, each below the last scenario of its own, or above the
+    next rule's first."""
+    rules = feature.get("rules", [])
+    lines = [it["line"] for it in feature["scenarios"]]
+    ends = [*(it["line"] for it in rules[1:]), float("inf")]
+    return [Rule(it["line"], it["around"], sum(line < end for line in lines))
+            for it, end in zip(rules, ends) if it["around"] != "passed"]
+
+
 def converted(document, style):
     """A JSON report in another format."""
     features = []
@@ -437,7 +574,7 @@ def converted(document, style):
         plain = f"Feature: {on_one_line(row['name'])}"
         head = plain if style == "plain" else on_one_line(row["source"])
         scenarios = [converted_scenario(it) for it in row["scenarios"]]
-        features.append(Feature(head, row["status"], scenarios, row["around"]))
+        features.append(Feature(head, row["status"], scenarios, row["around"], converted_rules(row)))
     counts = {noun[:-1]: numbers for noun, numbers in document["summary"].items()}
     return Report(Style(style, False), features, document["run"], counts).text()
 
@@ -455,13 +592,19 @@ def until_failure(features, dry):
     given, is_over = [], False
     for feature, looked_up in zip(features, dry, strict=True):
         around, scenarios = "passed" if is_over else feature["around"], []
+        begun, rules = set(), feature.get("rules", [])
         for scenario, own in zip(feature["scenarios"], looked_up["scenarios"], strict=True):
+            place = place_of_rule(feature, scenario["line"])
+            is_over = is_over or any(rules[it]["around"] == "failed" for it in begun - {place})
             is_cut = is_over and own["status"] != "skipped"
+            begun |= set() if is_over or own["status"] == "skipped" else {place} - {None}
             scenarios.append(unreached(scenario) if is_cut else scenario)
             is_over = is_over or scenarios[-1]["status"] == "failed"
+        rules = [it if at in begun else {**it, "around": "passed"} for at, it in enumerate(rules)]
         statuses = [it["status"] for it in scenarios]
-        status = verdict([around, *statuses], statuses)
-        given.append({**feature, "around": around, "scenarios": scenarios, "status": status})
+        status = verdict([around, *(it["around"] for it in rules), *statuses], statuses)
+        ruled = {"rules": rules} if rules else {}
+        given.append({**feature, "around": around, **ruled, "scenarios": scenarios, "status": status})
         is_over = is_over or status == "failed"
     return given
 

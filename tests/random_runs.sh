@@ -1,11 +1,14 @@
 #!/bin/sh
 # Makes random suites and compares their runs: tests/random_runs.sh [PROGRAM [SEED [COUNT]]]
 #
-# A suite has some feature files, with tags, backgrounds, rules and outlines, and maybe hooks, a
-# library, a variable and a choice by tags. Nothing but the program says what has to come out:
+# A suite has some feature files, with tags, backgrounds, rules and outlines, and maybe hooks of all
+# kinds, a library, a variable and a choice by tags. Nothing but the program says what has to come out:
 #
-# - a scenario has the same rows alone, chosen by its line, as in the suite;
-# - the scenarios of a file in another order have the same rows;
+# - a scenario has the same rows alone, chosen by its line, as in the suite, and so have the hooks of
+#   its rule, its feature and the run;
+# - the scenarios and the rules of a file in another order have the same rows;
+# - the rules of a feature have the rows of features, where each hook is moved out by one section: a
+#   rule's to a feature, a feature's to the run;
 # - a run over several files has the rows, counts and status of the runs over each of them;
 # - a dry run calls undefined what the run does, and nothing that the run carried out;
 # - a run that stops has the rows of the whole run up to the first failure, and after it none;
@@ -14,7 +17,7 @@
 #
 # Where something differs, the suite's files and what differs are kept in out/random_runs/SEED.
 # PROGRAM is the built program; without it, or where it is empty, the one that ./run runs. Closes
-# with one line 'N passed, M failed'; a suite is one test, of some 30 runs. `./test` makes 1,200
+# with one line 'N passed, M failed'; a suite is one test, of some 40 runs. `./test` makes 1,200
 # suites, in about a minute.
 set -eu
 

@@ -10,7 +10,7 @@ import re
 import sys
 
 import driver
-from refused_memory import RUNS, SEEN, THREE_SCENARIOS, Refusals
+from refused_memory import RULES, RUNS, SEEN, THREE_SCENARIOS, Refusals
 from reports import MEMORY
 
 FEATURE, HOOKS = "a.feature", "h.hooks"
@@ -25,6 +25,7 @@ NAMES = (
     "cleanups, the last first",
     HOOKS_OF_TAGS,
     THREE_SCENARIOS,
+    RULES,
 )
 NOT_BEGUN = 4, b"", b"not begun\n"
 # What the program writes of a sandbox with nothing in it and no layer open.

@@ -6,7 +6,8 @@
 # run meets no refusal. Each run ends in one of the three ways that tests/refused_memory.sh names, and the
 # last as with ample memory; afterwards no layer of the sandbox is open, no change is recorded, and its
 # listing is empty. Where the growth is refused before the run begins, nothing is run. Of three scenarios that
-# do the same some run has to mark the third step of the second, and nothing else.
+# do the same some run has to mark the third step of the second, and nothing else; of two rules some run has to
+# mark the hooks before the first.
 #
 # Then a file is removed in a layer, and again each growth is refused in turn, among them the next one
 # after the removal: after the layer the file is there, and nothing else is. A C compiler, cc, is needed.

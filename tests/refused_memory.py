@@ -76,6 +76,86 @@ Given it passes
 }
 STOPPING_RUN = ["--hooks", "h.hooks", *THREE]
 
+# A layer for each rule: what its hook makes of the feature's number is there in each of its scenarios.
+RULED = {
+    "h.hooks": """before_feature:
+Given the number "n" is set to 1
+before_rule:
+Given the number "n" grows by 10
+after_rule:
+Then the number "n" should be 11
+after_feature:
+Then the number "n" should be 1
+""",
+    "a.feature": """Feature: f
+  Scenario: A
+    Then the number "n" should be 1
+  @x
+  Rule: r1
+    Scenario: B
+      When the number "n" grows by 100
+      Then the number "n" should be 111
+    Scenario: C
+      Then the number "n" should be 11
+  Rule: r2
+    Scenario: D
+      Then the number "n" should be 11
+""",
+}
+# Rules whose hooks and cleanups fail, some of which aren't chosen, and one that has no scenario.
+FAILING_RULES = {
+    "h.hooks": """before_feature:
+Given a file named "log" containing "f"
+before_tag @bad:
+Given at cleanup the file "log" should be "f"
+before_rule:
+Given the file "log" is extended with "r"
+And at cleanup the file "log" is extended with "c"
+after_rule:
+Then the file "log" should be "fr"
+after_tag @worse:
+Given it fails
+before_tag @worst:
+Given it fails
+after_feature:
+Then the file "log" should be "f"
+""",
+    "a.feature": """Feature: f
+Scenario: A
+Given it passes
+@no
+Scenario: left out
+Given it fails
+@bad
+Rule: first
+Scenario: B
+Given the file "log" should be "fr"
+@no
+Scenario: left out, too
+Given it fails
+Rule: empty
+@no
+Rule: left out
+Scenario: of a rule that is left out
+Given it fails
+@worse
+Rule: third
+Scenario: C
+Given the file "log" is extended with "x"
+Scenario: D
+When it fails
+@worst
+Rule: last
+Scenario: E
+Given it passes
+Scenario: F
+Given it passes
+""",
+    "b.feature": "Feature: g\nRule: r\nScenario: G\nGiven it passes\n",
+}
+RULED_RUN = ["--hooks", "h.hooks", "a.feature"]
+FAILING_RULES_RUN = ["--tags", "~@no", "--hooks", "h.hooks", "a.feature", "b.feature"]
+
 # Runs beside the examples, so that each kind of input and of step meets refusals: arguments, and
 # files.
 RUNS = {
@@ -316,6 +396,31 @@ Then the value "v" should be "1"
     "a faulty file": (
         ["a.feature"], {"a.feature": "@a\n" + driver.feature("Given x", "| a | b |", "| c |")}),
 }
+# Rules in each format, with what is skipped and without, in a run that stops, and in a dry run.
+RULES = "a layer for each rule"
+AFTER_RULES = "hooks after rules"
+RUNS[RULES] = (RULED_RUN, RULED)
+RUNS[AFTER_RULES] = (
+    RULED_RUN,
+    {
+        "h.hooks": 'after_rule:\nGiven the number "n" is set to 1\nAnd at cleanup it passes\n',
+        "a.feature": """Feature: f
+Rule: first
+Scenario: A
+Given it passes
+Rule: second
+Scenario: B
+Given it passes
+""",
+    },
+)
+for _options in (["--format", "json"], ["--format", "progress"], ["--stop", "--format", "json"],
+                 ["--dry-run", "--format", "json"]):
+    RUNS[" ".join([f"{RULES},", *_options])] = ([*_options, *RULED_RUN], RULED)
+for _options in ([], ["--format", "json"], ["--format", "progress"], ["--no-skipped"],
+                 ["--no-skipped", "--format", "json"], ["--stop"], ["--stop", "--format", "json"]):
+    RUNS[" ".join(["rules whose hooks fail,", *_options])] = ([*_options, *FAILING_RULES_RUN], FAILING_RULES)
+
 # The end of a layer brings back a file that was removed in it, though the next growth is refused.
 REMOVED_IN_A_SCENARIO = "a file that a scenario removes"
 REMOVED_BEFORE_A_FEATURE = "a file that a hook before a feature removes"
@@ -362,6 +467,33 @@ And it passes
 )
 # Reports with which some run has to end.
 SEEN = {
+    RULES: """Feature: f ... memory
+  Scenario: A ... passed
+    Then the number "n" should be 1 ... passed
+  Scenario: B ... untested
+    When the number "n" grows by 100 ... untested
+    Then the number "n" should be 111 ... untested
+  Scenario: C ... untested
+    Then the number "n" should be 11 ... untested
+  (rule, line 5: hooks and cleanups) ... memory
+  Scenario: D ... passed
+    Then the number "n" should be 11 ... passed
+
+0 features passed, 0 failed, 0 skipped, 1 memory
+2 scenarios passed, 0 failed, 0 skipped, 2 untested
+2 steps passed, 0 failed, 0 skipped, 0 undefined, 3 untested
+""",
+    AFTER_RULES: """Feature: f ... memory
+  Scenario: A ... passed
+    Given it passes ... passed
+  (rule, line 2: hooks and cleanups) ... memory
+  Scenario: B ... passed
+    Given it passes ... passed
+
+0 features passed, 0 failed, 0 skipped, 1 memory
+2 scenarios passed, 0 failed, 0 skipped
+2 steps passed, 0 failed, 0 skipped, 0 undefined
+""",
     REMOVED_IN_A_SCENARIO: """Feature: f ... memory
   Scenario: A ... memory
     When the file "a" is removed ... passed

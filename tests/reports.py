@@ -2,7 +2,8 @@
 
 `Report.of(text, style)` reads a report, plain, as progress or as JSON, into the same features and
 scenarios. A progress report has no steps, so those of its scenarios are None, and a feature's own
-hooks aren't seen. JSON is read by Python's own reader. What was read is written again in the same
+hooks and those of its rules aren't seen. A plain report has of the rules only those whose hooks and
+cleanups didn't pass. JSON is read by Python's own reader. What was read is written again in the same
 format: a report is read well only where this gives its very bytes. For JSON that is the compact
 text of one document with its keys sorted, and a line feed.
 """
@@ -12,6 +13,7 @@ import json
 import re
 
 AROUND = "(hooks and cleanups)"
+RULE_AROUND = "(rule, line {}: hooks and cleanups)"
 FORMATS = ("plain", "progress", "json")
 CHARACTERS = {"passed": ".", "failed": "F", "skipped": "S", "untested": "U", "memory": "M"}
 VERDICTS = ("passed", "failed", "skipped", "untested", "memory")
@@ -19,13 +21,17 @@ STEP_STATUSES = ("passed", "failed", "skipped", "undefined", "untested", "memory
 COUNTED = {"feature": VERDICTS, "scenario": VERDICTS, "step": STEP_STATUSES}
 # The keys of each JSON object.
 DOCUMENT = {"features", "run", "status", "summary"}
-FEATURE = {"around", "line", "name", "scenarios", "source", "status"}
+FEATURE = {"around", "line", "name", "scenarios", "source", "status"}  # and `rules`, where it has any
+RULE = {"around", "line"}
 SCENARIO = {"around", "keyword", "line", "name", "status", "steps"}
 STEP = {"keyword", "line", "status", "text"}
 
 # How a report is asked for: its format, and whether what is skipped is left out.
 Style = collections.namedtuple("Style", "format no_skipped")
 PLAIN = Style("plain", False)
+# A rule: the line of its heading, the status of its hooks and cleanups, and how many scenarios stand above the
+# place of its last one. In a JSON report that follows from the lines, so it is None there.
+Rule = collections.namedtuple("Rule", "line around place", defaults=(None,))
 
 
 def style_of(arguments):
@@ -75,42 +81,73 @@ class Scenario:
 
 
 class Feature:
-    """What a report calls a feature, its status, its scenarios, and the status of its own hooks.
+    """What a report calls a feature, its status, its scenarios, the status of its own hooks, and its rules.
 
-    That of its hooks, and cleanups, is None where the report doesn't say."""
+    That of its hooks, and cleanups, is None where the report doesn't say. Rules of which it doesn't say
+    anything are left out."""
 
-    def __init__(self, head, status, scenarios, around="passed"):
+    def __init__(self, head, status, scenarios, around="passed", rules=()):
         self.head, self.status, self.scenarios, self.around = head, status, scenarios, around
+        self.rules = list(rules)
 
     def row(self):
-        return self.head, self.status, [it.row() for it in self.scenarios], self.around
+        rows = [it.row() for it in self.scenarios]
+        return self.head, self.status, rows, self.around, self.rules
+
+    def arounds(self):
+        """The statuses of its own hooks and cleanups and of those of its rules."""
+        return [self.around, *(it.around for it in self.rules)]
+
+    def span(self, rule):
+        """The places of a rule's first scenario and of the one after its last. The first is None where the
+        report doesn't say."""
+        if rule.place is not None:
+            return None, rule.place
+        lines = [line for _, _, line in (it.head for it in self.scenarios)]
+        behind = [it.line for it in self.rules if it.line > rule.line]
+        return (sum(it < rule.line for it in lines),
+                sum(it < min(behind) for it in lines) if behind else len(lines))
 
     def is_begun(self):
         """Whether a scenario of it was chosen."""
         return not all(it.is_unchosen() for it in self.scenarios)
 
     def place_of_mark(self):
-        """The place of the first scenario that is memory; that after all where the hooks are."""
+        """The place of the first scenario that is memory; of the last of a rule whose hooks are; that after
+        all where its own hooks are."""
         if self.around == "memory":
             return len(self.scenarios)
-        return [it.status for it in self.scenarios].index("memory")
+        marked = [self.span(it)[1] - 1 for it in self.rules if it.around == "memory"]
+        return marked[0] if marked else [it.status for it in self.scenarios].index("memory")
 
-    def cut_after(self, place):
-        """The same feature, where no scenario after a place is reached.
+    def cut_after(self, place, other):
+        """The same feature, where no scenario after a place is reached, and no rule after it is begun.
 
-        Before place 0 it isn't begun."""
+        Before place 0 it isn't begun. Where the report doesn't say which scenarios are a rule's, its line is
+        there where the other report has it."""
         scenarios = [it if at <= place or it.is_unchosen() else it.unreached()
                      for at, it in enumerate(self.scenarios)]
         around = self.around if place >= 0 or self.around is None else "passed"
+        rules = []
+        for rule in self.rules:
+            first, behind = self.span(rule)
+            if first is not None:
+                rules.append(rule if first <= place else rule._replace(around="passed"))
+            elif place >= 0 and (behind <= place + 1 or rule in other.rules):
+                rules.append(rule)
         statuses = [it.status for it in scenarios]
-        return Feature(self.head, verdict([around, *statuses], statuses), scenarios, around)
+        arounds = [around, *(it.around for it in rules)]
+        return Feature(self.head, verdict([*arounds, *statuses], statuses), scenarios, around, rules)
 
     def is_judged_well(self):
         """Whether its status follows from those of its parts."""
         statuses = [it.status for it in self.scenarios]
-        allowed = [verdict([around, *statuses], statuses)
-                   for around in ([self.around] if self.around else ["passed", "failed", "memory"])]
-        return self.status in allowed and all(it.is_judged_well() for it in self.scenarios)
+        known = [it for it in self.arounds() if it]
+        allowed = [verdict([*known, around, *statuses], statuses)
+                   for around in (["passed"] if self.around else ["passed", "failed", "memory"])]
+        is_known = set(known) <= {"passed", "failed", "memory"}
+        is_well = all(it.is_judged_well() for it in self.scenarios)
+        return self.status in allowed and is_known and is_well
 
 
 def verdict(statuses, scenarios):
@@ -213,9 +250,10 @@ class Report:
         features = []
         for feature, found in aligned(self.features, whole.features):
             if found is not None and found is not feature:
-                pairs = aligned(found.scenarios, feature.scenarios)
+                pairs = list(aligned(found.scenarios, feature.scenarios))
                 scenarios = [own or other for other, own in pairs]
-                found = Feature(found.head, found.status, scenarios, found.around)
+                rules = [in_whole(it, pairs, feature.rules) for it in found.rules]
+                found = Feature(found.head, found.status, scenarios, found.around, rules)
             features.append(found or feature)
         return Report(Style(self.style.format, False), features, self.around, self.counts)
 
@@ -225,15 +263,15 @@ class Report:
         What comes after the scenario or the feature with that mark isn't reached."""
         features, is_over = [], False
         for own, marked in zip(self.features, other.features):
-            features.append(own.cut_after(-1) if is_over else own)
+            features.append(own.cut_after(-1, marked) if is_over else own)
             if marked.status == "memory" and not is_over:
-                features[-1], is_over = own.cut_after(marked.place_of_mark()), True
+                features[-1], is_over = own.cut_after(marked.place_of_mark(), marked), True
         return Report(self.style, features, self.around)
 
     def is_marked(self, ample):
         """Whether it is the report with ample memory but for one mark and what wasn't reached.
 
-        The mark is in a scenario, in a feature's own hooks and cleanups, or in the run's."""
+        The mark is in a scenario, in the hooks and cleanups of a rule or a feature, or in the run's."""
         if [it.head for it in self.features] != [it.head for it in ample.features]:
             return False
         if sum(self.counts["step"].values()) != sum(ample.counts["step"].values()):
@@ -306,6 +344,17 @@ def aligned(rows, whole):
         raise ValueError("a row that the whole report lacks")
 
 
+def in_whole(rule, pairs, rules):
+    """A rule of a report that leaves out what is skipped, with its place in the whole report.
+
+    Where a plain report doesn't have its line, that is after the last scenario above it that is printed."""
+    if rule.place is None:
+        return rule
+    known = [it.place for it in rules if it.line == rule.line]
+    printed = [at for at, (_, own) in enumerate(pairs, 1) if own]
+    return rule._replace(place=known[0] if known else [0, *printed][rule.place])
+
+
 def count(statuses, names):
     """How many of the statuses have each of the names."""
     return {it: statuses.count(it) for it in names}
@@ -320,7 +369,8 @@ def is_unreached(feature, ample):
     """Whether it is a feature of a run that began none: its chosen scenarios are untested."""
     if not ample.is_begun() and same(feature, ample):
         return True
-    return feature.around in (None, "passed") and are_unreached(feature.scenarios, ample.scenarios)
+    is_begun = not set(feature.arounds()) <= {None, "passed"}
+    return not is_begun and are_unreached(feature.scenarios, ample.scenarios)
 
 
 def are_unreached(scenarios, ample):
@@ -337,17 +387,46 @@ def is_unreached_scenario(scenario, ample):
 
 
 def is_marked_feature(feature, ample):
-    """Whether memory was refused once in a feature: in its hooks or cleanups, or in a scenario."""
+    """Whether memory was refused once in a feature: in its hooks or cleanups, in a rule's, or in a scenario."""
     if feature.status != "memory" or len(feature.scenarios) != len(ample.scenarios):
         return False
     others = [(a, b) for a, b in zip(feature.scenarios, ample.scenarios) if not same(a, b)]
-    in_hooks = not others or are_unreached(feature.scenarios, ample.scenarios)
+    is_unbegun = are_unreached(feature.scenarios, ample.scenarios)
     if feature.around == "memory":
-        return in_hooks
+        is_none = all(it.around == "passed" for it in feature.rules)
+        return not others and feature.rules == ample.rules or is_unbegun and is_none
     in_scenario = len(others) == 1 and is_marked_scenario(*others[0])
     if feature.around is None:
-        return in_scenario or in_hooks
-    return feature.around == ample.around and in_scenario
+        return in_scenario or not others or is_unbegun or is_one_part(feature, ample)
+    if feature.around != ample.around:
+        return False
+    return in_scenario and feature.rules == ample.rules or is_marked_rule(feature, ample)
+
+
+def is_marked_rule(feature, ample):
+    """Whether memory was refused once in a rule's hooks or cleanups. Where it was in a hook before the rule, its
+    scenarios aren't reached."""
+    marked = [it for it in feature.rules if it.around == "memory"]
+    if len(marked) != 1:
+        return False
+    line = marked[0].line
+    if [it for it in feature.rules if it.line != line] != [it for it in ample.rules if it.line != line]:
+        return False
+    first, behind = feature.span(marked[0])
+    pairs = list(zip(feature.scenarios, ample.scenarios))
+    changed = [at for at, it in enumerate(pairs) if not same(*it)]
+    if not changed:
+        return True
+    first = changed[0] if first is None else first
+    is_inside = first <= changed[0] and changed[-1] < behind
+    return is_inside and all(is_unreached_scenario(*it) for it in pairs[first:behind])
+
+
+def is_one_part(feature, ample):
+    """Whether scenarios of one part, one after another, aren't reached, as where memory was refused before a rule."""
+    pairs = list(zip(feature.scenarios, ample.scenarios))
+    changed = [at for at, it in enumerate(pairs) if not same(*it)]
+    return all(is_unreached_scenario(*it) for it in pairs[changed[0]:changed[-1] + 1])
 
 
 def is_marked_scenario(scenario, ample):
@@ -381,6 +460,9 @@ def split(line):
     return head.lstrip(" "), status
 
 
+RULE_LINE = re.escape(RULE_AROUND).replace(r"\{\}", "([0-9]+)")
+
+
 def read_plain(text, style):
     """What a plain report says."""
     lines, counts = without_counts(text)
@@ -396,6 +478,9 @@ def read_plain(text, style):
             features.append(Feature(head, status, []))
         elif depth == 2 and head == AROUND:
             features[-1].around = status
+        elif depth == 2 and head.startswith("("):
+            line = int(re.fullmatch(RULE_LINE, head).group(1))
+            features[-1].rules.append(Rule(line, status, len(features[-1].scenarios)))
         elif depth == 2:
             features[-1].scenarios.append(Scenario(head, status, []))
         elif head == AROUND:
@@ -407,15 +492,22 @@ def read_plain(text, style):
 
 def plain_part(feature, _):
     """The lines of a feature in a plain report."""
-    lines = [f"{feature.head} ... {feature.status}"]
-    for scenario in feature.scenarios:
+    lines = [f"{feature.head} ... {feature.status}", *plain_rules(feature, 0)]
+    for place, scenario in enumerate(feature.scenarios, 1):
         lines.append(f"  {scenario.head} ... {scenario.status}")
         lines += [f"    {head} ... {status}" for head, status in scenario.steps]
         if scenario.around != "passed":
             lines.append(f"    {AROUND} ... {scenario.around}")
+        lines += plain_rules(feature, place)
     if feature.around != "passed":
         lines.append(f"  {AROUND} ... {feature.around}")
     return "\n".join([*lines, "", ""])
+
+
+def plain_rules(feature, place):
+    """The lines of the rules whose last scenario stands right above a place."""
+    return [f"  {RULE_AROUND.format(it.line)} ... {it.around}" for it in feature.rules
+            if it.place == place and it.around != "passed"]
 
 
 # ---- progress
@@ -497,11 +589,18 @@ def read_json(text, style):
 
 
 def read_json_feature(row):
-    if set(row) != FEATURE:
+    if set(row) != FEATURE | ({"rules"} if row.get("rules") else set()):
         raise ValueError("other keys")
     head = (row["source"], row["name"], row["line"])
     scenarios = [read_json_scenario(it) for it in row["scenarios"]]
-    return Feature(head, row["status"], scenarios, row["around"])
+    rules = [read_json_rule(it) for it in row.get("rules", [])]
+    return Feature(head, row["status"], scenarios, row["around"], rules)
+
+
+def read_json_rule(row):
+    if set(row) != RULE:
+        raise ValueError("other keys")
+    return Rule(row["line"], row["around"])
 
 
 def read_json_scenario(row):
@@ -526,9 +625,10 @@ def json_part(feature, is_first):
     """The text of a feature in a JSON report."""
     source, name, line = feature.head
     scenarios = [json_scenario(it) for it in feature.scenarios]
+    rules = [{"around": it.around, "line": it.line} for it in feature.rules]
     return ("" if is_first else ",") + compact({
         "around": feature.around, "line": line, "name": name, "source": source,
-        "status": feature.status, "scenarios": scenarios})
+        "status": feature.status, "scenarios": scenarios, **({"rules": rules} if rules else {})})
 
 
 def json_scenario(scenario):

@@ -15,7 +15,7 @@ import shutil
 import sys
 
 import driver
-from reports import FORMATS, Feature, Report, Scenario, Style, verdict
+from reports import FORMATS, Feature, Report, Rule, Scenario, Style, verdict
 
 SIZES = [0, 1, 127, 128, 129, 255, 256, 257, 4095, 4096, 4097, 65_535, 65_536, 65_537]
 SMALL = 4097  # up to here every format is tried
@@ -76,12 +76,18 @@ class Made:
 
     def __init__(self, *before, name="f", source="a.feature"):
         self.source, self.name, self.ending = source, name, "\n"
-        self.lines, self.cases = [*before, f"Feature: {name}"], []
+        self.lines, self.cases, self.rules = [*before, f"Feature: {name}"], [], []
         self.line = len(self.lines)
 
     def add(self, *lines):
         """Adds lines of which no report has a row."""
         self.lines += lines
+        return self
+
+    def rule(self, name, tags="", around="passed"):
+        """Adds a rule's heading, below tags. Its hooks and cleanups end so."""
+        self.lines += [*([tags] if tags else []), f"Rule: {name}"]
+        self.rules.append((len(self.lines), around, len(self.cases)))
         return self
 
     def steps(self, *steps):
@@ -115,7 +121,14 @@ class Made:
                 "json": (self.source, self.name, self.line)}[style]
         statuses = [it.status for it in self.cases]
         scenarios = [scenario_of(style, it) for it in self.cases]
-        return Feature(head, verdict(statuses, statuses), scenarios)
+        status = verdict([*(around for _, around, _ in self.rules), *statuses], statuses)
+        return Feature(head, status, scenarios, "passed", self.rules_of(style))
+
+    def rules_of(self, style):
+        """The rules of a report. Those whose hooks and cleanups passed have no line in the plain one."""
+        ends = [*(first for _, _, first in self.rules[1:]), len(self.cases)]
+        rules = [Rule(line, around, None if style == "json" else end) for (line, around, _), end in zip(self.rules, ends)]
+        return rules if style == "json" else [it for it in rules if it.around != "passed"]
 
 
 def scenario_of(style, case):
@@ -381,7 +394,7 @@ def bytes_of_the_name_of_a_scenario(size):
 
 @row()
 def bytes_of_the_names_of_a_rule_and_a_background(size):
-    made = Made().add(f"Rule: {letters(size)}", f"Background: {letters(size)}")
+    made = Made().rule(letters(size)).add(f"Background: {letters(size)}")
     background = made.steps("it passes")
     return Sized(made.scenario("it passes", before=background))
 
@@ -497,7 +510,7 @@ def scenarios_of_a_feature(size):
 
 @row()
 def scenarios_of_a_rule(size):
-    return Sized(many_scenarios(Made().add("Rule: r"), size))
+    return Sized(many_scenarios(Made().rule("r"), size))
 
 
 @row()
@@ -529,8 +542,34 @@ def scenarios_before_the_one_that_is_chosen(size):
 def rules_of_a_feature(size):
     made = Made()
     for number in range(size):
-        made.add(f"Rule: r{number}").scenario("it passes", name=f"s{number}")
+        made.rule(f"r{number}").scenario("it passes", name=f"s{number}")
     return Sized(made)
+
+
+@row()
+def rules_with_hooks(size):
+    """The value that each finds is the feature's, grown in its own hook. The hook after every third one fails, but
+    where the rule has no scenario, since such a one isn't begun."""
+    hooks = ('before_feature:\n* the number "n" is set to 1\nbefore_rule:\n* the number "n" grows by 2\n'
+             'after_rule:\n* the number "n" should be 3\nafter_feature:\n* the number "n" should be 1\n'
+             'after_tag @bad:\n* it fails\n')
+    made = Made()
+    for number in range(size):
+        is_bad, is_empty = number % 3 == 0, number % 5 == 0
+        made.rule("r", "@bad" if is_bad else "", "failed" if is_bad and not is_empty else "passed")
+        if not is_empty:
+            made.scenario('the number "n" should be 3', name=f"s{number}")
+    return with_hooks(made, hooks)
+
+
+@row()
+def rules_after_the_one_that_stops_the_run(size):
+    made = Made().rule("r", "@bad", "failed").scenario("it passes")
+    for number in range(size):
+        made.rule(f"r{number}").scenario(Step("it passes", "untested"), name=f"s{number}")
+    run = with_hooks(made, "after_tag @bad:\n* it fails\nbefore_rule:\n* it passes\n")
+    run.options = [*run.options, "--stop"]
+    return run
 
 
 @row()
@@ -674,6 +713,28 @@ def cleanups_of_a_scenario(size):
              *['at cleanup the number "n" grows by 1'] * size,
              'at cleanup the number "n" is set to 0']
     return Sized(Made().scenario(*steps).scenario('the value "n" should be absent'))
+
+
+@row()
+def cleanups_of_a_rule(size):
+    """They run after its scenarios and last in, first out, and the last of them fails."""
+    hooks = ["before_rule:", "* at cleanup it fails", f'* at cleanup the number "n" should be {size}',
+             *['* at cleanup the number "n" grows by 1'] * size, '* at cleanup the number "n" is set to 0']
+    made = Made().rule("r", around="failed").scenario('the value "n" should be absent')
+    return with_hooks(made, "\n".join(hooks) + "\n")
+
+
+@row(most=4097)
+def hooks_of_a_rule(size):
+    """The hooks of each of its tags run once, and in their order."""
+    hooks = "".join(f'before_tag @t{number}:\n* the number "n" grows by 1\n'
+                    for number in range(size))
+    hooks = 'before_tag @t:\n* the number "n" is set to 0\n' + hooks
+    tags = " ".join(["@t", *(f"@t{number}" for number in range(size))])
+    made = Made().rule("r", tags)
+    for name in ("one", "two"):
+        made.scenario(f'the number "n" should be {size}', name=name)
+    return with_hooks(made, hooks)
 
 
 @row()

@@ -221,7 +221,7 @@ goes_on run first now_state is_open old now taken next m row all_stay opens stay
       stay = stays_is ∙ ap (λ b. b && stays_open run row.status) so_far.stay ∙ sym (all_stay_push run rows (case_row row));
       rank = rank_is ∙ takes.2 ∙ so_far.rank;
       others = λ other lt.
-      ap (members_of_rank other) members_is ∙ sym (not_of_rank other this behind (λ is. let no : ⊥ = apart r other (order.rank m.case.rule) lt of_rank is in no)) ∙ ap (members_of_rank other) (sym takes.0) ∙ so_far.others other lt;
+          ap (members_of_rank other) members_is ∙ sym (not_of_rank other this behind (λ is. let no : ⊥ = apart r other (order.rank m.case.rule) lt of_rank is in no)) ∙ ap (members_of_rank other) (sym takes.0) ∙ so_far.others other lt;
     }
 
 pub goes_last : (run : Run) (first : State) (is_open : Bool) (old now last : Cases) (all_stay : Bool) → GoesOn run first is_open old now all_stay → TakesMember now None last → RunsCases run first is_open old last all_stay

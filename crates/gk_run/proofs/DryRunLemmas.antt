@@ -137,7 +137,9 @@ pub dry_feature_is : (library : LibraryValue) (f : ChosenValue) (status : Status
     rules ≡ dry_rules_of f.rules → (cuts : List Cut) × (rows ≡ dry_cases_of library cuts f.members) →
     (cuts : FeatureCuts) × (record { source = f.source; name = f.name; line = f.line; status = status; around = statuses.Passed; rules = rules; cases = rows } ≡ dry_feature_of library cuts f)
 dry_feature_is library f status rules rows verdict known_rules known =
-    let row : Status → List RuleRow → List CaseRow → FeatureRow = λ s rrs rs. record { source = f.source; name = f.name; line = f.line; status = s; around = statuses.Passed; rules = rrs; cases = rs } in
-    (record { own = nowhere; cases = known.0; rules = [] }, ap (λ (s : Status). row s rules rows) verdict
-    ∙ ap (λ rrs. row (feature_verdict statuses.Passed (rule_statuses rrs) (case_statuses rows)) rrs rows) known_rules
-    ∙ ap (λ rs. row (feature_verdict statuses.Passed (rule_statuses (dry_rules_of f.rules)) (case_statuses rs)) (dry_rules_of f.rules) rs) known.1)
+    let row : Status → List RuleRow → List CaseRow → FeatureRow = λ s rrs rs. record { source = f.source; name = f.name; line = f.line; status = s; around = statuses.Passed; rules = rrs; cases = rs } in (
+      record { own = nowhere; cases = known.0; rules = [] },
+      ap (λ (s : Status). row s rules rows) verdict
+          ∙ ap (λ rrs. row (feature_verdict statuses.Passed (rule_statuses rrs) (case_statuses rows)) rrs rows) known_rules
+          ∙ ap (λ rs. row (feature_verdict statuses.Passed (rule_statuses (dry_rules_of f.rules)) (case_statuses rs)) (dry_rules_of f.rules) rs) known.1,
+    )

@@ -36,15 +36,14 @@ inside_is run now then is_open all_stay heads old mid new results first nothing 
     let told : map case_row new.results.items ≡ cases.rows ++ rules.rows =
     rules.told ∙ ap (λ (rs : List CaseRow). rs ++ rules.rows) (cases.told ∙ ap (λ rs. map case_row rs ++ cases.rows) nothing) in
     let both : List CaseRow → Inside → Inside = λ rs n. record { rules = n.rules; cases = rs ++ n.cases } in
-    let whole : List CaseRow → Inside = λ rs. both rs (rules_of run section (is_open && all_stay_open run rs) theirs.0 groups) in
-    (
+    let whole : List CaseRow → Inside = λ rs. both rs (rules_of run section (is_open && all_stay_open run rs) theirs.0 groups) in (
       mine.0,
       theirs.0,
       ap (λ (rs : List CaseRow). record { rules = map rule_row results; cases = rs }) told
-      ∙ ap (both cases.rows) theirs.1
-      ∙ ap (λ (gs : List Group). both cases.rows (rules_of run section (is_open && all_stay) theirs.0 gs)) groups_are
-      ∙ ap (λ (b : Bool). both cases.rows (rules_of run section (is_open && b) theirs.0 groups)) cases.stay
-      ∙ ap whole rows_are,
+          ∙ ap (both cases.rows) theirs.1
+          ∙ ap (λ (gs : List Group). both cases.rows (rules_of run section (is_open && all_stay) theirs.0 gs)) groups_are
+          ∙ ap (λ (b : Bool). both cases.rows (rules_of run section (is_open && b) theirs.0 groups)) cases.stay
+          ∙ ap whole rows_are,
     )
 
 -- a feature that isn't begun

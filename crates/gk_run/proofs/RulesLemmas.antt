@@ -31,9 +31,11 @@ pub rule_begun : (run : Run) (now : State) (is_open is_begun : Bool) (tags : Lis
     ((cut : Cut) × (cuts : List Cut) × (row ≡ section_of run levels.Rule tags now true cut (λ section is_ready. cases_of run section is_ready cuts g.members))) → IsRule run now is_open g row
 rule_begun run now is_open is_begun tags g row begins begun same known outside opens =
     let inside : State → Bool → List CaseRow = λ section is_ready. cases_of run section is_ready known.1 g.members in
-    let here : now ≡ outside = opens (and_left is_open (has_selected g.members) (sym begins ∙ begun)) in
-    (record { own = known.0; cases = known.1 }, known.2 ∙ ap (λ (ts : List (List ℕ)). section_of run levels.Rule ts now true known.0 inside) same ∙ ap (λ (s : State). section_of run levels.Rule g.head.tags s true known.0 inside) here
-    ∙ ap (λ (b : Bool). section_of run levels.Rule g.head.tags outside b known.0 inside) (sym begun ∙ begins))
+    let here : now ≡ outside = opens (and_left is_open (has_selected g.members) (sym begins ∙ begun)) in (
+      record { own = known.0; cases = known.1 },
+      known.2 ∙ ap (λ (ts : List (List ℕ)). section_of run levels.Rule ts now true known.0 inside) same ∙ ap (λ (s : State). section_of run levels.Rule g.head.tags s true known.0 inside) here
+          ∙ ap (λ (b : Bool). section_of run levels.Rule g.head.tags outside b known.0 inside) (sym begun ∙ begins),
+    )
 
 -- a rule that isn't begun
 pub rule_unbegun : (run : Run) (now : State) (is_open is_begun : Bool) (g : Group) (rows : List CaseRow) → is_begun ≡ (is_open && has_selected g.members) → is_begun ≡ false →
@@ -55,8 +57,8 @@ pub record GoesRules (run : Run) (first : State) (first_open : Bool) (heads : Li
   pub falls : falls_from (suc now.rank) now.waiting.items ≡ true
   pub earlier : is_open ≡ true → first_open ≡ true
   pub goes : (outside : State) → (first_open ≡ true → first ≡ outside) → (cuts : List RuleCuts) →
-    (whole : List RuleCuts) × (joined (record { rules = map rule_row results; cases = rows }) (rules_of run outside is_open cuts (groups_from (suc now.rank) left (members_in now)))
-    ≡ rules_of run outside first_open whole (groups_from (suc old.rank) heads (members_in old)))
+      (whole : List RuleCuts) × (joined (record { rules = map rule_row results; cases = rows }) (rules_of run outside is_open cuts (groups_from (suc now.rank) left (members_in now)))
+      ≡ rules_of run outside first_open whole (groups_from (suc old.rank) heads (members_in old)))
 
 pub rules_first : (run : Run) (first : State) (first_open : Bool) (heads : List HeadValue) (old : Cases) → falls_from (suc old.rank) old.waiting.items ≡ true → GoesRules run first first_open heads old old first_open [] heads
 rules_first run first first_open heads old falls = record {
@@ -101,19 +103,18 @@ rules_on run first now_state first_open heads old now taken next is_open opens r
       falls = subst (λ (n : ℕ). falls_from (suc n) next.waiting.items ≡ true) (sym ran.left.rank) ran.left.falls;
       earlier = λ o. so_far.earlier (and_left is_open end.stays_open (sym opens_is ∙ o));
       goes = λ outside open_at cuts.
-      let one = is outside (λ o. same ∙ open_at (so_far.earlier o)) in
-      let whole = so_far.goes outside open_at (one.0 ∷ cuts) in
-      let those : Bool → Inside = λ b. rules_of run outside b cuts (groups_from (suc r) left (members_in now)) in
-      let behind : SectionRow (List CaseRow) → Inside = λ e. joined (record { rules = map rule_row results; cases = rows }) (record { rules = record { line = head.line; around = e.around } ∷ (let n = those (is_open && rule_stays_open run e) in n.rules); cases = e.inside ++ (let n = those (is_open && rule_stays_open run e) in n.cases) }) in
-      (
-        whole.0,
-        ap (λ (gs : List Group). joined (record { rules = map rule_row pushed; cases = rows ++ ran.rows }) (rules_of run outside opens cuts gs)) groups
-        ∙ ap (λ (b : Bool). joined (record { rules = map rule_row pushed; cases = rows ++ ran.rows }) (those b)) (opens_is ∙ ap (λ (b : Bool). is_open && b) ran.stay)
-        ∙ ap (λ (rs : List RuleRow). joined (record { rules = rs; cases = rows ++ ran.rows }) (those (is_open && rule_stays_open run row))) (ap (map rule_row) pushed_is ∙ map_push rule_row results result ∙ ap (λ (x : RuleRow). map rule_row results ++ x ∷ []) result_is)
-        ∙ regroup (map rule_row results) rows (record { line = head.line; around = end.around }) ran.rows (those (is_open && rule_stays_open run row))
-        ∙ ap behind one.1
-        ∙ whole.1,
-      );
+          let one = is outside (λ o. same ∙ open_at (so_far.earlier o)) in
+          let whole = so_far.goes outside open_at (one.0 ∷ cuts) in
+          let those : Bool → Inside = λ b. rules_of run outside b cuts (groups_from (suc r) left (members_in now)) in
+          let behind : SectionRow (List CaseRow) → Inside = λ e. joined (record { rules = map rule_row results; cases = rows }) (record { rules = record { line = head.line; around = e.around } ∷ (let n = those (is_open && rule_stays_open run e) in n.rules); cases = e.inside ++ (let n = those (is_open && rule_stays_open run e) in n.cases) }) in (
+            whole.0,
+            ap (λ (gs : List Group). joined (record { rules = map rule_row pushed; cases = rows ++ ran.rows }) (rules_of run outside opens cuts gs)) groups
+                ∙ ap (λ (b : Bool). joined (record { rules = map rule_row pushed; cases = rows ++ ran.rows }) (those b)) (opens_is ∙ ap (λ (b : Bool). is_open && b) ran.stay)
+                ∙ ap (λ (rs : List RuleRow). joined (record { rules = rs; cases = rows ++ ran.rows }) (those (is_open && rule_stays_open run row))) (ap (map rule_row) pushed_is ∙ map_push rule_row results result ∙ ap (λ (x : RuleRow). map rule_row results ++ x ∷ []) result_is)
+                ∙ regroup (map rule_row results) rows (record { line = head.line; around = end.around }) ran.rows (those (is_open && rule_stays_open run row))
+                ∙ ap behind one.1
+                ∙ whole.1,
+          );
     }
 
 joined_nil : (i : Inside) → joined i (record { rules = []; cases = [] }) ≡ i
@@ -124,6 +125,6 @@ rules_last run first first_open heads old now is_open results so_far = record {
   rows = so_far.rows;
   told = so_far.told;
   are = λ outside opens.
-  let whole = so_far.goes outside opens [] in
-  (whole.0, sym (joined_nil (record { rules = map rule_row results; cases = so_far.rows })) ∙ whole.1);
+      let whole = so_far.goes outside opens [] in
+      (whole.0, sym (joined_nil (record { rules = map rule_row results; cases = so_far.rows })) ∙ whole.1);
 }

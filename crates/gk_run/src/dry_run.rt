@@ -11,9 +11,9 @@ ghost use Rattle.gk_run.specs.Features.{FeatureCuts};
 ghost use Rattle.gk_run.specs.DryRun.{dry_row, dry_case_of, dry_cases_of, dry_rules_of, dry_feature_of, IsDryStep, AreDrySteps};
 ghost use Rattle.gk_run.specs.Reserved.{members_in};
 
+use crate::cases::either;
 use crate::chosen::Chosen;
 use crate::ending::is_memory_mark;
-use crate::cases::either;
 use crate::features::feature_status;
 use crate::reserved::{
     ReservedCase, ReservedCases, ReservedRules, ReservedSteps, reserve_case, reserve_cases,

@@ -34,5 +34,7 @@ pub use judged::{
     dry_runs_are_judged, unfinished_dry_runs_are_judged, without_memory_there_is_one_list,
 };
 pub use open_run::{Suite, finished_runs_are_judged, unfinished_runs_are_judged};
-pub use results::{CaseResult, FeatureResult, NoRoom, Outcome, Reason, RuleResult, Status, StepResult};
+pub use results::{
+    CaseResult, FeatureResult, NoRoom, Outcome, Reason, RuleResult, Status, StepResult,
+};
 pub use running::run_case;

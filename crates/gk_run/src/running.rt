@@ -69,8 +69,7 @@ fn run_alone(run: &Run<'_>, sandbox: &mut Sandbox, tags: &[String], steps: Reser
     };
     let mut opened = open_section(run, sandbox, &section);
     let before = opened.before;
-    let StepsEnd { ending, results } =
-        run_steps(run, sandbox, &mut opened.cleanups, before, steps);
+    let StepsEnd { ending, results } = run_steps(run, sandbox, &mut opened.cleanups, before, steps);
     let closed = end_section(run, sandbox, &section, opened, ending);
     CaseEnd {
         status: verdict_status(worse(ending, closed.ending)),
