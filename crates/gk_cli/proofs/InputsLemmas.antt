@@ -24,7 +24,7 @@ use Rattle.gk_steps.specs.Finding.{LibraryValue}
 use Rattle.gk_steps.specs.DefaultFile.{default_text}
 use Rattle.gk_steps.specs.LibraryFile.{LibraryReadingIsUnique}
 use Rattle.gk_steps.specs.LibraryFault.{LibraryFaultSays}
-use Rattle.gk_run.specs.Chosen.{MemberValue, ChosenValue, members_of}
+use Rattle.gk_run.specs.Chosen.{HeadValue, MemberValue, ChosenValue, members_of}
 use Rattle.gk_cli.specs.Source.{SourceValue}
 use Rattle.gk_cli.specs.Inputs.{Request, Inputs, AreRules, IsLibrary, AreHooks, member_by, with_reading, IsWithinLimit, AreRead, HasFault}
 use Rattle.gk_cli.specs.declared.run_fault.RunFault.{RunFault}
@@ -61,11 +61,16 @@ members_chosen chooses [] = refl
 members_chosen chooses (c ∷ cs) = ap (λ ms. member_by chooses (case_value c) ∷ ms) (members_chosen chooses cs)
 
 -- A feature, by its source and its members.
-pub chosen_again : {source source' name name' : List ℕ} {line : ℕ} {tags tags' : List (List ℕ)} {members members' : List MemberValue} → source ≡ source' → name ≡ name' → tags ≡ tags' → members ≡ members' →
-    let one : ChosenValue = record { source = source; name = name; line = line; tags = tags; members = members } in
-    let other : ChosenValue = record { source = source'; name = name'; line = line; tags = tags'; members = members' } in
+pub chosen_again : {source source' name name' : List ℕ} {line : ℕ} {tags tags' : List (List ℕ)} {rules rules' : List HeadValue} {members members' : List MemberValue} → source ≡ source' → name ≡ name' → tags ≡ tags' → rules ≡ rules' → members ≡ members' →
+    let one : ChosenValue = record { source = source; name = name; line = line; tags = tags; rules = rules; members = members } in
+    let other : ChosenValue = record { source = source'; name = name'; line = line; tags = tags'; rules = rules'; members = members' } in
     one ≡ other
-chosen_again a b c d = cc
+chosen_again a b c d e = cc
+
+-- The rules of cases, by what the cases say.
+pub rules_said : (cs : List Case) → map (λ (c : CaseValue). c.rule) (map case_value cs) ≡ map (λ (c : Case). c.rule) cs
+rules_said [] = refl
+rules_said (c ∷ cs) = ap (λ rs. c.rule ∷ rs) (rules_said cs)
 
 -- One value more.
 pub one_value : {X Y : Type 0} (f : X → Y) (done more : List Y) (y : Y) (xs : List X) (i : ℕ) (d : X) → i < length xs → more ≡ done ++ y ∷ [] → y ≡ f (get_or xs i d)

@@ -11,14 +11,17 @@ use Rattle.gk_run.specs.declared.results.Status.{Status}
 use Rattle.gk_run.specs.declared.section.Level.TheVariants as levels
 use Rattle.gk_run.specs.Acting.{CleanupValue}
 use Rattle.gk_run.specs.Cleanups.{cleanups_value}
-use Rattle.gk_run.specs.Results.{CaseRow, FeatureRow, Results, is_memory, is_failed, is_undefined, is_untested, is_passed}
+use Rattle.gk_run.specs.Results.{CaseRow, FeatureRow, RuleRow, Results, is_memory, is_failed, is_undefined, is_untested, is_passed}
 use Rattle.gk_run.specs.Ending.{has_passed}
 use Rattle.gk_run.specs.SectionHooks.{begun}
 use Rattle.gk_run.specs.Section.{happened, before_passed}
 use Rattle.gk_run.specs.Run.{Run}
 use Rattle.gk_run.specs.Chosen.{ChosenValue}
-use Rattle.gk_run.specs.Features.{FeatureCuts, uncut_feature, first_or, later, stays_open, verdict_by, feature_verdict, feature_of, features_of, section_state, section_events, IsSectionEnd}
-use Rattle.gk_run.specs.Judged.{Cuts, dry_results, results_from, Judged, plain_results, is_memory_case, is_memory_feature, has_memory, OneList}
+use Rattle.gk_run.specs.Cases.{case_statuses, first_or, later, stays_open}
+use Rattle.gk_run.specs.Features.{FeatureCuts, uncut_feature, rule_statuses, verdict_by, feature_verdict, feature_of, features_of}
+use Rattle.gk_run.specs.OpenSection.{section_state, section_events, IsBegun, IsSectionEnd}
+use Rattle.gk_run.specs.declared.open_section.OpenSection.{OpenSection}
+use Rattle.gk_run.specs.Judged.{Cuts, dry_results, results_from, Judged, plain_results, is_memory_case, is_memory_feature, is_memory_rule, has_memory, OneList}
 use Rattle.gk_run.specs.Running.{IsSame}
 use Rattle.gk_run.specs.Walk.{IsWalked}
 use Rattle.gk_run.specs.OpenRun.{IsStarted, IsKept, AreFeatures, FinishedRunsAreJudged}
@@ -43,7 +46,7 @@ and_left false b h = h
 
 -- One feature after another keeps what the suite is.
 pub kept_through : (a b d : Suite) → IsKept a b → IsKept b d → IsKept a d
-kept_through a b d p q = record { layer = q.layer ∙ p.layer; before = q.before ∙ p.before; cleanups = q.cleanups ∙ p.cleanups; stops = q.stops ∙ p.stops }
+kept_through a b d p q = record { section = q.section ∙ p.section; stops = q.stops ∙ p.stops }
 
 -- And what the sandbox is.
 pub same_through : (a b d : SandboxValue) → IsSame a b → IsSame b d → IsSame a d
@@ -52,18 +55,17 @@ same_through a b d p q = record { contents = q.contents ∙ p.contents; saved = 
 -- A run that was begun, whose features were run, and that was finished.
 pub judged_by : FinishedRunsAreJudged → (run : Run) (old started later : SandboxValue) (suite left : Suite) (around : Status) (features : List ChosenValue) (rows : List FeatureRow) →
     IsStarted run old started suite → IsKept suite left → IsSame started later → AreFeatures run (state_of started.now) suite.is_open features rows →
-    ((outside : State) → IsWalked (begun run.library run.hooks levels.Run [] outside) left.before (state_of later.now) (cleanups_value left.cleanups) → IsSectionEnd run levels.Run [] outside around (has_passed left.before)) →
+    ((outside : State) → IsBegun run levels.Run [] outside left.section later → IsSectionEnd run levels.Run [] outside around (has_passed left.section.before)) →
     Judged run old.now features (record { features = rows; around = around })
 judged_by law run old started later suite left around features rows start kept same are finish =
-    let walked : IsWalked (begun run.library run.hooks levels.Run [] (state_of old.now)) left.before (state_of later.now) (cleanups_value left.cleanups) =
-    subst (λ (x : Ending). IsWalked (begun run.library run.hooks levels.Run [] (state_of old.now)) x (state_of later.now) (cleanups_value left.cleanups)) (sym kept.before)
-    (subst (λ (x : List CleanupValue). IsWalked (begun run.library run.hooks levels.Run [] (state_of old.now)) suite.before (state_of later.now) x) (sym kept.cleanups)
-    (subst (λ (x : Contents). IsWalked (begun run.library run.hooks levels.Run [] (state_of old.now)) suite.before (state_of x) (cleanups_value suite.cleanups)) (sym same.contents) start.walked)) in
-    law run old started suite features rows around start are (subst (λ (x : Ending). IsSectionEnd run levels.Run [] (state_of old.now) around (has_passed x)) kept.before (finish (state_of old.now) walked))
+    let begins : IsBegun run levels.Run [] (state_of old.now) left.section later =
+    subst (λ (x : OpenSection). IsBegun run levels.Run [] (state_of old.now) x later) (sym kept.section)
+    (subst (λ (x : Contents). IsWalked (begun run.library run.hooks levels.Run [] (state_of old.now)) suite.section.before (state_of x) (cleanups_value suite.section.cleanups)) (sym same.contents) start.opened.begins) in
+    law run old started suite features rows around start are (subst (λ (x : OpenSection). IsSectionEnd run levels.Run [] (state_of old.now) around (has_passed x.before)) kept.section (finish (state_of old.now) begins))
 
--- A feature's status is its verdict, by how its hooks and cleanups ended and by its cases.
+-- A feature's status is its verdict, by how its hooks and cleanups and those of its rules ended and by its cases.
 abbrev pub HasVerdict : FeatureRow → Type 0
-HasVerdict row = row.status ≡ feature_verdict row.around (map (λ (c : CaseRow). c.status) row.cases)
+HasVerdict row = row.status ≡ feature_verdict row.around (rule_statuses row.rules) (case_statuses row.cases)
 
 all_verdicts : (run : Run) (outside : State) (is_open : Bool) (cuts : List FeatureCuts) (fs : List ChosenValue) → AllByRecursion HasVerdict (features_of run outside is_open cuts fs)
 all_verdicts run outside is_open cuts [] = tt
@@ -103,11 +105,22 @@ memory_verdict : (memory failed untested passed : Bool) → is_memory (verdict_b
 memory_verdict false failed untested passed h = refl
 memory_verdict true failed untested passed h = h
 
+memory_rules : (rs : List RuleRow) → list_any is_memory_rule rs ≡ list_any is_memory (rule_statuses rs)
+memory_rules [] = refl
+memory_rules (r ∷ rs) = ap (λ b. is_memory r.around || b) (memory_rules rs)
+
+or_assoc : (a b c : Bool) → (a || (b || c)) ≡ ((a || b) || c)
+or_assoc true b c = refl
+or_assoc false b c = refl
+
 memory_feature : (row : FeatureRow) → HasVerdict row → is_memory row.status ≡ false → is_memory_feature row ≡ false
 memory_feature row verdict none =
-    let statuses = map (λ (c : CaseRow). c.status) row.cases in
-    ap (λ b. is_memory row.around || b) (memory_cases row.cases)
-    ∙ memory_verdict (is_memory row.around || list_any is_memory statuses) (is_failed row.around || list_any is_failed statuses) (list_any is_untested statuses) (list_any is_passed statuses) (ap is_memory (sym verdict) ∙ none)
+    let arounds = row.around ∷ rule_statuses row.rules in
+    let statuses = case_statuses row.cases in
+    ap (λ b. is_memory row.around || (list_any is_memory_rule row.rules || b)) (memory_cases row.cases)
+    ∙ ap (λ b. is_memory row.around || (b || list_any is_memory statuses)) (memory_rules row.rules)
+    ∙ or_assoc (is_memory row.around) (list_any is_memory (rule_statuses row.rules)) (list_any is_memory statuses)
+    ∙ memory_verdict (list_any is_memory arounds || list_any is_memory statuses) (list_any is_failed arounds || list_any is_failed statuses) (list_any is_untested statuses) (list_any is_passed statuses) (ap is_memory (sym verdict) ∙ none)
 
 memory_features : (rows : List FeatureRow) → AllByRecursion HasVerdict rows → list_any is_memory (feature_statuses rows) ≡ false → list_any is_memory_feature rows ≡ false
 memory_features [] all none = refl

@@ -37,7 +37,7 @@ use Rattle.gk_run.specs.Results.{StepRow, CaseRow, Results}
 use Rattle.gk_run.specs.Judged.{uncut, plain_results}
 use Rattle.gk_report.specs.ReportTexts.{status_text, reason_text, one_line}
 use Rattle.gk_report.specs.Summary.{status}
-use Rattle.gk_report.specs.PlainReport.{status_line, step_line, case_line, around_line, feature_line, counted, count_line, closing_lines, plain_part}
+use Rattle.gk_report.specs.PlainReport.{status_line, step_line, case_line, around_line, rule_line, feature_line, counted, count_line, closing_lines, plain_part}
 use Rattle.gk_report.specs.Report.{report}
 use Rattle.gk_cli.specs.Source.{SourceValue}
 use Rattle.gk_cli.specs.Inputs.{Request, Inputs, AreInputs, IsWithinLimit, chosen_of}
@@ -519,6 +519,7 @@ results = record {
     line = 3;
     status = statuses.Failed;
     around = statuses.Passed;
+    rules = record { line = 20; around = statuses.Passed } ∷ [];
     cases = scenario_row (codes "Scenario Outline") (codes "outline -- @1.1") 17 statuses.Passed (record { keyword = codes "Then"; text = codes "the file \"f\" should be \"one\""; line = 13; status = statuses.Passed; reason = None })
         ∷ scenario_row (codes "Scenario Outline") (codes "outline -- @1.2") 18 statuses.Failed (record { keyword = codes "Then"; text = codes "the file \"f\" should be \"two\""; line = 13; status = statuses.Failed; reason = Some reasons.Differs })
         ∷ scenario_row (codes "Example") (codes "last") 21 statuses.Failed (record { keyword = codes "*"; text = codes "it dances"; line = 22; status = statuses.Undefined; reason = None })
@@ -551,7 +552,7 @@ text = codes "Feature: mixed ... failed\n"
 
 -- The results have that report.
 reports : report plain_style results ≡ text
-unfolding digits status_text reason_text one_line status_line step_line case_line around_line feature_line counted count_line closing_lines plain_part
+unfolding digits status_text reason_text one_line status_line step_line case_line around_line rule_line feature_line counted count_line closing_lines plain_part
 reports = refl
 
 -- The results have that status.

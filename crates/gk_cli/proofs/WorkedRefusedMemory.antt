@@ -21,7 +21,10 @@ use Rattle.gk_run.specs.Section.{Cut, nowhere, in_before, in_steps, in_after, in
 use Rattle.gk_run.specs.Run.{Run}
 use Rattle.gk_run.specs.Running.{reached_row}
 use Rattle.gk_run.specs.Chosen.{MemberValue, ChosenValue}
-use Rattle.gk_run.specs.Features.{FeatureCuts, uncut_feature, first_or, later, section_state, feature_verdict}
+use Rattle.gk_run.specs.Cases.{first_or, later}
+use Rattle.gk_run.specs.Features.{FeatureCuts, uncut_feature, feature_verdict}
+use Rattle.gk_run.specs.OpenSection.{section_state}
+use Rattle.gk_run.specs.Rules.{RuleCuts}
 use Rattle.gk_run.specs.Judged.{Cuts, Judged}
 use Rattle.gk_report.specs.ReportTexts.{status_text, reason_text, one_line}
 use Rattle.gk_report.specs.Summary.{status}
@@ -49,7 +52,7 @@ judged_ends r inputs runs read unique old new answer (results, reported, are) =
 
 -- The cuts of a run of one feature, in its scenarios alone.
 abbrev cuts_of : List Cut → Cuts
-cuts_of cuts = record { own = nowhere; features = record { own = nowhere; cases = cuts } ∷ [] }
+cuts_of cuts = record { own = nowhere; features = record { own = nowhere; cases = cuts; rules = [] } ∷ [] }
 
 -- A run without hooks.
 abbrev bare_run : LibraryValue → Run
@@ -57,7 +60,7 @@ bare_run library = record { library = library; hooks = []; dry_run = false; stop
 
 -- A feature without tags.
 abbrev bare_feature : List ℕ → List ℕ → ℕ → List MemberValue → ChosenValue
-bare_feature source name line members = record { source = source; name = name; line = line; tags = []; members = members }
+bare_feature source name line members = record { source = source; name = name; line = line; tags = []; rules = []; members = members }
 
 -- Such a run has nothing of its own to cut.
 run_uncut : (library : LibraryValue) (own : Cut) (cuts : List FeatureCuts) (features : List ChosenValue) →
@@ -69,21 +72,21 @@ run_uncut library (in_after n) cuts features = refl
 run_uncut library (in_cleanups n) cuts features = refl
 
 -- Nor has such a feature in it.
-feature_uncut : (library : LibraryValue) (own : Cut) (cuts : List Cut) (source name : List ℕ) (line : ℕ) (members : List MemberValue) →
-    results_from_bare (bare_run library) (record { own = nowhere; features = record { own = own; cases = cuts } ∷ [] }) (bare_feature source name line members ∷ [])
+feature_uncut : (library : LibraryValue) (own : Cut) (cuts : List Cut) (rules : List RuleCuts) (source name : List ℕ) (line : ℕ) (members : List MemberValue) →
+    results_from_bare (bare_run library) (record { own = nowhere; features = record { own = own; cases = cuts; rules = rules } ∷ [] }) (bare_feature source name line members ∷ [])
     ≡ results_from_bare (bare_run library) (cuts_of cuts) (bare_feature source name line members ∷ [])
-feature_uncut library nowhere cuts source name line members = refl
-feature_uncut library (in_before n) cuts source name line members = refl
-feature_uncut library (in_steps n) cuts source name line members = refl
-feature_uncut library (in_after n) cuts source name line members = refl
-feature_uncut library (in_cleanups n) cuts source name line members = refl
+feature_uncut library nowhere cuts rules source name line members = refl
+feature_uncut library (in_before n) cuts rules source name line members = refl
+feature_uncut library (in_steps n) cuts rules source name line members = refl
+feature_uncut library (in_after n) cuts rules source name line members = refl
+feature_uncut library (in_cleanups n) cuts rules source name line members = refl
 
 -- So its scenarios alone are cut.
 scenarios_cut : (library : LibraryValue) (cuts : Cuts) (source name : List ℕ) (line : ℕ) (members : List MemberValue) →
     results_from_bare (bare_run library) cuts (bare_feature source name line members ∷ []) ≡ results_from_bare (bare_run library) (cuts_of (first_or uncut_feature cuts.features).cases) (bare_feature source name line members ∷ [])
 scenarios_cut library cuts source name line members =
     let first = first_or uncut_feature cuts.features in
-    run_uncut library cuts.own (first ∷ []) (bare_feature source name line members ∷ []) ∙ feature_uncut library first.own first.cases source name line members
+    run_uncut library cuts.own (first ∷ []) (bare_feature source name line members ∷ []) ∙ feature_uncut library first.own first.cases first.rules source name line members
 
 -- One scenario with one step, at which memory was refused.
 abbrev one_memory : Results
@@ -94,6 +97,7 @@ one_memory = record {
     line = 1;
     status = statuses.Memory;
     around = statuses.Passed;
+    rules = [];
     cases = record {
       keyword = codes "Scenario";
       name = codes "first";
@@ -173,7 +177,7 @@ row_B step = record { keyword = codes "Scenario"; name = codes "B"; line = 4; st
 
 -- The results of both, where memory was refused in one.
 abbrev two_memory : CaseRow → CaseRow → Results
-two_memory a b = record { features = record { source = codes "two.feature"; name = codes "two"; line = 1; status = statuses.Memory; around = statuses.Passed; cases = a ∷ b ∷ [] } ∷ []; around = statuses.Passed }
+two_memory a b = record { features = record { source = codes "two.feature"; name = codes "two"; line = 1; status = statuses.Memory; around = statuses.Passed; rules = []; cases = a ∷ b ∷ [] } ∷ []; around = statuses.Passed }
 
 -- Memory was refused in the first scenario.
 abbrev memory_in_A : Results
@@ -220,11 +224,11 @@ IsOneOfFour results = (results ≡ two_results) ⊎ ((results ≡ memory_in_A) �
 
 -- The scenarios' cases, and the state of their section.
 abbrev case_A : CaseValue
-case_A = record { keyword = codes "Scenario"; name = codes "A"; line = 2; steps = set_step ∷ []; tags = []; own_tags = [] }
+case_A = record { keyword = codes "Scenario"; name = codes "A"; line = 2; rule = None; steps = set_step ∷ []; tags = []; own_tags = [] }
 
 -- The second.
 abbrev case_B : CaseValue
-case_B = record { keyword = codes "Scenario"; name = codes "B"; line = 4; steps = ask_step ∷ []; tags = []; own_tags = [] }
+case_B = record { keyword = codes "Scenario"; name = codes "B"; line = 4; rule = None; steps = ask_step ∷ []; tags = []; own_tags = [] }
 
 -- The state that both begin from.
 abbrev two_section : State
@@ -253,7 +257,7 @@ B_by_cut (in_cleanups n) = inl refl
 -- The results with these two rows.
 abbrev two_of : CaseRow → CaseRow → Results
 two_of a b = record {
-  features = record { source = codes "two.feature"; name = codes "two"; line = 1; status = feature_verdict statuses.Passed (a.status ∷ b.status ∷ []); around = statuses.Passed; cases = a ∷ b ∷ [] } ∷ [];
+  features = record { source = codes "two.feature"; name = codes "two"; line = 1; status = feature_verdict statuses.Passed [] (a.status ∷ b.status ∷ []); around = statuses.Passed; rules = []; cases = a ∷ b ∷ [] } ∷ [];
   around = statuses.Passed;
 }
 

@@ -7,7 +7,8 @@ use Rattle.gk_run.specs.declared.results.Status.{Status}
 use Rattle.gk_run.specs.Results.{FeatureRow, Results}
 use Rattle.gk_run.specs.Run.{Run}
 use Rattle.gk_run.specs.Chosen.{ChosenValue}
-use Rattle.gk_run.specs.Features.{FeatureCuts, features_of, stays_open, IsFeatureResult}
+use Rattle.gk_run.specs.Cases.{stays_open}
+use Rattle.gk_run.specs.Features.{FeatureCuts, features_of, IsFeatureResult}
 use Rattle.gk_run.specs.Judged.{Judged, BeginsJudged, uncut, plain_results}
 use Rattle.gk_run.specs.OpenRun.{AreFeatures}
 use Rattle.gk_run.specs.DryRun.{dry_feature_of, dry_features_of, AreDryFeatures}

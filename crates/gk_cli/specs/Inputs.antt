@@ -4,7 +4,7 @@ use denote.Ref.{Bor}
 use Rattle.std.specs.List.{AllByRecursion}
 use Rattle.gk_gherkin.specs.declared.read_fault.ReadFault.{ReadFault}
 use Rattle.gk_gherkin.specs.Lines.{lines_of, IsText}
-use Rattle.gk_gherkin.specs.Feature.{FeatureValue, texts}
+use Rattle.gk_gherkin.specs.Feature.{FeatureValue, texts, RuleValue}
 use Rattle.gk_gherkin.specs.Grammar.{Reads}
 use Rattle.gk_gherkin.specs.Hooks.{HookValue, hooks_value}
 use Rattle.gk_gherkin.specs.HooksGrammar.{ReadsHooks}
@@ -18,7 +18,7 @@ use Rattle.gk_steps.specs.LibraryFile.{ReadsLibrary}
 use Rattle.gk_steps.specs.DefaultFile.{default_text}
 use Rattle.gk_steps.specs.Finding.{LibraryValue, library_value}
 use Rattle.gk_run.specs.declared.chosen.Chosen.{Chosen}
-use Rattle.gk_run.specs.Chosen.{MemberValue, ChosenValue, chosen_value, IsPaired}
+use Rattle.gk_run.specs.Chosen.{HeadValue, MemberValue, ChosenValue, chosen_value, IsFormed}
 use Rattle.gk_report.specs.declared.report.Style.{Style}
 use Rattle.gk_cli.specs.declared.arguments.Options.{Options}
 use Rattle.gk_cli.specs.declared.inputs.ReadInputs.{ReadInputs}
@@ -79,9 +79,13 @@ AreHooks (Some bytes) hooks = IsText bytes × ReadsHooks (lines_of bytes) hooks
 abbrev pub member_by : (CaseValue → Bool) → CaseValue → MemberValue
 member_by chooses case = record { scenario = case; selected = chooses case }
 
--- A feature from a source, with its cases and the choice among them.
+-- The heading of a rule. (Cucumber's Gherkin reference: rule)
+abbrev pub head_of : RuleValue → HeadValue
+head_of r = record { line = r.line; tags = r.tags }
+
+-- A feature from a source, with its rules, its cases and the choice among them.
 abbrev pub chosen_of : (CaseValue → Bool) → List ℕ → FeatureValue → ChosenValue
-chosen_of chooses source f = record { source = source; name = f.name; line = f.line; tags = f.tags; members = map (member_by chooses) (cases f) }
+chosen_of chooses source f = record { source = source; name = f.name; line = f.line; tags = f.tags; rules = map head_of f.rules; members = map (member_by chooses) (cases f) }
 
 -- The feature of a source before others; a source without one counts nowhere.
 abbrev pub with_reading : (CaseValue → Bool) → List ℕ → Option FeatureValue → List ChosenValue → List ChosenValue
@@ -155,4 +159,4 @@ pub record IsReadOnto (chooses : CaseValue → Bool) (source : SourceValue) (old
   pub reads : Reads (lines_of source.bytes) reading
   pub limit : IsWithinLimit reading
   pub added : map chosen_value new ≡ map chosen_value old ++ with_reading chooses source.name reading []
-  pub paired : AllByRecursion IsPaired old → AllByRecursion IsPaired new
+  pub formed : AllByRecursion IsFormed old → AllByRecursion IsFormed new

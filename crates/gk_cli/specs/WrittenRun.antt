@@ -11,7 +11,8 @@ use Rattle.gk_run.specs.declared.open_run.state.Suite.{Suite}
 use Rattle.gk_run.specs.Results.{FeatureRow, Results}
 use Rattle.gk_run.specs.Run.{Run, run_of}
 use Rattle.gk_run.specs.Chosen.{ChosenValue, chosen_value}
-use Rattle.gk_run.specs.Features.{FeatureCuts, stays_open, IsFeatureResult}
+use Rattle.gk_run.specs.Cases.{stays_open}
+use Rattle.gk_run.specs.Features.{FeatureCuts, IsFeatureResult}
 use Rattle.gk_run.specs.Judged.{Judged}
 use Rattle.gk_run.specs.OpenRun.{AreFeatures}
 use Rattle.gk_run.specs.DryRun.{dry_feature_of}

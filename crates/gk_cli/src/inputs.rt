@@ -2,14 +2,14 @@
 //! their cases and the choice among them.
 ghost use Rattle.std.specs.Prelude.{◌≡◌, map, option_map, string_bytes, IfOk, IfErr, OnOk, Some};
 ghost use Rattle.std.specs.List.{AllByRecursion};
-ghost use Rattle.gk_gherkin.specs.Feature.{feature_value, texts};
+ghost use Rattle.gk_gherkin.specs.Feature.{feature_value, rule_value, texts};
 ghost use Rattle.gk_gherkin.specs.Hooks.{hooks_value};
 ghost use Rattle.gk_select.specs.Case.{case_value};
 ghost use Rattle.gk_select.specs.Choice.{chosen_by};
 ghost use Rattle.gk_select.specs.Expansion.{IsExpandable};
 ghost use Rattle.gk_select.specs.TagRules.{tag_rule_value};
 ghost use Rattle.gk_steps.specs.Finding.{library_value};
-ghost use Rattle.gk_run.specs.Chosen.{chosen_value, IsPaired};
+ghost use Rattle.gk_run.specs.Chosen.{chosen_value, head_value, IsFormed};
 ghost use Rattle.gk_cli.specs.Source.{source_value};
 ghost use Rattle.gk_cli.specs.Inputs as spec;
 ghost use Rattle.gk_cli.specs.Inputs.{asked, AreRules, IsLibrary, AreHooks, AreRead, AreInputs, IsReadOnto, inputs_value};
@@ -19,10 +19,11 @@ ghost use Rattle.gk_cli.specs.RunFault.{IsUnread, SaysTags, SaysLibrary, SaysHoo
 use crate::arguments::Options;
 use crate::run_fault::RunFault;
 use crate::source::Source;
-use gk_gherkin::{Feature, HookFile, ReadFault, read_feature, read_hooks};
-use gk_run::Chosen;
+use gk_gherkin::{Feature, HookFile, ReadFault, Rule, read_feature, read_hooks};
+use gk_run::{Chosen, RuleHead};
 use gk_select::{
-    Case, Choice, SelectFault, TagRule, into_cases, read_features_are_expandable, read_tags,
+    Case, Choice, SelectFault, TagRule, cases_fall_into_rules, into_cases,
+    read_features_are_expandable, read_tags,
 };
 use gk_steps::{Library, LibraryFault, default_library, read_library};
 use std::alloc::{AllocError, Global};
@@ -134,20 +135,45 @@ fn selections(alloc: Global, choice: &Choice, cases: &[Case]) -> Result<Vec<bool
     Ok(selected)
 }
 
-// What is copied of a source and of its feature: the source's name, and the feature's name and tags.
-fn copies_of(
-    alloc: Global,
-    source: &str,
-    feature: &Feature,
-) -> Result<(String, String, Vec<String>), AllocError>
-    ensures source { IfOk result (λ copies. string_bytes copies.0 ≡ source.now) }
-    ensures name { IfOk result (λ copies. string_bytes copies.1 ≡ string_bytes feature.now.name) }
-    ensures tags { IfOk result (λ copies. texts copies.2.items ≡ texts feature.now.tags.items) }
+// The headings of rules.
+fn heads_of(alloc: Global, rules: &[Rule]) -> Result<Vec<RuleHead>, AllocError>
+    ensures { IfOk result (λ heads. map head_value heads.items
+        ≡ map spec.head_of (map rule_value rules.now)) }
 {
-    let source = String::from_str(alloc, source)?;
-    let name = String::from_str(alloc, feature.name.as_str())?;
-    let tags = copied_texts(alloc, feature.tags.as_slice())?;
-    Ok((source, name, tags))
+    let mut heads = Vec::new(alloc);
+    for rule in rules {
+        heads.push(RuleHead {
+            line: rule.line,
+            tags: copied_texts(alloc, rule.tags.as_slice())?,
+        })?;
+    }
+    Ok(heads)
+}
+
+// What is copied of a source and of its feature.
+#[derive(Drop)]
+struct Copies {
+    source: String,
+    name: String,
+    tags: Vec<String>,
+    rules: Vec<RuleHead>,
+}
+
+fn copies_of(alloc: Global, source: &str, feature: &Feature) -> Result<Copies, AllocError>
+    ensures source { IfOk result (λ copies. string_bytes copies.source ≡ source.now) }
+    ensures name { IfOk result (λ copies. string_bytes copies.name
+        ≡ string_bytes feature.now.name) }
+    ensures tags { IfOk result (λ copies. texts copies.tags.items
+        ≡ texts feature.now.tags.items) }
+    ensures rules { IfOk result (λ copies. map head_value copies.rules.items
+        ≡ map spec.head_of (map rule_value feature.now.rules.items)) }
+{
+    Ok(Copies {
+        source: String::from_str(alloc, source)?,
+        name: String::from_str(alloc, feature.name.as_str())?,
+        tags: copied_texts(alloc, feature.tags.as_slice())?,
+        rules: heads_of(alloc, feature.rules.as_slice())?,
+    })
 }
 
 fn chosen_of(
@@ -159,7 +185,7 @@ fn chosen_of(
     requires { IsExpandable (feature_value feature) }
     ensures chosen { IfOk result (λ c. chosen_value c
         ≡ spec.chosen_of (chosen_by choice.now) source.now (feature_value feature)) }
-    ensures paired { IfOk result (λ c. IsPaired c) }
+    ensures formed { IfOk result (λ c. IsFormed c) }
     ensures fault { IfErr result (λ e. SaysExpansion (feature_value feature) e) }
     ensures limit { OnOk result (spec.IsWithinLimit (Some (feature_value feature))) }
 {
@@ -167,12 +193,20 @@ fn chosen_of(
     let line = feature.line;
     let cases = into_cases(alloc, feature)?;
     let selected = selections(alloc, choice, cases.as_slice())?;
-    let (source, name, tags) = copies;
+    // No code runs here: the law says that a feature's cases fall into its rules.
+    cases_fall_into_rules();
+    let Copies {
+        source,
+        name,
+        tags,
+        rules,
+    } = copies;
     Ok(Chosen {
         source,
         name,
         line,
         tags,
+        rules,
         cases,
         selected,
     })
@@ -229,7 +263,7 @@ fn read_onto(
 fn read_sources(alloc: Global, choice: &Choice, sources: &[Source]) -> Result<Vec<Chosen>, RunFault>
     ensures read { IfOk result (λ features. AreRead (chosen_by choice.now)
         (map source_value sources.now) (map chosen_value features.items)) }
-    ensures paired { IfOk result (λ features. AllByRecursion IsPaired features.items) }
+    ensures formed { IfOk result (λ features. AllByRecursion IsFormed features.items) }
     ensures fault { IfErr result (λ e. SaysSources (chosen_by choice.now)
         (map source_value sources.now) e) }
 {
@@ -253,7 +287,7 @@ pub fn read_inputs(
 ) -> Result<ReadInputs, RunFault>
     ensures read { IfOk result (λ inputs. AreInputs
         (asked options.now library.entry hooks.entry sources.now) (inputs_value inputs)) }
-    ensures paired { IfOk result (λ inputs. AllByRecursion IsPaired inputs.features.items) }
+    ensures formed { IfOk result (λ inputs. AllByRecursion IsFormed inputs.features.items) }
     ensures fault { IfErr result (λ e. IsUnread
         (asked options.now library.entry hooks.entry sources.now) e) }
 {

@@ -5,7 +5,7 @@ ghost use Rattle.gk_world.specs.Sandbox.{depth};
 ghost use Rattle.gk_world.specs.State.{Contents};
 ghost use Rattle.gk_steps.specs.Finding.{library_value};
 ghost use Rattle.gk_run.specs.Run.{run_of};
-ghost use Rattle.gk_run.specs.Chosen.{chosen_value, IsPaired};
+ghost use Rattle.gk_run.specs.Chosen.{chosen_value, IsFormed};
 ghost use Rattle.gk_run.specs.Running.{IsSame};
 ghost use Rattle.gk_run.specs.OpenRun.{IsKept};
 ghost use Rattle.gk_run.specs.DryRun.{AreDryFeatures};
@@ -54,8 +54,8 @@ fn run_next<W: Write>(
     out: &mut Counted<W>,
 ) -> Result<(), RunFault>
     requires room { CountsCanRise out.old }
-    requires innermost { so_far.old.suite.layer ≡ depth sandbox.old }
-    requires paired { IsPaired feature }
+    requires innermost { so_far.old.suite.section.layer ≡ depth sandbox.old }
+    requires formed { IsFormed feature }
     ensures room { OnOk result (CountsCanRise out.new) }
     ensures ok { OnOk result (RunsNext glue.now sandbox.old feature
         (device_of W.contents out.old) so_far.old
@@ -82,8 +82,8 @@ fn run_features<W: Write>(
     out: &mut Counted<W>,
 ) -> Result<(), RunFault>
     requires room { CountsCanRise out.old }
-    requires innermost { so_far.old.suite.layer ≡ depth sandbox.old }
-    requires paired { AllByRecursion IsPaired features.items }
+    requires innermost { so_far.old.suite.section.layer ≡ depth sandbox.old }
+    requires formed { AllByRecursion IsFormed features.items }
     ensures room { OnOk result (CountsCanRise out.new) }
     ensures ok { OnOk result (AreWritten (AreRun glue.now sandbox.old so_far.old.suite)
         (map chosen_value features.items)
@@ -113,7 +113,7 @@ fn run_all<W: Write>(
 ) -> Result<u8, RunFault>
     requires room { CountsCanRise out.old }
     requires outside { depth sandbox.old ≡ 0 }
-    requires paired { AllByRecursion IsPaired inputs.features.items }
+    requires formed { AllByRecursion IsFormed inputs.features.items }
     ensures ok { IfOk result (IsWhole
         (run_of inputs.library inputs.hooks options.now.stop) sandbox.old.now
         (map chosen_value inputs.features.items) options.now.style
@@ -160,7 +160,7 @@ fn dry_next<W: Write>(
     out: &mut Counted<W>,
 ) -> Result<(), RunFault>
     requires room { CountsCanRise out.old }
-    requires paired { IsPaired feature }
+    requires formed { IsFormed feature }
     ensures room { OnOk result (CountsCanRise out.new) }
     ensures ok { OnOk result (IsDryNext (library_value library.now) (chosen_value feature)
         (device_of W.contents out.old) report.old (device_of W.contents out.new) report.new) }
@@ -182,7 +182,7 @@ fn dry_features<W: Write>(
     out: &mut Counted<W>,
 ) -> Result<(), RunFault>
     requires room { CountsCanRise out.old }
-    requires paired { AllByRecursion IsPaired features.items }
+    requires formed { AllByRecursion IsFormed features.items }
     ensures room { OnOk result (CountsCanRise out.new) }
     ensures ok { OnOk result (AreWritten (AreDryFeatures (library_value library.now))
         (map chosen_value features.items)
@@ -206,7 +206,7 @@ fn dry_all<W: Write>(
     out: &mut Counted<W>,
 ) -> Result<u8, RunFault>
     requires room { CountsCanRise out.old }
-    requires paired { AllByRecursion IsPaired inputs.features.items }
+    requires formed { AllByRecursion IsFormed inputs.features.items }
     ensures ok { IfOk result (λ status. (contents : Contents) → IsWhole
         (dry_run_of inputs.library inputs.hooks options.now.stop) contents
         (map chosen_value inputs.features.items) options.now.style
@@ -246,7 +246,7 @@ pub fn write_run<W: Write>(
 ) -> Result<u8, RunFault>
     requires room { CountsCanRise out.old }
     requires outside { depth sandbox.old ≡ 0 }
-    requires paired { AllByRecursion IsPaired inputs.features.items }
+    requires formed { AllByRecursion IsFormed inputs.features.items }
     ensures ok { IfOk result (IsWhole (run_by options.now (inputs_value inputs)) sandbox.old.now
         (map chosen_value inputs.features.items) options.now.style
         (device_of W.contents out.old) (device_of W.contents out.new)) }

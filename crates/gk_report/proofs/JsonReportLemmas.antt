@@ -1,18 +1,21 @@
 -- No value of the report has a float, and what writing one value after another gives.
+use Rattle.std.specs.Prelude.{◌==◌}
 use Rattle.std.proofs.Common.{◌≡◌, ℕ, Bool, true, false, ◌||◌, List, [], ◌∷◌, length, map, Option, Some, None, codes, refl, ap, sym, ◌∙◌, subst, suc}
+use Rattle.std.proofs.lemmas.Bool.{true≢false}
 use Rattle.serde.specs.Event.{Log, Logs, map_begins, map_ends}
 use Rattle.serde_json.specs.Data.{Data, string, Items, Members, no_members, member}
 use Rattle.serde_json.specs.View.{items_of}
 use Rattle.serde_json.specs.Events.{items_len, members_len, SendsValue, SendsItems, SendsMembers}
 use Rattle.serde_json.specs.Written.{has_float, items_have_float, members_have_float, compact_text}
 use Rattle.gk_run.specs.declared.results.Reason.{Reason}
+use Rattle.gk_run.specs.declared.results.RuleResult.{RuleResult}
 use Rattle.gk_run.specs.declared.results.Status.{Status}
-use Rattle.gk_run.specs.Results.{StepRow, CaseRow, FeatureRow}
+use Rattle.gk_run.specs.Results.{StepRow, CaseRow, RuleRow, FeatureRow, rule_row}
 use Rattle.gk_report.specs.declared.summary.Counts.{Counts}
 use Rattle.gk_report.specs.declared.summary.Summary.{Summary}
 use Rattle.gk_report.specs.Summary.{status_by}
 use Rattle.gk_report.specs.ReportTexts.{printed_cases}
-use Rattle.gk_report.specs.JsonReport.{number_data, status_data, array_data, reason_and, step_data, case_data, feature_data, counts_data, step_counts_data, summary_data, AddsMembers, case_and, undefined_and, counts_data_of, step_members, count_members, tail_of, json_tail}
+use Rattle.gk_report.specs.JsonReport.{number_data, status_data, array_data, reason_and, step_data, case_data, rule_data, rules_and, feature_data, counts_data, step_counts_data, summary_data, AddsMembers, case_and, undefined_and, counts_data_of, step_members, feature_members, count_members, tail_of, json_tail}
 use Rattle.gk_report.proofs.PrintedLemmas.{items_next}
 
 none_of_both : (a b : Bool) → a ≡ false → b ≡ false → (a || b) ≡ false
@@ -37,8 +40,16 @@ cases_whole : (cs : List CaseRow) → items_have_float (items_of (map case_data 
 cases_whole [] = refl
 cases_whole (c ∷ cs) = none_of_both _ _ (case_whole c) (cases_whole cs)
 
+each_rule_whole : (rs : List RuleRow) → items_have_float (items_of (map rule_data rs)) ≡ false
+each_rule_whole [] = refl
+each_rule_whole (r ∷ rs) = each_rule_whole rs
+
+rules_whole : (rs : List RuleRow) (ms : Members) → members_have_float ms ≡ false → members_have_float (rules_and rs ms) ≡ false
+rules_whole [] ms h = h
+rules_whole (r ∷ rs) ms h = none_of_both _ _ (each_rule_whole rs) h
+
 pub feature_whole : (no_skipped : Bool) (f : FeatureRow) → has_float (feature_data no_skipped f) ≡ false
-feature_whole no_skipped f = none_of_both _ _ (cases_whole (printed_cases no_skipped f.cases)) refl
+feature_whole no_skipped f = rules_whole f.rules _ (none_of_both _ _ (cases_whole (printed_cases no_skipped f.cases)) refl)
 
 pub summary_whole : (s : Summary) → has_float (summary_data s) ≡ false
 summary_whole s = refl
@@ -91,22 +102,45 @@ case_sent c old first one two three four five six end begun around keyword line 
     let second = member (codes "keyword") (string c.keyword) third in
     (first, begun, around second end (keyword third end (line fourth end (name fifth end (status last end (steps no_members end e))))))
 
+-- The member of the rules where there is one.
+pub rules_some : (rs : List RuleResult) → (length rs == 0) ≡ false → (ms : Members) → member (codes "rules") (array_data (map rule_data (map rule_row rs))) ms ≡ rules_and (map rule_row rs) ms
+rules_some [] e ms = absurd (true≢false e)
+rules_some (r ∷ rs) e ms = refl
+
+-- A rule's object, written member by member.
+pub rule_sent : (r : RuleRow) (old first one two end : Log) → Logs old first (map_begins (Some 2)) →
+    AddsMembers (member (codes "around") (status_data r.around)) first one →
+    AddsMembers (member (codes "line") (number_data r.line)) one two →
+    Logs two end map_ends → SendsValue (rule_data r) old end
+rule_sent r old first one two end begun around line e = (first, begun, around (member (codes "line") (number_data r.line) no_members) end (line no_members end e))
+
+feature_len : (rs : List RuleRow) (k l m : List ℕ) (c d e : Data) →
+    feature_members rs ≡ suc (suc (suc (members_len (rules_and rs (member k c (member l d (member m e no_members)))))))
+feature_len [] k l m c d e = refl
+feature_len (r ∷ rs) k l m c d e = refl
+
 -- A feature's object, written member by member.
-pub feature_sent : (no_skipped : Bool) (f : FeatureRow) (old first one two three four five six end : Log) → Logs old first (map_begins (Some 6)) →
+pub feature_sent : (no_skipped : Bool) (f : FeatureRow) (old first one two three four five six seven end : Log) (n : ℕ) → n ≡ feature_members f.rules → Logs old first (map_begins (Some n)) →
     AddsMembers (member (codes "around") (status_data f.around)) first one →
     AddsMembers (member (codes "line") (number_data f.line)) one two →
     AddsMembers (member (codes "name") (string f.name)) two three →
-    AddsMembers (member (codes "scenarios") (array_data (map case_data (printed_cases no_skipped f.cases)))) three four →
-    AddsMembers (member (codes "source") (string f.source)) four five →
-    AddsMembers (member (codes "status") (status_data f.status)) five six →
-    Logs six end map_ends → SendsValue (feature_data no_skipped f) old end
-feature_sent no_skipped f old first one two three four five six end begun around line name cases source status e =
+    AddsMembers (rules_and f.rules) three four →
+    AddsMembers (member (codes "scenarios") (array_data (map case_data (printed_cases no_skipped f.cases)))) four five →
+    AddsMembers (member (codes "source") (string f.source)) five six →
+    AddsMembers (member (codes "status") (status_data f.status)) six seven →
+    Logs seven end map_ends → SendsValue (feature_data no_skipped f) old end
+feature_sent no_skipped f old first one two three four five six seven end n is begun around line name rules cases source status e =
     let last = member (codes "status") (status_data f.status) no_members in
-    let fifth = member (codes "source") (string f.source) last in
-    let fourth = member (codes "scenarios") (array_data (map case_data (printed_cases no_skipped f.cases))) fifth in
+    let sixth = member (codes "source") (string f.source) last in
+    let scenarios = array_data (map case_data (printed_cases no_skipped f.cases)) in
+    let fifth = member (codes "scenarios") scenarios sixth in
+    let fourth = rules_and f.rules fifth in
     let third = member (codes "name") (string f.name) fourth in
-    let second = member (codes "line") (number_data f.line) third in
-    (first, begun, around second end (line third end (name fourth end (cases fifth end (source last end (status no_members end e))))))
+    let second = member (codes "line") (number_data f.line) third in (
+      first,
+      subst (λ k. Logs old first (map_begins (Some k))) (is ∙ feature_len f.rules (codes "scenarios") (codes "source") (codes "status") scenarios (string f.source) (status_data f.status)) begun,
+      around second end (line third end (name fourth end (rules fifth end (cases sixth end (source last end (status no_members end e)))))),
+    )
 
 counts_by : (of_steps : Bool) (c : Counts) (old first end : Log) (n : ℕ) → n ≡ count_members of_steps → Logs old first (map_begins (Some n)) →
     SendsMembers (

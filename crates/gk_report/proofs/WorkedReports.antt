@@ -7,12 +7,12 @@ use Rattle.gk_run.specs.declared.results.Status.TheVariants.{Passed, Failed, Ski
 use Rattle.gk_run.specs.declared.results.Reason.{Reason}
 use Rattle.gk_run.specs.declared.results.Reason.TheVariants as reasons
 use Rattle.gk_run.specs.declared.results.Outcome.TheVariants as outcomes
-use Rattle.gk_run.specs.Results.{StepRow, CaseRow, FeatureRow, Results}
+use Rattle.gk_run.specs.Results.{StepRow, CaseRow, RuleRow, FeatureRow, Results}
 use Rattle.gk_report.specs.declared.report.Format.TheVariants as formats
 use Rattle.gk_report.specs.declared.report.Style.{Style}
 use Rattle.gk_report.specs.ReportTexts.{status_text, reason_text, one_line}
 use Rattle.gk_report.specs.Summary.{status}
-use Rattle.gk_report.specs.PlainReport.{status_line, step_line, case_line, around_line, feature_line, plain_part, counted, count_line, closing_lines}
+use Rattle.gk_report.specs.PlainReport.{status_line, step_line, case_line, around_line, rule_line, feature_line, plain_part, counted, count_line, closing_lines}
 use Rattle.gk_report.specs.ProgressReport.{progress_part}
 use Rattle.gk_report.specs.JsonReport.{json_head, json_part, json_tail}
 use Rattle.gk_report.specs.Report.{part, report}
@@ -43,7 +43,7 @@ scenario name status steps = record { keyword = codes "Scenario"; name = name; l
 
 -- A feature with a name, a verdict and scenarios, whose own hooks and cleanups passed.
 abbrev feature : List ℕ → Status → List CaseRow → FeatureRow
-feature name status cases = record { source = codes "f.feature"; name = name; line = 1; status = status; around = Passed; cases = cases }
+feature name status cases = record { source = codes "f.feature"; name = name; line = 1; status = status; around = Passed; rules = []; cases = cases }
 
 -- The results of features, where the run's own hooks and cleanups passed.
 abbrev run : List FeatureRow → Results
@@ -400,3 +400,50 @@ failed_run_hook_as_progress = refl
 memory_as_json : report json (record nothing { around = Memory }) ≡ codes "{\"features\":[],\"run\":\"memory\",\"status\":4,\"summary\":{\"features\":{\"failed\":0,\"memory\":0,\"passed\":0,\"skipped\":0,\"untested\":0},\"scenarios\":{\"failed\":0,\"memory\":0,\"passed\":0,\"skipped\":0,\"untested\":0},\"steps\":{\"failed\":0,\"memory\":0,\"passed\":0,\"skipped\":0,\"undefined\":0,\"untested\":0}}}\n"
 unfolding digits status_text reason_text json_head json_part json_tail serde_json_on_literals
 memory_as_json = refl
+
+-- A rule on a line, whose hooks and cleanups ended so.
+abbrev rule_on : ℕ → Status → RuleRow
+rule_on line around = record { line = line; around = around }
+
+-- Two rules behind a scenario of the feature's own. The hook before the first rule's tag fails: its scenarios aren't reached.
+abbrev failed_rule_hook : Results
+failed_rule_hook =
+    let then = λ (line : ℕ) (text : List ℕ) (verdict : Status). record (step_on line text verdict) { keyword = codes "Then" } in
+    let cases = scenario_on 2 (codes "A") Passed (then 3 (codes "the number \"n\" should be 1") Passed ∷ [])
+    ∷ scenario_on 6 (codes "B") Untested (record (step_on 7 (codes "the number \"n\" grows by 100") Untested) { keyword = codes "When" } ∷ then 8 (codes "the number \"n\" should be 111") Untested ∷ [])
+    ∷ scenario_on 9 (codes "C") Untested (then 10 (codes "the number \"n\" should be 11") Untested ∷ [])
+    ∷ scenario_on 12 (codes "D") Passed (then 13 (codes "the number \"n\" should be 11") Passed ∷ []) ∷ [] in
+    run (record (feature (codes "f") Failed cases) { rules = rule_on 5 Failed ∷ rule_on 11 Passed ∷ [] } ∷ [])
+
+-- Its closing lines.
+abbrev failed_rule_hook_counts : List ℕ
+failed_rule_hook_counts = codes "0 features passed, 1 failed, 0 skipped\n2 scenarios passed, 0 failed, 0 skipped, 2 untested\n2 steps passed, 0 failed, 0 skipped, 0 undefined, 3 untested\n"
+
+-- Its plain report: the first rule's line stands behind its scenarios.
+failed_rule_hook_report : report plain failed_rule_hook ≡ codes "Feature: f ... failed\n  Scenario: A ... passed\n    Then the number \"n\" should be 1 ... passed\n  Scenario: B ... untested\n    When the number \"n\" grows by 100 ... untested\n    Then the number \"n\" should be 111 ... untested\n  Scenario: C ... untested\n    Then the number \"n\" should be 11 ... untested\n  (rule, line 5: hooks and cleanups) ... failed\n  Scenario: D ... passed\n    Then the number \"n\" should be 11 ... passed\n\n" ++ failed_rule_hook_counts
+unfolding digits status_text reason_text one_line status_line step_line case_line around_line rule_line feature_line plain_part counted count_line closing_lines
+failed_rule_hook_report = refl
+
+-- Its progress report.
+failed_rule_hook_as_progress : report progress failed_rule_hook ≡ codes "f.feature  .UU.  failed\n" ++ failed_rule_hook_counts
+unfolding digits status_text one_line status_line around_line progress_part counted count_line closing_lines
+failed_rule_hook_as_progress = refl
+
+-- Its status.
+failed_rule_hook_status : status failed_rule_hook ≡ 1
+failed_rule_hook_status = refl
+
+-- Three rules: one whose only scenario is skipped, one without a scenario, and one whose scenario passes.
+abbrev rules_without_scenarios : FeatureRow
+rules_without_scenarios = record (feature (codes "f") Failed (scenario_on 4 (codes "s") Skipped [] ∷ scenario_on 7 (codes "t") Passed [] ∷ [])) { around = Failed; rules = rule_on 3 Failed ∷ rule_on 5 Failed ∷ rule_on 6 Failed ∷ [] }
+
+-- Its plain part without skipped scenarios, and the one with them: each rule's line at its place, and the feature's own at the end.
+rules_without_scenarios_parts : (part (record plain { no_skipped = true }) true rules_without_scenarios ≡ codes "Feature: f ... failed\n  (rule, line 3: hooks and cleanups) ... failed\n  (rule, line 5: hooks and cleanups) ... failed\n  Scenario: t ... passed\n  (rule, line 6: hooks and cleanups) ... failed\n  (hooks and cleanups) ... failed\n\n")
+    × (part plain true rules_without_scenarios ≡ codes "Feature: f ... failed\n  Scenario: s ... skipped\n  (rule, line 3: hooks and cleanups) ... failed\n  (rule, line 5: hooks and cleanups) ... failed\n  Scenario: t ... passed\n  (rule, line 6: hooks and cleanups) ... failed\n  (hooks and cleanups) ... failed\n\n")
+unfolding digits status_text reason_text one_line status_line case_line around_line rule_line feature_line plain_part
+rules_without_scenarios_parts = (refl, refl)
+
+-- Its JSON part: the rules stand between the name and the scenarios.
+rules_without_scenarios_as_json : part json true rules_without_scenarios ≡ codes "{\"around\":\"failed\",\"line\":1,\"name\":\"f\",\"rules\":[{\"around\":\"failed\",\"line\":3},{\"around\":\"failed\",\"line\":5},{\"around\":\"failed\",\"line\":6}],\"scenarios\":[{\"around\":\"passed\",\"keyword\":\"Scenario\",\"line\":4,\"name\":\"s\",\"status\":\"skipped\",\"steps\":[]},{\"around\":\"passed\",\"keyword\":\"Scenario\",\"line\":7,\"name\":\"t\",\"status\":\"passed\",\"steps\":[]}],\"source\":\"f.feature\",\"status\":\"failed\"}"
+unfolding digits status_text reason_text json_part serde_json_on_literals
+rules_without_scenarios_as_json = refl

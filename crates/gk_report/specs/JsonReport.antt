@@ -1,5 +1,5 @@
 -- The JSON format: compact text, with the keys of each object in byte order.
-use Rattle.std.specs.Prelude.{ℕ, Bool, cond, not, List, [], ◌++◌, map, filter, Option, Some, None, Result, OnOk, codes}
+use Rattle.std.specs.Prelude.{ℕ, Bool, cond, not, List, [], ◌∷◌, ◌++◌, map, filter, Option, Some, None, Result, OnOk, codes}
 use Rattle.std.specs.Fmt.{decimal}
 use Rattle.serde.specs.Event.{Log}
 use Rattle.serde_json.specs.Data.{Data, number, unsigned, string, array, object, Items, item, Members, no_members, member}
@@ -8,7 +8,7 @@ use Rattle.serde_json.specs.View.{items_of}
 use Rattle.serde_json.specs.Written.{compact_text}
 use Rattle.gk_run.specs.declared.results.Status.{Status}
 use Rattle.gk_run.specs.declared.results.Reason.{Reason}
-use Rattle.gk_run.specs.Results.{StepRow, CaseRow, FeatureRow}
+use Rattle.gk_run.specs.Results.{StepRow, CaseRow, RuleRow, FeatureRow}
 use Rattle.gk_report.specs.declared.summary.Counts.{Counts}
 use Rattle.gk_report.specs.declared.summary.Summary.{Summary}
 use Rattle.gk_report.specs.ReportTexts.{status_text, reason_text, line_feed, is_hidden, printed_cases}
@@ -49,15 +49,25 @@ case_data c = object (
     member (codes "status") (status_data c.status) (
     member (codes "steps") (array_data (map step_data c.steps)) no_members))))))
 
+-- A rule's object.
+abbrev pub rule_data : RuleRow → Data
+rule_data r = object (member (codes "around") (status_data r.around) (member (codes "line") (number_data r.line) no_members))
+
+-- The members of a feature after its name: one with a rule has its rules.
+abbrev pub rules_and : List RuleRow → Members → Members
+rules_and [] members = members
+rules_and (r ∷ rules) members = member (codes "rules") (array_data (map rule_data (r ∷ rules))) members
+
 -- A feature's object, with its printed scenarios.
 abbrev pub feature_data : Bool → FeatureRow → Data
 feature_data no_skipped f = object (
     member (codes "around") (status_data f.around) (
     member (codes "line") (number_data f.line) (
     member (codes "name") (string f.name) (
+    rules_and f.rules (
     member (codes "scenarios") (array_data (map case_data (printed_cases no_skipped f.cases))) (
     member (codes "source") (string f.source) (
-    member (codes "status") (status_data f.status) no_members))))))
+    member (codes "status") (status_data f.status) no_members)))))))
 
 -- The object of counts without undefined ones, of which features and scenarios have none.
 abbrev pub counts_data : Counts → Data
@@ -139,6 +149,11 @@ WritesValue written old value result new = OnOk result (SendsValue value (writte
 abbrev pub step_members : Option Reason → ℕ
 step_members None = 4
 step_members (Some why) = 5
+
+-- How many members a feature's object has.
+abbrev pub feature_members : List RuleRow → ℕ
+feature_members [] = 6
+feature_members (r ∷ rules) = 7
 
 -- How many members an object of counts has.
 abbrev pub count_members : Bool → ℕ

@@ -1,6 +1,7 @@
 -- What a report says, in reading order. A definition whose comment names no source is this project's profile, or a word that the others use.
 pub mod ReportTexts
 pub mod Summary
+pub mod RuleGroups
 pub mod PlainReport
 pub mod ProgressReport
 pub mod JsonReport

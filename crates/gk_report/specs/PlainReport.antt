@@ -5,8 +5,9 @@ use Rattle.gk_run.specs.declared.results.Status.{Status}
 use Rattle.gk_run.specs.declared.results.Reason.{Reason}
 use Rattle.gk_report.specs.declared.summary.Counts.{Counts}
 use Rattle.gk_report.specs.declared.summary.Summary.{Summary}
-use Rattle.gk_run.specs.Results.{StepRow, CaseRow, FeatureRow, is_passed}
+use Rattle.gk_run.specs.Results.{StepRow, CaseRow, RuleRow, FeatureRow, is_passed}
 use Rattle.gk_report.specs.ReportTexts.{status_text, reason_text, one_line, line_feed, is_hidden, printed_cases}
+use Rattle.gk_report.specs.RuleGroups.{RuleGroup, cases_before, cases_behind, rule_groups}
 
 -- A line's text, three dots, and a status.
 unfoldable pub status_line : List ℕ → List ℕ → List ℕ
@@ -33,13 +34,30 @@ around_line indent around = cond (is_passed around) [] (status_line (indent ++ c
 abbrev pub case_lines : CaseRow → List ℕ
 case_lines c = case_line c ++ flat_map step_line c.steps ++ around_line (codes "    ") c.around
 
+-- The lines of those of some scenarios that are printed.
+abbrev pub printed_lines : Bool → List CaseRow → List ℕ
+printed_lines no_skipped cases = flat_map case_lines (printed_cases no_skipped cases)
+
+-- The line of a rule's hooks and cleanups; where they passed there is none.
+unfoldable pub rule_line : RuleRow → List ℕ
+rule_line r = cond (is_passed r.around) [] (status_line (codes "  (rule, line " ++ decimal r.line ++ codes ": hooks and cleanups)") (status_text r.around))
+
+-- The lines of a rule: its printed scenarios, its own hooks and cleanups.
+abbrev pub group_lines : Bool → RuleGroup → List ℕ
+group_lines no_skipped g = printed_lines no_skipped g.cases ++ rule_line g.rule
+
+-- The lines of the scenarios of a feature: those that aren't in a rule, then those of each rule.
+abbrev pub scenario_lines : Bool → List RuleRow → List CaseRow → List ℕ
+scenario_lines no_skipped rules cases =
+    printed_lines no_skipped (cases_before rules cases) ++ flat_map (group_lines no_skipped) (rule_groups rules (cases_behind rules cases))
+
 -- The line of a feature's heading.
 unfoldable pub feature_line : FeatureRow → List ℕ
 feature_line f = status_line (codes "Feature: " ++ one_line f.name) (status_text f.status)
 
--- The lines of a feature: its line, its printed scenarios, its own hooks and cleanups, an empty line.
+-- The lines of a feature: its line, its printed scenarios by their rules, its own hooks and cleanups, an empty line.
 abbrev pub feature_lines : Bool → FeatureRow → List ℕ
-feature_lines no_skipped f = feature_line f ++ flat_map case_lines (printed_cases no_skipped f.cases) ++ around_line (codes "  ") f.around ++ line_feed
+feature_lines no_skipped f = feature_line f ++ scenario_lines no_skipped f.rules f.cases ++ around_line (codes "  ") f.around ++ line_feed
 
 -- The part of a feature: its lines, none where it is hidden.
 unfoldable pub plain_part : Bool → FeatureRow → List ℕ

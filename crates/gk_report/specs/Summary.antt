@@ -58,7 +58,7 @@ summary_of rows = record { features = counts_of (feature_statuses rows); scenari
 abbrev pub verdicts : List FeatureRow → Status → List Status
 verdicts rows around = around ∷ feature_statuses rows ++ scenario_statuses rows
 
--- The status of a run: 4 where one of these is memory; else 1 where one is failed or a step is undefined; else 0. A scenario's or a feature's own hooks and cleanups count by its verdict.
+-- The status of a run: 4 where one of these is memory; else 1 where one is failed or a step is undefined; else 0. The hooks and cleanups of a scenario and of a feature count by its verdict, those of a rule by its feature's.
 abbrev pub status_of : List FeatureRow → Status → ℕ
 status_of rows around =
     cond (list_any is_memory (verdicts rows around)) 4

@@ -5,15 +5,15 @@ ghost use Rattle.serde_json.specs.Data.{string, member};
 ghost use Rattle.serde_json.specs.Events.{SendsValue};
 ghost use Rattle.serde_json.specs.Sent.{IsTextOf};
 ghost use Rattle.serde_json.specs.Written.{compact_text};
-ghost use Rattle.gk_run.specs.Results.{step_row, case_row, feature_row};
+ghost use Rattle.gk_run.specs.Results.{step_row, case_row, rule_row, feature_row};
 ghost use Rattle.gk_report.specs.Summary.{status_by};
 ghost use Rattle.gk_report.specs.ReportTexts.{printed_cases, AnswersText};
 ghost use Rattle.gk_report.specs.JsonReport as spec;
-ghost use Rattle.gk_report.specs.JsonReport.{number_data, status_data, array_data, reason_and, step_data, case_data, feature_data, summary_data, WritesMembers, WritesItems, WritesValue, case_and, undefined_and, counts_data_of, tail_of};
+ghost use Rattle.gk_report.specs.JsonReport.{number_data, status_data, array_data, reason_and, step_data, case_data, rule_data, rules_and, feature_data, summary_data, WritesMembers, WritesItems, WritesValue, case_and, undefined_and, counts_data_of, tail_of};
 
 use crate::report_texts::{hides, reason_text, status_text};
 use crate::summary::{Counts, Summary};
-use gk_run::{CaseResult, FeatureResult, Reason, Status, StepResult};
+use gk_run::{CaseResult, FeatureResult, Reason, RuleResult, Status, StepResult};
 use serde::{Described, Serialize, Serializer};
 use std::alloc::{AllocError, Global};
 
@@ -174,6 +174,46 @@ fn write_cases<S: Serializer>(
     out.end_seq()
 }
 
+fn write_rule<S: Serializer>(out: &mut S, rule: RuleResult) -> Result<(), S::Error>
+    ensures { WritesValue S.written out.old (rule_data (rule_row rule)) result out.new }
+{
+    out.begin_map(Some(2))?;
+    write_status(out, "around", rule.around)?;
+    write_number(out, "line", u64::from(rule.line))?;
+    out.end_map()
+}
+
+fn write_each_rule<S: Serializer>(out: &mut S, rules: &[RuleResult]) -> Result<(), S::Error>
+    ensures { WritesMembers S.written out.old
+        (member (codes "rules") (array_data (map rule_data (map rule_row rules.now))))
+        result out.new }
+{
+    out.key("rules")?;
+    out.begin_seq(Some(rules.len()))?;
+    for rule in rules {
+        write_rule(out, *rule)?;
+    }
+    out.end_seq()
+}
+
+// The rules of a feature that has one.
+fn write_rules<S: Serializer>(out: &mut S, rules: &[RuleResult]) -> Result<(), S::Error>
+    ensures { WritesMembers S.written out.old
+        (rules_and (map rule_row rules.now)) result out.new }
+{
+    if rules.is_empty() {
+        return Ok(());
+    }
+    write_each_rule(out, rules)
+}
+
+// How many members the object of a feature with these rules has.
+fn feature_members(rules: &[RuleResult]) -> usize
+    ensures { result ≡ spec.feature_members (map rule_row rules.now) }
+{
+    if rules.is_empty() { 6 } else { 7 }
+}
+
 fn write_feature<S: Serializer>(
     out: &mut S,
     no_skipped: bool,
@@ -182,10 +222,12 @@ fn write_feature<S: Serializer>(
     ensures { WritesValue S.written out.old
         (feature_data no_skipped (feature_row feature.now)) result out.new }
 {
-    out.begin_map(Some(6))?;
+    let rules = feature.rules.as_slice();
+    out.begin_map(Some(feature_members(rules)))?;
     write_status(out, "around", feature.around)?;
     write_number(out, "line", u64::from(feature.line))?;
     write_text(out, "name", feature.name.as_str())?;
+    write_rules(out, rules)?;
     write_cases(out, no_skipped, feature.cases.as_slice())?;
     write_text(out, "source", feature.source.as_str())?;
     write_status(out, "status", feature.status)?;

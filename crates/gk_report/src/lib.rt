@@ -10,6 +10,7 @@ mod report_texts;
 mod summary;
 
 pub use report::{
-    Format, Style, head, json_reports_are_documents, part, reports_grow_by_parts, tail,
+    Format, Style, head, json_reports_are_documents, part, reports_grow_by_parts,
+    rules_follow_their_scenarios, tail,
 };
 pub use summary::{Counts, Summary};

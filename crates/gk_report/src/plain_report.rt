@@ -1,13 +1,15 @@
 //! The plain report: the lines of a feature, and the closing lines, which it shares with progress.
-ghost use Rattle.std.specs.Prelude.{[], ◌++◌, map, flat_map, codes, cond};
-ghost use Rattle.gk_run.specs.Results.{step_row, case_row, feature_row};
-ghost use Rattle.gk_report.specs.ReportTexts.{is_hidden, printed_cases, line_feed, Pushes, AnswersText};
+ghost use Rattle.std.specs.Prelude.{◌≡◌, [], ◌++◌, map, flat_map, codes, cond, IfOk};
+ghost use Rattle.gk_run.specs.Results.{step_row, case_row, rule_row, feature_row};
+ghost use Rattle.gk_report.specs.ReportTexts.{is_hidden, line_feed, Pushes, AnswersText};
+ghost use Rattle.gk_report.specs.RuleGroups as by_rule;
+ghost use Rattle.gk_report.specs.RuleGroups.{cases_before, count_before, rule_groups};
 ghost use Rattle.gk_report.specs.PlainReport as spec;
-ghost use Rattle.gk_report.specs.PlainReport.{step_verdict, step_line, case_line, around_line, case_lines, feature_line, counted, counted_if_any, passed_part, undefined_part, count_line, closing_lines};
+ghost use Rattle.gk_report.specs.PlainReport.{step_verdict, step_line, case_line, around_line, case_lines, printed_lines, rule_line, group_lines, scenario_lines, feature_line, counted, counted_if_any, passed_part, undefined_part, count_line, closing_lines};
 
 use crate::report_texts::{hides, push_one_line, reason_text, status_text};
 use crate::summary::{Counts, Summary};
-use gk_run::{CaseResult, FeatureResult, Reason, Status, StepResult};
+use gk_run::{CaseResult, FeatureResult, Reason, RuleResult, Status, StepResult};
 use std::alloc::{AllocError, Global};
 
 fn push_verdict(out: &mut String, status: Status, reason: Option<Reason>) -> Result<(), AllocError>
@@ -110,15 +112,83 @@ fn push_printed(out: &mut String, no_skipped: bool, case: &CaseResult) -> Result
     Ok(())
 }
 
-fn push_cases(out: &mut String, no_skipped: bool, cases: &[CaseResult]) -> Result<(), AllocError>
-    ensures { Pushes out.old
-        (flat_map case_lines (printed_cases no_skipped (map case_row cases.now)))
-        result out.new }
+// Whether the first of these rules begins above a line.
+fn begins_above(rules: &[RuleResult], line: u32) -> bool
+    ensures { result ≡ by_rule.begins_above (map rule_row rules.now) line }
 {
-    for case in cases {
+    match rules.first() {
+        Some(rule) => rule.line < line,
+        None => false,
+    }
+}
+
+// The lines of the scenarios in front of the first of these rules. Answers how many these are.
+fn push_before(
+    out: &mut String,
+    no_skipped: bool,
+    rules: &[RuleResult],
+    cases: &[CaseResult],
+) -> Result<usize, AllocError>
+    ensures pushed { Pushes out.old
+        (printed_lines no_skipped (cases_before (map rule_row rules.now) (map case_row cases.now)))
+        result out.new }
+    ensures counted { IfOk result (λ count.
+        count ≡ count_before (map rule_row rules.now) (map case_row cases.now)) }
+{
+    for (place, case) in cases.iter().enumerate() {
+        if begins_above(rules, case.line) {
+            return Ok(place);
+        }
         push_printed(out, no_skipped, case)?;
     }
+    Ok(cases.len())
+}
+
+// The line of a rule's hooks and cleanups, unless they passed.
+#[tactic(auto, unfolding(crate::specs::PlainReport::status_line, crate::specs::PlainReport::rule_line))]
+fn push_rule_line(out: &mut String, rule: RuleResult) -> Result<(), AllocError>
+    ensures { Pushes out.old (rule_line (rule_row rule)) result out.new }
+{
+    if rule.around == Status::Passed {
+        return Ok(());
+    }
+    write!(out, "  (rule, line {}: hooks and cleanups)", rule.line)?;
+    push_ending(out, rule.around, None)
+}
+
+// The lines of rules, each with its scenarios.
+fn push_rules(
+    out: &mut String,
+    no_skipped: bool,
+    rules: &[RuleResult],
+    cases: &[CaseResult],
+) -> Result<(), AllocError>
+    ensures { Pushes out.old
+        (flat_map (group_lines no_skipped)
+        (rule_groups (map rule_row rules.now) (map case_row cases.now)))
+        result out.new }
+{
+    let mut place = 0;
+    for (index, rule) in rules.iter().enumerate() {
+        place += push_before(out, no_skipped, &rules[index + 1..], &cases[place..])?;
+        push_rule_line(out, *rule)?;
+    }
     Ok(())
+}
+
+// The lines of scenarios, and of the rules that they are in.
+fn push_scenarios(
+    out: &mut String,
+    no_skipped: bool,
+    rules: &[RuleResult],
+    cases: &[CaseResult],
+) -> Result<(), AllocError>
+    ensures { Pushes out.old
+        (scenario_lines no_skipped (map rule_row rules.now) (map case_row cases.now))
+        result out.new }
+{
+    let own = push_before(out, no_skipped, rules, cases)?;
+    push_rules(out, no_skipped, rules, &cases[own..])
 }
 
 /// The lines of a feature. An error comes only where a growth was refused.
@@ -131,7 +201,12 @@ pub fn feature_lines(
 {
     let mut out = String::new(alloc);
     push_feature_line(&mut out, feature)?;
-    push_cases(&mut out, no_skipped, feature.cases.as_slice())?;
+    push_scenarios(
+        &mut out,
+        no_skipped,
+        feature.rules.as_slice(),
+        feature.cases.as_slice(),
+    )?;
     push_around(&mut out, "  ", feature.around)?;
     out.push_str("\n")?;
     Ok(out)

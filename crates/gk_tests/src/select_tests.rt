@@ -5,11 +5,11 @@ use std::test::Fail;
 
 // A feature with a scenario, and with an outline in whose text a placeholder stands inside another's bounds.
 const FEATURE: &str =
-    "@f\nFeature: f\n  Background:\n    Given b\n  @s\n  Scenario: plain\n    When p\n  @o\n  Scenario Outline: o <a>\n    Then <a<a>>\n    @e\n    Examples: first\n      | a |\n      | 1 |\n";
+    "@f\nFeature: f\n  Background:\n    Given b\n  @s\n  Scenario: plain\n    When p\n  @o\n  Scenario Outline: o <a>\n    Then <a<a>>\n    @e\n    Examples: first\n      | a |\n      | 1 |\n  Rule: r\n    Example: e\n      Then q\n";
 
 // Its cases.
 const CASES: &str =
-    "[Case { name: \"plain\", keyword: \"Scenario\", line: 6, tags: [\"@f\", \"@s\"], own_tags: [\"@s\"], steps: [Step { keyword: \"Given\", step_type: Given, text: \"b\", block: Empty, line: 4 }, Step { keyword: \"When\", step_type: When, text: \"p\", block: Empty, line: 7 }] }, Case { name: \"o 1 -- @1.1 first\", keyword: \"Scenario Outline\", line: 14, tags: [\"@f\", \"@o\", \"@e\"], own_tags: [\"@o\", \"@e\"], steps: [Step { keyword: \"Given\", step_type: Given, text: \"b\", block: Empty, line: 4 }, Step { keyword: \"Then\", step_type: Then, text: \"<a1>\", block: Empty, line: 10 }] }]";
+    "[Case { name: \"plain\", keyword: \"Scenario\", line: 6, rule: None, tags: [\"@f\", \"@s\"], own_tags: [\"@s\"], steps: [Step { keyword: \"Given\", step_type: Given, text: \"b\", block: Empty, line: 4 }, Step { keyword: \"When\", step_type: When, text: \"p\", block: Empty, line: 7 }] }, Case { name: \"o 1 -- @1.1 first\", keyword: \"Scenario Outline\", line: 14, rule: None, tags: [\"@f\", \"@o\", \"@e\"], own_tags: [\"@o\", \"@e\"], steps: [Step { keyword: \"Given\", step_type: Given, text: \"b\", block: Empty, line: 4 }, Step { keyword: \"Then\", step_type: Then, text: \"<a1>\", block: Empty, line: 10 }] }, Case { name: \"e\", keyword: \"Example\", line: 16, rule: Some(0), tags: [\"@f\"], own_tags: [], steps: [Step { keyword: \"Given\", step_type: Given, text: \"b\", block: Empty, line: 4 }, Step { keyword: \"Then\", step_type: Then, text: \"q\", block: Empty, line: 17 }] }]";
 
 // Shows the cases of the feature that a text has: of the feature kept, and of the feature given up.
 fn shown_cases(alloc: Global, text: &str) -> Result<(String, String), Fail> {

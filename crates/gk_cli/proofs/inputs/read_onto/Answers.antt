@@ -5,15 +5,16 @@ use Rattle.gk_gherkin.specs.Lines.{lines_of, IsText}
 use Rattle.gk_gherkin.specs.Feature.{feature_value}
 use Rattle.gk_gherkin.specs.Grammar.{Reads}
 use Rattle.gk_select.specs.Choice.{chosen_by}
-use Rattle.gk_run.specs.Chosen.{ChosenValue, chosen_value, IsPaired}
+use Rattle.gk_run.specs.Chosen.{ChosenValue, chosen_value, IsFormed}
 use Rattle.gk_cli.specs.Inputs.{chosen_of}
 use Rattle.gk_cli.proofs.InputsLemmas.{all_push}
 use Rattle.gk_cli.proofs.inputs.read_onto.Goals as goal
 
 pub chosen_of-requires : goal.chosen_of-requires
 chosen_of-requires c =
-    let reads = subst (λ o. Reads (lines_of c.as_slice.result.now) (option_map feature_value o)) c.in-Ok-Some.field-0-is c.in-Ok-Some.ensures.found.1 in
-    c.read_features_are_expandable.ensures (lines_of c.as_slice.result.now) (feature_value c.in-Ok-Some.feature) reads
+    let found = c.in-Ok-Some.ensures.found in
+    let reads = subst (λ o. Reads (lines_of c.as_slice.result.now) (option_map feature_value o)) c.in-Ok-Some.field-0-is found.1 in
+    c.read_features_are_expandable.ensures c.as_slice.result.now (feature_value c.in-Ok-Some.feature) found.0 reads
 
 pub returns-clause-ok : goal.returns-clause-ok
 returns-clause-ok c =
@@ -29,5 +30,5 @@ returns-clause-ok c =
       reads = subst (λ b. Reads (lines_of b) (Some feature)) bytes reads;
       limit = c.in-Ok.ensures.limit;
       added = ap (map chosen_value) c.in_ok-push.ensures.items ∙ map_push chosen_value old c.in-Ok.chosen ∙ ap (λ (v : ChosenValue). map chosen_value old ++ v ∷ []) chosen;
-      paired = λ all. subst (AllByRecursion IsPaired) (sym c.in_ok-push.ensures.items) (all_push IsPaired old c.in-Ok.chosen all c.in-Ok.ensures.paired);
+      formed = λ all. subst (AllByRecursion IsFormed) (sym c.in_ok-push.ensures.items) (all_push IsFormed old c.in-Ok.chosen all c.in-Ok.ensures.formed);
     }

@@ -12,7 +12,7 @@ returns-in-Err c =
     let place = at_place source_value c.args.sources.now c.loop-input.input c.index-sources-input.result c.loop-input-test.true c.index-sources-input.is in
     record {
       read = tt;
-      paired = tt;
+      formed = tt;
       fault = first_unread (chosen_by c.args.choice.now) sources (map chosen_value c.loop-input.features.items) c.loop-input.input (source_value c.index-sources-input.result) c.in-Err.fault c.loop-input.invariant.read place c.in-Err.ensures.fault;
     }
 
@@ -28,5 +28,5 @@ loop-input-preserved c =
           subst (λ ss. AreRead chooses ss (map chosen_value c.read_onto.new.features.items)) (sym (take_one sources c.loop-input.input source place))
           (subst (AreRead chooses (take c.loop-input.input sources ++ source ∷ [])) (sym onto.added)
           (read_one chooses (take c.loop-input.input sources) (map chosen_value c.loop-input.features.items) source onto.reading c.loop-input.invariant.read onto.text onto.reads onto.limit));
-      paired = onto.paired c.loop-input.invariant.paired;
+      formed = onto.formed c.loop-input.invariant.formed;
     }

@@ -2,7 +2,7 @@ use Rattle.std.proofs.Common.{◌≡◌, ◌∷◌, [], ◌∙◌, List, length,
 use Rattle.std.specs.List.{AllByRecursion}
 use Rattle.std.specs.Vec.Iter.{into_iter_items}
 use Rattle.gk_steps.specs.Finding.{library_value}
-use Rattle.gk_run.specs.Chosen.{ChosenValue, chosen_value, IsPaired}
+use Rattle.gk_run.specs.Chosen.{ChosenValue, chosen_value, IsFormed}
 use Rattle.gk_run.specs.DryRun.{AreDryFeatures}
 use Rattle.gk_cli.specs.Suite.{device_of}
 use Rattle.gk_cli.specs.WrittenRun.{AreWrittenUpTo}
@@ -22,14 +22,14 @@ loop-feature-init g c =
       held = subst (λ (left : List ChosenValue). DryRunning library all device report left device report) (sym (ap (map chosen_value) here)) (dry_running_first library all device report);
       style = refl;
       room = c.requires.room;
-      paired = subst (AllByRecursion IsPaired) (sym here) c.requires.paired;
+      formed = subst (AllByRecursion IsFormed) (sym here) c.requires.formed;
       counted = let l = c.into_iter-feature-iterator.ensures.into_iter_gives.1 in let v = c.args.features.ok.0 in let f = ap length here in omega arith;
     }
 
 pub dry_next-requires : goal.dry_next-requires
 dry_next-requires g c =
-    let all : AllByRecursion IsPaired (c.in-Some.feature ∷ into_iter_items c.next.new.self) = subst (AllByRecursion IsPaired) c.in-Some.ensures.steps.0 c.loop-feature.invariant.paired in
-    record { room = c.loop-feature.invariant.room; paired = all.0 }
+    let all : AllByRecursion IsFormed (c.in-Some.feature ∷ into_iter_items c.next.new.self) = subst (AllByRecursion IsFormed) c.in-Some.ensures.steps.0 c.loop-feature.invariant.formed in
+    record { room = c.loop-feature.invariant.room; formed = all.0 }
 
 pub loop-feature-preserved : goal.loop-feature-preserved
 loop-feature-preserved g c =
@@ -43,12 +43,12 @@ loop-feature-preserved g c =
     let there = device_of g.W.Write.contents c.loop-feature.out in
     let new = device_of g.W.Write.contents c.dry_next.new.out in
     let before = subst (λ (ls : List ChosenValue). DryRunning library all old c.args.report.now ls there c.loop-feature.report) (ap (map chosen_value) s.0) c.loop-feature.invariant.held in
-    let paired : AllByRecursion IsPaired (c.in-Some.feature ∷ into_iter_items c.next.new.self) = subst (AllByRecursion IsPaired) s.0 c.loop-feature.invariant.paired in
+    let formed : AllByRecursion IsFormed (c.in-Some.feature ∷ into_iter_items c.next.new.self) = subst (AllByRecursion IsFormed) s.0 c.loop-feature.invariant.formed in
     record {
       held = dry_running_next library all old c.args.report.now this left there c.loop-feature.report new c.dry_next.new.report c.in_ok-dry_next.ensures.ok before;
       style = c.dry_next.ensures.style ∙ c.loop-feature.invariant.style;
       room = c.in_ok-dry_next.ensures.room;
-      paired = paired.1;
+      formed = formed.1;
       counted = omega arith;
     }
 

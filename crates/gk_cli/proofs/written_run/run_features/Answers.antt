@@ -3,8 +3,8 @@ use Rattle.std.specs.List.{AllByRecursion}
 use Rattle.std.specs.Vec.Iter.{into_iter_items}
 use Rattle.gk_world.specs.State.{state_of}
 use Rattle.gk_run.specs.Run.{run_of}
-use Rattle.gk_run.specs.Chosen.{ChosenValue, chosen_value, IsPaired}
-use Rattle.gk_run.specs.Features.{stays_open_by}
+use Rattle.gk_run.specs.Chosen.{ChosenValue, chosen_value, IsFormed}
+use Rattle.gk_run.specs.Cases.{stays_open_by}
 use Rattle.gk_run.specs.OpenRun.{AreFeatures}
 use Rattle.gk_cli.specs.Suite.{device_of}
 use Rattle.gk_cli.specs.WrittenRun.{IsRunNext, EndsNext, AreWrittenUpTo}
@@ -26,19 +26,19 @@ loop-feature-init g c =
       held = subst (λ (left : List ChosenValue). Running run first was_open all device report left was_open device report) (sym (ap (map chosen_value) here)) (running_first run first was_open all device report);
       style = refl;
       same = record { contents = refl; saved = refl; marks = refl; recorded = refl };
-      kept = record { layer = refl; before = refl; cleanups = refl; stops = refl };
+      kept = record { section = refl; stops = refl };
       earlier = λ h. h;
       room = c.requires.room;
-      paired = subst (AllByRecursion IsPaired) (sym here) c.requires.paired;
+      formed = subst (AllByRecursion IsFormed) (sym here) c.requires.formed;
       counted = let l = c.into_iter-feature-iterator.ensures.into_iter_gives.1 in let v = c.args.features.ok.0 in let f = ap length here in omega arith;
     }
 
 pub run_next-requires-clause-innermost : goal.run_next-requires-clause-innermost
-run_next-requires-clause-innermost g c = c.loop-feature.invariant.kept.layer ∙ c.requires.innermost ∙ ap length (sym c.loop-feature.invariant.same.saved)
+run_next-requires-clause-innermost g c = ap (λ s. s.layer) c.loop-feature.invariant.kept.section ∙ c.requires.innermost ∙ ap length (sym c.loop-feature.invariant.same.saved)
 
-pub run_next-requires-clause-paired : goal.run_next-requires-clause-paired
-run_next-requires-clause-paired g c =
-    let all : AllByRecursion IsPaired (c.in-Some.feature ∷ into_iter_items c.next.new.self) = subst (AllByRecursion IsPaired) c.in-Some.ensures.steps.0 c.loop-feature.invariant.paired in
+pub run_next-requires-clause-formed : goal.run_next-requires-clause-formed
+run_next-requires-clause-formed g c =
+    let all : AllByRecursion IsFormed (c.in-Some.feature ∷ into_iter_items c.next.new.self) = subst (AllByRecursion IsFormed) c.in-Some.ensures.steps.0 c.loop-feature.invariant.formed in
     all.0
 
 pub loop-feature-preserved : goal.loop-feature-preserved
@@ -60,7 +60,7 @@ loop-feature-preserved g c =
     let before = subst (λ (ls : List ChosenValue). Running run first was_open all old c.args.so_far.now.report ls is_open there c.loop-feature.so_far.report) (ap (map chosen_value) s.0) c.loop-feature.invariant.held in
     let one : IsRunNext run now is_open c.run_next.new.so_far.suite.is_open this there c.loop-feature.so_far.report new c.run_next.new.so_far.report =
     subst (λ (x : Bool). IsRunNext (run_of c.args.glue.now.library.now c.args.glue.now.hooks.now x) now is_open c.run_next.new.so_far.suite.is_open this there c.loop-feature.so_far.report new c.run_next.new.so_far.report) stops c.in_ok-run_next.ensures.ok in
-    let paired : AllByRecursion IsPaired (c.in-Some.feature ∷ into_iter_items c.next.new.self) = subst (AllByRecursion IsPaired) s.0 c.loop-feature.invariant.paired in
+    let formed : AllByRecursion IsFormed (c.in-Some.feature ∷ into_iter_items c.next.new.self) = subst (AllByRecursion IsFormed) s.0 c.loop-feature.invariant.formed in
     record {
       held = running_next run first now was_open all old c.args.so_far.now.report this left is_open c.run_next.new.so_far.suite.is_open there c.loop-feature.so_far.report new c.run_next.new.so_far.report
           (ap state_of c.loop-feature.invariant.same.contents) c.loop-feature.invariant.earlier one before;
@@ -69,7 +69,7 @@ loop-feature-preserved g c =
       kept = kept_through c.args.so_far.now.suite c.loop-feature.so_far.suite c.run_next.new.so_far.suite c.loop-feature.invariant.kept c.run_next.ensures.kept;
       earlier = λ h. c.loop-feature.invariant.earlier (and_left is_open (stays_open_by c.args.so_far.now.suite.stop one.row.status) (sym one.opens ∙ h));
       room = c.in_ok-run_next.ensures.room;
-      paired = paired.1;
+      formed = formed.1;
       counted = omega arith;
     }
 

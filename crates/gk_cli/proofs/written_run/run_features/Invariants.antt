@@ -3,7 +3,7 @@ use Rattle.std.specs.List.{AllByRecursion}
 use Rattle.std.specs.Vec.Iter.{into_iter_items, into_iter_len}
 use Rattle.gk_world.specs.State.{state_of}
 use Rattle.gk_run.specs.Run.{run_of}
-use Rattle.gk_run.specs.Chosen.{chosen_value, IsPaired}
+use Rattle.gk_run.specs.Chosen.{chosen_value, IsFormed}
 use Rattle.gk_run.specs.Running.{IsSame}
 use Rattle.gk_run.specs.OpenRun.{IsKept}
 use Rattle.gk_cli.specs.Counted.{CountsCanRise}
@@ -21,6 +21,6 @@ invariant-loop-feature g l = record {
   kept : IsKept l.fn.so_far.suite l.so_far.suite;
   earlier : l.so_far.suite.is_open ≡ true → l.fn.so_far.suite.is_open ≡ true;
   room : CountsCanRise l.out;
-  paired : AllByRecursion IsPaired (into_iter_items l.feature-iterator);
+  formed : AllByRecursion IsFormed (into_iter_items l.feature-iterator);
   counted : length (into_iter_items l.feature-iterator) ≡ into_iter_len l.feature-iterator;
 }

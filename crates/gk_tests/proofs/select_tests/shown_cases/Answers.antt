@@ -7,9 +7,9 @@ use Rattle.gk_tests.proofs.select_tests.shown_cases.Goals as goal
 pub expand-requires : goal.expand-requires
 expand-requires c =
     let reads = subst (λ o. Reads (lines_of c.as_bytes.result.now) (option_map feature_value o)) c.in-Ok-Some.field-0-is c.in-Ok-Some.ensures.found.1 in
-    c.read_features_are_expandable.ensures (lines_of c.as_bytes.result.now) (feature_value c.in-Ok-Some.feature) reads
+    c.read_features_are_expandable.ensures c.as_bytes.result.now (feature_value c.in-Ok-Some.feature) c.in-Ok-Some.ensures.found.0 reads
 
 pub into_cases-requires : goal.into_cases-requires
 into_cases-requires c =
     let reads = subst (λ o. Reads (lines_of c.as_bytes.result.now) (option_map feature_value o)) c.in-Ok-Some.field-0-is c.in-Ok-Some.ensures.found.1 in
-    c.read_features_are_expandable.ensures (lines_of c.as_bytes.result.now) (feature_value c.in-Ok-Some.feature) reads
+    c.read_features_are_expandable.ensures c.as_bytes.result.now (feature_value c.in-Ok-Some.feature) c.in-Ok-Some.ensures.found.0 reads

@@ -1,0 +1,12 @@
+use Rattle.std.proofs.Common.{drop, map}
+use Rattle.serde.specs.Event.{Log}
+use Rattle.serde_json.specs.View.{items_of}
+use Rattle.serde_json.specs.Events.{SendsItems}
+use Rattle.gk_run.specs.Results.{rule_row}
+use Rattle.gk_report.specs.JsonReport.{rule_data}
+use Rattle.gk_report.proofs.json_report.write_each_rule.Given as goal
+
+-- whatever ends the rules that are left ends all of them
+abbrev pub invariant-loop-rule : goal.invariant-loop-rule
+invariant-loop-rule g l =
+    (end : Log) → SendsItems (items_of (map rule_data (map rule_row (drop l.rule-index l.rules)))) (g.S.Serializer.written l.out) end → SendsItems (items_of (map rule_data (map rule_row l.rules))) (g.S.Serializer.written l.initial.out) end

@@ -1,0 +1,49 @@
+-- The rules of a feature, each with its scenarios.
+use Rattle.std.specs.Prelude.{◌≡◌, ℕ, nat_lt, Bool, false, List, [], ◌∷◌, ◌++◌, take, drop, map, flat_map, filter, All, Option, Some, None}
+use Rattle.std.specs.List.{position_or_len, last_or}
+use Rattle.std.specs.List.Sorted.{IsNonDecreasingBy}
+use Rattle.gk_run.specs.Results.{CaseRow, RuleRow}
+
+-- The line of the first of these rules is less than a line.
+abbrev pub begins_above : List RuleRow → ℕ → Bool
+begins_above [] line = false
+begins_above (r ∷ rules) line = nat_lt r.line line
+
+-- How many scenarios stand in front of the first of these rules: those up to the first with a greater line, or all where there is no rule.
+abbrev pub count_before : List RuleRow → List CaseRow → ℕ
+count_before rules cases = position_or_len (λ (c : CaseRow). begins_above rules c.line) cases
+
+-- The scenarios in front of the first of these rules.
+abbrev pub cases_before : List RuleRow → List CaseRow → List CaseRow
+cases_before rules cases = take (count_before rules cases) cases
+
+-- The scenarios behind these.
+abbrev pub cases_behind : List RuleRow → List CaseRow → List CaseRow
+cases_behind rules cases = drop (count_before rules cases) cases
+
+-- A rule with its scenarios.
+pub record RuleGroup : Type 0 where
+  pub rule : RuleRow
+  pub cases : List CaseRow
+
+-- Rules with the scenarios that stand behind the line of the first: each rule has those in front of the next one.
+abbrev pub rule_groups : List RuleRow → List CaseRow → List RuleGroup
+rule_groups [] cases = []
+rule_groups (r ∷ rules) cases = record { rule = r; cases = cases_before rules cases } ∷ rule_groups rules (cases_behind rules cases)
+
+-- The rule that a scenario is in: the last whose line is less than the scenario's, or none. (Cucumber's Gherkin reference: rule)
+abbrev pub rule_of : List RuleRow → CaseRow → Option RuleRow
+rule_of rules c = last_or None (filter (λ (r : RuleRow). nat_lt r.line c.line) rules)
+
+-- The lines of rules and those of scenarios don't fall, as in a file.
+pub record AreInFileOrder (rules : List RuleRow) (cases : List CaseRow) : Type 0 where
+  pub rising_rules : IsNonDecreasingBy (λ (r : RuleRow). r.line) rules
+  pub rising_cases : IsNonDecreasingBy (λ (c : CaseRow). c.line) cases
+
+-- How the scenarios of a feature stand by its rules. Each rule has one group, in order. The scenarios in front of the first rule and those of the groups are all, in order. In file order the former are in no rule, and those of a group are in its rule.
+pub record RulesFollowTheirScenarios : Type 0 where
+  pub each : (rules : List RuleRow) (cases : List CaseRow) → map (λ (g : RuleGroup). g.rule) (rule_groups rules cases) ≡ rules
+  pub whole : (rules : List RuleRow) (cases : List CaseRow) → cases_before rules cases ++ flat_map (λ (g : RuleGroup). g.cases) (rule_groups rules (cases_behind rules cases)) ≡ cases
+  pub own : (rules : List RuleRow) (cases : List CaseRow) → AreInFileOrder rules cases → All (λ c. rule_of rules c ≡ None) (cases_before rules cases)
+  pub others : (rules : List RuleRow) (cases : List CaseRow) → AreInFileOrder rules cases →
+      All (λ (g : RuleGroup). All (λ c. rule_of rules c ≡ Some g.rule) g.cases) (rule_groups rules (cases_behind rules cases))
