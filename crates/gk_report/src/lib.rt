@@ -7,10 +7,11 @@ mod plain_report;
 mod progress_report;
 mod report;
 mod report_texts;
+mod rule_groups;
 mod summary;
 
 pub use report::{
-    Format, Style, head, json_reports_are_documents, part, reports_grow_by_parts,
-    rules_follow_their_scenarios, tail,
+    Format, Style, head, json_reports_are_documents, part, reports_grow_by_parts, tail,
 };
+pub use rule_groups::rules_follow_their_scenarios;
 pub use summary::{Counts, Summary};

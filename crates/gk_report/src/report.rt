@@ -3,7 +3,6 @@ ghost use Rattle.std.specs.Prelude.{IfOk, string_bytes};
 ghost use Rattle.gk_run.specs.Results.{feature_row};
 ghost use Rattle.gk_report.specs.Report as spec;
 ghost use Rattle.gk_report.specs.ReportTexts.{AnswersText};
-ghost use Rattle.gk_report.specs.RuleGroups.{RulesFollowTheirScenarios};
 ghost use Rattle.gk_report.specs.Report.{IsTailOf, IsOneDocument, ReportsGrowByParts};
 
 use crate::json_report::{feature_object, json_head, json_tail};
@@ -95,10 +94,4 @@ pub fn json_reports_are_documents()
 /// begins the report of whatever results begin with them.
 pub fn reports_grow_by_parts()
     ensures { ReportsGrowByParts }
-{}
-
-/// In the plain report the scenarios of a feature stand by its rules: those that are in no rule, then those
-/// of each rule, and behind them the line of its hooks and cleanups. (Cucumber's Gherkin reference: rule)
-pub fn rules_follow_their_scenarios()
-    ensures { RulesFollowTheirScenarios }
 {}

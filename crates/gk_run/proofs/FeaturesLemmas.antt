@@ -1,5 +1,6 @@
 -- What is inside of a feature, and what it comes to.
-use Rattle.std.proofs.Common.{Bool, List, [], ap, arith, false, map, refl, subst, suc, sym, true, zero, ℕ, ◌&&◌, ◌++◌, ◌<◌, ◌≤◌, ◌∙◌, ◌≡◌}
+use Rattle.std.proofs.Common.{Bool, List, [], ap, arith, false, flat_map, map, refl, subst, suc, sym, true, zero, ℕ, ◌&&◌, ◌++◌, ◌<◌, ◌≤◌, ◌∙◌, ◌≡◌}
+use Rattle.std.proofs.lemmas.List.{append-nil}
 use Rattle.gk_world.specs.State.{State}
 use Rattle.gk_run.specs.declared.cases.Cases.{Cases}
 use Rattle.gk_run.specs.declared.results.RuleResult.{RuleResult}
@@ -8,14 +9,14 @@ use Rattle.gk_run.specs.declared.results.Status.TheVariants as statuses
 use Rattle.gk_run.specs.declared.section.Level.TheVariants as levels
 use Rattle.gk_run.specs.Cases.{RunsCases, all_stay_open, case_statuses, cases_of, members_in}
 use Rattle.gk_run.specs.Chosen.{ChosenValue, HeadValue, MemberValue, has_selected}
-use Rattle.gk_run.specs.Features.{IsFeatureEnd, IsFeatureResult, IsInside, feature_row_of, feature_verdict, inside_by, rule_statuses}
-use Rattle.gk_run.specs.Grouping.{Group, groups_from, members_of_rank, own_members, rule_groups}
-use Rattle.gk_run.specs.OpenSection.{SectionRow, section_of, section_state}
+use Rattle.gk_run.specs.Features.{FeatureCuts, FeaturesWithoutRulesHaveTheirCases, IsFeatureEnd, IsFeatureResult, IsInside, feature_row_of, feature_verdict, inside_by, inside_of, rule_statuses}
+use Rattle.gk_run.specs.Grouping.{CasesFallIntoRules, Group, groups_from, members_of_rank, own_members, rule_groups}
+use Rattle.gk_run.specs.OpenSection.{SectionRow, happened_in, section_of, section_state}
 use Rattle.gk_run.specs.Results.{CaseRow, FeatureRow, RuleRow, case_row, rule_row}
 use Rattle.gk_run.specs.Rules.{Inside, RuleCuts, RunsRules, rules_of}
 use Rattle.gk_run.specs.Run.{Run}
-use Rattle.gk_run.specs.Section.{Cut, nowhere}
-use Rattle.gk_run.proofs.GroupingLemmas.{and_left, groups_same}
+use Rattle.gk_run.specs.Section.{Cut, around_of, before_passed, nowhere}
+use Rattle.gk_run.proofs.GroupingLemmas.{and_left, groups_all, groups_same}
 
 later_rank : (first other : ℕ) → first ≡ 0 → suc zero ≤ other → first < other
 later_rank first other is le = omega (arith, is, le)
@@ -64,3 +65,25 @@ feature_is run now is_open is_begun f status end begins verdict ends outside ope
     let inside : State → Bool → Inside = λ section is_ready. inside_by run section is_ready known.1 known.2 (own_members f) (rule_groups f) in
     let by_end : SectionRow Inside → FeatureRow = λ e. feature_row_of f e.around e.inside in
     (record { own = known.0; cases = known.1; rules = known.2 }, ap row verdict ∙ ap by_end (known.3 ∙ ap (λ (b : Bool). section_of run levels.Feature f.tags outside b known.0 inside) begins))
+
+-- ---- a feature without rules
+
+own_are_all : (f : ChosenValue) → f.rules ≡ [] → CasesFallIntoRules f → own_members f ≡ f.members
+own_are_all f none falls =
+    sym (append-nil (own_members f))
+    ∙ ap (λ (heads : List HeadValue). own_members f ++ flat_map (λ (g : Group). g.members) (groups_from 1 heads f.members)) (sym none)
+    ∙ groups_all f falls
+
+inside_without_rules : (run : Run) (section : State) (is_open : Bool) (cuts : FeatureCuts) (f : ChosenValue) → f.rules ≡ [] → CasesFallIntoRules f →
+    inside_of run cuts f section is_open ≡ record { rules = []; cases = cases_of run section is_open cuts.cases f.members }
+inside_without_rules run section is_open cuts f none falls =
+    let alone : List CaseRow → Inside = λ rows. record { rules = []; cases = rows } in
+    ap (λ (heads : List HeadValue). inside_by run section is_open cuts.cases cuts.rules (own_members f) (groups_from 1 heads f.members)) none
+    ∙ ap alone (append-nil (cases_of run section is_open cuts.cases (own_members f)))
+    ∙ ap (λ (ms : List MemberValue). alone (cases_of run section is_open cuts.cases ms)) (own_are_all f none falls)
+
+pub without_rules : FeaturesWithoutRulesHaveTheirCases
+without_rules run outside is_open cuts f none falls =
+    let is_begun = is_open && has_selected f.members in
+    let events = happened_in run levels.Feature f.tags outside is_begun cuts.own in
+    ap (feature_row_of f (around_of events)) (inside_without_rules run (section_state run levels.Feature f.tags outside) (is_begun && before_passed events) cuts f none falls)

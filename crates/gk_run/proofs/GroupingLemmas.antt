@@ -1,13 +1,13 @@
 -- Cases by their rules.
 use Rattle.std.specs.Prelude.{nat_eq, nat_le, flat_map, slice_index_or, MatchOption, Option, Some, None}
 use Rattle.std.specs.Slice.{IsItemAt}
-use Rattle.std.proofs.Common.{Bool, Bor, List, drop, get_or, [], ap, arith, cond, false, inl, inr, length, map, refl, subst, sym, true, suc, ℕ, ◌&&◌, ◌++◌, ◌+◌, ◌<◌, ◌≤◌, ◌∙◌, ◌∷◌, ◌≡◌}
-use Rattle.std.proofs.lemmas.Bool.{eq-eqb, le-leb, leb-true, ne_eqb, true≢false}
-use Rattle.std.proofs.lemmas.List.{drop_all, drop_more, get_or_default}
+use Rattle.std.proofs.Common.{Bool, Bor, List, drop, get_or, [], ap, arith, cond, false, length, map, refl, subst, sym, true, suc, ℕ, ◌&&◌, ◌++◌, ◌+◌, ◌<◌, ◌≤◌, ◌∙◌, ◌∷◌, ◌≡◌}
+use Rattle.std.proofs.lemmas.Bool.{eq-eqb, eqb-false, eqb-true, le-leb, leb-true, ne_eqb, true≢false}
+use Rattle.std.proofs.lemmas.List.{drop_all, drop_more, get_or_default, length-map}
 use Rattle.gk_select.specs.declared.case.Case.{Case}
-use Rattle.gk_select.specs.RuleOrder.{rank, FallFrom}
-use Rattle.gk_run.specs.Chosen.{HeadValue, MemberValue, member_of, members_of}
-use Rattle.gk_run.specs.Grouping.{Group, groups_from, members_of_rank, falls_from}
+use Rattle.gk_select.specs.RuleOrder.{rank, FallFrom, FallIntoRules}
+use Rattle.gk_run.specs.Chosen.{HeadValue, MemberValue, head_value, member_of, members_of}
+use Rattle.gk_run.specs.Grouping.{FormedCasesFallIntoRules, Group, GroupsAreAll, falls_from, groups_from, members_of_rank}
 
 pub and_left : (a b : Bool) → (a && b) ≡ true → a ≡ true
 and_left true b h = refl
@@ -99,3 +99,82 @@ groups_same r (head ∷ heads) these those same =
     let group : List MemberValue → Group = λ ms. record { head = head; members = ms } in
     ap (λ (ms : List MemberValue). group ms ∷ groups_from (suc r) heads these) (same r (omega arith))
     ∙ ap (λ (gs : List Group). group (members_of_rank r those) ∷ gs) (groups_same (suc r) heads these those (λ other le. same other (omega (arith, le))))
+
+-- ---- the groups are all
+
+-- the rules of cases
+abbrev pub rules_in : List MemberValue → List (Option ℕ)
+rules_in ms = map (λ (m : MemberValue). m.scenario.rule) ms
+
+-- where the cases fall from beyond a rank on, there is none of it
+none_beyond : (count least r : ℕ) (ms : List MemberValue) → r < least → FallFrom count least (rules_in ms) → members_of_rank r ms ≡ []
+none_beyond count least r [] lt h = refl
+none_beyond count least r (m ∷ ms) lt h =
+    let first = h.0 in
+    not_of_rank r m ms (λ is. omega (arith, lt, first, is)) ∙ none_beyond count (rank m.scenario.rule) r ms (omega (arith, lt, first)) h.2
+
+-- and beyond the last rule there is no case
+none_past : (count least : ℕ) (ms : List MemberValue) → count < least → FallFrom count least (rules_in ms) → ms ≡ []
+none_past count least [] lt h = refl
+none_past count least (m ∷ ms) lt h = let no : ⊥ = (let first = h.0 in let last = h.1 in omega (arith, lt, first, last)) in absurd no
+
+-- cases that fall from a rank on, as those of it and those behind them
+record Parted (count r : ℕ) (ms : List MemberValue) : Type 0 where
+  behind : List MemberValue
+  whole : members_of_rank r ms ++ behind ≡ ms
+  falls : FallFrom count (suc r) (rules_in behind)
+  others : (other : ℕ) → suc r ≤ other → members_of_rank other ms ≡ members_of_rank other behind
+
+parted_on : (count r : ℕ) (m : MemberValue) (ms : List MemberValue) → FallFrom count r (rules_in (m ∷ ms)) → (FallFrom count r (rules_in ms) → Parted count r ms) → (b : Bool) → nat_eq (rank m.scenario.rule) r ≡ b → Parted count r (m ∷ ms)
+parted_on count r m ms h on true is =
+    let of_rank : rank m.scenario.rule ≡ r = eqb-true (rank m.scenario.rule) r is in
+    let next = on (subst (λ (n : ℕ). FallFrom count n (rules_in ms)) of_rank h.2) in
+    record {
+      behind = next.behind;
+      whole = ap (λ (xs : List MemberValue). xs ++ next.behind) (first_of_rank r m ms is) ∙ ap (λ (xs : List MemberValue). m ∷ xs) next.whole;
+      falls = next.falls;
+      others = λ other le. not_of_rank other m ms (λ that. omega (arith, le, of_rank, that)) ∙ next.others other le;
+    }
+parted_on count r m ms h on false is =
+    let first = h.0 in
+    let other_rank : rank m.scenario.rule ≡ r → ⊥ = eqb-false (rank m.scenario.rule) r is in
+    let next : suc r ≤ rank m.scenario.rule = above r (rank m.scenario.rule) first other_rank in
+    record {
+      behind = m ∷ ms;
+      whole = ap (λ (xs : List MemberValue). xs ++ m ∷ ms) (not_of_rank r m ms other_rank ∙ none_beyond count (rank m.scenario.rule) r ms next h.2);
+      falls = (next, h.1, h.2);
+      others = λ other le. refl;
+    }
+
+parted : (count r : ℕ) (ms : List MemberValue) → FallFrom count r (rules_in ms) → Parted count r ms
+parted count r [] h = record { behind = []; whole = refl; falls = tt; others = λ other le. refl }
+parted count r (m ∷ ms) h = parted_on count r m ms h (parted count r ms) (nat_eq (rank m.scenario.rule) r) refl
+
+-- the cases of a rank and then those of the next ranks, one after another, are all that fall from it on
+all_from : (heads : List HeadValue) (count r : ℕ) (ms : List MemberValue) → count ≤ r + length heads → FallFrom count r (rules_in ms) →
+    members_of_rank r ms ++ flat_map (λ (g : Group). g.members) (groups_from (suc r) heads ms) ≡ ms
+all_from [] count r ms le h =
+    let p = parted count r ms h in
+    ap (λ (xs : List MemberValue). members_of_rank r ms ++ xs) (sym (none_past count (suc r) p.behind (omega (arith, le)) p.falls)) ∙ p.whole
+all_from (head ∷ heads) count r ms le h =
+    let p = parted count r ms h in
+    ap (λ (gs : List Group). members_of_rank r ms ++ flat_map (λ (g : Group). g.members) gs) (groups_same (suc r) (head ∷ heads) ms p.behind p.others)
+    ∙ ap (λ (xs : List MemberValue). members_of_rank r ms ++ xs) (all_from heads count (suc r) p.behind (omega (arith, le)) p.falls)
+    ∙ p.whole
+
+pub groups_all : GroupsAreAll
+groups_all f h = all_from f.rules (length f.rules) 0 f.members (omega arith) h
+
+-- ---- what `run_feature` requires
+
+rules_of_members : (cases : List Case) (selected : List Bool) → length selected ≡ length cases → rules_in (members_of cases selected) ≡ map (λ (c : Case). c.rule) cases
+rules_of_members [] [] h = refl
+rules_of_members [] (s ∷ ss) h = absurd (omega arith)
+rules_of_members (c ∷ cs) [] h = absurd (omega arith)
+rules_of_members (c ∷ cs) (s ∷ ss) h = ap (λ (rs : List (Option ℕ)). c.rule ∷ rs) (rules_of_members cs ss (omega arith))
+
+pub formed_falls : FormedCasesFallIntoRules
+formed_falls c formed =
+    let rules = map (λ (case : Case). case.rule) c.cases.items in
+    subst (λ (rs : List (Option ℕ)). FallIntoRules (length (map head_value c.rules.items)) rs) (sym (rules_of_members c.cases.items c.selected.items formed.paired))
+    (subst (λ (n : ℕ). FallIntoRules n rules) (sym (length-map c.rules.items head_value)) formed.falls)

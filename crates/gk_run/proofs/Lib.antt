@@ -11,6 +11,7 @@ pub mod GroupingLemmas
 pub mod CasesLemmas
 pub mod RulesLemmas
 pub mod FeaturesLemmas
+pub mod FileOrder
 pub mod DryRunLemmas
 pub mod JudgedLemmas
 pub mod OpenRunLemmas

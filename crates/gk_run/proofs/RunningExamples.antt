@@ -23,7 +23,7 @@ use Rattle.gk_run.specs.declared.results.Reason.TheVariants as reasons
 use Rattle.gk_run.specs.declared.results.Outcome.{Outcome}
 use Rattle.gk_run.specs.declared.results.Outcome.TheVariants as outcomes
 use Rattle.gk_run.specs.Acting.{act}
-use Rattle.gk_run.specs.Results.{CaseRow, FeatureRow, Results}
+use Rattle.gk_run.specs.Results.{CaseRow, RuleRow, FeatureRow, Results}
 use Rattle.gk_run.specs.Section.{Cut, nowhere, in_before, in_steps, in_after, in_cleanups}
 use Rattle.gk_run.specs.Run.{Run}
 use Rattle.gk_run.specs.Running.{reached_row}
@@ -460,3 +460,58 @@ cut_in_a_dry_run contents = refl
 unselected_in_a_dry_run : (contents : Contents) → dry_one uncut_feature (unselected (codes "nothing knows this" ∷ []) ∷ []) contents ≡ comes_to Skipped Passed (simple Skipped (with_status Skipped ∷ []) ∷ [])
 unfolding found found_any match_of act
 unselected_in_a_dry_run contents = refl
+
+-- a selected scenario of a rule, which has the rule's tags and none of its own
+abbrev of_rule : ℕ → List (List ℕ) → List (List ℕ) → MemberValue
+of_rule place tags texts = record { scenario = record { name = codes "S"; keyword = codes "Scenario"; line = 1; rule = Some place; tags = tags; own_tags = []; steps = steps_of texts }; selected = true }
+
+-- a feature with a scenario of its own, and two rules with two scenarios and one
+abbrev two_rules : ChosenValue
+two_rules =
+    record (feature (scenario (codes "is n 1" ∷ []) ∷ of_rule 0 (codes "@x" ∷ []) (codes "add n 100" ∷ codes "is n 111" ∷ []) ∷ of_rule 0 (codes "@x" ∷ []) (codes "is n 11" ∷ []) ∷ of_rule 1 [] (codes "is n 11" ∷ []) ∷ [])) {
+      rules = record { line = 5; tags = codes "@x" ∷ [] } ∷ record { line = 11; tags = [] } ∷ [];
+    }
+
+-- its run, in which each rule begins with a number of the feature grown by 10, with further hooks
+abbrev growing : List HookValue → Run
+growing hooks =
+    run (hook kinds.BeforeFeature (codes "set n 1" ∷ []) ∷ hook kinds.BeforeRule (codes "add n 10" ∷ []) ∷ hook kinds.AfterRule (codes "is n 11" ∷ []) ∷ hook kinds.AfterFeature (codes "is n 1" ∷ []) ∷ hooks)
+    (of_number (codes "set ") actions.SetNumber ∷ of_number (codes "add ") actions.AddNumber ∷ of_number (codes "is ") actions.NumberIs ∷ fail ∷ [])
+
+-- what is looked at of a feature with rules: it, and each rule's line with how its hooks and cleanups ended
+record RuledSeen : Type 0 where
+  feature : FeatureSeen
+  rules : List RuleRow
+
+-- what the feature with two rules comes to, cut so
+abbrev rules_cut : Run → FeatureCuts → List RuledSeen
+rules_cut r cuts =
+    let results = results_from r start (record uncut { features = cuts ∷ [] }) (two_rules ∷ []) in
+    map (λ (row : FeatureRow). record { feature = feature_seen row; rules = row.rules }) results.features
+
+-- what it comes to, whose own hooks and cleanups pass and which has this verdict, its rules' hooks and cleanups ended so, and its scenarios came to this
+abbrev rules_come_to : Status → Status → Status → List CaseSeen → List RuledSeen
+rules_come_to verdict first second cases =
+    record { feature = record { verdict = verdict; around = Passed; cases = cases }; rules = record { line = 5; around = first } ∷ record { line = 11; around = second } ∷ [] } ∷ []
+
+-- What the hooks of a rule set up is there for each of its scenarios, what a scenario changed isn't there for the next one, and after the rule the feature's number is seen again.
+rules_in_layers : rules_cut (growing []) uncut_feature ≡ rules_come_to Passed Passed Passed (one_passed ∷ simple Passed (ok ∷ ok ∷ []) ∷ one_passed ∷ one_passed ∷ [])
+unfolding found found_any match_of is_utf8 chars lib.Utf8.encode act digits
+rules_in_layers = refl
+
+-- With a hook for the first rule's tag that fails, its scenarios are untested, and the feature goes on.
+failed_before_rule : rules_cut (growing (tag_hook kinds.BeforeTag (codes "@x") (codes "fail" ∷ []) ∷ [])) uncut_feature ≡ rules_come_to Failed Failed Passed (one_passed ∷ two_untested ∷ one_untested ∷ one_passed ∷ [])
+unfolding found found_any match_of is_utf8 chars lib.Utf8.encode act digits
+failed_before_rule = refl
+
+-- Where the run stops at a failure, the rules after it aren't begun.
+failed_rule_stops : rules_cut (record (growing (tag_hook kinds.BeforeTag (codes "@x") (codes "fail" ∷ []) ∷ [])) { stop = true }) uncut_feature ≡
+    rules_come_to Failed Failed Passed (one_passed ∷ two_untested ∷ one_untested ∷ one_untested ∷ [])
+unfolding found found_any match_of is_utf8 chars lib.Utf8.encode act digits
+failed_rule_stops = refl
+
+-- Memory was refused in the first rule's after hook: its scenarios stay as they were, and the feature goes on.
+cut_after_rule : rules_cut (growing []) (record uncut_feature { rules = record { own = in_after 0; cases = [] } ∷ [] }) ≡
+    rules_come_to Memory Memory Passed (one_passed ∷ simple Passed (ok ∷ ok ∷ []) ∷ one_passed ∷ one_passed ∷ [])
+unfolding found found_any match_of is_utf8 chars lib.Utf8.encode act digits
+cut_after_rule = refl

@@ -4,7 +4,7 @@ use Rattle.std.specs.Prelude.{Bool, true, cond, List, [], ◌∷◌, ◌++◌, m
 use Rattle.std.specs.declared.alloc.Global.{Global}
 use Rattle.gk_gherkin.specs.Feature.{texts}
 use Rattle.gk_world.specs.State.{State}
-use Rattle.gk_run.specs.declared.content.Content.{Content}
+use Rattle.gk_run.specs.declared.reserved.ReservedFeature.{ReservedFeature}
 use Rattle.gk_run.specs.declared.features.FeatureEnd.{FeatureEnd}
 use Rattle.gk_run.specs.declared.features.Inside as declared
 use Rattle.gk_run.specs.declared.results.Status.{Status}
@@ -12,10 +12,10 @@ use Rattle.gk_run.specs.declared.results.Status.TheVariants as statuses
 use Rattle.gk_run.specs.declared.run.Run as shared
 use Rattle.gk_run.specs.declared.section.Level.TheVariants as levels
 use Rattle.gk_run.specs.Cases.{all_stay_open, case_statuses, cases_of, first_or, later, members_in, stays_open}
-use Rattle.gk_run.specs.Chosen.{MemberValue, ChosenValue, has_selected, head_value}
-use Rattle.gk_run.specs.Grouping.{Group, groups_from, members_of_rank, own_members, rule_groups}
+use Rattle.gk_run.specs.Chosen.{HeadValue, MemberValue, ChosenValue, has_selected, head_value}
+use Rattle.gk_run.specs.Grouping.{CasesFallIntoRules, Group, groups_from, members_of_rank, own_members, rule_groups}
 use Rattle.gk_run.specs.OpenSection.{SectionRow, section_of}
-use Rattle.gk_run.specs.Results.{RuleRow, FeatureRow, case_row, rule_row, is_passed, is_failed, is_untested, is_memory}
+use Rattle.gk_run.specs.Results.{CaseRow, RuleRow, FeatureRow, case_row, rule_row, is_passed, is_failed, is_untested, is_memory}
 use Rattle.gk_run.specs.Rules.{Inside, RuleCuts, rules_of}
 use Rattle.gk_run.specs.Run.{run_value, Run}
 use Rattle.gk_run.specs.Section.{Cut, nowhere}
@@ -75,6 +75,26 @@ features_of run outside is_open cuts (f ∷ fs) =
 abbrev pub IsFeatureResult : Run → State → Bool → ChosenValue → FeatureRow → Type 0
 IsFeatureResult run now is_open f row = (outside : State) → (is_open ≡ true → now ≡ outside) → (cuts : FeatureCuts) × (row ≡ feature_of run outside is_open cuts f)
 
+-- The result of a feature as it is without rules: its cases run one after another from its own state.
+abbrev pub feature_without_rules : Run → State → Bool → FeatureCuts → ChosenValue → FeatureRow
+feature_without_rules run outside is_open cuts f =
+    let end = section_of run levels.Feature f.tags outside (is_open && has_selected f.members) cuts.own (λ section is_ready. cases_of run section is_ready cuts.cases f.members) in
+    feature_row_of f end.around (record { rules = []; cases = end.inside })
+
+-- A feature without rules has the results that its cases have one after another, each from the feature's state.
+abbrev pub FeaturesWithoutRulesHaveTheirCases : Type 0
+FeaturesWithoutRulesHaveTheirCases = (run : Run) (outside : State) (is_open : Bool) (cuts : FeatureCuts) (f : ChosenValue) →
+    f.rules ≡ [] → CasesFallIntoRules f → feature_of run outside is_open cuts f ≡ feature_without_rules run outside is_open cuts f
+
+-- The results of a feature stand in file order: one for each of its rules, and one for each of its cases, with the line of each.
+pub record StandsInFileOrder (f : ChosenValue) (row : FeatureRow) : Type 0 where
+  pub rules : map (λ (rule : RuleRow). rule.line) row.rules ≡ map (λ (head : HeadValue). head.line) f.rules
+  pub cases : map (λ (case : CaseRow). case.line) row.cases ≡ map (λ (m : MemberValue). m.scenario.line) f.members
+
+-- Where the cases of a feature fall into its rules, its results stand in file order, whatever is begun and wherever they are cut.
+abbrev pub ResultsStandInFileOrder : Type 0
+ResultsStandInFileOrder = (run : Run) (outside : State) (is_open : Bool) (cuts : FeatureCuts) (f : ChosenValue) → CasesFallIntoRules f → StandsInFileOrder f (feature_of run outside is_open cuts f)
+
 -- Proof machinery, from here on: what the code's calls do.
 
 -- What is inside of a section is that of some cuts, from the section's state where it is open.
@@ -93,11 +113,11 @@ abbrev pub inside_value : declared.Inside → Inside
 inside_value i = record { rules = map rule_row i.rules.items; cases = map case_row i.cases.items }
 
 -- What was run inside of a feature.
-abbrev pub RunsInside : shared.Run → State → Bool → Content → declared.Inside → Type 0
+abbrev pub RunsInside : shared.Run → State → Bool → ReservedFeature → declared.Inside → Type 0
 RunsInside run now is_open content inside =
     IsInside (run_value run) now is_open (members_of_rank 0 (members_in content.cases)) (groups_from 1 (map head_value content.rules.heads.items) (members_in content.cases)) (inside_value inside)
 
 -- A feature ran, or wasn't begun, and ended like this.
-abbrev pub EndsFeature : shared.Run → State → Bool → List (String Global) → Content → FeatureEnd → Type 0
+abbrev pub EndsFeature : shared.Run → State → Bool → List (String Global) → ReservedFeature → FeatureEnd → Type 0
 EndsFeature run now is_begun tags content end =
     IsFeatureEnd (run_value run) now is_begun (texts tags) (members_of_rank 0 (members_in content.cases)) (groups_from 1 (map head_value content.rules.heads.items) (members_in content.cases)) (record { around = end.around; inside = inside_value end.inside })

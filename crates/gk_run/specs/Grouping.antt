@@ -3,7 +3,8 @@ use Rattle.std.specs.List.{filter}
 use Rattle.std.specs.Prelude.{suc, Bool, true, ◌&&◌, nat_le, List, [], ◌∷◌, ◌≡◌, ℕ, nat_eq, map, length, flat_map, ◌++◌}
 use Rattle.gk_select.specs.RuleOrder.{rank, FallIntoRules}
 use Rattle.gk_select.specs.declared.case.Case.{Case}
-use Rattle.gk_run.specs.Chosen.{HeadValue, MemberValue, ChosenValue}
+use Rattle.gk_run.specs.declared.chosen.Chosen.{Chosen}
+use Rattle.gk_run.specs.Chosen.{HeadValue, MemberValue, ChosenValue, chosen_value, IsFormed}
 
 -- The cases of this rank, in order: of rank 0 those without a rule, and then those of one rule after another.
 abbrev pub members_of_rank : ℕ → List MemberValue → List MemberValue
@@ -27,10 +28,17 @@ own_members f = members_of_rank 0 f.members
 abbrev pub rule_groups : ChosenValue → List Group
 rule_groups f = groups_from 1 f.rules f.members
 
+-- The cases of a feature fall into its rules.
+abbrev pub CasesFallIntoRules : ChosenValue → Type 0
+CasesFallIntoRules f = FallIntoRules (length f.rules) (map (λ (m : MemberValue). m.scenario.rule) f.members)
+
 -- Where the cases of a feature fall into its rules, its own cases and then those of each rule are all of them, in file order.
 abbrev pub GroupsAreAll : Type 0
-GroupsAreAll = (f : ChosenValue) → FallIntoRules (length f.rules) (map (λ (m : MemberValue). m.scenario.rule) f.members) →
-    own_members f ++ flat_map (λ (g : Group). g.members) (rule_groups f) ≡ f.members
+GroupsAreAll = (f : ChosenValue) → CasesFallIntoRules f → own_members f ++ flat_map (λ (g : Group). g.members) (rule_groups f) ≡ f.members
+
+-- What `run_feature` requires of a feature says that its cases fall into its rules.
+abbrev pub FormedCasesFallIntoRules : Type 0
+FormedCasesFallIntoRules = (c : Chosen) → IsFormed c → CasesFallIntoRules (chosen_value c)
 
 -- Proof machinery, from here on: what the code's calls do.
 

@@ -14,10 +14,9 @@ ghost use Rattle.gk_run.specs.Running.{IsSame};
 
 use crate::cases::{Cases, both, either, run_cases};
 use crate::chosen::Chosen;
-use crate::content::Content;
 use crate::ending::has_passed;
 use crate::open_section::{end_around, leave_section, open_section};
-use crate::reserved::{reserve_cases, reserve_rules};
+use crate::reserved::{ReservedFeature, reserve_cases, reserve_rules};
 use crate::results::{CaseResult, FeatureResult, NoRoom, RuleResult, Status};
 use crate::rules::run_rules;
 use crate::run::Run;
@@ -39,14 +38,14 @@ fn run_inside(
     run: &Run<'_>,
     sandbox: &mut Sandbox,
     is_open: bool,
-    content: Content,
+    content: ReservedFeature,
 ) -> Result<Inside, NoRoom>
     requires layer { suc (depth sandbox.old) < layers }
     ensures inside { IfOk result
         (RunsInside run.now (state_of sandbox.old.now) is_open content) }
     ensures same { IsSame sandbox.old sandbox.new }
 {
-    let Content { rules, mut cases } = content;
+    let ReservedFeature { rules, mut cases } = content;
     let all_stay = run_cases(run, sandbox, is_open, &mut cases)?;
     let rules = run_rules(run, sandbox, both(is_open, all_stay), rules, &mut cases)?;
     Ok(Inside {
@@ -67,7 +66,7 @@ fn begin_feature(
     run: &Run<'_>,
     sandbox: &mut Sandbox,
     tags: &[String],
-    content: Content,
+    content: ReservedFeature,
 ) -> Result<FeatureEnd, NoRoom>
     requires layer { suc (suc (depth sandbox.old)) < layers }
     ensures end { IfOk result
@@ -97,7 +96,7 @@ fn feature_end(
     sandbox: &mut Sandbox,
     is_begun: bool,
     tags: &[String],
-    content: Content,
+    content: ReservedFeature,
 ) -> Result<FeatureEnd, NoRoom>
     requires layer { suc (suc (depth sandbox.old)) < layers }
     ensures end { IfOk result
@@ -201,7 +200,7 @@ pub(crate) fn feature_in(
     let is_begun = both(is_open, has_selected(selected.as_slice()));
     let rules = reserve_rules(run.alloc, rules)?;
     let cases = Cases::new(reserve_cases(run.alloc, cases, selected)?);
-    let content = Content { rules, cases };
+    let content = ReservedFeature { rules, cases };
     let end = feature_end(run, sandbox, is_begun, tags.as_slice(), content)?;
     Ok(FeatureResult {
         source,

@@ -9,10 +9,10 @@ mod cases;
 mod chosen;
 mod cleanups;
 mod closing;
-mod content;
 mod dry_run;
 mod ending;
 mod features;
+mod grouping;
 mod judged;
 mod open_run;
 mod open_section;
@@ -30,6 +30,10 @@ pub use chosen::{Chosen, RuleHead};
 pub use cleanups::Cleanups;
 pub use dry_run::dry_feature;
 pub use features::run_feature;
+pub use grouping::{
+    features_without_rules_have_their_cases, formed_cases_fall_into_rules, groups_are_all,
+    results_stand_in_file_order,
+};
 pub use judged::{
     dry_runs_are_judged, unfinished_dry_runs_are_judged, without_memory_there_is_one_list,
 };

@@ -3,6 +3,7 @@ ghost use Rattle.std.specs.Prelude.{◌≡◌, ◌≤◌, [], length, vec_capaci
 
 mod reserving;
 
+use crate::cases::Cases;
 use crate::chosen::RuleHead;
 use crate::results::{CaseResult, RuleResult, StepResult};
 use gk_gherkin::Step;
@@ -51,4 +52,13 @@ pub struct ReservedCases {
     pub results: Vec<CaseResult>,
     ghost empty: { results.items ≡ [] },
     ghost room: { length cases.items ≤ vec_capacity results },
+}
+
+/// The rules and the cases of a feature, none of which is run yet.
+#[derive(Drop)]
+pub struct ReservedFeature {
+    pub rules: ReservedRules,
+    pub cases: Cases,
+    ghost first: { cases.rank ≡ 0 },
+    ghost empty: { cases.results.items ≡ [] },
 }

@@ -10,7 +10,6 @@ ghost use Rattle.gk_select.specs.Copies.{Appends, filled_by};
 ghost use Rattle.gk_select.specs.Filling.{filled_step};
 ghost use Rattle.gk_select.specs.Expansion as spec;
 ghost use Rattle.gk_select.specs.Expansion.{cases, step_count, step_limit, HasTooManySteps, IsExpandable, RowsFit};
-ghost use Rattle.gk_select.specs.RuleOrder.{FallIntoRules};
 ghost use Rattle.gk_select.specs.Expansion.{HasNoOutline, plain_cases, case_count};
 ghost use Rattle.gk_select.specs.Expansion.{name_of_row, case_of_row, cases_of_rows, FitPart};
 ghost use Rattle.gk_select.specs.Expansion.{cases_of_parts, cases_of_scenarios, cases_of_rules};
@@ -449,10 +448,4 @@ pub fn plain_scenarios_are_cases()
 /// (Cucumber's Gherkin reference: scenario outline)
 pub fn rows_are_cases()
     ensures { (f : FeatureValue) → length (cases f) ≡ case_count f }
-{}
-
-/// The rules of the cases are places among the feature's rules, and never fall from one case to the next; a case
-/// without a rule counts lowest. (Cucumber's Gherkin reference: rule)
-pub fn cases_fall_into_rules()
-    ensures { (f : FeatureValue) → FallIntoRules (length f.rules) (map (λ c. c.rule) (cases f)) }
 {}

@@ -11,6 +11,7 @@ mod expansion;
 mod filling;
 mod inherited;
 mod outline;
+mod rule_order;
 mod select_fault;
 mod tag_grammar;
 mod tag_rules;
@@ -21,10 +22,10 @@ pub use case::Case;
 pub use choice::Choice;
 pub use counting::STEP_LIMIT;
 pub use expansion::{
-    cases_fall_into_rules, expand, into_cases, plain_scenarios_are_cases,
-    read_features_are_expandable, rows_are_cases,
+    expand, into_cases, plain_scenarios_are_cases, read_features_are_expandable, rows_are_cases,
 };
 pub use filling::texts_have_one_cut;
+pub use rule_order::cases_fall_into_rules;
 pub use select_fault::SelectFault;
 pub use tag_rules::{alternatives_are_rules, read_tags, texts_have_one_rule};
 pub use tag_values::TagRule;
