@@ -23,6 +23,9 @@ SUITE = {
                                        "    Then it fails\n  Scenario Outline: rows\n    Given it <ends>\n    Examples:\n"
                                        "      | ends |\n      | passes |\n      | fails |\n      | is unknown |\n",
     "features/untidy.feature": "@untidy\nFeature: untidy\n  Scenario: one\n    Given it passes\n  @broken\n  Scenario: two\n    Given it passes\n",
+    "features/rules.feature": "Feature: rules\n  Rule: tidy\n    Scenario: one\n      Given it passes\n  @untidy\n  Rule: untidy\n"
+                              "    Scenario: two\n      Given it passes\n    Scenario: three\n      Given it passes\n  @broken\n  Rule: broken\n"
+                              "    Scenario: four\n      Given it passes\n",
     "suite.hooks": "after_tag @untidy:\n  Given it fails\nbefore_tag @broken:\n  Given it fails\nafter_all:\n  Given it fails\n",
 }
 
@@ -53,10 +56,15 @@ def one_run(program, folder, *options):
     return driver.start(program, [*options, "--", *names], folder)
 
 
+def rules_of(report):
+    """The rules of all features of a report."""
+    return [it for one in report["features"] for it in one.get("rules", [])]
+
+
 def bad_places(report):
-    """How many steps, and how many hooks and cleanups of scenarios, features and the run, didn't pass."""
+    """How many steps, and how many hooks and cleanups of scenarios, rules, features and the run, didn't pass."""
     scenarios = [it for one in report["features"] for it in one["scenarios"]]
-    around = [it["around"] for it in [*report["features"], *scenarios]] + [report["run"]]
+    around = [it["around"] for it in [*report["features"], *rules_of(report), *scenarios]] + [report["run"]]
     return sum(it in BAD for it in [*around, *(step["status"] for one in scenarios for step in one["steps"])])
 
 
@@ -96,11 +104,13 @@ def junit_trouble(report, printed):
     cases = [[it.find(kind) is not None for it in one.findall("testcase")] for one in suites for kind in ("failure", "error", "skipped")]
     counted = [int(one.get(name)) for one in suites for name in ("failures", "errors", "skipped")]
     scenarios = [it for one in report["features"] for it in one["scenarios"]]
-    statuses = [it["status"] for it in scenarios] + [it["around"] for it in report["features"] if it["around"] != "passed"]
+    statuses = [it["status"] for it in scenarios]
+    statuses += [it["around"] for it in [*report["features"], *rules_of(report)] if it["around"] != "passed"]
     statuses += [report["run"]] if report["run"] != "passed" else []
     wanted = [statuses.count("failed"), statuses.count("memory"), statuses.count("skipped") + statuses.count("untested")]
     found = [len(root.findall(f".//{kind}")) for kind in ("failure", "error", "skipped")]
-    names = [it.get("name") for it in root.findall(".//testcase") if it.get("name") != "(hooks and cleanups)"]
+    around = re.compile(r"\((rule, line \d+: )?hooks and cleanups\)")
+    names = [it.get("name") for it in root.findall(".//testcase") if not around.fullmatch(it.get("name"))]
     return unless("JUnit: counts that aren't those of the cases", counted == [sum(it) for it in cases]) or \
         unless(f"JUnit: {found} and not {wanted}", found == wanted) or \
         unless("JUnit: other names", names == [readable(it["name"]) for it in scenarios], *names)
@@ -113,7 +123,7 @@ def readable(name):
 
 def failed_trouble(report, printed):
     wanted = sum(it["status"] in ("failed", "memory") for one in report["features"] for it in one["scenarios"])
-    wanted += sum(it["around"] in BAD for it in report["features"]) + (report["run"] in BAD)
+    wanted += sum(it["around"] in BAD for it in [*report["features"], *rules_of(report)]) + (report["run"] in BAD)
     return unless("failed: another number of lines", printed.count(b"\n") == wanted, printed.decode())
 
 
@@ -186,6 +196,13 @@ def again_troubles(folder, command):
     headings = re.findall(rb"^  \S.* \.\.\. (failed|passed)$", printed, re.MULTILINE)
     yield unless("again.sh after a repair: other verdicts", sorted(headings) == [b"failed"] * 3 + [b"passed"], printed.decode("utf-8", "replace"))
     driver.write(folder, SUITE)
+    status, printed, fault = shell(folder, "./run --hooks suite.hooks --format json features/rules.feature > ruled.json; "
+                                           "examples/recipes/again.sh ruled.json ./run --hooks suite.hooks")
+    headings = re.findall(rb"^  (\S.*) \.\.\. \w+$", printed, re.MULTILINE)
+    wanted = [b"Scenario: one", b"Scenario: two", b"Scenario: three", b"(rule, line 6: hooks and cleanups)", b"Scenario: four",
+              b"(rule, line 12: hooks and cleanups)"]
+    skipped = re.findall(rb"^  \S.* \.\.\. skipped$", printed, re.MULTILINE)
+    yield unless("again.sh of rules", status == 1 and headings == wanted and skipped == [b"  Scenario: one ... skipped"], printed.decode(), fault.decode())
 
 
 def sum_troubles(folder, name, command, whole):

@@ -136,6 +136,7 @@ add_up "hooks that fail" --hooks examples/failing_hooks.hooks -- \
     examples/failing_hooks.feature $features
 add_up "cleanups" --hooks examples/cleanups.hooks -- \
     examples/cleanups.feature examples/first.feature
+add_up "rules" --hooks examples/rules.hooks -- examples/rules.feature examples/settings.feature
 add_up "a library" --library examples/default.steps --env A=b -- examples/default.feature $features
 # The commands of the guide, in a folder with some features: a line of the page that begins with a
 # text.

@@ -2,8 +2,8 @@
 # Runs once more what failed: examples/recipes/again.sh REPORT PROGRAM [OPTION]..
 #
 # REPORT is the JSON report of the run in which it failed. Each file of it with something that failed is run by itself,
-# with the options and the lines of those scenarios; whole where its own hooks and cleanups failed. Ends with the greatest
-# status. It needs jq.
+# with the options and the lines of those scenarios, and of all those of a rule whose hooks and cleanups failed; whole where
+# the feature's own did. Ends with the greatest status. It needs jq.
 set -eu
 
 report=$1
@@ -11,7 +11,9 @@ shift
 runs=$(jq --raw-output '
     def is_bad: . == "failed" or . == "memory";
     .features[]
-    | [.scenarios[] | select(.status | is_bad) | .line] as $lines
+    | (.rules // []) as $rules
+    | [range($rules | length) | select($rules[.].around | is_bad) | [$rules[.].line, $rules[. + 1].line // infinite]] as $parts
+    | [.scenarios[] | select((.status | is_bad) or (.line as $line | any($parts[]; .[0] < $line and $line < .[1]))) | .line] as $lines
     | if .around | is_bad then ["--", .source]
       elif $lines == [] then empty
       else [$lines[] | "--line", tostring] + ["--", .source] end

@@ -1,5 +1,6 @@
 # GitHub's annotations, by a JSON report: one for each step that failed, is undefined or is memory, at its line, and one for
-# hooks and cleanups that didn't pass, where they belong. Control characters are shown by their pictures.
+# hooks and cleanups that didn't pass, where they belong: at the heading of their scenario, rule or feature. Control
+# characters are shown by their pictures.
 def character: if . == 10 or . == 13 or . >= 32 then . else . + 9216 end;
 def data: explode | map(character) | implode | gsub("%"; "%25") | gsub("\r"; "%0D") | gsub("\n"; "%0A");
 def property: data | gsub(":"; "%3A") | gsub(","; "%2C");
@@ -11,5 +12,7 @@ def is_bad: . == "failed" or . == "undefined" or . == "memory";
         | (.steps[] | select(.status | is_bad)
             | error($file; .line; $title; "\(.keyword) \(.text) ... \(.status)" + (if .reason then ": \(.reason)" else "" end))),
           (select(.around | is_bad) | error($file; .line; $title; "hooks and cleanups of the scenario ... \(.around)"))),
+      ("Feature: \(.name)" as $title | (.rules // [])[] | select(.around | is_bad)
+        | error($file; .line; $title; "hooks and cleanups of the rule ... \(.around)")),
       (select(.around | is_bad) | error($file; .line; "Feature: \(.name)"; "hooks and cleanups of the feature ... \(.around)"))),
 (select(.run | is_bad) | "::error title=gherkin_run::hooks and cleanups of the run ... \(.run)")

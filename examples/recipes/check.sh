@@ -18,6 +18,6 @@ shift
 }
 status=0
 "$program" --no-skipped "$@" > "$room/report" || status=$?
-grep -E '^(Feature|  [A-Z][A-Za-z ]*): .* \.\.\. (failed|memory)$|\.\.\. failed: |^ *\(hooks and cleanups\) ' "$room/report" || true
+grep -E '^(Feature|  [A-Z][A-Za-z ]*): .* \.\.\. (failed|memory)$|\.\.\. failed: |^ *\((rule, line [0-9]+: )?hooks and cleanups\) ' "$room/report" || true
 tail -n 3 "$room/report"
 exit "$status"

@@ -1,6 +1,6 @@
-# A JUnit file, by a JSON report: a suite for each feature, a case for each scenario. Hooks and cleanups of a feature or of
-# the run that didn't pass are a case of their own. A character that XML can't have is replaced: a control character by
-# its picture, the others by the replacement character.
+# A JUnit file, by a JSON report: a suite for each feature, a case for each scenario. Hooks and cleanups of a rule, of a
+# feature or of the run that didn't pass are a case of their own. A character that XML can't have is replaced: a control
+# character by its picture, the others by the replacement character.
 def character:
     if . == 38 then "&amp;" elif . == 60 then "&lt;" elif . == 62 then "&gt;" elif . == 34 then "&quot;"
     elif . == 9 or . == 10 or . == 13 then "&#\(.);"
@@ -25,11 +25,15 @@ def suite($name; $statuses; $cases):
     "  <testsuite name=\"\($name | xml)\" tests=\"\($statuses | length)\" failures=\"\($statuses | count(["failed"]))\" errors=\"\($statuses | count(["memory"]))\" skipped=\"\($statuses | count(["skipped", "untested"]))\">",
     $cases[],
     "  </testsuite>";
-def statuses: [.scenarios[].status] + (if .around == "passed" then [] else [.around] end);
+def rules: (.rules // [])[];
+def statuses: [.scenarios[].status] + [(rules, .).around | select(. != "passed")];
 
 "<?xml version=\"1.0\" encoding=\"UTF-8\"?>",
 "<testsuites>",
 (.features[] | .source as $file
-    | suite("\($file): \(.name)"; statuses; [(.scenarios[] | testcase($file)), around($file; "(hooks and cleanups)"; .around)])),
+    | suite("\($file): \(.name)"; statuses;
+        [(.scenarios[] | testcase($file)),
+         (rules | around($file; "(rule, line \(.line): hooks and cleanups)"; .around)),
+         around($file; "(hooks and cleanups)"; .around)])),
 (if .run == "passed" then empty else suite("(the run)"; [.run]; [around("(the run)"; "(hooks and cleanups)"; .run)]) end),
 "</testsuites>"

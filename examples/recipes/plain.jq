@@ -3,7 +3,12 @@ def line: gsub("\n"; "\\n");
 def hooks($blanks): if .around == "passed" then empty else "\($blanks)(hooks and cleanups) ... \(.around)" end;
 def step: "    \(.keyword) \(.text | line) ... \(.status)" + (if .reason then ": \(.reason)" else "" end);
 def scenario: "  \(.keyword): \(.name | line) ... \(.status)", (.steps[] | step), hooks("    ");
-def feature: "Feature: \(.name | line) ... \(.status)", (.scenarios[] | scenario), hooks("  "), "";
+# Those of a rule stand below its last scenario, so above the next rule.
+def rules:
+    (.rules // []) as $rules | range($rules | length) as $place | $rules[$place] | select(.around != "passed")
+    | {line: ($rules[$place + 1].line // infinite), text: ["  (rule, line \(.line): hooks and cleanups) ... \(.around)"]};
+def inside: [(.scenarios[] | {line, text: [scenario]}), rules] | sort_by(.line)[].text[];
+def feature: "Feature: \(.name | line) ... \(.status)", inside, hooks("  "), "";
 def counts($noun; $always):
     . as $counts
     | ([$always[] | ", \($counts[.]) \(.)"] + [("untested", "memory") | select($counts[.] != 0) | ", \($counts[.]) \(.)"])

@@ -16,5 +16,6 @@ def is_bad: . == "failed" or . == "undefined" or . == "memory";
           (.steps[] | select(.status | is_bad)
             | "  - line \(.line): \(.keyword) \(.text | text): \(.status)" + (if .reason then ", \(.reason)" else "" end)),
           (select(.around | is_bad) | "  - hooks and cleanups: \(.around)")),
+      ((.rules // [])[] | select(.around | is_bad) | "- \($file | text):\(.line): Rule: hooks and cleanups: **\(.around)**"),
       (select(.around | is_bad) | "- \($file | text):\(.line): Feature: \(.name | text): hooks and cleanups: **\(.around)**")),
 (select(.run | is_bad) | "- hooks and cleanups of the run: **\(.run)**")

@@ -1,0 +1,4 @@
+Feature: two
+  Rule: third
+    Scenario: D
+      Given it passes

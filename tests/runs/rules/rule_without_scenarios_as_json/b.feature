@@ -1,0 +1,2 @@
+Feature: two
+  Rule: nothing

@@ -1,0 +1,6 @@
+Feature: f
+  Scenario: A
+    Given it passes
+  Rule: r
+    Scenario: B
+      Given it passes
