@@ -6,20 +6,15 @@ use Rattle.std.proofs.lemmas.List.{append-nil, at_drop_all, at_drop_more, map_pu
 use Rattle.gk_gherkin.specs.Feature.{StepValue}
 use Rattle.gk_select.specs.declared.case.Case.{Case}
 use Rattle.gk_world.specs.State.{State}
-use Rattle.gk_run.specs.declared.ending.Ending.{Ending}
 use Rattle.gk_run.specs.declared.results.CaseResult.{CaseResult}
 use Rattle.gk_run.specs.declared.results.Mark.{Mark}
 use Rattle.gk_run.specs.declared.results.Mark.TheVariants.{Skipped, Untested}
 use Rattle.gk_run.specs.declared.results.Status.{Status}
 use Rattle.gk_run.specs.declared.results.Status.TheVariants as statuses
-use Rattle.gk_run.specs.declared.section.Level.{Level}
-use Rattle.gk_run.specs.declared.section.Level.TheVariants as levels
-use Rattle.gk_run.specs.Acting.{CleanupValue, passes}
 use Rattle.gk_run.specs.Run.{Run}
 use Rattle.gk_run.specs.Running.{reached_row, unrun_row, unreached_row, unselected_row, IsReached, marks_of}
-use Rattle.gk_run.specs.Walk.{row_of_step, rows_of_steps, IsWalked}
+use Rattle.gk_run.specs.Walk.{row_of_step, rows_of_steps}
 use Rattle.gk_run.specs.Chosen.{MemberValue, has_selected, member_of, members_of}
-use Rattle.gk_run.specs.Ending.{has_passed}
 use Rattle.gk_run.specs.Cases.{all_stay_open, case_of, cases_of, members_in, stays_open, AreCases, RunsCases, TakesMember}
 use Rattle.gk_run.specs.Grouping.{falls_from, members_of_rank}
 use Rattle.gk_run.proofs.GroupingLemmas.{and_left, first_of_rank, none_of_rank, not_of_rank}
@@ -32,9 +27,7 @@ use Rattle.std.proofs.lemmas.Bool.{eq-eqb}
 use Rattle.gk_run.specs.declared.results.RuleResult.{RuleResult}
 use Rattle.gk_run.specs.Results.{CaseRow, RuleRow, StepRow, case_row, rule_row}
 use Rattle.gk_run.specs.Section.{Cut, nowhere}
-use Rattle.gk_run.specs.SectionHooks.{begun}
 use Rattle.gk_run.proofs.Nothing.{nothing_in}
-use Rattle.gk_run.proofs.SectionLemmas.{passed_state}
 
 -- a test of statuses, as the code makes it
 pub statuses_any : (p : Status → Bool) (cases : List CaseResult) → list_any p (map (λ (row : CaseRow). row.status) (map case_row cases)) ≡ list_any (λ (c : CaseResult). p c.status) cases

@@ -1,5 +1,5 @@
 -- What is inside of a feature, and what it comes to.
-use Rattle.std.proofs.Common.{Bool, List, [], ap, arith, false, flat_map, map, refl, subst, suc, sym, true, zero, ℕ, ◌&&◌, ◌++◌, ◌<◌, ◌≤◌, ◌∙◌, ◌≡◌}
+use Rattle.std.proofs.Common.{Bool, List, [], ap, arith, false, flat_map, map, suc, sym, true, zero, ℕ, ◌&&◌, ◌++◌, ◌<◌, ◌≤◌, ◌∙◌, ◌≡◌}
 use Rattle.std.proofs.lemmas.List.{append-nil}
 use Rattle.gk_world.specs.State.{State}
 use Rattle.gk_run.specs.declared.cases.Cases.{Cases}
@@ -12,10 +12,10 @@ use Rattle.gk_run.specs.Chosen.{ChosenValue, HeadValue, MemberValue, has_selecte
 use Rattle.gk_run.specs.Features.{FeatureCuts, FeaturesWithoutRulesHaveTheirCases, IsFeatureEnd, IsFeatureResult, IsInside, feature_row_of, feature_verdict, inside_by, inside_of, rule_statuses}
 use Rattle.gk_run.specs.Grouping.{CasesFallIntoRules, Group, groups_from, members_of_rank, own_members, rule_groups}
 use Rattle.gk_run.specs.OpenSection.{SectionRow, happened_in, section_of, section_state}
-use Rattle.gk_run.specs.Results.{CaseRow, FeatureRow, RuleRow, case_row, rule_row}
-use Rattle.gk_run.specs.Rules.{Inside, RuleCuts, RunsRules, rules_of}
+use Rattle.gk_run.specs.Results.{CaseRow, FeatureRow, case_row, rule_row}
+use Rattle.gk_run.specs.Rules.{Inside, RunsRules, rules_of}
 use Rattle.gk_run.specs.Run.{Run}
-use Rattle.gk_run.specs.Section.{Cut, around_of, before_passed, nowhere}
+use Rattle.gk_run.specs.Section.{around_of, before_passed, nowhere}
 use Rattle.gk_run.proofs.GroupingLemmas.{and_left, groups_all, groups_same}
 
 later_rank : (first other : ℕ) → first ≡ 0 → suc zero ≤ other → first < other

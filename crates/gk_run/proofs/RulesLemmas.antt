@@ -1,20 +1,18 @@
 -- Rules, one after another.
-use Rattle.std.proofs.Common.{Bool, List, [], ap, append_assoc, arith, cond, false, length, map, refl, subst, suc, sym, true, ℕ, ◌&&◌, ◌++◌, ◌<◌, ◌≤◌, ◌∙◌, ◌∷◌, ◌≡◌}
+use Rattle.std.proofs.Common.{Bool, List, [], ap, append_assoc, arith, false, map, refl, subst, suc, sym, true, ℕ, ◌&&◌, ◌++◌, ◌<◌, ◌≤◌, ◌∙◌, ◌∷◌, ◌≡◌}
 use Rattle.std.proofs.lemmas.List.{append-nil, map_push}
 use Rattle.gk_world.specs.State.{State}
 use Rattle.gk_run.specs.declared.cases.Cases.{Cases}
-use Rattle.gk_run.specs.declared.chosen.RuleHead.{RuleHead}
 use Rattle.gk_run.specs.declared.results.RuleResult.{RuleResult}
-use Rattle.gk_run.specs.declared.results.Status.{Status}
 use Rattle.gk_run.specs.declared.results.Status.TheVariants as statuses
 use Rattle.gk_run.specs.declared.rules.RuleEnd.{RuleEnd}
 use Rattle.gk_run.specs.declared.section.Level.TheVariants as levels
-use Rattle.gk_run.specs.Cases.{AreCases, all_stay_open, cases_of, members_in, stays_open, stays_open_by}
-use Rattle.gk_run.specs.Chosen.{HeadValue, MemberValue, has_selected, head_value}
+use Rattle.gk_run.specs.Cases.{AreCases, cases_of, members_in, stays_open, stays_open_by}
+use Rattle.gk_run.specs.Chosen.{HeadValue, MemberValue, has_selected}
 use Rattle.gk_run.specs.Grouping.{Group, falls_from, groups_from, members_of_rank}
 use Rattle.gk_run.specs.OpenSection.{SectionRow, section_of, section_state}
 use Rattle.gk_run.specs.Results.{CaseRow, RuleRow, case_row, rule_row}
-use Rattle.gk_run.specs.Rules.{AreRules, EndsRule, Inside, IsRule, RuleCuts, RunsRule, RunsRules, rule_of, rule_stays_open, rules_of}
+use Rattle.gk_run.specs.Rules.{Inside, IsRule, RuleCuts, RunsRule, RunsRules, rule_stays_open, rules_of}
 use Rattle.gk_run.specs.Run.{Run}
 use Rattle.gk_run.specs.Section.{Cut, nowhere}
 use Rattle.gk_run.proofs.GroupingLemmas.{and_left, groups_same}

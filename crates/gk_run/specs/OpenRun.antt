@@ -1,7 +1,7 @@
 -- A run that was begun and isn't finished.
-use Rattle.std.specs.Prelude.{◌≡◌, ◌∷◌, [], ◌++◌, true, false, Bool, List, length}
+use Rattle.std.specs.Prelude.{◌≡◌, [], ◌++◌, true, false, Bool, List}
 use Rattle.gk_world.specs.State.{State, state_of}
-use Rattle.gk_world.specs.Sandbox.{SandboxValue, depth}
+use Rattle.gk_world.specs.Sandbox.{SandboxValue}
 use Rattle.gk_run.specs.declared.section.Level.TheVariants as levels
 use Rattle.gk_run.specs.declared.open_run.state.Suite.{Suite}
 use Rattle.gk_run.specs.declared.results.Status.{Status}

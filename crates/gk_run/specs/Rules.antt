@@ -1,11 +1,10 @@
 -- The results of rules and of their cases.
-use Rattle.std.specs.Prelude.{suc, Bool, true, List, [], ◌∷◌, ◌++◌, map, ◌≡◌, ◌&&◌, ℕ, String}
+use Rattle.std.specs.Prelude.{suc, Bool, true, List, [], ◌∷◌, ◌++◌, map, ◌≡◌, ◌&&◌, String}
 use Rattle.std.specs.declared.alloc.Global.{Global}
 use Rattle.gk_gherkin.specs.Feature.{texts}
 use Rattle.gk_world.specs.State.{State}
 use Rattle.gk_run.specs.declared.cases.Cases.{Cases}
 use Rattle.gk_run.specs.declared.results.RuleResult.{RuleResult}
-use Rattle.gk_run.specs.declared.results.Status.{Status}
 use Rattle.gk_run.specs.declared.rules.RuleEnd.{RuleEnd}
 use Rattle.gk_run.specs.declared.run.Run as shared
 use Rattle.gk_run.specs.declared.section.Level.TheVariants as levels

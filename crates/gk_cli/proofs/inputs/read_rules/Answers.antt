@@ -1,5 +1,5 @@
 use Rattle.gk_select.specs.declared.select_fault.SelectFault.TheVariants.{BadTagText, Memory}
-use Rattle.std.proofs.Common.{◌≡◌, ◌⊎◌, ◌∷◌, [], ◌++◌, List, map, take, ap, sym, subst, ◌∙◌}
+use Rattle.std.proofs.Common.{◌≡◌, ◌⊎◌, ◌∷◌, [], ◌++◌, map, take, ap, sym, subst, ◌∙◌}
 use Rattle.std.specs.String.{string_bytes}
 use Rattle.std.proofs.lemmas.List.{map_push}
 use Rattle.gk_gherkin.specs.Feature.{texts}

@@ -1,13 +1,11 @@
-use Rattle.std.proofs.Common.{map, subst, sym, Bool}
+use Rattle.std.proofs.Common.{map}
 use Rattle.gk_gherkin.specs.Feature.{texts}
 use Rattle.gk_world.specs.State.{state_of}
-use Rattle.gk_run.specs.declared.features.FeatureEnd.{FeatureEnd}
 use Rattle.gk_run.specs.Cases.{members_in}
 use Rattle.gk_run.specs.Chosen.{head_value}
-use Rattle.gk_run.specs.Features.{EndsFeature, inside_value}
+use Rattle.gk_run.specs.Features.{inside_value}
 use Rattle.gk_run.specs.Grouping.{groups_from, members_of_rank}
 use Rattle.gk_run.specs.Run.{run_value}
-use Rattle.gk_run.proofs.CasesLemmas.{if_ok}
 use Rattle.gk_run.proofs.FeaturesLemmas.{feature_unbegun}
 use Rattle.gk_run.proofs.features.feature_end.Goals as goal
 

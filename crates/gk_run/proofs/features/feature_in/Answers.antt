@@ -3,7 +3,6 @@ use Rattle.std.specs.List.{list_any}
 use Rattle.gk_gherkin.specs.Feature.{texts}
 use Rattle.gk_select.specs.declared.case.Case.{Case}
 use Rattle.gk_world.specs.State.{state_of}
-use Rattle.gk_run.specs.declared.chosen.RuleHead.{RuleHead}
 use Rattle.gk_run.specs.declared.results.CaseResult.{CaseResult}
 use Rattle.gk_run.specs.declared.results.RuleResult.{RuleResult}
 use Rattle.gk_run.specs.Cases.{case_statuses, members_in}

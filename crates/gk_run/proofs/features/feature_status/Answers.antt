@@ -1,7 +1,6 @@
 use Rattle.std.proofs.Common.{◌≡◌, ◌∙◌, ◌∷◌, ◌||◌, Bool, map, sym, ap, refl}
 use Rattle.std.specs.List.{list_any}
 use Rattle.gk_run.specs.Results.{is_memory, is_failed, is_untested, is_passed, case_row}
-use Rattle.gk_run.specs.declared.results.Status.{Status}
 use Rattle.gk_run.specs.Results.{rule_row}
 use Rattle.gk_run.specs.Cases.{case_statuses}
 use Rattle.gk_run.specs.Features.{rule_statuses, verdict_by}

@@ -1,4 +1,4 @@
-use Rattle.std.proofs.Common.{map, ap, sym, subst, ◌&&◌, Bool}
+use Rattle.std.proofs.Common.{map, ap, subst, Bool}
 use Rattle.gk_world.specs.State.{state_of}
 use Rattle.gk_run.specs.Chosen.{head_value}
 use Rattle.gk_run.specs.Rules.{RunsRules}

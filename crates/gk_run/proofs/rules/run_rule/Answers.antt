@@ -1,9 +1,8 @@
-use Rattle.std.proofs.Common.{◌∙◌, ◌&&◌, Bool, ap, subst, sym, true}
+use Rattle.std.proofs.Common.{◌∙◌, ◌&&◌, Bool, ap, sym}
 use Rattle.gk_gherkin.specs.Feature.{texts}
 use Rattle.gk_world.specs.State.{state_of}
-use Rattle.gk_run.specs.declared.results.Status.TheVariants as statuses
 use Rattle.gk_run.specs.declared.rules.RuleEnd.{RuleEnd}
-use Rattle.gk_run.specs.Cases.{all_stay_open, members_in, stays_open}
+use Rattle.gk_run.specs.Cases.{all_stay_open, members_in}
 use Rattle.gk_run.specs.Chosen.{head_value}
 use Rattle.gk_run.specs.Grouping.{Group, members_of_rank}
 use Rattle.gk_run.specs.Rules.{BeginsRule, RunsRule}

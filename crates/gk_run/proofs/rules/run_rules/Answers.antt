@@ -1,9 +1,9 @@
 use Rattle.std.proofs.Common.{◌≡◌, ◌∙◌, ◌∷◌, List, [], ap, arith, length, map, refl, subst, sym}
-use Rattle.std.specs.Vec.Iter.{into_iter_items, into_iter_len}
+use Rattle.std.specs.Vec.Iter.{into_iter_items}
 use Rattle.gk_world.specs.State.{state_of}
 use Rattle.gk_run.specs.declared.chosen.RuleHead.{RuleHead}
 use Rattle.gk_run.specs.declared.results.RuleResult.{RuleResult}
-use Rattle.gk_run.specs.Chosen.{HeadValue, head_value, members_of}
+use Rattle.gk_run.specs.Chosen.{head_value, members_of}
 use Rattle.gk_run.specs.Run.{run_of}
 use Rattle.gk_run.proofs.Nothing.{nothing_in}
 use Rattle.gk_run.proofs.RulesLemmas.{GoesRules, rules_first, rules_last, rules_on}

@@ -1,4 +1,4 @@
-use Rattle.std.proofs.Common.{◌≡◌, ◌∙◌, map, ap, subst, sym}
+use Rattle.std.proofs.Common.{◌∙◌, map, ap, subst, sym}
 use Rattle.gk_gherkin.specs.Feature.{step_value, texts}
 use Rattle.gk_select.specs.Case.{case_value}
 use Rattle.gk_world.specs.State.{state_of}

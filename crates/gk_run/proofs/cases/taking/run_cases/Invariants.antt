@@ -1,4 +1,4 @@
-use Rattle.std.proofs.Common.{ℕ, length}
+use Rattle.std.proofs.Common.{length}
 use Rattle.gk_world.specs.State.{state_of}
 use Rattle.gk_run.specs.Run.{run_of}
 use Rattle.gk_run.specs.Running.{IsSame}
