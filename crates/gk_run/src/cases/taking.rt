@@ -1,5 +1,5 @@
 //! Taking the cases of a feature, one after another.
-ghost use Rattle.std.specs.Prelude.{◌≡◌, true, ◌+◌, ◌≤◌, ◌<◌, ◌^◌, suc, length, map, nat_eq, false, Bool, ◌&&◌, ◌||◌, vec_capacity, MatchOption, IfOk, IfSome};
+ghost use Rattle.std.specs.Prelude.{◌≡◌, true, ◌+◌, ◌≤◌, ◌<◌, ◌^◌, suc, length, nat_eq, false, ◌&&◌, ◌||◌, vec_capacity, MatchOption, IfOk, IfSome};
 ghost use Rattle.gk_select.specs.RuleOrder as order;
 ghost use Rattle.gk_world.specs.State.{state_of, layers};
 ghost use Rattle.gk_world.specs.Sandbox.{depth};
