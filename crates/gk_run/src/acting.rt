@@ -137,6 +137,7 @@ fn doc_string(block: &Block) -> Option<&str>
 }
 
 // A field's text; the empty one where the pattern has no such field.
+#[inline(always)]
 fn field_text<'a>(library: &Library, found: &'a Found, field: &str) -> &'a str
     ensures { result.now
         ≡ unwrap_or (text_field (library_value library.now) (found_value found.now) field.now) [] }
@@ -145,6 +146,7 @@ fn field_text<'a>(library: &Library, found: &'a Found, field: &str) -> &'a str
 }
 
 // What a step's action works with.
+#[inline(always)]
 fn arguments_of<'a>(library: &Library, found: &'a Found, block: &'a Block) -> Arguments<'a>
     ensures { given_value result
         ≡ given (library_value library.now) (found_value found.now) (block_value block.now) }
@@ -160,6 +162,7 @@ fn arguments_of<'a>(library: &Library, found: &'a Found, block: &'a Block) -> Ar
 }
 
 // Carries out an action.
+#[inline(always)]
 fn perform(
     alloc: Global,
     sandbox: &mut Sandbox,
@@ -201,6 +204,7 @@ fn perform(
 }
 
 // Carries out what the row of a found step's action says.
+#[inline(always)]
 pub(crate) fn carry_out(
     alloc: Global,
     sandbox: &mut Sandbox,

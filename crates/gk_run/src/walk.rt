@@ -101,6 +101,7 @@ fn next_step(
 }
 
 /// The result of a step by what became of it.
+#[inline(always)]
 pub fn row_of(step: Step, mark: Mark) -> StepResult
     ensures { step_row result ≡ row_of_step (step_value step) mark }
 {

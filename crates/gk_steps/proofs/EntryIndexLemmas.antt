@@ -8,13 +8,14 @@ use Rattle.std.proofs.lemmas.List.{append-nil, take_at, drop_at}
 use Rattle.gk_steps.specs.declared.library.Entry.{Entry}
 use Rattle.gk_steps.specs.declared.pattern.Piece.{Piece}
 use Rattle.gk_steps.specs.declared.entry_index.Index.{Index}
+use Rattle.gk_steps.specs.declared.entry_index.Numbered.{Numbered}
 use Rattle.gk_steps.specs.Pattern.{PieceValue, Literal, FieldPiece, piece_value, pattern_value}
 use Rattle.gk_steps.specs.Matching.{Matches, MatchesNot, woven}
 use Rattle.gk_steps.specs.PassingOver.{FitsEnd}
 use Rattle.gk_gherkin.specs.declared.feature.StepType.{StepType}
 use Rattle.gk_steps.specs.Finding.{EntryValue, entry_value, NoneBefore}
 use Rattle.gk_steps.specs.FilledCells.{cells_of_type}
-use Rattle.gk_steps.specs.EntryIndex.{literal_of, first_literal, last_literal, key_more, key_over, first_key, ends_key, IsAmong, IsMarked, bucket_at, bucket_of, HasBuckets, Lists, AreListed, IsLeastFrom, Skips, HasKey, HasEnds, HasEndsAmong, IsShorter, IsAny, SkipsEntries}
+use Rattle.gk_steps.specs.EntryIndex.{literal_of, first_literal, last_literal, key_more, key_over, first_key, ends_key, numbered, IsAmong, IsUnder, IsMarked, bucket_at, bucket_of, HasBuckets, Lists, AreListed, IsLeastFrom, Skips, CanStand, HasFirst, HasEnds, HasEndsAmong, IsShorter, IsAny, SkipsEntries}
 use Rattle.gk_steps.proofs.PassingOverLemmas.{match_fits}
 
 -- the last literal
@@ -41,81 +42,78 @@ get_at [] i x l e = absurd (omega arith)
 get_at (y ∷ ys) zero x l e = ap Some (sym e)
 get_at (y ∷ ys) (suc i) x l e = get_at ys i x (omega arith) e
 
+pub get_there : {X : Type 0} (xs : List X) (i : ℕ) (other : X) → i < length xs → slice_get xs i ≡ Some (get_or xs i other)
+get_there [] i other l = absurd (omega arith)
+get_there (y ∷ ys) zero other l = refl
+get_there (y ∷ ys) (suc i) other l = get_there ys i other (omega arith)
+
 pub get_within : {X : Type 0} (xs : List X) (k : ℕ) (x : X) → slice_get xs k ≡ Some x → k < length xs
 get_within [] k x is = let bad : ⊥ = cc in absurd bad
 get_within (y ∷ ys) zero x is = omega arith
 get_within (y ∷ ys) (suc k) x is = let less = get_within ys k x is in omega arith
 
-among_push : (p q : ℕ) (xs : List ℕ) → IsAmong p xs → IsAmong p (xs ++ q ∷ [])
+among_push : (p q : Numbered) (xs : List Numbered) → IsAmong p xs → IsAmong p (xs ++ q ∷ [])
 among_push p q [] a = let bad : ⊥ = cc in absurd bad
 among_push p q (x ∷ xs) (zero, e) = (0, e)
 among_push p q (x ∷ xs) (suc k, e) = let more = among_push p q xs (k, e) in (suc more.0, more.1)
 
-among_new : (p : ℕ) (xs : List ℕ) → IsAmong p (xs ++ p ∷ [])
+among_new : (p : Numbered) (xs : List Numbered) → IsAmong p (xs ++ p ∷ [])
 among_new p [] = (0, refl)
 among_new p (x ∷ xs) = let more = among_new p xs in (suc more.0, more.1)
 
 -- a bucket with a place more
-pub kept_set : (bs : List (Vec ℕ Global)) (slot k : ℕ) (old new : Vec ℕ Global) (place p : ℕ) → slot < length bs → old ≡ get_or bs slot old → new.items ≡ old.items ++ place ∷ [] → IsAmong p (bucket_at bs k) → IsAmong p (bucket_at (slice_set bs slot new) k)
+pub kept_set : (bs : List (Vec Numbered Global)) (slot k : ℕ) (old new : Vec Numbered Global) (place p : Numbered) → slot < length bs → old ≡ get_or bs slot old → new.items ≡ old.items ++ place ∷ [] → IsAmong p (bucket_at bs k) → IsAmong p (bucket_at (slice_set bs slot new) k)
 kept_set [] slot k old new place p l e is a = absurd (omega arith)
-kept_set (b ∷ bs) zero zero old new place p l e is a = subst (IsAmong p) (sym is) (among_push p place old.items (subst (λ (v : Vec ℕ Global). IsAmong p v.items) (sym e) a))
+kept_set (b ∷ bs) zero zero old new place p l e is a = subst (IsAmong p) (sym is) (among_push p place old.items (subst (λ (v : Vec Numbered Global). IsAmong p v.items) (sym e) a))
 kept_set (b ∷ bs) zero (suc k) old new place p l e is a = a
 kept_set (b ∷ bs) (suc slot) zero old new place p l e is a = a
 kept_set (b ∷ bs) (suc slot) (suc k) old new place p l e is a = kept_set bs slot k old new place p (omega arith) e is a
 
-pub added_set : (bs : List (Vec ℕ Global)) (slot : ℕ) (old new : Vec ℕ Global) (place : ℕ) → slot < length bs → new.items ≡ old.items ++ place ∷ [] → IsAmong place (bucket_at (slice_set bs slot new) slot)
+pub added_set : (bs : List (Vec Numbered Global)) (slot : ℕ) (old new : Vec Numbered Global) (place : Numbered) → slot < length bs → new.items ≡ old.items ++ place ∷ [] → IsAmong place (bucket_at (slice_set bs slot new) slot)
 added_set [] slot old new place l is = absurd (omega arith)
 added_set (b ∷ bs) zero old new place l is = subst (IsAmong place) (sym is) (among_new place old.items)
 added_set (b ∷ bs) (suc slot) old new place l is = added_set bs slot old new place (omega arith) is
 
-pub bucket_read : (bs : List (Vec ℕ Global)) (k : ℕ) (v : Vec ℕ Global) → k < length bs → v ≡ get_or bs k v → bucket_at bs k ≡ v.items
+pub bucket_read : (bs : List (Vec Numbered Global)) (k : ℕ) (v : Vec Numbered Global) → k < length bs → v ≡ get_or bs k v → bucket_at bs k ≡ v.items
 bucket_read [] k v l e = absurd (omega arith)
-bucket_read (b ∷ bs) zero v l e = ap (λ (w : Vec ℕ Global). w.items) (sym e)
+bucket_read (b ∷ bs) zero v l e = ap (λ (w : Vec Numbered Global). w.items) (sym e)
 bucket_read (b ∷ bs) (suc k) v l e = bucket_read bs k v (omega arith) e
 
 -- the bucket of a key
 mod_of : (key n : ℕ) → 0 < n → key % n < n
 mod_of key n l = mod-lt key {m = n} l
 
-pub slot_within : (bs : List (Vec ℕ Global)) (key n : ℕ) → n ≡ length bs → 0 < length bs → key % n < length bs
+pub slot_within : (bs : List (Vec Numbered Global)) (key n : ℕ) → n ≡ length bs → 0 < length bs → key % n < length bs
 slot_within bs key n size some = let there : 0 < n = omega (arith, size, some) in omega (arith, mod_of key n there, size)
 
-pub kept_of : (bs : List (Vec ℕ Global)) (key slot k n m : ℕ) (old new : Vec ℕ Global) (number : ℕ) → slot ≡ key % m → m ≡ length bs → 0 < length bs → length (slice_set bs slot new) ≡ length bs → old ≡ get_or bs slot old → new.items ≡ old.items ++ number ∷ [] → IsAmong n (bucket_of bs k) → IsAmong n (bucket_of (slice_set bs slot new) k)
-kept_of bs key slot k n m old new number at size some same e is a =
+pub kept_of : (bs : List (Vec Numbered Global)) (key slot k m : ℕ) (n : Numbered) (old new : Vec Numbered Global) (number : Numbered) → slot ≡ key % m → m ≡ length bs → 0 < length bs → length (slice_set bs slot new) ≡ length bs → old ≡ get_or bs slot old → new.items ≡ old.items ++ number ∷ [] → IsAmong n (bucket_of bs k) → IsAmong n (bucket_of (slice_set bs slot new) k)
+kept_of bs key slot k m n old new number at size some same e is a =
     let less : slot < length bs = omega (arith, at, slot_within bs key m size some) in
     subst (λ q. IsAmong n (bucket_at (slice_set bs slot new) (k % q))) (sym same) (kept_set bs slot (k % length bs) old new number n less e is a)
 
-pub added_of : (bs : List (Vec ℕ Global)) (key slot m : ℕ) (old new : Vec ℕ Global) (number : ℕ) → slot ≡ key % m → m ≡ length bs → 0 < length bs → length (slice_set bs slot new) ≡ length bs → new.items ≡ old.items ++ number ∷ [] → IsAmong number (bucket_of (slice_set bs slot new) key)
+pub added_of : (bs : List (Vec Numbered Global)) (key slot m : ℕ) (old new : Vec Numbered Global) (number : Numbered) → slot ≡ key % m → m ≡ length bs → 0 < length bs → length (slice_set bs slot new) ≡ length bs → new.items ≡ old.items ++ number ∷ [] → IsAmong number (bucket_of (slice_set bs slot new) key)
 added_of bs key slot m old new number at size some same is =
     let less : slot < length bs = omega (arith, at, slot_within bs key m size some) in
     let here : slot ≡ key % length (slice_set bs slot new) = at ∙ ap (λ q. key % q) (size ∙ sym same) in
     subst (λ q. IsAmong number (bucket_at (slice_set bs slot new) q)) here (added_set bs slot old new number less is)
 
 -- keys
-key_taken : (key : ℕ) (bytes : List ℕ) (i : ℕ) → i < length bytes → key_more (key_over key (take i bytes)) (get_or bytes i 0) ≡ key_over key (take (suc i) bytes)
-key_taken key [] i l = absurd (omega arith)
-key_taken key (b ∷ bs) zero l = refl
-key_taken key (b ∷ bs) (suc i) l = key_taken (key_more key b) bs i (omega arith)
-
-pub key_before : (bytes : List ℕ) (size : ℕ) → 0 < size → size ≤ length bytes → key_more (key_over 0 (take (size - 1) bytes)) (get_or bytes (size - 1) 0) ≡ key_over 0 (take size bytes)
-key_before bytes zero some l = absurd (omega arith)
-key_before bytes (suc i) some l =
-    let same : suc i - 1 ≡ i = omega arith in
-    subst (λ q. key_more (key_over 0 (take q bytes)) (get_or bytes q 0) ≡ key_over 0 (take (suc i) bytes)) (sym same) (key_taken 0 bytes i (omega arith))
-
-get_number : (xs : List ℕ) (i : ℕ) → i < length xs → slice_get xs i ≡ Some (get_or xs i 0)
-get_number [] i l = absurd (omega arith)
-get_number (x ∷ xs) zero l = refl
-get_number (x ∷ xs) (suc i) l = get_number xs i (omega arith)
+pub key_between : (key : ℕ) (bytes : List ℕ) (size first : ℕ) → size ≤ first → first ≤ length bytes → key_over (key_over key (take size bytes)) (take (first - size) (drop size bytes)) ≡ key_over key (take first bytes)
+key_between key bytes zero first some within = let same : first - 0 ≡ first = omega arith in ap (λ n. key_over key (take n bytes)) same
+key_between key [] (suc size) first some within = absurd (omega arith)
+key_between key (b ∷ bytes) (suc size) zero some within = absurd (omega arith)
+key_between key (b ∷ bytes) (suc size) (suc first) some within =
+    let same : suc first - suc size ≡ first - size = omega arith in
+    ap (λ n. key_over (key_over (key_more key b) (take size bytes)) (take n (drop size bytes))) same ∙ key_between (key_more key b) bytes size first (omega arith) (omega arith)
 
 -- what is listed stays so
 pub lists_kept : (old new : Index) (p : ℕ) (ps : List PieceValue) → ((k : ℕ) → IsMarked k old.firsts.items → IsMarked k new.firsts.items)
-    → ((k n : ℕ) → IsAmong n (bucket_of old.lasts.items k) → IsAmong n (bucket_of new.lasts.items k))
-    → ((k n : ℕ) → IsAmong n (bucket_of old.places.items k) → IsAmong n (bucket_of new.places.items k)) → Lists old p ps → Lists new p ps
+    → ((k : ℕ) (n : Numbered) → IsAmong n (bucket_of old.lasts.items k) → IsAmong n (bucket_of new.lasts.items k))
+    → ((k : ℕ) (n : Numbered) → IsAmong n (bucket_of old.places.items k) → IsAmong n (bucket_of new.places.items k)) → Lists old p ps → Lists new p ps
 lists_kept old new p ps firsts lasts places h = record {
   first = firsts (length (first_literal ps)) h.first;
-  last = lasts (first_key ps) (length (last_literal ps)) h.last;
-  listed = places (ends_key ps) p h.listed;
+  last = lasts (first_key ps) (numbered (first_key ps) (length (last_literal ps))) h.last;
+  listed = places (ends_key ps) (numbered (ends_key ps) p) h.listed;
 }
 
 -- the ends of a text that a pattern matches
@@ -154,20 +152,20 @@ index_some (Ok x) old new lasts places h = record { lasts = omega (arith, lasts,
 index_some (Err e) old new lasts places h = tt
 
 pub index_kept : {T E : Type 0} (r : Result T E) (old new : Index) → ((k : ℕ) → IsMarked k old.firsts.items → IsMarked k new.firsts.items)
-    → ((k n : ℕ) → IsAmong n (bucket_of old.lasts.items k) → IsAmong n (bucket_of new.lasts.items k))
-    → OnOk r ((k n : ℕ) → IsAmong n (bucket_of old.places.items k) → IsAmong n (bucket_of new.places.items k)) → OnOk r ((p : ℕ) (ps : List PieceValue) → Lists old p ps → Lists new p ps)
+    → ((k : ℕ) (n : Numbered) → IsAmong n (bucket_of old.lasts.items k) → IsAmong n (bucket_of new.lasts.items k))
+    → OnOk r ((k : ℕ) (n : Numbered) → IsAmong n (bucket_of old.places.items k) → IsAmong n (bucket_of new.places.items k)) → OnOk r ((p : ℕ) (ps : List PieceValue) → Lists old p ps → Lists new p ps)
 index_kept (Ok x) old new firsts lasts places = λ p ps h. lists_kept old new p ps firsts lasts places h
 index_kept (Err e) old new firsts lasts places = tt
 
 pub index_added : {T E : Type 0} (r : Result T E) (index : Index) (place key ends : ℕ) (first last : List ℕ) (ps : List PieceValue) → first ≡ first_literal ps → last ≡ last_literal ps → key ≡ key_over 0 first → ends ≡ key_over key last → IsMarked (length first) index.firsts.items
-    → IsAmong (length last) (bucket_of index.lasts.items key) → OnOk r (IsAmong place (bucket_of index.places.items ends)) → OnOk r (Lists index place ps)
+    → IsUnder key (length last) (bucket_of index.lasts.items key) → OnOk r (IsUnder ends place (bucket_of index.places.items ends)) → OnOk r (Lists index place ps)
 index_added (Ok x) index place key ends first last ps f g k e marked lasts places =
     let first_is : key ≡ first_key ps = k ∙ ap (key_over 0) f in
     let ends_is : ends ≡ ends_key ps = e ∙ ap (key_over key) g ∙ ap (λ q. key_over q (last_literal ps)) first_is in
     record {
       first = subst (λ t. IsMarked (length t) index.firsts.items) f marked;
-      last = subst (λ t. IsAmong (length t) (bucket_of index.lasts.items (first_key ps))) g (subst (λ q. IsAmong (length last) (bucket_of index.lasts.items q)) first_is lasts);
-      listed = subst (λ q. IsAmong place (bucket_of index.places.items q)) ends_is places;
+      last = subst (λ t. IsUnder (first_key ps) (length t) (bucket_of index.lasts.items (first_key ps))) g (subst (λ q. IsUnder q (length last) (bucket_of index.lasts.items q)) first_is lasts);
+      listed = subst (λ q. IsUnder q place (bucket_of index.places.items q)) ends_is places;
     }
 index_added (Err e) index place key ends first last ps f g k x marked lasts places = tt
 
@@ -202,39 +200,68 @@ skips_more IsOne IsOther IsKind index from most least next text h more cover = r
 pub ends_short : (index : Index) (key last from most : ℕ) (text : List ℕ) → length text < last → Skips (HasEnds key last) index from most text most
 ends_short index key last from most text short = skips_none (HasEnds key last) index from most text (λ place ps spans kind lists m. omega (arith, short, kind.1, (fits_length ps text spans m).1))
 
-pub ends_bucket : (index : Index) (key last from most result : ℕ) (text back bucket : List ℕ) (ends : ℕ) → back ≡ drop (length text - last) text → ends ≡ key_over key back → bucket ≡ bucket_of index.places.items ends → IsLeastFrom bucket from most result → Skips (HasEnds key last) index from most text result
+pub ends_bucket : (index : Index) (key last from most result : ℕ) (text back : List ℕ) (bucket : List Numbered) (ends : ℕ) → back ≡ drop (length text - last) text → ends ≡ key_over key back → bucket ≡ bucket_of index.places.items ends → IsLeastFrom bucket ends from most result → Skips (HasEnds key last) index from most text result
 ends_bucket index key last from most result text back bucket ends b e is h = record {
   low = h.low;
   high = h.high;
   skipped = λ place ps kind lists low under spans m.
       let back_is : back ≡ last_literal ps = b ∙ ap (λ n. drop (length text - n) text) kind.1 ∙ last_taken ps text spans m in
       let ends_is : ends ≡ ends_key ps = e ∙ ap (key_over key) back_is ∙ ap (λ k. key_over k (last_literal ps)) kind.0 in
-      let here : bucket ≡ bucket_of index.places.items (ends_key ps) = is ∙ ap (bucket_of index.places.items) ends_is in
-      omega (arith, under, h.least place (subst (IsAmong place) (sym here) lists.listed) low);
+      let here : IsUnder ends place bucket = subst (IsUnder ends place) (sym is) (subst (λ q. IsUnder q place (bucket_of index.places.items q)) (sym ends_is) lists.listed) in
+      omega (arith, under, h.least place here low);
 }
 
 -- the last literals beside a first one
-pub among_more : (index : Index) (key count from most least next : ℕ) (lasts text : List ℕ) → count < length lasts → Skips (HasEndsAmong key lasts count) index from most text least → Skips (HasEnds key (get_or lasts count 0)) index from least text next → Skips (HasEndsAmong key lasts (count + 1)) index from most text next
-among_more index key count from most least next lasts text l h more =
-    skips_more (HasEndsAmong key lasts count) (HasEnds key (get_or lasts count 0)) (HasEndsAmong key lasts (count + 1)) index from most least next text h more (λ place ps spans kind lists m.
-    elim (let le : kind.1 ≤ count = omega (arith, kind.2) in eq-or-lt_of_le le) [
-      | inr old ↦ inl (kind.0, kind.1, old, kind.3)
-      | inl same ↦ inr (kind.0, same_some (get_or lasts count 0) (length (last_literal ps)) (sym (get_number lasts count l) ∙ ap (slice_get lasts) (sym same) ∙ kind.3))
+can_stand : (ps : List PieceValue) (text : List ℕ) (spans : List (List ℕ)) → Matches ps text spans → CanStand (length (first_literal ps)) (length (last_literal ps)) (length text)
+can_stand [] text spans m = inl (omega arith)
+can_stand (Literal literal ∷ []) text spans m = inr (ap length (sym (m.whole ∙ append-nil literal)))
+can_stand (FieldPiece name kind ∷ []) text spans m = inl (omega arith)
+can_stand (Literal literal ∷ q ∷ ps) text spans m =
+    let rest = woven (q ∷ ps) spans in
+    let more : Matches (q ∷ ps) rest spans = record { spans_fit = m.spans_fit; whole = refl } in
+    inl (omega (arith, ap length m.whole, length-append literal rest, (fits_length (q ∷ ps) rest spans more).1))
+can_stand (FieldPiece name kind ∷ q ∷ ps) text spans m = inl (omega (arith, (fits_length (FieldPiece name kind ∷ q ∷ ps) text spans m).1))
+
+same_last : (lasts : List Numbered) (count k key size : ℕ) (other : Numbered) → count < length lasts → k ≡ count → slice_get lasts k ≡ Some (numbered key size) → get_or lasts count other ≡ numbered key size
+same_last lasts count k key size other l same is = same_some (get_or lasts count other) (numbered key size) (sym (get_there lasts count other l) ∙ ap (slice_get lasts) (sym same) ∙ is)
+
+pub among_more : (index : Index) (first key count from most least next : ℕ) (other : Numbered) (lasts : List Numbered) (text : List ℕ) → count < length lasts
+    → Skips (HasEndsAmong first key lasts count) index from most text least → Skips (HasEnds key (get_or lasts count other).number) index from least text next → Skips (HasEndsAmong first key lasts (count + 1)) index from most text next
+among_more index first key count from most least next other lasts text l h more =
+    skips_more (HasEndsAmong first key lasts count) (HasEnds key (get_or lasts count other).number) (HasEndsAmong first key lasts (count + 1)) index from most least next text h more (λ place ps spans kind lists m.
+    elim (let le : kind.2 ≤ count = omega (arith, kind.3) in eq-or-lt_of_le le) [
+      | inr old ↦ inl (kind.0, kind.1, kind.2, old, kind.4)
+      | inl same ↦ inr (kind.1, ap (λ (n : Numbered). n.number) (same_last lasts count kind.2 key (length (last_literal ps)) other l same kind.4))
     ])
 
-pub among_all : (index : Index) (key count from most least : ℕ) (lasts text : List ℕ) → length lasts ≤ count → lasts ≡ bucket_of index.lasts.items key → Skips (HasEndsAmong key lasts count) index from most text least → Skips (HasKey key) index from most text least
-among_all index key count from most least lasts text past is h =
-    skips_as (HasEndsAmong key lasts count) (HasKey key) index from most least text h (λ place ps spans kind lists m.
-    let a : IsAmong (length (last_literal ps)) lasts = subst (IsAmong (length (last_literal ps))) (sym (is ∙ ap (bucket_of index.lasts.items) kind)) lists.last in
-    (kind, a.0, omega (arith, past, get_within lasts a.0 (length (last_literal ps)) a.1), a.1))
+pub among_passed : (index : Index) (first key count from most least size : ℕ) (other : Numbered) (lasts : List Numbered) (text : List ℕ) → count < length lasts → size ≡ length text → ((get_or lasts count other).key ≡ key → CanStand first (get_or lasts count other).number size → ⊥)
+    → Skips (HasEndsAmong first key lasts count) index from most text least → Skips (HasEndsAmong first key lasts (count + 1)) index from most text least
+among_passed index first key count from most least size other lasts text l same_size never h =
+    skips_as (HasEndsAmong first key lasts count) (HasEndsAmong first key lasts (count + 1)) index from most least text h (λ place ps spans kind lists m.
+    elim (let le : kind.2 ≤ count = omega (arith, kind.3) in eq-or-lt_of_le le) [
+      | inr old ↦ (kind.0, kind.1, kind.2, old, kind.4)
+      | inl same ↦
+          let is : get_or lasts count other ≡ numbered key (length (last_literal ps)) = same_last lasts count kind.2 key (length (last_literal ps)) other l same kind.4 in
+          let stands : CanStand first (get_or lasts count other).number size =
+              subst (λ n. CanStand n (get_or lasts count other).number size) (sym kind.0)
+              (subst (λ (n : Numbered). CanStand (length (first_literal ps)) n.number size) (sym is)
+              (subst (λ n. CanStand (length (first_literal ps)) (length (last_literal ps)) n) (sym same_size) (can_stand ps text spans m))) in
+          absurd (never (ap (λ (n : Numbered). n.key) is) stands)
+    ])
+
+pub among_all : (index : Index) (first key count from most least : ℕ) (lasts : List Numbered) (text : List ℕ) → length lasts ≤ count → lasts ≡ bucket_of index.lasts.items key → Skips (HasEndsAmong first key lasts count) index from most text least → Skips (HasFirst first key) index from most text least
+among_all index first key count from most least lasts text past is h =
+    skips_as (HasEndsAmong first key lasts count) (HasFirst first key) index from most least text h (λ place ps spans kind lists m.
+    let a : IsUnder key (length (last_literal ps)) lasts = subst (IsUnder key (length (last_literal ps))) (sym is) (subst (λ q. IsUnder q (length (last_literal ps)) (bucket_of index.lasts.items q)) (sym kind.1) lists.last) in
+    (kind.0, kind.1, a.0, omega (arith, past, get_within lasts a.0 (numbered key (length (last_literal ps))) a.1), a.1))
 
 -- the first literals
-pub first_more : (index : Index) (first key from most least next : ℕ) (text : List ℕ) → key ≡ key_over 0 (take first text) → Skips (IsShorter first) index from most text least → Skips (HasKey key) index from least text next → Skips (IsShorter (first + 1)) index from most text next
+pub first_more : (index : Index) (first key from most least next : ℕ) (text : List ℕ) → key ≡ key_over 0 (take first text) → Skips (IsShorter first) index from most text least → Skips (HasFirst first key) index from least text next → Skips (IsShorter (first + 1)) index from most text next
 first_more index first key from most least next text e h more =
-    skips_more (IsShorter first) (HasKey key) (IsShorter (first + 1)) index from most least next text h more (λ place ps spans kind lists m.
+    skips_more (IsShorter first) (HasFirst first key) (IsShorter (first + 1)) index from most least next text h more (λ place ps spans kind lists m.
     elim (let le : length (first_literal ps) ≤ first = omega (arith, kind) in eq-or-lt_of_le le) [
       | inr old ↦ inl old
-      | inl same ↦ inr (e ∙ ap (λ n. key_over 0 (take n text)) (sym same) ∙ ap (key_over 0) (first_taken ps text spans m))
+      | inl same ↦ inr (sym same, e ∙ ap (λ n. key_over 0 (take n text)) (sym same) ∙ ap (key_over 0) (first_taken ps text spans m))
     ])
 
 pub first_unmarked : (index : Index) (marked : Bool) (first from most least : ℕ) (text : List ℕ) → first < length index.firsts.items → marked ≡ get_or index.firsts.items first marked → ◌≡◌ marked false → Skips (IsShorter first) index from most text least → Skips (IsShorter (first + 1)) index from most text least
@@ -279,7 +306,7 @@ pub not_zero : (n : ℕ) → ◌≡◌ false (n == 0) → 0 < n
 not_zero zero e = let same : ◌≡◌ false true = e ∙ eq-eqb 0 0 refl in let bad : ⊥ = cc in absurd bad
 not_zero (suc n) e = omega arith
 
-pub bucket_here : (bs : List (Vec ℕ Global)) (key : ℕ) (v : Vec ℕ Global) (xs : List ℕ) → ◌≡◌ false (length bs == 0) → xs ≡ v.items → v ≡ get_or bs (key % length bs) v → xs ≡ bucket_of bs key
+pub bucket_here : (bs : List (Vec Numbered Global)) (key : ℕ) (v : Vec Numbered Global) (xs : List Numbered) → ◌≡◌ false (length bs == 0) → xs ≡ v.items → v ≡ get_or bs (key % length bs) v → xs ≡ bucket_of bs key
 bucket_here bs key v xs some same is = same ∙ sym (bucket_read bs (key % length bs) v (mod_of key (length bs) (not_zero (length bs) some)) is)
 
 -- entries that are skipped
@@ -337,3 +364,8 @@ listed_taken index entries slice n same h some place entry is = h some place ent
 pub if_taken : (o : Option (Bor Index)) (p : Option Index) (entries slice : List Entry) (n : ℕ) → option_copied o ≡ p → slice ≡ take n entries → IfSome p (λ i. AreListed i entries) → IfSome o (λ i. AreListed i.now slice)
 if_taken None p entries slice n e same h = tt
 if_taken (Some i) p entries slice n e same h = listed_taken i.now entries slice n same (subst (λ q. IfSome q (λ j. AreListed j entries)) (sym e) h)
+
+-- an index that is asked
+pub if_asked : (o : Option Index) (index : Index) (entries : List Entry) → IfSome o (λ i. i ≡ index) → AreListed index entries → IfSome o (λ i. AreListed i entries)
+if_asked None index entries e h = tt
+if_asked (Some i) index entries e h = subst (λ (j : Index). AreListed j entries) (sym e) h

@@ -1,9 +1,10 @@
 -- Proof machinery: where an index lists the entries of a library, by the literals at their patterns' ends.
-use Rattle.std.specs.Prelude.{◌≡◌, ◌+◌, ◌*◌, ◌%◌, ◌<◌, ◌≤◌, ℕ, zero, suc, Bool, true, List, [], ◌∷◌, length, slice_get, Vec, Some, IfSome}
+use Rattle.std.specs.Prelude.{◌≡◌, ◌⊎◌, ◌+◌, ◌*◌, ◌%◌, ◌<◌, ◌≤◌, ℕ, zero, suc, Bool, true, List, [], ◌∷◌, length, slice_get, Vec, Some, IfSome}
 use Rattle.std.specs.declared.alloc.Global.{Global}
 use Rattle.gk_steps.specs.declared.library.Entry.{Entry}
 use Rattle.gk_steps.specs.declared.library.Growing.{Growing}
 use Rattle.gk_steps.specs.declared.entry_index.Index.{Index}
+use Rattle.gk_steps.specs.declared.entry_index.Numbered.{Numbered}
 use Rattle.gk_steps.specs.declared.entry_index.Shelf.{Shelf}
 use Rattle.gk_steps.specs.Pattern.{PieceValue, Literal, FieldPiece, pattern_value}
 use Rattle.gk_steps.specs.Matching.{MatchesNot}
@@ -41,29 +42,37 @@ first_key ps = key_over 0 (first_literal ps)
 abbrev pub ends_key : List PieceValue → ℕ
 ends_key ps = key_over (first_key ps) (last_literal ps)
 
--- A number stands in a bucket.
-abbrev pub IsAmong : ℕ → List ℕ → Type 0
-IsAmong number bucket = (k : ℕ) × (slice_get bucket k ≡ Some number)
+-- A number with its key.
+abbrev pub numbered : ℕ → ℕ → Numbered
+numbered key number = record { key = key; number = number }
+
+-- A number stands in a bucket, with its key.
+abbrev pub IsAmong : Numbered → List Numbered → Type 0
+IsAmong n bucket = (k : ℕ) × (slice_get bucket k ≡ Some n)
+
+-- A number stands in a bucket under a key.
+abbrev pub IsUnder : ℕ → ℕ → List Numbered → Type 0
+IsUnder key number bucket = IsAmong (numbered key number) bucket
 
 -- The bucket of a number; empty where there is none.
-abbrev pub bucket_at : List (Vec ℕ Global) → ℕ → List ℕ
+abbrev pub bucket_at : List (Vec Numbered Global) → ℕ → List Numbered
 bucket_at [] k = []
 bucket_at (b ∷ bs) zero = b.items
 bucket_at (b ∷ bs) (suc k) = bucket_at bs k
 
 -- The bucket of a key; empty where there is none.
-abbrev pub bucket_of : List (Vec ℕ Global) → ℕ → List ℕ
+abbrev pub bucket_of : List (Vec Numbered Global) → ℕ → List Numbered
 bucket_of buckets key = bucket_at buckets (key % length buckets)
 
 -- A length is marked.
 abbrev pub IsMarked : ℕ → List Bool → Type 0
 IsMarked size marks = slice_get marks size ≡ Some true
 
--- An index lists a pattern at a place: by the length of its first literal; by that of its last one, in the bucket of the first one's key; and in the bucket of the key of both.
+-- An index lists a pattern at a place: by the length of its first literal; by that of its last one, under the first one's key; and under the key of both.
 pub record Lists (index : Index) (place : ℕ) (ps : List PieceValue) : Type 0 where
   pub first : IsMarked (length (first_literal ps)) index.firsts.items
-  pub last : IsAmong (length (last_literal ps)) (bucket_of index.lasts.items (first_key ps))
-  pub listed : IsAmong place (bucket_of index.places.items (ends_key ps))
+  pub last : IsUnder (first_key ps) (length (last_literal ps)) (bucket_of index.lasts.items (first_key ps))
+  pub listed : IsUnder (ends_key ps) place (bucket_of index.places.items (ends_key ps))
 
 -- An index has buckets.
 pub record HasBuckets (index : Index) : Type 0 where
@@ -74,11 +83,11 @@ pub record HasBuckets (index : Index) : Type 0 where
 abbrev pub AreListed : Index → List Entry → Type 0
 AreListed index entries = 0 < length index.places.items → (place : ℕ) (entry : Entry) → slice_get entries place ≡ Some entry → (Lists index place (pattern_value entry.pattern) → ⊥) → ⊥
 
--- The least place of a bucket from a place on, or a larger one that is given where none is less.
-pub record IsLeastFrom (bucket : List ℕ) (from most result : ℕ) : Type 0 where
+-- The least place under a key in a bucket from a place on, or a larger one that is given where none is less.
+pub record IsLeastFrom (bucket : List Numbered) (key from most result : ℕ) : Type 0 where
   pub low : from ≤ most → from ≤ result
   pub high : result ≤ most
-  pub least : (place : ℕ) → IsAmong place bucket → from ≤ place → result ≤ place
+  pub least : (place : ℕ) → IsUnder key place bucket → from ≤ place → result ≤ place
 
 -- No pattern of a kind that is listed at a place between two matches.
 pub record Skips (IsKind : List PieceValue → Type 0) (index : Index) (from most : ℕ) (text : List ℕ) (result : ℕ) : Type 0 where
@@ -86,17 +95,21 @@ pub record Skips (IsKind : List PieceValue → Type 0) (index : Index) (from mos
   pub high : result ≤ most
   pub skipped : (place : ℕ) (ps : List PieceValue) → IsKind ps → Lists index place ps → from ≤ place → place < result → MatchesNot ps text
 
--- Patterns whose first literal has a key.
-abbrev pub HasKey : ℕ → List PieceValue → Type 0
-HasKey key ps = key ≡ first_key ps
+-- A text of a size has room for a first and a last literal of these lengths: they stand beside one another, or one literal is the whole text.
+abbrev pub CanStand : ℕ → ℕ → ℕ → Type 0
+CanStand first last size = (first + last ≤ size) ⊎ (last ≡ size)
 
--- Those of them whose last literal has a length.
+-- Patterns whose first literal has a length and a key.
+abbrev pub HasFirst : ℕ → ℕ → List PieceValue → Type 0
+HasFirst first key ps = (first ≡ length (first_literal ps)) × (key ≡ first_key ps)
+
+-- Patterns whose first literal has a key, and whose last one has a length.
 abbrev pub HasEnds : ℕ → ℕ → List PieceValue → Type 0
 HasEnds key last ps = (key ≡ first_key ps) × (last ≡ length (last_literal ps))
 
--- Those of them whose last literal has one of the first of some lengths.
-abbrev pub HasEndsAmong : ℕ → List ℕ → ℕ → List PieceValue → Type 0
-HasEndsAmong key lasts count ps = (key ≡ first_key ps) × (k : ℕ) × (k < count) × (slice_get lasts k ≡ Some (length (last_literal ps)))
+-- Patterns whose first literal has a length and a key, and whose last one has one of the first of some lengths.
+abbrev pub HasEndsAmong : ℕ → ℕ → List Numbered → ℕ → List PieceValue → Type 0
+HasEndsAmong first key lasts count ps = (first ≡ length (first_literal ps)) × (key ≡ first_key ps) × (k : ℕ) × (k < count) × (slice_get lasts k ≡ Some (numbered key (length (last_literal ps))))
 
 -- Patterns whose first literal is shorter than a length.
 abbrev pub IsShorter : ℕ → List PieceValue → Type 0

@@ -1,14 +1,22 @@
 //! An index over the literals at the ends of patterns.
-ghost use Rattle.std.specs.Prelude.{◌≡◌, ◌<◌, ◌≤◌, ◌-◌, ℕ, List, length, take, IsTrue, IfOk, OnOk};
+ghost use Rattle.std.specs.Prelude.{◌≡◌, ◌<◌, ◌≤◌, ℕ, List, length, false, IsTrue, IfOk, IfSome, OnOk};
+ghost use Rattle.gk_steps.specs.declared.entry_index.Numbered.{Numbered};
 ghost use Rattle.gk_steps.specs.Pattern.{PieceValue, piece_value, pieces_said};
 ghost use Rattle.gk_steps.specs.EntryIndex as spec;
 ghost use Rattle.gk_steps.specs.EntryIndex.{IsAmong, IsMarked, bucket_of, HasBuckets, Lists, AreListed};
-ghost use Rattle.gk_steps.specs.EntryIndex.{IsLeastFrom, Skips, HasKey, HasEnds, IsAny};
-ghost use Rattle.gk_steps.specs.EntryIndex.{SkipsEntries, IsShelf};
+ghost use Rattle.gk_steps.specs.EntryIndex.{IsUnder, IsLeastFrom, Skips, HasFirst, HasEnds};
+ghost use Rattle.gk_steps.specs.EntryIndex.{IsAny, CanStand, SkipsEntries, IsShelf};
 
 use crate::library::Entry;
 use crate::pattern::Piece;
 use std::alloc::{AllocError, Global};
+
+/// A number under a key.
+#[derive(Clone, Copy, Debug)]
+pub(crate) struct Numbered {
+    pub key: usize,
+    pub number: usize,
+}
 
 /// Where the entries of a library stand, by the literals at their patterns' ends. A text that a pattern matches
 /// begins and ends with these. So each of its beginnings is looked up that has the length of some first literal, and
@@ -17,10 +25,10 @@ use std::alloc::{AllocError, Global};
 pub(crate) struct Index {
     /// For each length whether a first literal has it.
     pub firsts: Vec<bool>,
-    /// The lengths of last literals, by the keys of the first literals.
-    pub lasts: Vec<Vec<usize>>,
-    /// The places of entries, by the keys of both literals.
-    pub places: Vec<Vec<usize>>,
+    /// The lengths of last literals, in the buckets of the first literals' keys.
+    pub lasts: Vec<Vec<Numbered>>,
+    /// The places of entries, in the buckets of both literals' keys.
+    pub places: Vec<Vec<Numbered>>,
 }
 
 // The bytes of a literal; none of a field.
@@ -75,21 +83,6 @@ fn key_over(key: usize, bytes: &[u8]) -> usize
     over
 }
 
-// The key of the first bytes, from that of one byte less.
-fn key_at(key: usize, bytes: &[u8], size: usize) -> usize
-    requires key { key ≡ spec.key_over 0 (take (size - 1) bytes.now) }
-    requires small { key < 16777216 }
-    requires within { size ≤ length bytes.now }
-    ensures key { result ≡ spec.key_over 0 (take size bytes.now) }
-    ensures small { result < 16777216 }
-{
-    if size == 0 {
-        key
-    } else {
-        key_more(key, bytes[size - 1])
-    }
-}
-
 // Marks a length.
 fn mark(marks: &mut Vec<bool>, size: usize) -> Result<(), AllocError>
     ensures kept { OnOk result ((k : ℕ)
@@ -104,7 +97,7 @@ fn mark(marks: &mut Vec<bool>, size: usize) -> Result<(), AllocError>
 }
 
 // The bucket of a key.
-fn bucket_of(buckets: &[Vec<usize>], key: usize) -> &[usize]
+fn bucket_of(buckets: &[Vec<Numbered>], key: usize) -> &[Numbered]
     ensures { result.now ≡ spec.bucket_of buckets.now key }
 {
     if buckets.is_empty() {
@@ -113,12 +106,13 @@ fn bucket_of(buckets: &[Vec<usize>], key: usize) -> &[usize]
     &buckets[key % buckets.len()]
 }
 
-// Whether a number is among some.
-fn is_among(number: usize, bucket: &[usize]) -> bool
-    ensures { IsTrue result → IsAmong number bucket.now }
+// Whether a number is in a bucket under a key.
+fn is_under(bucket: &[Numbered], key: usize, number: usize) -> bool
+    ensures { IsTrue result → IsUnder key number bucket.now }
 {
     for place in 0..bucket.len() {
-        if bucket[place] == number {
+        let other = bucket[place];
+        if other.key == key && other.number == number {
             return true;
         }
     }
@@ -126,49 +120,58 @@ fn is_among(number: usize, bucket: &[usize]) -> bool
 }
 
 // Adds a number to the bucket of a key.
-fn add_number(buckets: &mut Vec<Vec<usize>>, key: usize, number: usize) -> Result<(), AllocError>
+fn add_number(buckets: &mut Vec<Vec<Numbered>>, key: usize, number: usize) -> Result<(), AllocError>
     requires { 0 < length buckets.old.items }
     ensures size { OnOk result (length buckets.new.items ≡ length buckets.old.items) }
-    ensures kept { OnOk result ((k n : ℕ)
+    ensures kept { OnOk result ((k : ℕ) (n : Numbered)
         → IsAmong n (bucket_of buckets.old.items k) → IsAmong n (bucket_of buckets.new.items k)) }
-    ensures added { OnOk result (IsAmong number (bucket_of buckets.new.items key)) }
+    ensures added { OnOk result (IsUnder key number (bucket_of buckets.new.items key)) }
 {
     let slot = key % buckets.len();
     let bucket = &mut buckets[slot];
-    bucket.push(number)?;
+    bucket.push(Numbered { key, number })?;
     Ok(())
 }
 
 // Adds a number to the bucket of a key, where it isn't there.
-fn add_once(buckets: &mut Vec<Vec<usize>>, key: usize, number: usize) -> Result<(), AllocError>
+fn add_once(buckets: &mut Vec<Vec<Numbered>>, key: usize, number: usize) -> Result<(), AllocError>
     requires { 0 < length buckets.old.items }
     ensures size { OnOk result (length buckets.new.items ≡ length buckets.old.items) }
-    ensures kept { OnOk result ((k n : ℕ)
+    ensures kept { OnOk result ((k : ℕ) (n : Numbered)
         → IsAmong n (bucket_of buckets.old.items k) → IsAmong n (bucket_of buckets.new.items k)) }
-    ensures added { OnOk result (IsAmong number (bucket_of buckets.new.items key)) }
+    ensures added { OnOk result (IsUnder key number (bucket_of buckets.new.items key)) }
 {
-    if !is_among(number, bucket_of(buckets, key)) {
+    if !is_under(bucket_of(buckets, key), key, number) {
         add_number(buckets, key, number)?;
     }
     Ok(())
 }
 
-// The least place of a bucket from a place on, or a larger one that is given where none is less.
-fn least_from(bucket: &[usize], from: usize, most: usize) -> usize
-    ensures { IsLeastFrom bucket.now from most result }
+// The least place under a key in a bucket from a place on, or a larger one that is given where none is less.
+fn least_from(bucket: &[Numbered], key: usize, from: usize, most: usize) -> usize
+    ensures { IsLeastFrom bucket.now key from most result }
 {
     let mut least = most;
     for k in 0..bucket.len() {
         let place = bucket[k];
-        if from <= place && place < least {
-            least = place;
+        if place.key == key && from <= place.number && place.number < least {
+            least = place.number;
         }
     }
     least
 }
 
+// Whether the length of a last literal is listed under a key, and a text of a size has room for that beside a first
+// literal of a length. It has none where the two would overlap, unless the last literal is the whole text.
+fn can_end(last: Numbered, first: usize, key: usize, size: usize) -> bool
+    ensures { result ≡ false → last.key ≡ key → CanStand first last.number size → ⊥ }
+{
+    last.key == key
+        && (last.number == size || (last.number <= size && first <= size - last.number))
+}
+
 // So many empty buckets.
-fn empty_buckets(alloc: Global, size: usize) -> Result<Vec<Vec<usize>>, AllocError>
+fn empty_buckets(alloc: Global, size: usize) -> Result<Vec<Vec<Numbered>>, AllocError>
     ensures { IfOk result (λ buckets. length buckets.items ≡ size) }
 {
     let mut buckets = Vec::new(alloc);
@@ -187,6 +190,17 @@ impl Index {
             firsts: Vec::new(alloc),
             lasts: Vec::new(alloc),
             places: Vec::new(alloc),
+        }
+    }
+
+    /// The index, where it is asked: not where it lists nothing.
+    pub(crate) fn into_asked(self) -> Option<Index>
+        ensures { IfSome result (λ i. i ≡ self) }
+    {
+        if self.places.is_empty() {
+            None
+        } else {
+            Some(self)
         }
     }
 
@@ -245,36 +259,44 @@ impl Index {
             return most;
         }
         let key = key_over(key, &bytes[bytes.len() - last..]);
-        least_from(bucket_of(&self.places, key), from, most)
+        least_from(bucket_of(&self.places, key), key, from, most)
     }
 
-    // The least place between two that the index lists for a text, by a first literal of a key.
-    fn next_by_key(&self, key: usize, from: usize, most: usize, text: &str) -> usize
+    // The least place between two that the index lists for a text, by a first literal of a length and a key.
+    fn next_by_first(&self, first: usize, key: usize, from: usize, most: usize, text: &str) -> usize
         requires { key < 16777216 }
-        ensures { Skips (HasKey key) self.now from most text.now result }
+        ensures { Skips (HasFirst first key) self.now from most text.now result }
     {
+        let size = text.as_bytes().len();
         let lasts = bucket_of(&self.lasts, key);
         let mut least = most;
         for k in 0..lasts.len() {
-            least = self.next_by_ends(key, lasts[k], from, least, text);
+            let last = lasts[k];
+            if can_end(last, first, key, size) {
+                least = self.next_by_ends(key, last.number, from, least, text);
+            }
         }
         least
     }
 
     /// The least place between two that the index lists for a text, or the larger one where there is none.
+    // Apart, so that the search of a short library, which has no index, stays small.
+    #[inline(never)]
     pub(crate) fn next(&self, from: usize, most: usize, text: &str) -> usize
         ensures { Skips IsAny self.now from most text.now result }
     {
         let bytes = text.as_bytes();
         let mut least = most;
         let mut key: usize = 0;
+        let mut size: usize = 0;
         for first in 0..self.firsts.len() {
             if bytes.len() < first {
                 return least;
             }
-            key = key_at(key, bytes, first);
             if self.firsts[first] {
-                least = self.next_by_key(key, from, least, text);
+                key = key_over(key, &bytes[size..first]);
+                size = first;
+                least = self.next_by_first(first, key, from, least, text);
             }
         }
         least
@@ -291,6 +313,7 @@ pub(crate) struct Shelf<'a> {
 impl Shelf<'_> {
     /// A place from a place on, such that no entry between them matches a text. The index isn't asked after some
     /// tries, since that would take longer.
+    #[inline(always)]
     pub(crate) fn next(&self, from: usize, tries: usize, text: &str) -> usize
         requires { IsShelf self.now }
         ensures { SkipsEntries self.now.entries.now from text.now result }

@@ -39,6 +39,7 @@ fn is_same(a: Option<StepType>, b: Option<StepType>) -> bool
 
 // What a text finds among the entries of one type. An entry whose ends the text doesn't have is passed over here,
 // before a match begins.
+#[inline(always)]
 pub(crate) fn find_of(
     cells: &mut Cells,
     alloc: Global,

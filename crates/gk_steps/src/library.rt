@@ -26,7 +26,8 @@ pub struct Library {
     /// How many of the entries there are up to and with the last that is for steps of one type, and 0 where
     /// none is. Those from this place on are for steps of each type, so a search for one type ends here.
     pub typed: usize,
-    /// Where the entries stand, by the literals at their patterns' ends. A library that was not read has none.
+    /// Where the entries stand, by the literals at their patterns' ends. A short library and one that was not read
+    /// have none: their entries are all looked at.
     index: Option<Index>,
     ghost within: { typed ≤ length entries.items },
     ghost rest: { IsTrue (are_for_each_from typed entries.items) },
@@ -123,7 +124,7 @@ impl Library {
         Library {
             entries: growing.entries,
             typed,
-            index: Some(growing.index),
+            index: growing.index.into_asked(),
         }
     }
 

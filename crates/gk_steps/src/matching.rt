@@ -22,6 +22,7 @@ use crate::table_rows::{first_row, row_over};
 use std::alloc::{AllocError, Global};
 
 // What a field says that took a span.
+#[inline(always)]
 fn field_of(alloc: Global, kind: FieldKind, span: &str) -> Result<Field, AllocError>
     requires { IsSpan kind span.now }
     ensures { IfOk result (λ field. field_value field ≡ span_value kind span.now) }
@@ -33,6 +34,7 @@ fn field_of(alloc: Global, kind: FieldKind, span: &str) -> Result<Field, AllocEr
 }
 
 // Adds what a piece says that took a span.
+#[inline(always)]
 fn push_taken(
     fields: &mut Vec<Field>,
     alloc: Global,
