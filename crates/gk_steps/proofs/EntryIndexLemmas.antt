@@ -243,9 +243,9 @@ among_passed index first key count from most least size other lasts text l same_
       | inl same ↦
           let is : get_or lasts count other ≡ numbered key (length (last_literal ps)) = same_last lasts count kind.2 key (length (last_literal ps)) other l same kind.4 in
           let stands : CanStand first (get_or lasts count other).number size =
-              subst (λ n. CanStand n (get_or lasts count other).number size) (sym kind.0)
-              (subst (λ (n : Numbered). CanStand (length (first_literal ps)) n.number size) (sym is)
-              (subst (λ n. CanStand (length (first_literal ps)) (length (last_literal ps)) n) (sym same_size) (can_stand ps text spans m))) in
+          subst (λ n. CanStand n (get_or lasts count other).number size) (sym kind.0)
+          (subst (λ (n : Numbered). CanStand (length (first_literal ps)) n.number size) (sym is)
+          (subst (λ n. CanStand (length (first_literal ps)) (length (last_literal ps)) n) (sym same_size) (can_stand ps text spans m))) in
           absurd (never (ap (λ (n : Numbered). n.key) is) stands)
     ])
 

@@ -166,8 +166,7 @@ fn least_from(bucket: &[Numbered], key: usize, from: usize, most: usize) -> usiz
 fn can_end(last: Numbered, first: usize, key: usize, size: usize) -> bool
     ensures { result ≡ false → last.key ≡ key → CanStand first last.number size → ⊥ }
 {
-    last.key == key
-        && (last.number == size || (last.number <= size && first <= size - last.number))
+    last.key == key && (last.number == size || (last.number <= size && first <= size - last.number))
 }
 
 // So many empty buckets.

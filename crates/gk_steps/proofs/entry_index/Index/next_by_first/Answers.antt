@@ -1,4 +1,4 @@
-use Rattle.std.proofs.Common.{◌∙◌, ◌+◌, ℕ, ap, subst, sym, length, refl, arith}
+use Rattle.std.proofs.Common.{◌∙◌, ◌+◌, ℕ, ap, subst, sym, length, arith}
 use Rattle.gk_steps.specs.EntryIndex.{Skips, HasEndsAmong, bucket_of}
 use Rattle.gk_steps.proofs.EntryIndexLemmas.{among_more, among_passed, among_all}
 use Rattle.gk_steps.proofs.entry_index.Index.next_by_first.Goals as goal
