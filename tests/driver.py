@@ -51,6 +51,18 @@ def feature(*steps, name="f", scenario="s"):
     return "\n".join(lines) + "\n"
 
 
+def long_files():
+    """A feature whose part has several pieces, and hooks. The scenarios that begin a piece are left out by LONG_RUN, as
+    is the last one of a rule, whose own line comes after it."""
+    names = [("@b\n" if number in (3, 4, 8) else "", f"s{number}" + "x" * 6000) for number in range(9)]
+    scenarios = [f"{tags}Scenario: {name}\nGiven it passes\n" for tags, name in names]
+    return {"a.feature": "Feature: f\n" + "".join(scenarios[:4]) + "Rule: r\n" + "".join(scenarios[4:]),
+            "h.hooks": "after_rule:\nGiven it fails\n"}
+
+
+LONG_RUN = ["--no-skipped", "--tags", "~@b", "--hooks", "h.hooks", "a.feature"]
+
+
 # ---- running the program
 
 def start(program, arguments, folder=HOME, environment=None, *, patience=PATIENCE,

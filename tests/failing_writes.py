@@ -33,7 +33,9 @@ RUNS = (
     (["--hooks", "h.hooks", "--stop", "a.feature", "b.feature"], {"h.hooks": HOOKS, **TWO_FILES}),
     (["--no-skipped", "--tags", "@a", "a.feature", "b.feature", "c.feature"], CHOSEN_FILES),
     (["--dry-run", "a.feature", "b.feature"], TWO_FILES),
+    (driver.LONG_RUN, driver.long_files()),
 )
+BYTES_TRIED = 4096  # of a report that is longer only the pieces are
 # Errors of a call; 0 is none, where the call takes no byte.
 PIECE_ERRORS = (0, errno.EIO, errno.EINTR)
 BYTE_ERRORS = (0, errno.EIO, errno.ENOSPC, errno.EINTR)
@@ -68,7 +70,8 @@ class Case:
         for piece in (1, 7):
             yield self.trouble(f"{piece} bytes a call", self.ample, WRITE_PIECE=piece)
         yield from self.piece_troubles()
-        yield from self.byte_troubles()
+        if len(self.ample[1]) <= BYTES_TRIED:
+            yield from self.byte_troubles()
 
     def piece_troubles(self):
         """What is wrong with the runs whose call for a piece fails."""

@@ -326,6 +326,92 @@ def rule_of_many_scenarios():
     return Run({"a.feature": text, "h.hooks": RULE_HOOKS}, 0, report, arguments=HOOKS)
 
 
+# ---- parts of many pieces
+
+# Scenarios in front of the first rule, and in each rule.
+EACH_RULE = 60
+PIECES_RULES = 40
+PIECES_RUN = ["--no-skipped", "--tags", "@on", "--hooks", "h.hooks", "a.feature"]
+
+
+def pieces_scenarios():
+    """The number, the line, the name and the rule of each scenario of a feature whose part has many pieces, and the line
+    of each rule. The names grow and shrink, so that pieces end anywhere."""
+    scenarios, places, line = [], [], 1
+    for number in range(EACH_RULE * (PIECES_RULES + 1)):
+        rule = number // EACH_RULE - 1
+        if rule >= 0 and number % EACH_RULE == 0:
+            line += 1 + rule % 2
+            places.append(line)
+        line += 1 + is_on(number)
+        scenarios.append((number, line, f"s{number}{'x' * (number * 37 % 211)}", rule))
+        line += 1
+    return scenarios, places
+
+
+def is_on(number):
+    """Whether a scenario is chosen. Two of five aren't, and most of a rule in the middle isn't."""
+    return number % 5 not in (2, 3) and not 1025 <= number < 1078
+
+
+def pieces_feature():
+    """The text of that feature. The hook after each second rule fails."""
+    text = "Feature: f\n"
+    for number, _, name, rule in pieces_scenarios()[0]:
+        if rule >= 0 and number % EACH_RULE == 0:
+            text += "@odd\n" * (rule % 2) + f"Rule: r{rule}\n"
+        text += "@on\n" * is_on(number) + scenario(name, ["Given it passes"])
+    return text
+
+
+def pieces_run(report, options=()):
+    """A run of that feature."""
+    files = {"a.feature": pieces_feature(), "h.hooks": "after_tag @odd:\n* it fails\n"}
+    return Run(files, 1, report, arguments=[*options, *PIECES_RUN])
+
+
+def pieces_counts():
+    """How many scenarios are chosen, and how many aren't."""
+    on = sum(is_on(number) for number, *_ in pieces_scenarios()[0])
+    return on, EACH_RULE * (PIECES_RULES + 1) - on
+
+
+def pieces_closing():
+    """The closing lines of that run."""
+    on, off = pieces_counts()
+    return closing((0, 1), (on, 0, off), (on, 0, off))
+
+
+@large_run
+def part_of_many_pieces():
+    below, (scenarios, places) = [], pieces_scenarios()
+    for number, _, name, rule in scenarios:
+        if is_on(number):
+            below.append(case(name, "passed", [("Given it passes", "passed")]))
+        if rule > 0 and rule % 2 and number % EACH_RULE == EACH_RULE - 1:
+            below.append(f"  (rule, line {places[rule]}: hooks and cleanups) ... failed\n")
+    return pieces_run(part("failed", below) + pieces_closing())
+
+
+@large_run
+def part_of_many_pieces_as_progress():
+    return pieces_run(f"a.feature  {'.' * pieces_counts()[0]}  failed\n" + pieces_closing(), PROGRESS)
+
+
+@large_run
+def part_of_many_pieces_as_json():
+    scenarios, places = pieces_scenarios()
+    objects = [f'{{"around":"passed","keyword":"Scenario","line":{line},"name":"{name}","status":"passed",'
+               f'"steps":[{json_step("Given", line + 1, "it passes")}]}}'
+               for number, line, name, _ in scenarios if is_on(number)]
+    rules = [f'{{"around":"{"failed" if rule % 2 else "passed"}","line":{line}}}' for rule, line in enumerate(places)]
+    own = json_feature("f", 1, ",".join(objects), "a.feature", "failed", ",".join(rules))
+    on, off = pieces_counts()
+    report = json_report([own], 1, features={"failed": 1}, scenarios={"passed": on, "skipped": off},
+                         steps={"passed": on, "skipped": off})
+    return pieces_run(report, JSON)
+
+
 # ---- lines
 
 @large_run

@@ -421,6 +421,10 @@ for _options in ([], ["--format", "json"], ["--format", "progress"], ["--no-skip
                  ["--no-skipped", "--format", "json"], ["--stop"], ["--stop", "--format", "json"]):
     RUNS[" ".join(["rules whose hooks fail,", *_options])] = ([*_options, *FAILING_RULES_RUN], FAILING_RULES)
 
+# A part that has several pieces.
+for _options in ([], ["--format", "json"], ["--format", "progress"]):
+    RUNS[" ".join(["a part of several pieces,", *_options])] = ([*_options, *driver.LONG_RUN], driver.long_files())
+
 # The end of a layer brings back a file that was removed in it, though the next growth is refused.
 REMOVED_IN_A_SCENARIO = "a file that a scenario removes"
 REMOVED_BEFORE_A_FEATURE = "a file that a hook before a feature removes"

@@ -19,6 +19,7 @@ CHARACTERS = {"passed": ".", "failed": "F", "skipped": "S", "untested": "U", "me
 VERDICTS = ("passed", "failed", "skipped", "untested", "memory")
 STEP_STATUSES = ("passed", "failed", "skipped", "undefined", "untested", "memory")
 COUNTED = {"feature": VERDICTS, "scenario": VERDICTS, "step": STEP_STATUSES}
+PIECE_BYTES = 16_384  # at which a piece of a part ends
 # The keys of each JSON object.
 DOCUMENT = {"features", "run", "status", "summary"}
 FEATURE = {"around", "line", "name", "scenarios", "source", "status"}  # and `rules`, where it has any
@@ -150,6 +151,17 @@ class Feature:
         return self.status in allowed and is_known and is_well
 
 
+def in_pieces(texts):
+    """The pieces of a part. Each ends with the first text at which it has so many bytes, and the last with the part."""
+    pieces, piece = [], b""
+    for text in texts:
+        piece += text.encode()
+        if len(piece) >= PIECE_BYTES:
+            pieces.append(piece)
+            piece = b""
+    return [*pieces, piece] if piece else pieces
+
+
 def verdict(statuses, scenarios):
     """A feature's status, by those of its hooks and scenarios, and by those of its scenarios."""
     for status in ("memory", "failed", "untested"):
@@ -178,13 +190,13 @@ class Report:
         return report
 
     def pieces(self):
-        """What is written one after another: the beginning, each feature's part, and the end."""
+        """What is written one after another: the beginning, the pieces of each feature's part, and the end."""
         head, part, tail = WRITERS[self.style.format]
-        written, is_first = [head], True
+        written, is_first = [head.encode()], True
         for feature in self.features:
-            written.append(part(feature, is_first))
+            written += in_pieces(part(feature, is_first))
             is_first = False
-        return [it.encode() for it in (*written, tail(self))]
+        return [*written, tail(self).encode()]
 
     def text(self):
         return b"".join(self.pieces())
@@ -491,22 +503,26 @@ def read_plain(text, style):
 
 
 def plain_part(feature, _):
-    """The lines of a feature in a plain report."""
-    lines = [f"{feature.head} ... {feature.status}", *plain_rules(feature, 0)]
+    """The lines of a feature in a plain report: its own, those of each scenario and rule, and those after them."""
+    texts = [f"{feature.head} ... {feature.status}\n", *plain_rules(feature, 0)]
     for place, scenario in enumerate(feature.scenarios, 1):
-        lines.append(f"  {scenario.head} ... {scenario.status}")
-        lines += [f"    {head} ... {status}" for head, status in scenario.steps]
-        if scenario.around != "passed":
-            lines.append(f"    {AROUND} ... {scenario.around}")
-        lines += plain_rules(feature, place)
-    if feature.around != "passed":
-        lines.append(f"  {AROUND} ... {feature.around}")
-    return "\n".join([*lines, "", ""])
+        texts += [plain_scenario(scenario), *plain_rules(feature, place)]
+    around = f"  {AROUND} ... {feature.around}\n" if feature.around != "passed" else ""
+    return [*texts, around + "\n"]
+
+
+def plain_scenario(scenario):
+    """The lines of a scenario in a plain report."""
+    lines = [f"  {scenario.head} ... {scenario.status}"]
+    lines += [f"    {head} ... {status}" for head, status in scenario.steps]
+    if scenario.around != "passed":
+        lines.append(f"    {AROUND} ... {scenario.around}")
+    return "\n".join([*lines, ""])
 
 
 def plain_rules(feature, place):
     """The lines of the rules whose last scenario stands right above a place."""
-    return [f"  {RULE_AROUND.format(it.line)} ... {it.around}" for it in feature.rules
+    return [f"  {RULE_AROUND.format(it.line)} ... {it.around}\n" for it in feature.rules
             if it.place == place and it.around != "passed"]
 
 
@@ -530,7 +546,7 @@ def read_progress(text, style):
 def progress_part(feature, _):
     """The line of a feature in a progress report."""
     characters = "".join(CHARACTERS[it.status] for it in feature.scenarios)
-    return f"{feature.head}  {characters}  {feature.status}\n"
+    return [f"{feature.head}  {characters}  {feature.status}\n"]
 
 
 # ---- the end of both
@@ -622,13 +638,14 @@ def compact(value):
 
 
 def json_part(feature, is_first):
-    """The text of a feature in a JSON report."""
+    """The text of a feature in a JSON report: what stands before its scenarios, each of them, and what stands after them."""
     source, name, line = feature.head
-    scenarios = [json_scenario(it) for it in feature.scenarios]
+    scenarios = [compact(json_scenario(it)) for it in feature.scenarios]
     rules = [{"around": it.around, "line": it.line} for it in feature.rules]
-    return ("" if is_first else ",") + compact({
-        "around": feature.around, "line": line, "name": name, "source": source,
-        "status": feature.status, "scenarios": scenarios, **({"rules": rules} if rules else {})})
+    before = {"around": feature.around, "line": line, "name": name, **({"rules": rules} if rules else {})}
+    after = {"source": source, "status": feature.status}
+    return [("" if is_first else ",") + compact(before)[:-1] + ',"scenarios":[',
+            *("," * (place > 0) + it for place, it in enumerate(scenarios)), "]," + compact(after)[1:]]
 
 
 def json_scenario(scenario):

@@ -1,5 +1,5 @@
 -- Bytes that are written piece by piece.
-use Rattle.std.proofs.Common.{◌≡◌, ◌≤◌, ◌+◌, ℕ, zero, suc, Bool, ◌&&◌, List, [], ◌∷◌, ◌++◌, length, take, Option, Some, None, refl, ap, sym, subst, ◌∙◌, append_assoc, arith}
+use Rattle.std.proofs.Common.{◌≡◌, ◌≢◌, ◌≤◌, ◌+◌, ℕ, zero, suc, Bool, true, false, ◌&&◌, List, [], ◌∷◌, ◌++◌, length, take, Option, Some, None, refl, ap, sym, subst, ◌∙◌, append_assoc, arith}
 use Rattle.std.specs.Io.KnownBytes.{Appends}
 use Rattle.std.proofs.KnownBytes.{Appends-trans}
 use Rattle.std.proofs.lemmas.List.{append-nil, length-append}
@@ -10,6 +10,7 @@ use Rattle.gk_report.specs.declared.report.Style.{Style}
 use Rattle.gk_report.specs.declared.summary.Summary.{Summary}
 use Rattle.gk_report.specs.Report.{head, part, parts, tail, report, is_empty, ReportsGrowByParts}
 use Rattle.gk_report.specs.Summary.{summary_of, status, IsStatusOf}
+use Rattle.gk_report.specs.PartPieces.{IsPiece}
 use Rattle.gk_cli.specs.declared.growing_report.GrowingReport.{GrowingReport}
 use Rattle.gk_cli.specs.declared.run_fault.RunFault.{RunFault}
 use Rattle.gk_cli.specs.declared.run_fault.RunFault.TheVariants.{Read, Library, Hooks, Select, Write, Memory}
@@ -122,18 +123,69 @@ first_more law style rows row first is =
     ∙ sym (empty_both (parts style rows) (part style (is_empty (parts style rows)) row))
     ∙ ap is_empty (sym (law.next style rows row))
 
+-- ---- the pieces of a part
+
+-- Of a whole these bytes were written, and the rest is left. Nothing is printed yet where nothing was and none was written.
+pub record IsWrittenUpTo (old new : Device) (first still : Bool) (whole left : List ℕ) : Type 0 where
+  pub done : List ℕ
+  pub written : IsWritten old new done
+  pub split : done ++ left ≡ whole
+  pub is_first : still ≡ (first && is_empty done)
+
+both_true : (b : Bool) → b ≡ (b && true)
+both_true true = refl
+both_true false = refl
+
+both_false : (b : Bool) → false ≡ (b && false)
+both_false true = refl
+both_false false = refl
+
+not_empty : (xs ys : List ℕ) → ys ≢ [] → is_empty (xs ++ ys) ≡ false
+not_empty [] [] some = absurd (some refl)
+not_empty [] (y ∷ ys) some = refl
+not_empty (x ∷ xs) ys some = refl
+
+-- No piece was written.
+pub none_written : (d : Device) (first : Bool) (whole left : List ℕ) → left ≡ whole → IsWrittenUpTo d d first first whole left
+none_written d first whole left e = record { done = []; written = written_none d; split = e; is_first = both_true first }
+
+-- One piece more was written.
+pub piece_written : (old mid new : Device) (first still : Bool) (whole left text later : List ℕ) → IsWrittenUpTo old mid first still whole left → IsPiece left text later → IsWritten mid new text →
+    IsWrittenUpTo old new first false whole later
+piece_written old mid new first still whole left text later w p q = record {
+  done = w.done ++ text;
+  written = written_more old mid new w.done text w.written q;
+  split = append_assoc w.done text later ∙ ap (λ (xs : List ℕ). w.done ++ xs) (sym p.whole) ∙ w.split;
+  is_first = both_false first ∙ ap (λ (b : Bool). first && b) (sym (not_empty w.done text p.some));
+}
+
+-- A piece wasn't written whole.
+pub piece_stopped : (old mid new : Device) (first still : Bool) (whole left text later : List ℕ) (fault : RunFault) → IsWrittenUpTo old mid first still whole left → IsPiece left text later → IsStopped mid new text fault →
+    IsStopped old new whole fault
+piece_stopped old mid new first still whole left text later fault w p q =
+    stopped_within old new (w.done ++ text) later whole fault (sym (append_assoc w.done text later ∙ ap (λ (xs : List ℕ). w.done ++ xs) (sym p.whole) ∙ w.split))
+    (stopped_after old mid new w.done text fault w.written q)
+
+-- Memory was refused for the next piece.
+pub piece_refused : (old new : Device) (first still : Bool) (whole left : List ℕ) → IsWrittenUpTo old new first still whole left → IsStopped old new whole Memory
+piece_refused old new first still whole left w = subst (λ xs. IsStopped old new xs Memory) w.split (stopped_before old new w.done left w.written)
+
+all_done : (old new : Device) (first still : Bool) (whole left : List ℕ) (w : IsWrittenUpTo old new first still whole left) → left ≡ [] → w.done ≡ whole
+all_done old new first still whole left w e = sym (append-nil w.done) ∙ ap (λ (xs : List ℕ). w.done ++ xs) (sym e) ∙ w.split
+
+-- All pieces were written.
+pub all_written : (old new : Device) (first still : Bool) (whole left : List ℕ) → IsWrittenUpTo old new first still whole left → left ≡ [] → IsWritten old new whole
+all_written old new first still whole left w e = subst (IsWritten old new) (all_done old new first still whole left w e) w.written
+
+pub first_after_all : (old new : Device) (first still : Bool) (whole left : List ℕ) → IsWrittenUpTo old new first still whole left → left ≡ [] → still ≡ (first && is_empty whole)
+first_after_all old new first still whole left w e = w.is_first ∙ ap (λ (xs : List ℕ). first && is_empty xs) (all_done old new first still whole left w e)
+
 -- An error that is passed on.
 pub passed_on : {T E : Type 0} {Q P : E → Type 0} (r : Result T E) → IsErrAnd r Q → ((e : E) → Q e → P e) → IfErr r P
 passed_on (Ok x) h f = absurd h
 passed_on (Err e) h f = f e h
 
 -- ---- one part more
-
--- Memory was refused for the part.
-pub part_refused : ReportsGrowByParts → (g : GrowingReport) (old : Device) (row : FeatureRow) → Stops old g old row Memory
-part_refused law g old row before rows grown =
-    let none = is_empty (parts g.style rows) in
-    subst (λ xs. IsStopped before old xs Memory) (part_more law g.style rows row none refl) (stopped_before before old (so_far g.style rows) (part g.style none row) grown.written)
 
 -- The part wasn't written whole.
 pub part_stopped : ReportsGrowByParts → (g : GrowingReport) (old new : Device) (row : FeatureRow) (text : List ℕ) (fault : RunFault) → text ≡ part g.style g.is_first row → IsStopped old new text fault → Stops old g new row fault

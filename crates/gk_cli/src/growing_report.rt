@@ -1,14 +1,14 @@
 //! A report that is written as it grows.
 ghost use Rattle.std.specs.Prelude.{◌≡◌, ◌&&◌, [], OnOk, IfOk, IfErr};
 ghost use Rattle.gk_run.specs.Results.{feature_row};
-ghost use Rattle.gk_report.specs.Report.{is_empty, report};
+ghost use Rattle.gk_report.specs.Report.{is_empty, part, report};
 ghost use Rattle.gk_cli.specs.Suite.{device_of};
 ghost use Rattle.gk_cli.specs.GrowingReport.{IsWritten, IsStopped};
 ghost use Rattle.gk_cli.specs.Counted.{CountsCanRise};
 
 use crate::counted::{Counted, write_whole};
 use crate::run_fault::RunFault;
-use gk_report::{Style, Summary, head, part, reports_grow_by_parts, tail};
+use gk_report::{Style, Summary, head, pieces, reports_grow_by_parts, tail};
 use gk_run::{FeatureResult, Status};
 use std::alloc::Global;
 use std::io::Write;
@@ -27,11 +27,32 @@ fn write_piece<W: Write>(out: &mut Counted<W>, text: &str) -> Result<(), RunFaul
     }
 }
 
-// Whether nothing is printed yet, with one part more.
-fn is_still_first(is_first: bool, text: &str) -> bool
-    ensures { result ≡ (is_first && is_empty text.now) }
+// Writes the part of a feature piece by piece, the first being the first that is printed or not. Answers
+// whether nothing is printed after it.
+fn write_part<W: Write>(
+    alloc: Global,
+    style: Style,
+    is_first: bool,
+    feature: &FeatureResult,
+    out: &mut Counted<W>,
+) -> Result<bool, RunFault>
+    requires room { CountsCanRise out.old }
+    ensures room { OnOk result (CountsCanRise out.new) }
+    ensures ok { OnOk result (IsWritten (device_of W.contents out.old) (device_of W.contents out.new)
+        (part style is_first (feature_row feature.now))) }
+    ensures still { IfOk result (λ still.
+        still ≡ (is_first && is_empty (part style is_first (feature_row feature.now)))) }
+    ensures err { IfErr result
+        (IsStopped (device_of W.contents out.old) (device_of W.contents out.new)
+        (part style is_first (feature_row feature.now))) }
 {
-    is_first && text.is_empty()
+    let mut left = pieces(style, is_first, feature);
+    let mut still_first = is_first;
+    while let Some(piece) = left.next(alloc)? {
+        write_piece(out, piece.as_str())?;
+        still_first = false;
+    }
+    Ok(still_first)
 }
 
 /// A report of which the head and the parts of some features are written. What is written isn't kept.
@@ -76,9 +97,9 @@ impl GrowingReport {
         })
     }
 
-    /// Writes the part of a feature, and counts it. `Memory` comes where the part couldn't be made, and nothing
-    /// of it was written; `Write` where the writer failed, and a prefix of it was. At either the feature isn't
-    /// counted.
+    /// Writes the part of a feature in pieces, and counts the feature. Each piece is made whole before it is
+    /// written. `Memory` comes where the next piece couldn't be made, `Write` where the writer failed; a prefix
+    /// of the part was written, and the feature isn't counted.
     pub fn add<W: Write>(
         &mut self,
         alloc: Global,
@@ -95,10 +116,8 @@ impl GrowingReport {
     {
         // No code runs here: the law says how a report grows by a part.
         reports_grow_by_parts();
-        let text = part(alloc, self.style, self.is_first, &feature)?;
-        write_piece(out, text.as_str())?;
+        self.is_first = write_part(alloc, self.style, self.is_first, &feature, out)?;
         self.summary.add(&feature);
-        self.is_first = is_still_first(self.is_first, text.as_str());
         Ok(())
     }
 

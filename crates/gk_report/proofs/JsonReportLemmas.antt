@@ -1,22 +1,20 @@
 -- No value of the report has a float, and what writing one value after another gives.
-use Rattle.std.specs.Prelude.{◌==◌}
-use Rattle.std.proofs.Common.{◌≡◌, ℕ, Bool, true, false, ◌||◌, List, [], ◌∷◌, length, map, Option, Some, None, codes, refl, ap, sym, ◌∙◌, subst, suc}
-use Rattle.std.proofs.lemmas.Bool.{true≢false}
+use Rattle.std.proofs.Common.{◌≡◌, ℕ, Bool, true, false, ◌||◌, cond, not, List, [], ◌∷◌, ◌++◌, length, map, Option, Some, None, codes, refl, ap, sym, ◌∙◌, subst, suc, append_assoc}
+use Rattle.std.specs.Fmt.{decimal}
 use Rattle.serde.specs.Event.{Log, Logs, map_begins, map_ends}
-use Rattle.serde_json.specs.Data.{Data, string, Items, Members, no_members, member}
+use Rattle.serde_json.specs.Data.{Data, string, object, Items, Members, no_members, member}
 use Rattle.serde_json.specs.View.{items_of}
 use Rattle.serde_json.specs.Events.{items_len, members_len, SendsValue, SendsItems, SendsMembers}
-use Rattle.serde_json.specs.Written.{has_float, items_have_float, members_have_float, compact_text}
+use Rattle.serde_json.specs.Written.{has_float, items_have_float, members_have_float, compact_text, items_text}
+use Rattle.serde_json.proofs.OnLiterals.{serde_json_on_literals}
 use Rattle.gk_run.specs.declared.results.Reason.{Reason}
-use Rattle.gk_run.specs.declared.results.RuleResult.{RuleResult}
 use Rattle.gk_run.specs.declared.results.Status.{Status}
-use Rattle.gk_run.specs.Results.{StepRow, CaseRow, RuleRow, FeatureRow, rule_row}
+use Rattle.gk_run.specs.Results.{StepRow, CaseRow, RuleRow, FeatureRow}
 use Rattle.gk_report.specs.declared.summary.Counts.{Counts}
 use Rattle.gk_report.specs.declared.summary.Summary.{Summary}
 use Rattle.gk_report.specs.Summary.{status_by}
-use Rattle.gk_report.specs.ReportTexts.{printed_cases}
-use Rattle.gk_report.specs.JsonReport.{number_data, status_data, array_data, reason_and, step_data, case_data, rule_data, rules_and, feature_data, counts_data, step_counts_data, summary_data, AddsMembers, case_and, undefined_and, counts_data_of, step_members, feature_members, count_members, tail_of, json_tail}
-use Rattle.gk_report.proofs.PrintedLemmas.{items_next}
+use Rattle.gk_report.specs.ReportTexts.{is_hidden, printed_cases}
+use Rattle.gk_report.specs.JsonReport.{number_data, status_data, array_data, reason_and, step_data, case_data, rule_data, rules_data, rules_and, feature_object, counts_data, step_counts_data, summary_data, comma_unless, joined, objects_text, rules_member, object_start, object_end, AddsMembers, undefined_and, counts_data_of, step_members, count_members, tail_of, json_tail}
 
 none_of_both : (a b : Bool) → a ≡ false → b ≡ false → (a || b) ≡ false
 none_of_both false b p q = q
@@ -33,31 +31,18 @@ steps_whole : (ss : List StepRow) → items_have_float (items_of (map step_data 
 steps_whole [] = refl
 steps_whole (s ∷ ss) = none_of_both _ _ (step_whole s) (steps_whole ss)
 
-case_whole : (c : CaseRow) → has_float (case_data c) ≡ false
+pub case_whole : (c : CaseRow) → has_float (case_data c) ≡ false
 case_whole c = none_of_both _ _ (steps_whole c.steps) refl
-
-cases_whole : (cs : List CaseRow) → items_have_float (items_of (map case_data cs)) ≡ false
-cases_whole [] = refl
-cases_whole (c ∷ cs) = none_of_both _ _ (case_whole c) (cases_whole cs)
 
 each_rule_whole : (rs : List RuleRow) → items_have_float (items_of (map rule_data rs)) ≡ false
 each_rule_whole [] = refl
 each_rule_whole (r ∷ rs) = each_rule_whole rs
 
-rules_whole : (rs : List RuleRow) (ms : Members) → members_have_float ms ≡ false → members_have_float (rules_and rs ms) ≡ false
-rules_whole [] ms h = h
-rules_whole (r ∷ rs) ms h = none_of_both _ _ (each_rule_whole rs) h
-
-pub feature_whole : (no_skipped : Bool) (f : FeatureRow) → has_float (feature_data no_skipped f) ≡ false
-feature_whole no_skipped f = rules_whole f.rules _ (none_of_both _ _ (cases_whole (printed_cases no_skipped f.cases)) refl)
+pub rules_data_whole : (rs : List RuleRow) → has_float (rules_data rs) ≡ false
+rules_data_whole rs = each_rule_whole rs
 
 pub summary_whole : (s : Summary) → has_float (summary_data s) ≡ false
 summary_whole s = refl
-
--- The length of an array.
-pub items_len_of : {A : Type 0} (f : A → Data) (xs : List A) → items_len (items_of (map f xs)) ≡ length xs
-items_len_of f [] = refl
-items_len_of f (x ∷ xs) = ap suc (items_len_of f xs)
 
 -- The length of an array of what a view shows.
 pub items_len_by : {A B : Type 0} (f : B → Data) (view : A → B) (xs : List A) → items_len (items_of (map f (map view xs))) ≡ length xs
@@ -102,45 +87,12 @@ case_sent c old first one two three four five six end begun around keyword line 
     let second = member (codes "keyword") (string c.keyword) third in
     (first, begun, around second end (keyword third end (line fourth end (name fifth end (status last end (steps no_members end e))))))
 
--- The member of the rules where there is one.
-pub rules_some : (rs : List RuleResult) → (length rs == 0) ≡ false → (ms : Members) → member (codes "rules") (array_data (map rule_data (map rule_row rs))) ms ≡ rules_and (map rule_row rs) ms
-rules_some [] e ms = absurd (true≢false e)
-rules_some (r ∷ rs) e ms = refl
-
 -- A rule's object, written member by member.
 pub rule_sent : (r : RuleRow) (old first one two end : Log) → Logs old first (map_begins (Some 2)) →
     AddsMembers (member (codes "around") (status_data r.around)) first one →
     AddsMembers (member (codes "line") (number_data r.line)) one two →
     Logs two end map_ends → SendsValue (rule_data r) old end
 rule_sent r old first one two end begun around line e = (first, begun, around (member (codes "line") (number_data r.line) no_members) end (line no_members end e))
-
-feature_len : (rs : List RuleRow) (k l m : List ℕ) (c d e : Data) →
-    feature_members rs ≡ suc (suc (suc (members_len (rules_and rs (member k c (member l d (member m e no_members)))))))
-feature_len [] k l m c d e = refl
-feature_len (r ∷ rs) k l m c d e = refl
-
--- A feature's object, written member by member.
-pub feature_sent : (no_skipped : Bool) (f : FeatureRow) (old first one two three four five six seven end : Log) (n : ℕ) → n ≡ feature_members f.rules → Logs old first (map_begins (Some n)) →
-    AddsMembers (member (codes "around") (status_data f.around)) first one →
-    AddsMembers (member (codes "line") (number_data f.line)) one two →
-    AddsMembers (member (codes "name") (string f.name)) two three →
-    AddsMembers (rules_and f.rules) three four →
-    AddsMembers (member (codes "scenarios") (array_data (map case_data (printed_cases no_skipped f.cases)))) four five →
-    AddsMembers (member (codes "source") (string f.source)) five six →
-    AddsMembers (member (codes "status") (status_data f.status)) six seven →
-    Logs seven end map_ends → SendsValue (feature_data no_skipped f) old end
-feature_sent no_skipped f old first one two three four five six seven end n is begun around line name rules cases source status e =
-    let last = member (codes "status") (status_data f.status) no_members in
-    let sixth = member (codes "source") (string f.source) last in
-    let scenarios = array_data (map case_data (printed_cases no_skipped f.cases)) in
-    let fifth = member (codes "scenarios") scenarios sixth in
-    let fourth = rules_and f.rules fifth in
-    let third = member (codes "name") (string f.name) fourth in
-    let second = member (codes "line") (number_data f.line) third in (
-      first,
-      subst (λ k. Logs old first (map_begins (Some k))) (is ∙ feature_len f.rules (codes "scenarios") (codes "source") (codes "status") scenarios (string f.source) (status_data f.status)) begun,
-      around second end (line third end (name fourth end (rules fifth end (cases sixth end (source last end (status no_members end e)))))),
-    )
 
 counts_by : (of_steps : Bool) (c : Counts) (old first end : Log) (n : ℕ) → n ≡ count_members of_steps → Logs old first (map_begins (Some n)) →
     SendsMembers (
@@ -188,15 +140,6 @@ pub steps_on : (all : Items) (old mid new : Log) (left more : List StepRow) (s :
     (end : Log) → SendsItems (items_of (map step_data more)) new end → SendsItems all old end
 steps_on all old mid new left more s is sent inv end rest = inv end (subst (λ ss. SendsItems (items_of (map step_data ss)) mid end) (sym is) (new, sent, rest))
 
--- One scenario more of those that are left, or none where it is hidden.
-pub cases_on : (no_skipped : Bool) (all : Items) (old mid new : Log) (left more : List CaseRow) (c : CaseRow) → left ≡ c ∷ more →
-    ((items : Items) (end : Log) → SendsItems items new end → SendsItems (case_and no_skipped c items) mid end) →
-    ((end : Log) → SendsItems (items_of (map case_data (printed_cases no_skipped left))) mid end → SendsItems all old end) →
-    (end : Log) → SendsItems (items_of (map case_data (printed_cases no_skipped more))) new end → SendsItems all old end
-cases_on no_skipped all old mid new left more c is sent inv end rest =
-    inv end (subst (λ cs. SendsItems (items_of (map case_data (printed_cases no_skipped cs))) mid end) (sym is)
-    (subst (λ items. SendsItems items mid end) (sym (items_next no_skipped c more)) (sent _ end rest)))
-
 -- What stands after the features, by the texts of its values.
 pub tail_from : (around : Status) (s : Summary) (text run counts : List ℕ) (number : ℕ) → text ≡ tail_of run number counts →
     run ≡ compact_text (status_data around) → number ≡ status_by s around → counts ≡ compact_text (summary_data s) → text ≡ json_tail around (status_by s around) s
@@ -204,3 +147,67 @@ unfolding tail_of json_tail
 tail_from around s text run counts number e a b c =
     let done = compact_text (status_data around) in
     e ∙ ap (λ xs. tail_of xs number counts) a ∙ ap (λ n. tail_of done n counts) b ∙ ap (λ xs. tail_of done (status_by s around) xs) c
+
+-- Values with commas between them and the closing bracket.
+joined_items : (first : Bool) (ds : List Data) → items_text (not first) (items_of ds) ≡ joined first ds ++ 93 ∷ []
+joined_items true [] = refl
+joined_items false [] = refl
+joined_items true (d ∷ ds) = ap (λ xs. compact_text d ++ xs) (joined_items false ds) ∙ sym (append_assoc (compact_text d) (joined false ds) (93 ∷ []))
+joined_items false (d ∷ ds) = ap (λ xs. 44 ∷ (compact_text d ++ xs)) (joined_items false ds) ∙ ap (λ xs. 44 ∷ xs) (sym (append_assoc (compact_text d) (joined false ds) (93 ∷ [])))
+
+-- What is pushed before the scenarios.
+pub start_written : (comma around line name rules old : List ℕ) {a b c d e f g : List ℕ} → a ≡ old ++ comma → b ≡ a ++ codes "{\"around\":" → c ≡ b ++ around →
+    d ≡ c ++ (codes ",\"line\":" ++ (line ++ codes ",\"name\":")) → e ≡ d ++ name → f ≡ e ++ rules → g ≡ f ++ codes ",\"scenarios\":[" →
+    g ≡ old ++ (comma ++ codes "{\"around\":" ++ around ++ codes ",\"line\":" ++ line ++ codes ",\"name\":" ++ name ++ rules ++ codes ",\"scenarios\":[")
+start_written comma around line name rules old ha hb hc hd he hf hg = rw (hg, hf, he, hd, hc, hb, ha) (simp append_assoc)
+
+-- What is pushed after them.
+pub end_written : (source status old : List ℕ) {a b c d e : List ℕ} → a ≡ old ++ codes "],\"source\":" → b ≡ a ++ source → c ≡ b ++ codes ",\"status\":" → d ≡ c ++ status → e ≡ d ++ codes "}" →
+    e ≡ old ++ (codes "],\"source\":" ++ source ++ codes ",\"status\":" ++ status ++ codes "}")
+end_written source status old ha hb hc hd he = rw (he, hd, hc, hb, ha) (simp append_assoc)
+
+object_of : Bool → FeatureRow → List RuleRow → Data
+object_of no_skipped f rules = object (
+    member (codes "around") (status_data f.around) (
+    member (codes "line") (number_data f.line) (
+    member (codes "name") (string f.name) (
+    rules_and rules (
+    member (codes "scenarios") (array_data (map case_data (printed_cases no_skipped f.cases))) (
+    member (codes "source") (string f.source) (
+    member (codes "status") (status_data f.status) no_members)))))))
+
+nested : FeatureRow → List ℕ → List ℕ → List ℕ
+nested f rules items =
+    codes "{\"around\":" ++ (compact_text (status_data f.around) ++ (codes ",\"line\":" ++ (decimal f.line ++ (codes ",\"name\":" ++ (compact_text (string f.name) ++ (rules
+    ++ (codes ",\"scenarios\":[" ++ (items ++ (codes ",\"source\":" ++ (compact_text (string f.source) ++ (codes ",\"status\":" ++ (compact_text (status_data f.status) ++ codes "}"))))))))))))
+
+nested_by : (no_skipped : Bool) (f : FeatureRow) (rules : List RuleRow) →
+    compact_text (object_of no_skipped f rules) ≡ nested f (rules_member rules) (items_text false (items_of (map case_data (printed_cases no_skipped f.cases))))
+unfolding object_of nested serde_json_on_literals
+nested_by no_skipped f [] = refl
+nested_by no_skipped f (r ∷ rules) = refl
+
+regrouped : (comma around line name rules items source status : List ℕ) →
+    comma ++ (codes "{\"around\":" ++ (around ++ (codes ",\"line\":" ++ (line ++ (codes ",\"name\":" ++ (name ++ (rules
+    ++ (codes ",\"scenarios\":[" ++ ((items ++ 93 ∷ []) ++ (codes ",\"source\":" ++ (source ++ (codes ",\"status\":" ++ (status ++ codes "}")))))))))))))
+    ≡ (comma ++ codes "{\"around\":" ++ around ++ codes ",\"line\":" ++ line ++ codes ",\"name\":" ++ name ++ rules ++ codes ",\"scenarios\":[")
+    ++ (items ++ (codes "],\"source\":" ++ source ++ codes ",\"status\":" ++ status ++ codes "}"))
+regrouped comma around line name rules items source status = simp append_assoc
+
+-- The object of a feature is what stands before its scenarios, their objects, and what stands after them.
+pub object_parts : (no_skipped first : Bool) (f : FeatureRow) → feature_object no_skipped first f ≡ object_start first f ++ (objects_text no_skipped true f.cases ++ object_end f)
+unfolding object_of nested object_start object_end
+object_parts no_skipped first f =
+    let ds = map case_data (printed_cases no_skipped f.cases) in
+    ap (λ xs. comma_unless first ++ xs) (nested_by no_skipped f f.rules ∙ ap (nested f (rules_member f.rules)) (joined_items true ds))
+    ∙ regrouped (comma_unless first) (compact_text (status_data f.around)) (decimal f.line) (compact_text (string f.name)) (rules_member f.rules) (joined true ds) (compact_text (string f.source)) (compact_text (status_data f.status))
+
+objects_by : (hidden first : Bool) (c : CaseRow) (cs : List CaseRow) →
+    joined first (map case_data (cond (not hidden) (c ∷ cs) cs)) ≡ cond hidden (joined first (map case_data cs)) (comma_unless first ++ compact_text (case_data c) ++ joined false (map case_data cs))
+objects_by true first c cs = refl
+objects_by false first c cs = refl
+
+-- The objects of one scenario and of the others.
+pub objects_next : (no_skipped first : Bool) (c : CaseRow) (cs : List CaseRow) →
+    objects_text no_skipped first (c ∷ cs) ≡ cond (is_hidden no_skipped c.status) (objects_text no_skipped first cs) ((comma_unless first ++ compact_text (case_data c)) ++ objects_text no_skipped false cs)
+objects_next no_skipped first c cs = objects_by (is_hidden no_skipped c.status) first c (printed_cases no_skipped cs)

@@ -5,4 +5,5 @@ pub mod RuleLemmas
 pub mod RuleGroupLemmas
 pub mod JsonReportLemmas
 pub mod ReportLemmas
+pub mod PartPiecesLemmas
 pub mod WorkedReports

@@ -1,13 +1,10 @@
 -- What a loop over the printed scenarios has left.
 use Rattle.std.proofs.Common.{◌≡◌, ℕ, ◌+◌, ◌<◌, ◌≤◌, Bool, true, false, cond, not, List, [], ◌∷◌, ◌++◌, length, get_or, drop, map, flat_map, refl, ap, sym, ◌∙◌}
 use Rattle.std.proofs.lemmas.List.{at_drop_all, at_drop_more}
-use Rattle.serde_json.specs.Data.{item}
-use Rattle.serde_json.specs.View.{items_of}
 use Rattle.gk_run.specs.Results.{CaseRow}
 use Rattle.gk_report.specs.ReportTexts.{is_hidden, printed_cases}
 use Rattle.gk_report.specs.PlainReport.{case_lines}
 use Rattle.gk_report.specs.ProgressReport.{status_mark, case_marks}
-use Rattle.gk_report.specs.JsonReport.{case_data, case_and}
 
 -- The next of a list at a place.
 pub left_next : {X Y : Type 0} (f : X → Y) (xs : List X) (i : ℕ) (x : X) → i < length xs → x ≡ get_or xs i x → map f (drop i xs) ≡ f x ∷ map f (drop (i + 1) xs)
@@ -34,12 +31,3 @@ marks_by false c cs = refl
 pub marks_next : (no_skipped : Bool) (c : CaseRow) (cs : List CaseRow) →
     case_marks no_skipped (c ∷ cs) ≡ cond (is_hidden no_skipped c.status) [] (status_mark c.status ∷ []) ++ case_marks no_skipped cs
 marks_next no_skipped c cs = marks_by (is_hidden no_skipped c.status) c (printed_cases no_skipped cs)
-
-items_by : (hidden : Bool) (c : CaseRow) (cs : List CaseRow) → items_of (map case_data (cond (not hidden) (c ∷ cs) cs)) ≡ cond hidden (items_of (map case_data cs)) (item (case_data c) (items_of (map case_data cs)))
-items_by true c cs = refl
-items_by false c cs = refl
-
--- The items of one scenario and of the others.
-pub items_next : (no_skipped : Bool) (c : CaseRow) (cs : List CaseRow) →
-    items_of (map case_data (printed_cases no_skipped (c ∷ cs))) ≡ case_and no_skipped c (items_of (map case_data (printed_cases no_skipped cs)))
-items_next no_skipped c cs = items_by (is_hidden no_skipped c.status) c (printed_cases no_skipped cs)

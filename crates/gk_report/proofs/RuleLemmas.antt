@@ -1,14 +1,13 @@
 -- The scenarios of rules, one after another.
-use Rattle.std.proofs.Common.{◌≡◌, ℕ, ◌+◌, ◌-◌, ◌<◌, ◌≤◌, Bool, false, cond, not, List, [], ◌∷◌, ◌++◌, length, take, drop, get_or, map, flat_map, codes, ap, sym, ◌∙◌, append_assoc, arith}
+use Rattle.std.proofs.Common.{◌≡◌, ℕ, suc, ◌+◌, Bool, true, false, cond, not, List, [], ◌∷◌, ◌++◌, length, drop, map, flat_map, Option, Some, codes, refl, ap, sym, ◌∙◌, append_assoc, arith}
 use Rattle.std.specs.Fmt.{decimal}
-use Rattle.std.proofs.lemmas.List.{drop-drop, drop-map, drop_more, take_rest, length-map, length-drop}
-use Rattle.std.proofs.lemmas.List.Sums.{prefix_len-le-length, take_while-cons}
+use Rattle.std.proofs.lemmas.List.{take-append-drop}
+use Rattle.std.proofs.lemmas.List.Sums.{take_while-cons}
 use Rattle.gk_run.specs.declared.results.CaseResult.{CaseResult}
-use Rattle.gk_run.specs.declared.results.RuleResult.{RuleResult}
-use Rattle.gk_run.specs.Results.{CaseRow, RuleRow, case_row, rule_row, is_passed}
+use Rattle.gk_run.specs.Results.{CaseRow, RuleRow, case_row, is_passed}
 use Rattle.gk_report.specs.ReportTexts.{status_text, line_feed, is_hidden}
 use Rattle.gk_report.specs.RuleGroups.{begins_above, count_before, cases_before, cases_behind, rule_groups}
-use Rattle.gk_report.specs.PlainReport.{status_line, case_lines, printed_lines, rule_line, group_lines}
+use Rattle.gk_report.specs.PlainReport.{status_line, case_lines, printed_lines, rule_line, line_of, group_lines, lines_in}
 use Rattle.gk_report.proofs.PrintedLemmas.{lines_next}
 
 -- A scenario in front of the first rule is one of those in front of it.
@@ -19,47 +18,49 @@ pub lines_before_next : (no_skipped : Bool) (rules : List RuleRow) (c : CaseRow)
     printed_lines no_skipped (cases_before rules (c ∷ cs)) ≡ cond (is_hidden no_skipped c.status) [] (case_lines c) ++ printed_lines no_skipped (cases_before rules cs)
 lines_before_next no_skipped rules c cs e = ap (printed_lines no_skipped) (before_next rules c cs e) ∙ lines_next no_skipped c (cases_before rules cs)
 
-pub count_before_next : (rules : List RuleRow) (c : CaseRow) (cs : List CaseRow) → begins_above rules c.line ≡ false → count_before rules (c ∷ cs) ≡ 1 + count_before rules cs
+count_before_next : (rules : List RuleRow) (c : CaseRow) (cs : List CaseRow) → begins_above rules c.line ≡ false → count_before rules (c ∷ cs) ≡ 1 + count_before rules cs
 count_before_next rules c cs e = ap (λ b. cond (not b) (1 + count_before rules cs) 0) e
 
-pub count_before_le : (rules : List RuleRow) (cs : List CaseRow) → count_before rules cs ≤ length cs
-count_before_le rules cs = prefix_len-le-length (λ (x : CaseRow). not (begins_above rules x.line)) cs
+behind_next : (rules : List RuleRow) (c : CaseRow) (cs : List CaseRow) → begins_above rules c.line ≡ false → cases_behind rules (c ∷ cs) ≡ cases_behind rules cs
+behind_next rules c cs e =
+    let n = count_before rules cs in
+    let more : 1 + n ≡ suc n = omega arith in
+    ap (λ k. drop k (c ∷ cs)) (count_before_next rules c cs e ∙ more)
 
--- What the code's slices of rules and scenarios hold.
-pub at_rest : {A : Type 0} (F : List RuleResult → List CaseResult → A) (rules : List RuleResult) (cases : List CaseResult) (i j : ℕ) →
-    F (take (length rules - i) (drop i rules)) (take (length cases - j) (drop j cases)) ≡ F (drop i rules) (drop j cases)
-at_rest F rules cases i j = ap (λ rs. F rs (take (length cases - j) (drop j cases))) (take_rest rules i) ∙ ap (F (drop i rules)) (take_rest cases j)
+-- The lines of one scenario and of what follows it.
+pub lines_in_next : (no_skipped : Bool) (rule : Option RuleRow) (rules : List RuleRow) (c : CaseRow) (cs : List CaseRow) → begins_above rules c.line ≡ false →
+    lines_in no_skipped rule rules (c ∷ cs) ≡ cond (is_hidden no_skipped c.status) [] (case_lines c) ++ lines_in no_skipped rule rules cs
+lines_in_next no_skipped rule rules c cs e =
+    let others = λ (xs : List CaseRow). line_of rule ++ flat_map (group_lines no_skipped) (rule_groups rules xs) in
+    ap (λ xs. printed_lines no_skipped (cases_before rules (c ∷ cs)) ++ others xs) (behind_next rules c cs e)
+    ∙ ap (λ xs. xs ++ others (cases_behind rules cs)) (lines_before_next no_skipped rules c cs e)
+    ∙ append_assoc (cond (is_hidden no_skipped c.status) [] (case_lines c)) (printed_lines no_skipped (cases_before rules cs)) (others (cases_behind rules cs))
 
--- What stands behind a number of scenarios.
-behind_at : (rules : List RuleRow) (cases : List CaseResult) (place count : ℕ) → count ≡ count_before rules (map case_row (drop place cases)) →
-    cases_behind rules (map case_row (drop place cases)) ≡ map case_row (drop (place + count) cases)
-behind_at rules cases place count e =
-    ap (λ n. drop n (map case_row (drop place cases))) (sym e) ∙ drop-map case_row count (drop place cases) ∙ ap (map case_row) (drop-drop count place cases)
+-- No scenario stands in front of the first rule where the first one is in it.
+pub before_stops : (rules : List RuleRow) (c : CaseRow) (cs : List CaseRow) → begins_above rules c.line ≡ true → cases_before rules (c ∷ cs) ≡ []
+before_stops rules c cs e = take_while-cons (λ (x : CaseRow). not (begins_above rules x.line)) c cs ∙ ap (λ b. cond (not b) (c ∷ cases_before rules cs) []) e
 
--- The code's slice of the scenarios behind those in front of the first rule.
-pub behind_own : (rules : List RuleRow) (cases : List CaseResult) (own : ℕ) → own ≡ count_before rules (map case_row cases) →
-    map case_row (take (length cases - own) (drop own cases)) ≡ cases_behind rules (map case_row cases)
-behind_own rules cases own e = ap (map case_row) (take_rest cases own) ∙ sym (drop-map case_row own cases) ∙ ap (λ n. drop n (map case_row cases)) e
+behind_all : (rules : List RuleRow) (cs : List CaseRow) → cases_before rules cs ≡ [] → cases_behind rules cs ≡ cs
+behind_all rules cs none = ap (λ xs. xs ++ cases_behind rules cs) (sym none) ∙ take-append-drop (count_before rules cs) cs
 
--- The scenarios up to the next rule are some of those that are left.
-pub count_within : (rules : List RuleRow) (cases : List CaseResult) (place count : ℕ) → place ≤ length cases → count ≡ count_before rules (map case_row (drop place cases)) → place + count ≤ length cases
-count_within rules cases place count le e =
-    omega (arith, e, count_before_le rules (map case_row (drop place cases)), length-map (drop place cases) case_row, length-drop place cases, le)
+-- Where no scenario is left in front of the next rule, the line of the rule before is next.
+pub lines_in_rule : (no_skipped : Bool) (rule : Option RuleRow) (r : RuleRow) (rules : List RuleRow) (cs : List CaseRow) → cases_before (r ∷ rules) cs ≡ [] →
+    lines_in no_skipped rule (r ∷ rules) cs ≡ line_of rule ++ lines_in no_skipped (Some r) rules cs
+lines_in_rule no_skipped rule r rules cs none =
+    let groups = λ (xs : List CaseRow). line_of rule ++ flat_map (group_lines no_skipped) (rule_groups (r ∷ rules) xs) in
+    let others = flat_map (group_lines no_skipped) (rule_groups rules (cases_behind rules cs)) in
+    ap (λ xs. printed_lines no_skipped xs ++ groups (cases_behind (r ∷ rules) cs)) none
+    ∙ ap groups (behind_all (r ∷ rules) cs none)
+    ∙ ap (λ xs. line_of rule ++ xs) (append_assoc (printed_lines no_skipped (cases_before rules cs)) (rule_line r) others)
 
--- The lines of one rule and of the others.
-pub rules_next : (no_skipped : Bool) (rules : List RuleResult) (cases : List CaseResult) (index place count : ℕ) (d : RuleResult) → index < length rules →
-    count ≡ count_before (map rule_row (drop (index + 1) rules)) (map case_row (drop place cases)) →
-    flat_map (group_lines no_skipped) (rule_groups (map rule_row (drop index rules)) (map case_row (drop place cases)))
-    ≡ printed_lines no_skipped (cases_before (map rule_row (drop (index + 1) rules)) (map case_row (drop place cases)))
-    ++ (rule_line (rule_row (get_or rules index d)) ++ flat_map (group_lines no_skipped) (rule_groups (map rule_row (drop (index + 1) rules)) (map case_row (drop (place + count) cases))))
-rules_next no_skipped rules cases index place count d lt e =
-    let cs = map case_row (drop place cases) in
-    let rs = map rule_row (drop (index + 1) rules) in
-    let lines = printed_lines no_skipped (cases_before rs cs) in
-    let line = rule_line (rule_row (get_or rules index d)) in
-    ap (λ xs. flat_map (group_lines no_skipped) (rule_groups (map rule_row xs) cs)) (drop_more rules index d lt)
-    ∙ append_assoc lines line (flat_map (group_lines no_skipped) (rule_groups rs (cases_behind rs cs)))
-    ∙ ap (λ left. lines ++ (line ++ flat_map (group_lines no_skipped) (rule_groups rs left))) (behind_at rs cases place count e)
+-- At the end the line of the last rule is left.
+pub lines_in_last : (no_skipped : Bool) (rule : Option RuleRow) (cs : List CaseRow) → cases_before [] cs ≡ [] → lines_in no_skipped rule [] cs ≡ line_of rule ++ []
+lines_in_last no_skipped rule cs none = ap (λ xs. printed_lines no_skipped xs ++ (line_of rule ++ [])) none
+
+-- Where no scenario is left, none stands in front of the next rule.
+pub before_end : (rules : List RuleRow) (cases : List CaseResult) → length cases ≡ 0 → cases_before rules (map case_row cases) ≡ []
+before_end rules [] e = refl
+before_end rules (c ∷ cases) e = absurd (omega arith)
 
 -- The line of a rule's hooks and cleanups, piece by piece.
 line_written : (old front number back dots verdict feed : List ℕ) →

@@ -1,14 +1,15 @@
 -- The JSON format: compact text, with the keys of each object in byte order.
-use Rattle.std.specs.Prelude.{ℕ, Bool, cond, not, List, [], ◌∷◌, ◌++◌, map, filter, Option, Some, None, Result, OnOk, codes}
+use Rattle.std.specs.Prelude.{ℕ, Bool, false, cond, not, List, [], ◌∷◌, ◌++◌, length, map, filter, Option, Some, None, Result, OnOk, codes}
 use Rattle.std.specs.Fmt.{decimal}
 use Rattle.serde.specs.Event.{Log}
-use Rattle.serde_json.specs.Data.{Data, number, unsigned, string, array, object, Items, item, Members, no_members, member}
-use Rattle.serde_json.specs.Events.{SendsItems, SendsMembers, SendsValue}
+use Rattle.serde_json.specs.Data.{Data, number, unsigned, string, array, object, Members, no_members, member}
+use Rattle.serde_json.specs.Events.{SendsMembers, SendsValue}
 use Rattle.serde_json.specs.View.{items_of}
 use Rattle.serde_json.specs.Written.{compact_text}
 use Rattle.gk_run.specs.declared.results.Status.{Status}
 use Rattle.gk_run.specs.declared.results.Reason.{Reason}
-use Rattle.gk_run.specs.Results.{StepRow, CaseRow, RuleRow, FeatureRow}
+use Rattle.gk_run.specs.Results.{StepRow, CaseRow, RuleRow, FeatureRow, case_row}
+use Rattle.gk_report.specs.declared.json_report.ObjectsLeft.{ObjectsLeft}
 use Rattle.gk_report.specs.declared.summary.Counts.{Counts}
 use Rattle.gk_report.specs.declared.summary.Summary.{Summary}
 use Rattle.gk_report.specs.ReportTexts.{status_text, reason_text, line_feed, is_hidden, printed_cases}
@@ -53,10 +54,14 @@ case_data c = object (
 abbrev pub rule_data : RuleRow → Data
 rule_data r = object (member (codes "around") (status_data r.around) (member (codes "line") (number_data r.line) no_members))
 
+-- The rules of a feature as an array.
+abbrev pub rules_data : List RuleRow → Data
+rules_data rules = array_data (map rule_data rules)
+
 -- The members of a feature after its name: one with a rule has its rules.
 abbrev pub rules_and : List RuleRow → Members → Members
 rules_and [] members = members
-rules_and (r ∷ rules) members = member (codes "rules") (array_data (map rule_data (r ∷ rules))) members
+rules_and (r ∷ rules) members = member (codes "rules") (rules_data (r ∷ rules)) members
 
 -- A feature's object, with its printed scenarios.
 abbrev pub feature_data : Bool → FeatureRow → Data
@@ -125,21 +130,49 @@ json_tail around status summary =
     codes "],\"run\":" ++ compact_text (status_data around) ++ codes ",\"status\":" ++ compact_text (number_data status)
     ++ codes ",\"summary\":" ++ compact_text (summary_data summary) ++ codes "}" ++ line_feed
 
+-- A comma, unless nothing stands before.
+abbrev pub comma_unless : Bool → List ℕ
+comma_unless first = cond first [] (codes ",")
+
+-- Values, each after a comma but for the first.
+abbrev pub joined : Bool → List Data → List ℕ
+joined first [] = []
+joined first (d ∷ ds) = comma_unless first ++ compact_text d ++ joined false ds
+
+-- The objects of the scenarios that are printed.
+abbrev pub objects_text : Bool → Bool → List CaseRow → List ℕ
+objects_text no_skipped first cases = joined first (map case_data (printed_cases no_skipped cases))
+
+-- The objects that are left.
+abbrev pub objects_left : Bool → ObjectsLeft → List ℕ
+objects_left no_skipped left = objects_text no_skipped left.first (map case_row left.cases.now)
+
+-- How many scenarios follow.
+abbrev pub objects_to_go : ObjectsLeft → ℕ
+objects_to_go left = length left.cases.now
+
+-- The rules of a feature behind a comma, where it has one.
+abbrev pub rules_member : List RuleRow → List ℕ
+rules_member [] = []
+rules_member (r ∷ rules) = codes ",\"rules\":" ++ compact_text (rules_data (r ∷ rules))
+
+-- What stands before the scenarios in the object of a feature.
+unfoldable pub object_start : Bool → FeatureRow → List ℕ
+object_start first f =
+    comma_unless first ++ codes "{\"around\":" ++ compact_text (status_data f.around) ++ codes ",\"line\":" ++ decimal f.line ++ codes ",\"name\":" ++ compact_text (string f.name)
+    ++ rules_member f.rules ++ codes ",\"scenarios\":["
+
+-- What stands after them.
+unfoldable pub object_end : FeatureRow → List ℕ
+object_end f = codes "],\"source\":" ++ compact_text (string f.source) ++ codes ",\"status\":" ++ compact_text (status_data f.status) ++ codes "}"
+
 -- Proof machinery from here on: writing an object member by member. What ends it well from the new events, with these members before, ends it well from the old ones.
 abbrev pub AddsMembers : (Members → Members) → Log → Log → Type 0
 AddsMembers add old new = (rest : Members) (end : Log) → SendsMembers rest new end → SendsMembers (add rest) old end
 
--- The same of the values of an array.
-abbrev pub AddsItems : (Items → Items) → Log → Log → Type 0
-AddsItems add old new = (rest : Items) (end : Log) → SendsItems rest new end → SendsItems (add rest) old end
-
 -- Where a call succeeds, it writes these members.
 abbrev pub WritesMembers : {W T E : Type 0} → (W → Log) → W → (Members → Members) → Result T E → W → Type 0
 WritesMembers written old add result new = OnOk result (AddsMembers add (written old) (written new))
-
--- Where a call succeeds, it writes these items.
-abbrev pub WritesItems : {W T E : Type 0} → (W → Log) → W → (Items → Items) → Result T E → W → Type 0
-WritesItems written old add result new = OnOk result (AddsItems add (written old) (written new))
 
 -- Where a call succeeds, it writes this value.
 abbrev pub WritesValue : {W T E : Type 0} → (W → Log) → W → Data → Result T E → W → Type 0
@@ -150,18 +183,9 @@ abbrev pub step_members : Option Reason → ℕ
 step_members None = 4
 step_members (Some why) = 5
 
--- How many members a feature's object has.
-abbrev pub feature_members : List RuleRow → ℕ
-feature_members [] = 6
-feature_members (r ∷ rules) = 7
-
 -- How many members an object of counts has.
 abbrev pub count_members : Bool → ℕ
 count_members of_steps = cond of_steps 6 5
-
--- The item of a scenario, none where it is hidden.
-abbrev pub case_and : Bool → CaseRow → Items → Items
-case_and no_skipped c items = cond (is_hidden no_skipped c.status) items (item (case_data c) items)
 
 -- The member of undefined ones, which the counts of steps alone have.
 abbrev pub undefined_and : Bool → ℕ → Members → Members

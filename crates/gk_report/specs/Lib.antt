@@ -6,3 +6,4 @@ pub mod PlainReport
 pub mod ProgressReport
 pub mod JsonReport
 pub mod Report
+pub mod PartPieces

@@ -1,11 +1,12 @@
 -- The plain format, and the closing lines that it shares with progress.
-use Rattle.std.specs.Prelude.{ℕ, Bool, cond, ◌==◌, List, [], ◌++◌, flat_map, Option, Some, None, codes}
+use Rattle.std.specs.Prelude.{ℕ, ◌+◌, Bool, cond, ◌==◌, List, [], ◌++◌, length, map, flat_map, Option, Some, None, option_map, codes}
 use Rattle.std.specs.Fmt.{decimal}
 use Rattle.gk_run.specs.declared.results.Status.{Status}
 use Rattle.gk_run.specs.declared.results.Reason.{Reason}
 use Rattle.gk_report.specs.declared.summary.Counts.{Counts}
 use Rattle.gk_report.specs.declared.summary.Summary.{Summary}
-use Rattle.gk_run.specs.Results.{StepRow, CaseRow, RuleRow, FeatureRow, is_passed}
+use Rattle.gk_report.specs.declared.plain_report.LinesLeft.{LinesLeft}
+use Rattle.gk_run.specs.Results.{StepRow, CaseRow, RuleRow, FeatureRow, case_row, rule_row, is_passed}
 use Rattle.gk_report.specs.ReportTexts.{status_text, reason_text, one_line, line_feed, is_hidden, printed_cases}
 use Rattle.gk_report.specs.RuleGroups.{RuleGroup, cases_before, cases_behind, rule_groups}
 
@@ -51,9 +52,31 @@ abbrev pub scenario_lines : Bool → List RuleRow → List CaseRow → List ℕ
 scenario_lines no_skipped rules cases =
     printed_lines no_skipped (cases_before rules cases) ++ flat_map (group_lines no_skipped) (rule_groups rules (cases_behind rules cases))
 
+-- The line of the rule that scenarios are in; where they are in none there is none.
+abbrev pub line_of : Option RuleRow → List ℕ
+line_of None = []
+line_of (Some r) = rule_line r
+
+-- The lines of scenarios that begin in a rule or in none: those in front of the next rule, the line of the rule that they are in, the lines of the rules that follow.
+abbrev pub lines_in : Bool → Option RuleRow → List RuleRow → List CaseRow → List ℕ
+lines_in no_skipped rule rules cases =
+    printed_lines no_skipped (cases_before rules cases) ++ (line_of rule ++ flat_map (group_lines no_skipped) (rule_groups rules (cases_behind rules cases)))
+
+-- The lines that are left.
+abbrev pub lines_left : Bool → LinesLeft → List ℕ
+lines_left no_skipped left = lines_in no_skipped (option_map rule_row left.rule) (map rule_row left.rules.now) (map case_row left.cases.now)
+
+-- How many rules and scenarios follow.
+abbrev pub lines_to_go : LinesLeft → ℕ
+lines_to_go left = length left.rules.now + length left.cases.now
+
 -- The line of a feature's heading.
 unfoldable pub feature_line : FeatureRow → List ℕ
 feature_line f = status_line (codes "Feature: " ++ one_line f.name) (status_text f.status)
+
+-- What stands after the scenarios of a feature: the line of its own hooks and cleanups, an empty line.
+abbrev pub feature_end : Status → List ℕ
+feature_end around = around_line (codes "  ") around ++ line_feed
 
 -- The lines of a feature: its line, its printed scenarios by their rules, its own hooks and cleanups, an empty line.
 abbrev pub feature_lines : Bool → FeatureRow → List ℕ

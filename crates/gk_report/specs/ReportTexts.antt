@@ -56,6 +56,10 @@ printed_cases no_skipped cases = filter (λ c. not (is_hidden no_skipped c.statu
 abbrev pub Pushes : {T E Y Z : Type 0} → String Y → List ℕ → Result T E → String Z → Type 0
 Pushes old part result new = OnOk result (string_bytes new ≡ string_bytes old ++ part)
 
+-- Where a call succeeds, what it pushed and what is left are what was left.
+abbrev pub PushesSome : {T E Y Z : Type 0} → String Y → List ℕ → Result T E → String Z → List ℕ → Type 0
+PushesSome old left result new still = OnOk result (string_bytes new ++ still ≡ string_bytes old ++ left)
+
 -- Where a call succeeds, this is the text that it returns.
 abbrev pub AnswersText : {E Y : Type 0} → Result (String Y) E → List ℕ → Type 0
 AnswersText result expected = IfOk result (λ text. string_bytes text ≡ expected)

@@ -1,5 +1,5 @@
 //! The JSON report: one document, whose objects `serde_json` writes from the results where they lie.
-ghost use Rattle.std.specs.Prelude.{◌≡◌, [], codes, map, length, Some, IfOk, string_bytes};
+ghost use Rattle.std.specs.Prelude.{◌≡◌, [], ◌++◌, codes, map, Some, IfOk, string_bytes};
 ghost use Rattle.serde.specs.Event.{Log};
 ghost use Rattle.serde_json.specs.Data.{string, member};
 ghost use Rattle.serde_json.specs.Events.{SendsValue};
@@ -7,9 +7,9 @@ ghost use Rattle.serde_json.specs.Sent.{IsTextOf};
 ghost use Rattle.serde_json.specs.Written.{compact_text};
 ghost use Rattle.gk_run.specs.Results.{step_row, case_row, rule_row, feature_row};
 ghost use Rattle.gk_report.specs.Summary.{status_by};
-ghost use Rattle.gk_report.specs.ReportTexts.{printed_cases, AnswersText};
+ghost use Rattle.gk_report.specs.ReportTexts.{Pushes, AnswersText};
 ghost use Rattle.gk_report.specs.JsonReport as spec;
-ghost use Rattle.gk_report.specs.JsonReport.{number_data, status_data, array_data, reason_and, step_data, case_data, rule_data, rules_and, feature_data, summary_data, WritesMembers, WritesItems, WritesValue, case_and, undefined_and, counts_data_of, tail_of};
+ghost use Rattle.gk_report.specs.JsonReport.{number_data, status_data, array_data, reason_and, step_data, case_data, rule_data, rules_data, summary_data, comma_unless, rules_member, object_start, object_end, WritesMembers, WritesValue, undefined_and, counts_data_of, tail_of};
 
 use crate::report_texts::{hides, reason_text, status_text};
 use crate::summary::{Counts, Summary};
@@ -17,20 +17,35 @@ use gk_run::{CaseResult, FeatureResult, Reason, RuleResult, Status, StepResult};
 use serde::{Described, Serialize, Serializer};
 use std::alloc::{AllocError, Global};
 
-// A feature as an object.
+// A scenario as an object.
 #[derive(Clone, Copy)]
-struct FeatureObject<'a> {
-    no_skipped: bool,
-    feature: &'a FeatureResult,
+struct CaseObject<'a> {
+    case: &'a CaseResult,
 }
 
-impl Described for FeatureObject<'_> {
-    ghost writes = { λ f. SendsValue (feature_data f.no_skipped (feature_row f.feature.now)) };
+impl Described for CaseObject<'_> {
+    ghost writes = { λ c. SendsValue (case_data (case_row c.case.now)) };
 }
 
-impl Serialize for FeatureObject<'_> {
+impl Serialize for CaseObject<'_> {
     fn serialize<S: Serializer>(&self, out: &mut S) -> Result<(), S::Error> {
-        write_feature(out, self.no_skipped, self.feature)
+        write_case(out, self.case)
+    }
+}
+
+// The rules of a feature as an array.
+#[derive(Clone, Copy)]
+struct RulesArray<'a> {
+    rules: &'a [RuleResult],
+}
+
+impl Described for RulesArray<'_> {
+    ghost writes = { λ r. SendsValue (rules_data (map rule_row r.rules.now)) };
+}
+
+impl Serialize for RulesArray<'_> {
+    fn serialize<S: Serializer>(&self, out: &mut S) -> Result<(), S::Error> {
+        write_rules(out, self.rules)
     }
 }
 
@@ -128,52 +143,6 @@ fn write_case<S: Serializer>(out: &mut S, case: &CaseResult) -> Result<(), S::Er
     out.end_map()
 }
 
-// A scenario, unless it is hidden.
-fn write_printed<S: Serializer>(
-    out: &mut S,
-    no_skipped: bool,
-    case: &CaseResult,
-) -> Result<(), S::Error>
-    ensures { WritesItems S.written out.old
-        (case_and no_skipped (case_row case.now)) result out.new }
-{
-    if hides(no_skipped, case.status) {
-        return Ok(());
-    }
-    write_case(out, case)
-}
-
-// How many scenarios are printed.
-fn printed_count(no_skipped: bool, cases: &[CaseResult]) -> usize
-    ensures { result ≡ length (printed_cases no_skipped (map case_row cases.now)) }
-{
-    let mut count = 0;
-    for case in cases {
-        if !hides(no_skipped, case.status) {
-            count += 1;
-        }
-    }
-    count
-}
-
-fn write_cases<S: Serializer>(
-    out: &mut S,
-    no_skipped: bool,
-    cases: &[CaseResult],
-) -> Result<(), S::Error>
-    ensures { WritesMembers S.written out.old
-        (member (codes "scenarios")
-        (array_data (map case_data (printed_cases no_skipped (map case_row cases.now)))))
-        result out.new }
-{
-    out.key("scenarios")?;
-    out.begin_seq(Some(printed_count(no_skipped, cases)))?;
-    for case in cases {
-        write_printed(out, no_skipped, case)?;
-    }
-    out.end_seq()
-}
-
 fn write_rule<S: Serializer>(out: &mut S, rule: RuleResult) -> Result<(), S::Error>
     ensures { WritesValue S.written out.old (rule_data (rule_row rule)) result out.new }
 {
@@ -183,55 +152,14 @@ fn write_rule<S: Serializer>(out: &mut S, rule: RuleResult) -> Result<(), S::Err
     out.end_map()
 }
 
-fn write_each_rule<S: Serializer>(out: &mut S, rules: &[RuleResult]) -> Result<(), S::Error>
-    ensures { WritesMembers S.written out.old
-        (member (codes "rules") (array_data (map rule_data (map rule_row rules.now))))
-        result out.new }
+fn write_rules<S: Serializer>(out: &mut S, rules: &[RuleResult]) -> Result<(), S::Error>
+    ensures { WritesValue S.written out.old (rules_data (map rule_row rules.now)) result out.new }
 {
-    out.key("rules")?;
     out.begin_seq(Some(rules.len()))?;
     for rule in rules {
         write_rule(out, *rule)?;
     }
     out.end_seq()
-}
-
-// The rules of a feature that has one.
-fn write_rules<S: Serializer>(out: &mut S, rules: &[RuleResult]) -> Result<(), S::Error>
-    ensures { WritesMembers S.written out.old
-        (rules_and (map rule_row rules.now)) result out.new }
-{
-    if rules.is_empty() {
-        return Ok(());
-    }
-    write_each_rule(out, rules)
-}
-
-// How many members the object of a feature with these rules has.
-fn feature_members(rules: &[RuleResult]) -> usize
-    ensures { result ≡ spec.feature_members (map rule_row rules.now) }
-{
-    if rules.is_empty() { 6 } else { 7 }
-}
-
-fn write_feature<S: Serializer>(
-    out: &mut S,
-    no_skipped: bool,
-    feature: &FeatureResult,
-) -> Result<(), S::Error>
-    ensures { WritesValue S.written out.old
-        (feature_data no_skipped (feature_row feature.now)) result out.new }
-{
-    let rules = feature.rules.as_slice();
-    out.begin_map(Some(feature_members(rules)))?;
-    write_status(out, "around", feature.around)?;
-    write_number(out, "line", u64::from(feature.line))?;
-    write_text(out, "name", feature.name.as_str())?;
-    write_rules(out, rules)?;
-    write_cases(out, no_skipped, feature.cases.as_slice())?;
-    write_text(out, "source", feature.source.as_str())?;
-    write_status(out, "status", feature.status)?;
-    out.end_map()
 }
 
 // The undefined ones, of steps alone.
@@ -292,19 +220,18 @@ fn json_text<T: Serialize>(alloc: Global, value: &T) -> Result<String, AllocErro
     }
 }
 
-fn feature_text(
-    alloc: Global,
-    no_skipped: bool,
-    feature: &FeatureResult,
-) -> Result<String, AllocError>
-    ensures { AnswersText result
-        (compact_text (feature_data no_skipped (feature_row feature.now))) }
+fn case_text(alloc: Global, case: &CaseResult) -> Result<String, AllocError>
+    ensures { AnswersText result (compact_text (case_data (case_row case.now))) }
 {
-    let object = FeatureObject {
-        no_skipped,
-        feature,
-    };
+    let object = CaseObject { case };
     json_text(alloc, &object)
+}
+
+fn rules_text(alloc: Global, rules: &[RuleResult]) -> Result<String, AllocError>
+    ensures { AnswersText result (compact_text (rules_data (map rule_row rules.now))) }
+{
+    let array = RulesArray { rules };
+    json_text(alloc, &array)
 }
 
 fn summary_text(alloc: Global, summary: &Summary) -> Result<String, AllocError>
@@ -313,10 +240,59 @@ fn summary_text(alloc: Global, summary: &Summary) -> Result<String, AllocError>
     json_text(alloc, &SummaryObject { summary: *summary })
 }
 
-fn status_string(alloc: Global, status: Status) -> Result<String, AllocError>
-    ensures { AnswersText result (compact_text (status_data status)) }
+fn string_text(alloc: Global, text: &str) -> Result<String, AllocError>
+    ensures { AnswersText result (compact_text (string text.now)) }
 {
-    json_text(alloc, &status_text(status))
+    json_text(alloc, &text)
+}
+
+fn push_string(out: &mut String, alloc: Global, text: &str) -> Result<(), AllocError>
+    ensures { Pushes out.old (compact_text (string text.now)) result out.new }
+{
+    let quoted = string_text(alloc, text)?;
+    out.push_str(quoted.as_str())
+}
+
+fn push_status(out: &mut String, alloc: Global, status: Status) -> Result<(), AllocError>
+    ensures { Pushes out.old (compact_text (status_data status)) result out.new }
+{
+    push_string(out, alloc, status_text(status))
+}
+
+// The member of the rules of a feature that has one.
+fn push_rules(out: &mut String, alloc: Global, rules: &[RuleResult]) -> Result<(), AllocError>
+    ensures { Pushes out.old (rules_member (map rule_row rules.now)) result out.new }
+{
+    if rules.is_empty() {
+        return Ok(());
+    }
+    let array = rules_text(alloc, rules)?;
+    out.push_str(",\"rules\":")?;
+    out.push_str(array.as_str())
+}
+
+// A comma, unless nothing stands before.
+fn push_comma(out: &mut String, first: bool) -> Result<(), AllocError>
+    ensures { Pushes out.old (comma_unless first) result out.new }
+{
+    if !first {
+        out.push_str(",")?;
+    }
+    Ok(())
+}
+
+fn push_object(
+    out: &mut String,
+    alloc: Global,
+    first: bool,
+    case: &CaseResult,
+) -> Result<(), AllocError>
+    ensures { Pushes out.old (comma_unless first ++ compact_text (case_data (case_row case.now)))
+        result out.new }
+{
+    let object = case_text(alloc, case)?;
+    push_comma(out, first)?;
+    out.push_str(object.as_str())
 }
 
 /// What stands before the features. An error comes only where a growth was refused.
@@ -327,21 +303,99 @@ pub fn json_head(alloc: Global) -> Result<String, AllocError>
     Ok(String::from_str(alloc, "{\"features\":[")?)
 }
 
-/// The object of a feature, after a comma where it isn't the first that is printed. An error comes only
-/// where a growth was refused.
-pub fn feature_object(
+/// Pushes what stands before the scenarios in the object of a feature, and before it a comma where it isn't
+/// the first that is printed. An error comes only where a growth was refused.
+#[tactic(auto, unfolding(crate::specs::JsonReport::object_start))]
+pub fn push_object_start(
+    out: &mut String,
     alloc: Global,
-    no_skipped: bool,
     first: bool,
     feature: &FeatureResult,
-) -> Result<String, AllocError>
-    ensures { AnswersText result (spec.feature_object no_skipped first (feature_row feature.now)) }
+) -> Result<(), AllocError>
+    ensures { Pushes out.old (object_start first (feature_row feature.now)) result out.new }
 {
-    let mut object = feature_text(alloc, no_skipped, feature)?;
-    if !first {
-        object.insert_str(0, ",")?;
+    push_comma(out, first)?;
+    out.push_str("{\"around\":")?;
+    push_status(out, alloc, feature.around)?;
+    write!(out, ",\"line\":{},\"name\":", feature.line)?;
+    push_string(out, alloc, feature.name.as_str())?;
+    push_rules(out, alloc, feature.rules.as_slice())?;
+    out.push_str(",\"scenarios\":[")?;
+    Ok(())
+}
+
+/// Pushes what stands after the scenarios in the object of a feature. An error comes only where a growth was
+/// refused.
+#[tactic(auto, unfolding(crate::specs::JsonReport::object_end))]
+pub fn push_object_end(
+    out: &mut String,
+    alloc: Global,
+    feature: &FeatureResult,
+) -> Result<(), AllocError>
+    ensures { Pushes out.old (object_end (feature_row feature.now)) result out.new }
+{
+    out.push_str("],\"source\":")?;
+    push_string(out, alloc, feature.source.as_str())?;
+    out.push_str(",\"status\":")?;
+    push_status(out, alloc, feature.status)?;
+    out.push_str("}")?;
+    Ok(())
+}
+
+/// The objects that are left of the scenarios of a feature.
+#[derive(Clone, Copy, Debug)]
+pub struct ObjectsLeft<'a> {
+    // No scenario before these is printed.
+    first: bool,
+    cases: &'a [CaseResult],
+}
+
+impl<'a> ObjectsLeft<'a> {
+    ghost use Rattle.std.specs.Prelude.{◌≡◌, ◌<◌, [], Bool, true, false, length, IfOk, IsTrue};
+    ghost use Rattle.gk_run.specs.Results.{feature_row};
+    ghost use Rattle.gk_report.specs.ReportTexts.{PushesSome};
+    ghost use Rattle.gk_report.specs.JsonReport.{objects_text, objects_left, objects_to_go};
+
+    /// The objects of all scenarios of a feature. Takes no memory.
+    pub fn new(feature: &'a FeatureResult) -> ObjectsLeft<'a>
+        ensures objects { (no_skipped : Bool) → objects_left no_skipped result
+            ≡ objects_text no_skipped true (feature_row feature.now).cases }
+        ensures to_go { objects_to_go result ≡ length feature.now.cases.items }
+    {
+        ObjectsLeft {
+            first: true,
+            cases: feature.cases.as_slice(),
+        }
     }
-    Ok(object)
+
+    /// Pushes the object of the next scenario, and before it a comma where it isn't the first that is printed.
+    /// Answers whether there was one, printed or hidden. An error comes only where a growth was refused.
+    pub fn push_next(
+        &mut self,
+        out: &mut String,
+        alloc: Global,
+        no_skipped: bool,
+    ) -> Result<bool, AllocError>
+        ensures pushed { PushesSome out.old (objects_left no_skipped self.old)
+            result out.new (objects_left no_skipped self.new) }
+        ensures fewer { IfOk result (λ more.
+            IsTrue more → objects_to_go self.new < objects_to_go self.old) }
+        ensures over { IfOk result (λ more.
+            more ≡ false → objects_left no_skipped self.new ≡ []) }
+    {
+        match self.cases.split_first() {
+            Some((case, others)) => {
+                self.cases = others;
+                if hides(no_skipped, case.status) {
+                    return Ok(true);
+                }
+                push_object(out, alloc, self.first, case)?;
+                self.first = false;
+                Ok(true)
+            }
+            None => Ok(false),
+        }
+    }
 }
 
 #[tactic(auto, unfolding(crate::specs::JsonReport::tail_of))]
@@ -363,7 +417,7 @@ pub fn json_tail(alloc: Global, summary: &Summary, around: Status) -> Result<Str
     ensures { AnswersText result
         (spec.json_tail around (status_by summary.now around) summary.now) }
 {
-    let run = status_string(alloc, around)?;
+    let run = string_text(alloc, status_text(around))?;
     let counts = summary_text(alloc, summary)?;
     let status = summary.status(around);
     tail_text(alloc, run.as_str(), status, counts.as_str())

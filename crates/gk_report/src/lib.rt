@@ -3,6 +3,7 @@
 #![tactic(auto)]
 
 mod json_report;
+mod part_pieces;
 mod plain_report;
 mod progress_report;
 mod report;
@@ -10,8 +11,7 @@ mod report_texts;
 mod rule_groups;
 mod summary;
 
-pub use report::{
-    Format, Style, head, json_reports_are_documents, part, reports_grow_by_parts, tail,
-};
+pub use part_pieces::{PartPieces, part, pieces};
+pub use report::{Format, Style, head, json_reports_are_documents, reports_grow_by_parts, tail};
 pub use rule_groups::rules_follow_their_scenarios;
 pub use summary::{Counts, Summary};

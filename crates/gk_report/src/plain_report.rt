@@ -1,11 +1,9 @@
 //! The plain report: the lines of a feature, and the closing lines, which it shares with progress.
-ghost use Rattle.std.specs.Prelude.{◌≡◌, [], ◌++◌, map, flat_map, codes, cond, IfOk};
+ghost use Rattle.std.specs.Prelude.{◌≡◌, [], ◌++◌, map, option_map, codes, cond};
 ghost use Rattle.gk_run.specs.Results.{step_row, case_row, rule_row, feature_row};
 ghost use Rattle.gk_report.specs.ReportTexts.{is_hidden, line_feed, Pushes, AnswersText};
 ghost use Rattle.gk_report.specs.RuleGroups as by_rule;
-ghost use Rattle.gk_report.specs.RuleGroups.{cases_before, count_before, rule_groups};
-ghost use Rattle.gk_report.specs.PlainReport as spec;
-ghost use Rattle.gk_report.specs.PlainReport.{step_verdict, step_line, case_line, around_line, case_lines, printed_lines, rule_line, group_lines, scenario_lines, feature_line, counted, counted_if_any, passed_part, undefined_part, count_line, closing_lines};
+ghost use Rattle.gk_report.specs.PlainReport.{step_verdict, step_line, case_line, around_line, case_lines, rule_line, line_of, feature_line, feature_end, counted, counted_if_any, passed_part, undefined_part, count_line, closing_lines};
 
 use crate::report_texts::{hides, push_one_line, reason_text, status_text};
 use crate::summary::{Counts, Summary};
@@ -91,15 +89,6 @@ fn push_case(out: &mut String, case: &CaseResult) -> Result<(), AllocError>
     Ok(())
 }
 
-#[tactic(auto, unfolding(crate::specs::PlainReport::status_line, crate::specs::PlainReport::feature_line))]
-fn push_feature_line(out: &mut String, feature: &FeatureResult) -> Result<(), AllocError>
-    ensures { Pushes out.old (feature_line (feature_row feature.now)) result out.new }
-{
-    out.push_str("Feature: ")?;
-    push_one_line(out, feature.name.as_str())?;
-    push_ending(out, feature.status, None)
-}
-
 // The lines of a scenario, unless it is hidden.
 fn push_printed(out: &mut String, no_skipped: bool, case: &CaseResult) -> Result<(), AllocError>
     ensures { Pushes out.old
@@ -122,28 +111,6 @@ fn begins_above(rules: &[RuleResult], line: u32) -> bool
     }
 }
 
-// The lines of the scenarios in front of the first of these rules. Answers how many these are.
-fn push_before(
-    out: &mut String,
-    no_skipped: bool,
-    rules: &[RuleResult],
-    cases: &[CaseResult],
-) -> Result<usize, AllocError>
-    ensures pushed { Pushes out.old
-        (printed_lines no_skipped (cases_before (map rule_row rules.now) (map case_row cases.now)))
-        result out.new }
-    ensures counted { IfOk result (λ count.
-        count ≡ count_before (map rule_row rules.now) (map case_row cases.now)) }
-{
-    for (place, case) in cases.iter().enumerate() {
-        if begins_above(rules, case.line) {
-            return Ok(place);
-        }
-        push_printed(out, no_skipped, case)?;
-    }
-    Ok(cases.len())
-}
-
 // The line of a rule's hooks and cleanups, unless they passed.
 #[tactic(auto, unfolding(crate::specs::PlainReport::status_line, crate::specs::PlainReport::rule_line))]
 fn push_rule_line(out: &mut String, rule: RuleResult) -> Result<(), AllocError>
@@ -156,60 +123,110 @@ fn push_rule_line(out: &mut String, rule: RuleResult) -> Result<(), AllocError>
     push_ending(out, rule.around, None)
 }
 
-// The lines of rules, each with its scenarios.
-fn push_rules(
-    out: &mut String,
-    no_skipped: bool,
-    rules: &[RuleResult],
-    cases: &[CaseResult],
-) -> Result<(), AllocError>
-    ensures { Pushes out.old
-        (flat_map (group_lines no_skipped)
-        (rule_groups (map rule_row rules.now) (map case_row cases.now)))
-        result out.new }
+// The line of the rule that scenarios are in, if they are in one.
+fn push_line_of(out: &mut String, rule: Option<RuleResult>) -> Result<(), AllocError>
+    ensures { Pushes out.old (line_of (option_map rule_row rule)) result out.new }
 {
-    let mut place = 0;
-    for (index, rule) in rules.iter().enumerate() {
-        place += push_before(out, no_skipped, &rules[index + 1..], &cases[place..])?;
-        push_rule_line(out, *rule)?;
+    match rule {
+        Some(rule) => push_rule_line(out, rule),
+        None => Ok(()),
     }
-    Ok(())
 }
 
-// The lines of scenarios, and of the rules that they are in.
-fn push_scenarios(
-    out: &mut String,
-    no_skipped: bool,
-    rules: &[RuleResult],
-    cases: &[CaseResult],
-) -> Result<(), AllocError>
-    ensures { Pushes out.old
-        (scenario_lines no_skipped (map rule_row rules.now) (map case_row cases.now))
-        result out.new }
-{
-    let own = push_before(out, no_skipped, rules, cases)?;
-    push_rules(out, no_skipped, rules, &cases[own..])
+/// The lines that are left of the scenarios of a feature, and of its rules.
+#[derive(Clone, Copy, Debug)]
+pub struct LinesLeft<'a> {
+    // The rule that the next scenario is in, if it is in one.
+    rule: Option<RuleResult>,
+    // The rules that follow.
+    rules: &'a [RuleResult],
+    cases: &'a [CaseResult],
 }
 
-/// The lines of a feature. An error comes only where a growth was refused.
-pub fn feature_lines(
-    alloc: Global,
-    no_skipped: bool,
-    feature: &FeatureResult,
-) -> Result<String, AllocError>
-    ensures { AnswersText result (spec.feature_lines no_skipped (feature_row feature.now)) }
+impl<'a> LinesLeft<'a> {
+    ghost use Rattle.std.specs.Prelude.{◌≡◌, ◌<◌, ◌+◌, [], Bool, false, length, map, IfOk, IsTrue};
+    ghost use Rattle.gk_run.specs.Results.{case_row, rule_row, feature_row};
+    ghost use Rattle.gk_report.specs.ReportTexts.{PushesSome};
+    ghost use Rattle.gk_report.specs.RuleGroups.{cases_before};
+    ghost use Rattle.gk_report.specs.PlainReport.{scenario_lines, lines_left, lines_to_go};
+
+    /// All lines of the scenarios of a feature, and of its rules. Takes no memory.
+    pub fn new(feature: &'a FeatureResult) -> LinesLeft<'a>
+        ensures lines { (no_skipped : Bool) → let f = feature_row feature.now in
+            lines_left no_skipped result ≡ scenario_lines no_skipped f.rules f.cases }
+        ensures to_go { lines_to_go result
+            ≡ length feature.now.rules.items + length feature.now.cases.items }
+    {
+        LinesLeft {
+            rule: None,
+            rules: feature.rules.as_slice(),
+            cases: feature.cases.as_slice(),
+        }
+    }
+
+    // Pushes the line of the rule that ends. Answers whether another rule begins.
+    fn push_rule(&mut self, out: &mut String, no_skipped: bool) -> Result<bool, AllocError>
+        requires { cases_before
+            (map rule_row self.old.rules.now) (map case_row self.old.cases.now) ≡ [] }
+        ensures pushed { PushesSome out.old (lines_left no_skipped self.old)
+            result out.new (lines_left no_skipped self.new) }
+        ensures fewer { IfOk result (λ more.
+            IsTrue more → lines_to_go self.new < lines_to_go self.old) }
+        ensures over { IfOk result (λ more. more ≡ false → lines_left no_skipped self.new ≡ []) }
+    {
+        push_line_of(out, self.rule)?;
+        match self.rules.split_first() {
+            Some((rule, others)) => {
+                self.rule = Some(*rule);
+                self.rules = others;
+                Ok(true)
+            }
+            None => {
+                self.rule = None;
+                Ok(false)
+            }
+        }
+    }
+
+    /// Pushes the lines of the next scenario, or that of the rule that ends before it. Answers whether more
+    /// may be left. An error comes only where a growth was refused.
+    pub fn push_next(&mut self, out: &mut String, no_skipped: bool) -> Result<bool, AllocError>
+        ensures pushed { PushesSome out.old (lines_left no_skipped self.old)
+            result out.new (lines_left no_skipped self.new) }
+        ensures fewer { IfOk result (λ more.
+            IsTrue more → lines_to_go self.new < lines_to_go self.old) }
+        ensures over { IfOk result (λ more. more ≡ false → lines_left no_skipped self.new ≡ []) }
+    {
+        match self.cases.split_first() {
+            Some((case, others)) => {
+                if begins_above(self.rules, case.line) {
+                    return self.push_rule(out, no_skipped);
+                }
+                push_printed(out, no_skipped, case)?;
+                self.cases = others;
+                Ok(true)
+            }
+            None => self.push_rule(out, no_skipped),
+        }
+    }
+}
+
+/// Pushes what stands before the scenarios of a feature. An error comes only where a growth was refused.
+#[tactic(auto, unfolding(crate::specs::PlainReport::status_line, crate::specs::PlainReport::feature_line))]
+pub fn push_feature_line(out: &mut String, feature: &FeatureResult) -> Result<(), AllocError>
+    ensures { Pushes out.old (feature_line (feature_row feature.now)) result out.new }
 {
-    let mut out = String::new(alloc);
-    push_feature_line(&mut out, feature)?;
-    push_scenarios(
-        &mut out,
-        no_skipped,
-        feature.rules.as_slice(),
-        feature.cases.as_slice(),
-    )?;
-    push_around(&mut out, "  ", feature.around)?;
-    out.push_str("\n")?;
-    Ok(out)
+    out.push_str("Feature: ")?;
+    push_one_line(out, feature.name.as_str())?;
+    push_ending(out, feature.status, None)
+}
+
+/// Pushes what stands after the scenarios of a feature. An error comes only where a growth was refused.
+pub fn push_feature_end(out: &mut String, around: Status) -> Result<(), AllocError>
+    ensures { Pushes out.old (feature_end around) result out.new }
+{
+    push_around(out, "  ", around)?;
+    out.push_str("\n")
 }
 
 #[tactic(auto, unfolding(crate::specs::PlainReport::counted))]

@@ -1,13 +1,12 @@
 //! The progress report: a line for each feature.
 ghost use Rattle.std.specs.Prelude.{◌≡◌, [], ◌∷◌, map, cond};
 ghost use Rattle.gk_run.specs.Results.{case_row, feature_row};
-ghost use Rattle.gk_report.specs.ReportTexts.{is_hidden, Pushes, AnswersText};
-ghost use Rattle.gk_report.specs.ProgressReport as spec;
-ghost use Rattle.gk_report.specs.ProgressReport.{status_mark, case_marks};
+ghost use Rattle.gk_report.specs.ReportTexts.{is_hidden, Pushes};
+ghost use Rattle.gk_report.specs.ProgressReport.{status_mark, case_marks, progress_line};
 
 use crate::report_texts::{hides, push_one_line, status_text};
 use gk_run::{CaseResult, FeatureResult, Status};
-use std::alloc::{AllocError, Global};
+use std::alloc::AllocError;
 
 fn mark_text(status: Status) -> &'static str
     ensures { result.now ≡ status_mark status ∷ [] }
@@ -41,20 +40,18 @@ fn push_marks(out: &mut String, no_skipped: bool, cases: &[CaseResult]) -> Resul
     Ok(())
 }
 
-/// The line of a feature. An error comes only where a growth was refused.
-pub fn progress_line(
-    alloc: Global,
+/// Pushes the line of a feature. An error comes only where a growth was refused.
+pub fn push_progress_line(
+    out: &mut String,
     no_skipped: bool,
     feature: &FeatureResult,
-) -> Result<String, AllocError>
-    ensures { AnswersText result (spec.progress_line no_skipped (feature_row feature.now)) }
+) -> Result<(), AllocError>
+    ensures { Pushes out.old (progress_line no_skipped (feature_row feature.now)) result out.new }
 {
-    let mut out = String::new(alloc);
-    push_one_line(&mut out, feature.source.as_str())?;
+    push_one_line(out, feature.source.as_str())?;
     out.push_str("  ")?;
-    push_marks(&mut out, no_skipped, feature.cases.as_slice())?;
+    push_marks(out, no_skipped, feature.cases.as_slice())?;
     out.push_str("  ")?;
     out.push_str(status_text(feature.status))?;
-    out.push_str("\n")?;
-    Ok(out)
+    out.push_str("\n")
 }

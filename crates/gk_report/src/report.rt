@@ -1,16 +1,13 @@
 //! The report of a run in a style: its head, the part of each feature, its tail.
 ghost use Rattle.std.specs.Prelude.{IfOk, string_bytes};
-ghost use Rattle.gk_run.specs.Results.{feature_row};
 ghost use Rattle.gk_report.specs.Report as spec;
 ghost use Rattle.gk_report.specs.ReportTexts.{AnswersText};
 ghost use Rattle.gk_report.specs.Report.{IsTailOf, IsOneDocument, ReportsGrowByParts};
 
-use crate::json_report::{feature_object, json_head, json_tail};
-use crate::plain_report::{closing_text, feature_lines};
-use crate::progress_report::progress_line;
-use crate::report_texts::hides;
+use crate::json_report::{json_head, json_tail};
+use crate::plain_report::closing_text;
 use crate::summary::Summary;
-use gk_run::{FeatureResult, Status};
+use gk_run::Status;
 use std::alloc::{AllocError, Global};
 
 /// The format of a report.
@@ -42,28 +39,6 @@ pub fn head(alloc: Global, style: Style) -> Result<String, AllocError>
     match style.format {
         Format::Plain | Format::Progress => Ok(String::new(alloc)),
         Format::Json => json_head(alloc),
-    }
-}
-
-/// The part of a feature, `first` being true as long as each earlier part of the report was empty. The text
-/// is empty where the style hides the feature. An error comes only where a growth was refused. (behave's
-/// documentation: `--no-skipped`)
-#[tactic(auto, unfolding(crate::specs::PlainReport::plain_part, crate::specs::ProgressReport::progress_part, crate::specs::JsonReport::json_part))]
-pub fn part(
-    alloc: Global,
-    style: Style,
-    first: bool,
-    feature: &FeatureResult,
-) -> Result<String, AllocError>
-    ensures { AnswersText result (spec.part style first (feature_row feature.now)) }
-{
-    if hides(style.no_skipped, feature.status) {
-        return Ok(String::new(alloc));
-    }
-    match style.format {
-        Format::Plain => feature_lines(alloc, style.no_skipped, feature),
-        Format::Progress => progress_line(alloc, style.no_skipped, feature),
-        Format::Json => feature_object(alloc, style.no_skipped, first, feature),
     }
 }
 

@@ -1,11 +1,23 @@
-use Rattle.std.proofs.Common.{sym, ◌∙◌, subst}
+use Rattle.std.proofs.Common.{Some, map, sym, subst}
 use Rattle.std.proofs.lemmas.Result.{on_ok_weaker}
-use Rattle.serde_json.specs.Events.{SendsMembers}
-use Rattle.gk_report.proofs.JsonReportLemmas.{rules_some}
+use Rattle.serde.specs.Event.{Logs, seq_begins}
+use Rattle.serde_json.specs.View.{items_of}
+use Rattle.serde_json.specs.Events.{SendsItems}
+use Rattle.gk_run.specs.Results.{rule_row}
+use Rattle.gk_report.specs.JsonReport.{rule_data}
+use Rattle.gk_report.proofs.PrintedLemmas.{left_none}
+use Rattle.gk_report.proofs.JsonReportLemmas.{items_len_by}
 use Rattle.gk_report.proofs.json_report.write_rules.Goals as goal
 
 pub returns : goal.returns
 returns g c =
-    let old = g.S.Serializer.written c.args.out.now in
-    let some = rules_some c.args.rules.now (sym c.is_empty.ensures ∙ c.if-is_empty.false) in
-    on_ok_weaker c.write_each_rule.result (λ adds rest end sent. subst (λ members. SendsMembers members old end) (some rest) (adds rest end sent)) c.write_each_rule.ensures
+    let rules = c.args.rules.now in
+    let at = g.S.Serializer.written in
+    let old = at c.args.out.now in
+    let before = at c.begin_seq.new.self in
+    let end = at c.end_seq.new.self in
+    on_ok_weaker c.end_seq.result (λ sent. (
+      before,
+      subst (λ n. Logs old before (seq_begins (Some n))) (sym (items_len_by rule_data rule_row rules)) c.in_ok-begin_seq.ensures,
+      c.loop-rule.invariant end (subst (λ rows. SendsItems (items_of (map rule_data rows)) (at c.loop-rule.out) end) (sym (left_none rule_row rules c.loop-rule.rule-index c.loop-rule-test.false)) sent),
+    )) c.end_seq.ensures

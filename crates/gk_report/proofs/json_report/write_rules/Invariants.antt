@@ -4,7 +4,7 @@ use Rattle.serde_json.specs.View.{items_of}
 use Rattle.serde_json.specs.Events.{SendsItems}
 use Rattle.gk_run.specs.Results.{rule_row}
 use Rattle.gk_report.specs.JsonReport.{rule_data}
-use Rattle.gk_report.proofs.json_report.write_each_rule.Given as goal
+use Rattle.gk_report.proofs.json_report.write_rules.Given as goal
 
 -- whatever ends the rules that are left ends all of them
 abbrev pub invariant-loop-rule : goal.invariant-loop-rule
