@@ -52,8 +52,10 @@ def feature(*steps, name="f", scenario="s"):
 
 
 def long_files():
-    """A feature whose part has several pieces, and hooks. The scenarios that begin a piece are left out by LONG_RUN, as
-    is the last one of a rule, whose own line comes after it."""
+    """A feature whose part has several pieces, and hooks.
+
+    LONG_RUN leaves out the scenarios that would begin a piece, and the last one of a rule whose own line
+    comes after it."""
     names = [("@b\n" if number in (3, 4, 8) else "", f"s{number}" + "x" * 6000) for number in range(9)]
     scenarios = [f"{tags}Scenario: {name}\nGiven it passes\n" for tags, name in names]
     return {"a.feature": "Feature: f\n" + "".join(scenarios[:4]) + "Rule: r\n" + "".join(scenarios[4:]),

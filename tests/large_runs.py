@@ -335,8 +335,8 @@ PIECES_RUN = ["--no-skipped", "--tags", "@on", "--hooks", "h.hooks", "a.feature"
 
 
 def pieces_scenarios():
-    """The number, the line, the name and the rule of each scenario of a feature whose part has many pieces, and the line
-    of each rule. The names grow and shrink, so that pieces end anywhere."""
+    """The number, the line, the name and the rule of each scenario of a feature whose part has many pieces,
+    and the line of each rule. The names grow and shrink, so that pieces end anywhere."""
     scenarios, places, line = [], [], 1
     for number in range(EACH_RULE * (PIECES_RULES + 1)):
         rule = number // EACH_RULE - 1

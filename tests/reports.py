@@ -152,7 +152,7 @@ class Feature:
 
 
 def in_pieces(texts):
-    """The pieces of a part. Each ends with the first text at which it has so many bytes, and the last with the part."""
+    """The pieces of a part. Each ends with the first text at which it has PIECE_BYTES, the last with the part."""
     pieces, piece = [], b""
     for text in texts:
         piece += text.encode()
@@ -638,7 +638,7 @@ def compact(value):
 
 
 def json_part(feature, is_first):
-    """The text of a feature in a JSON report: what stands before its scenarios, each of them, and what stands after them."""
+    """The text of a feature in a JSON report: what stands before its scenarios, each of them, and the rest."""
     source, name, line = feature.head
     scenarios = [compact(json_scenario(it)) for it in feature.scenarios]
     rules = [{"around": it.around, "line": it.line} for it in feature.rules]

@@ -38,7 +38,8 @@ fn write_part<W: Write>(
 ) -> Result<bool, RunFault>
     requires room { CountsCanRise out.old }
     ensures room { OnOk result (CountsCanRise out.new) }
-    ensures ok { OnOk result (IsWritten (device_of W.contents out.old) (device_of W.contents out.new)
+    ensures ok { OnOk result
+        (IsWritten (device_of W.contents out.old) (device_of W.contents out.new)
         (part style is_first (feature_row feature.now))) }
     ensures still { IfOk result (λ still.
         still ≡ (is_first && is_empty (part style is_first (feature_row feature.now)))) }
