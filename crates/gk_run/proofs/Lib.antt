@@ -4,9 +4,11 @@ pub mod RunningExamples
 pub mod Nothing
 pub mod EndingLemmas
 pub mod WalkLemmas
+pub mod WatchingLemmas
 pub mod CleanLemmas
 pub mod StepsLemmas
 pub mod SectionLemmas
+pub mod WatchedCaseLemmas
 pub mod GroupingLemmas
 pub mod CasesLemmas
 pub mod RulesLemmas

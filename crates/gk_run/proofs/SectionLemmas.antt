@@ -38,11 +38,11 @@ pub outcomes_cut : (os : List Outcome) (n : ℕ) → is_place n os ≡ true → 
 outcomes_cut os n h = ap ended_of (cut_acted os n) ∙ cut_ends (map Acted os) n (place_acted os n ∙ h)
 
 -- the cut of events that there are
-cut_is : (b : Bool) (x y : Events) → b ≡ true → x ≡ cond b x y
+pub cut_is : (b : Bool) (x y : Events) → b ≡ true → x ≡ cond b x y
 cut_is b x y h = ap (λ (c : Bool). cond c x y) (sym h)
 
 -- how a case ends after its steps
-after_worse : (library : LibraryValue) (b : Ending) (s : State) (cs : List CleanupValue) (steps : List StepValue) → (b ≡ endings.Memory → ⊥) →
+pub after_worse : (library : LibraryValue) (b : Ending) (s : State) (cs : List CleanupValue) (steps : List StepValue) → (b ≡ endings.Memory → ⊥) →
     (let x = steps_after library b s cs steps in ended_after b x.marks ≡ worse b (ended_of x.marks))
 after_worse library endings.Memory s cs steps m = absurd (m refl)
 after_worse library endings.Passed s cs steps m = refl
@@ -56,7 +56,7 @@ stepped_is library endings.Passed s cs steps rows e last ls m h = h
 stepped_is library endings.Failed s cs steps rows e last ls m h = h
 stepped_is library endings.Skipped s cs steps rows e last ls m h = h
 
-exact_steps : (x : Steps) (b : Ending) (steps : List StepValue) (rows : List StepRow) (e : Ending) (last : State) (ls : List CleanupValue) → (e ≡ endings.Memory → ⊥) →
+pub exact_steps : (x : Steps) (b : Ending) (steps : List StepValue) (rows : List StepRow) (e : Ending) (last : State) (ls : List CleanupValue) → (e ≡ endings.Memory → ⊥) →
     AreStepsRun x b steps rows e last ls → (rows ≡ rows_of_steps steps x.marks) × (e ≡ ended_after b x.marks) × (last ≡ x.state) × (ls ≡ x.cleanups)
 exact_steps x b steps rows endings.Memory last ls m h = absurd (m refl)
 exact_steps x b steps rows endings.Passed last ls m h = h
@@ -64,7 +64,7 @@ exact_steps x b steps rows endings.Failed last ls m h = h
 exact_steps x b steps rows endings.Skipped last ls m h = h
 
 -- the steps of a case in its own terms
-steps_are : (run : Run) (outside : State) (c : CaseValue) (b : Ending) (s : State) (cs : List CleanupValue) (rows : List StepRow) (e : Ending) (last : State) (ls : List CleanupValue) → (b ≡ endings.Memory → ⊥) →
+pub steps_are : (run : Run) (outside : State) (c : CaseValue) (b : Ending) (s : State) (cs : List CleanupValue) (rows : List StepRow) (e : Ending) (last : State) (ls : List CleanupValue) → (b ≡ endings.Memory → ⊥) →
     IsWalked (begun run.library run.hooks levels.Scenario c.own_tags outside) b s cs → AreStepped run.library b s cs c.steps rows e last ls →
     (let w = begun run.library run.hooks levels.Scenario c.own_tags outside in AreStepsRun (steps_after run.library (ended_of w.marks) w.state w.cleanups c.steps) (ended_of w.marks) c.steps rows e last ls)
 steps_are run outside c b s cs rows e last ls m walked stepped =
@@ -77,7 +77,7 @@ steps_are run outside c b s cs rows e last ls m walked stepped =
 
 -- ---- memory was refused in the before list or in the steps
 
-pub case_in_before : (run : Run) (outside : State) (c : CaseValue) (s : State) (cs : List CleanupValue) (rows : List StepRow) (e : Ending) (last : State) (ls : List CleanupValue) →
+abbrev pub case_in_before : (run : Run) (outside : State) (c : CaseValue) (s : State) (cs : List CleanupValue) (rows : List StepRow) (e : Ending) (last : State) (ls : List CleanupValue) →
     IsWalked (begun run.library run.hooks levels.Scenario c.own_tags outside) endings.Memory s cs → AreStepped run.library endings.Memory s cs c.steps rows e last ls →
     IsCaseEnd run outside c statuses.Memory statuses.Memory [] rows
 case_in_before run outside c s cs rows e last ls walked stepped =
@@ -95,36 +95,40 @@ case_in_before run outside c s cs rows e last ls walked stepped =
       stepped = stepped.0 ∙ ap (λ (x : Events). rows_of_steps c.steps x.steps) is;
     }
 
-pub case_in_steps : (run : Run) (outside : State) (c : CaseValue) (b : Ending) (s : State) (cs : List CleanupValue) (rows : List StepRow) (last : State) (ls : List CleanupValue) → (b ≡ endings.Memory → ⊥) →
-    IsWalked (begun run.library run.hooks levels.Scenario c.own_tags outside) b s cs → AreStepped run.library b s cs c.steps rows endings.Memory last ls →
+abbrev pub case_in_steps_at : (run : Run) (outside : State) (c : CaseValue) (b : Ending) (rows : List StepRow) (n : ℕ) →
+    (let es = alone run outside c in b ≡ ended_of es.before) → (let es = alone run outside c in is_place n es.steps ≡ true) → (let es = alone run outside c in rows ≡ rows_of_steps c.steps (cut_marks n es.steps)) →
     IsCaseEnd run outside c statuses.Memory (around_status b) [] rows
-case_in_steps run outside c b s cs rows last ls m walked stepped =
-    let w = begun run.library run.hooks levels.Scenario c.own_tags outside in
+case_in_steps_at run outside c b rows n begins place shown =
     let es = alone run outside c in
-    let known_steps = steps_are run outside c b s cs rows endings.Memory last ls m walked stepped in
-    let n = known_steps.0 in
-    let b_is = (exact w b s cs m walked).0 in
     let now : Events = record es { steps = cut_marks n es.steps; after = []; cleanups = [] } in
-    let is : now ≡ happened (in_steps n) es = cut_is (is_place n es.steps) now es known_steps.1 in
-    let ends = memory_later w.marks (cut_marks n es.steps ++ []) (memory_first (cut_marks n es.steps) [] (cut_ends es.steps n known_steps.1)) in
-    let around : b ≡ ended_of (w.marks ++ []) = b_is ∙ sym (worse_passed (ended_of w.marks)) ∙ sym (ended_append w.marks []) in
+    let is : now ≡ happened (in_steps n) es = cut_is (is_place n es.steps) now es place in
+    let ends = memory_later es.before (cut_marks n es.steps ++ []) (memory_first (cut_marks n es.steps) [] (cut_ends es.steps n place)) in
+    let around : b ≡ ended_of (es.before ++ []) = begins ∙ sym (worse_passed (ended_of es.before)) ∙ sym (ended_append es.before []) in
     record {
       cut = in_steps n;
       verdict = ap verdict_status (sym ends) ∙ ap verdict_of is;
       hooks = ap around_status around ∙ ap around_of is;
       cleaned = ap (λ (x : Events). x.cleanups) is;
-      stepped = known_steps.2 ∙ ap (λ (x : Events). rows_of_steps c.steps x.steps) is;
+      stepped = shown ∙ ap (λ (x : Events). rows_of_steps c.steps x.steps) is;
     }
+
+pub case_in_steps : (run : Run) (outside : State) (c : CaseValue) (b : Ending) (s : State) (cs : List CleanupValue) (rows : List StepRow) (last : State) (ls : List CleanupValue) → (b ≡ endings.Memory → ⊥) →
+    IsWalked (begun run.library run.hooks levels.Scenario c.own_tags outside) b s cs → AreStepped run.library b s cs c.steps rows endings.Memory last ls →
+    IsCaseEnd run outside c statuses.Memory (around_status b) [] rows
+case_in_steps run outside c b s cs rows last ls m walked stepped =
+    let w = begun run.library run.hooks levels.Scenario c.own_tags outside in
+    let known = steps_are run outside c b s cs rows endings.Memory last ls m walked stepped in
+    case_in_steps_at run outside c b rows known.0 (exact w b s cs m walked).0 known.1 known.2
 
 -- ---- the case was closed
 
 -- what is known of a case that was closed, in its own terms
-record Parts (run : Run) (outside : State) (c : CaseValue) (b e : Ending) (rows : List StepRow) : Type 0 where
-  before : b ≡ (let es = alone run outside c in ended_of es.before)
-  ended : e ≡ (let es = alone run outside c in worse b (ended_of es.steps))
-  stepped : rows ≡ (let es = alone run outside c in rows_of_steps c.steps es.steps)
+pub record Parts (run : Run) (outside : State) (c : CaseValue) (b e : Ending) (rows : List StepRow) : Type 0 where
+  pub before : b ≡ (let es = alone run outside c in ended_of es.before)
+  pub ended : e ≡ (let es = alone run outside c in worse b (ended_of es.steps))
+  pub stepped : rows ≡ (let es = alone run outside c in rows_of_steps c.steps es.steps)
 
-closed_after : (run : Run) (outside : State) (c : CaseValue) (b e : Ending) (rows : List StepRow) (reported : List Outcome) (n : ℕ) → Parts run outside c b e rows →
+abbrev pub closed_after : (run : Run) (outside : State) (c : CaseValue) (b e : Ending) (rows : List StepRow) (reported : List Outcome) (n : ℕ) → Parts run outside c b e rows →
     (let es = alone run outside c in is_place n es.after ≡ true) → reported ≡ [] → IsCaseEnd run outside c statuses.Memory statuses.Memory reported rows
 closed_after run outside c b e rows reported n p place none =
     let es = alone run outside c in
@@ -139,7 +143,7 @@ closed_after run outside c b e rows reported n p place none =
       stepped = p.stepped ∙ ap (λ (x : Events). rows_of_steps c.steps x.steps) is;
     }
 
-closed_cleanups : (run : Run) (outside : State) (c : CaseValue) (b e : Ending) (rows : List StepRow) (reported : List Outcome) (n : ℕ) → Parts run outside c b e rows →
+abbrev pub closed_cleanups : (run : Run) (outside : State) (c : CaseValue) (b e : Ending) (rows : List StepRow) (reported : List Outcome) (n : ℕ) → Parts run outside c b e rows →
     (let es = alone run outside c in (is_place n es.cleanups ≡ true) × (reported ≡ cut_outcomes n es.cleanups)) → IsCaseEnd run outside c statuses.Memory statuses.Memory reported rows
 closed_cleanups run outside c b e rows reported n p h =
     let es = alone run outside c in
@@ -155,7 +159,7 @@ closed_cleanups run outside c b e rows reported n p h =
       stepped = p.stepped ∙ ap (λ (x : Events). rows_of_steps c.steps x.steps) is;
     }
 
-closed_whole : (run : Run) (outside : State) (c : CaseValue) (b e l : Ending) (rows : List StepRow) (reported : List Outcome) → Parts run outside c b e rows →
+abbrev pub closed_whole : (run : Run) (outside : State) (c : CaseValue) (b e l : Ending) (rows : List StepRow) (reported : List Outcome) → Parts run outside c b e rows →
     (let es = alone run outside c in (l ≡ ended_of (es.after ++ map Acted es.cleanups)) × (reported ≡ es.cleanups)) → IsCaseEnd run outside c (verdict_status (worse e l)) (around_status (worse b l)) reported rows
 closed_whole run outside c b e l rows reported p h =
     let es = alone run outside c in
@@ -324,7 +328,7 @@ section_is {A} run level tags outside b passed around x inside passes end known 
     (end.cut, ap with_around end.hooks ∙ ap with_inside (known ∙ ap (inside (section_state run level tags outside)) (passes ∙ end.ready)))
 
 -- the row of a case, from what it came to
-pub row_is : (run : Run) (section : State) (c : CaseValue) (status around : Status) (reported : List Outcome) (rows : List StepRow) →
+abbrev pub row_is : (run : Run) (section : State) (c : CaseValue) (status around : Status) (reported : List Outcome) (rows : List StepRow) →
     IsCaseEnd run section (ran c.own_tags c.steps) status around reported rows → IsReached run section c (record { keyword = c.keyword; name = c.name; line = c.line; status = status; around = around; cleanups = reported; steps = rows })
 row_is run section c status around reported rows end =
     let e = happened end.cut (alone run section c) in

@@ -18,5 +18,6 @@ pub mod Features
 pub mod DryRun
 pub mod Judged
 pub mod OpenRun
+pub mod Watching
 -- Proof machinery: what contracts of private functions cite.
 pub mod Reserved

@@ -1,11 +1,35 @@
 -- What happens in a section, and where a refused growth cuts it.
 use Rattle.std.specs.Prelude.{zero, suc, Bool, true, false, cond, List, [], ◌∷◌, ◌++◌, map, ℕ}
+use Rattle.gk_run.specs.declared.acting.Site.{Site}
+use Rattle.gk_run.specs.declared.acting.Site.TheVariants as sites
 use Rattle.gk_run.specs.declared.results.Mark.{Mark}
 use Rattle.gk_run.specs.declared.results.Mark.TheVariants.{Acted}
 use Rattle.gk_run.specs.declared.results.Outcome.{Outcome}
 use Rattle.gk_run.specs.declared.results.Outcome.TheVariants as outcomes
 use Rattle.gk_run.specs.declared.results.Status.{Status}
+use Rattle.gk_run.specs.declared.section.Level.{Level}
+use Rattle.gk_run.specs.declared.section.Level.TheVariants as levels
+use Rattle.gk_run.specs.declared.section.Part.{Part}
+use Rattle.gk_run.specs.declared.section.Part.TheVariants as parts
+use Rattle.gk_run.specs.declared.section.Place.{Place}
 use Rattle.gk_run.specs.Ending.{ended_of, has_passed, around_status}
+
+-- Where the steps of a before hook are carried out: only in that of a scenario may they skip.
+abbrev pub before_site : Level → Site
+before_site levels.Run = sites.Hook
+before_site levels.Feature = sites.Hook
+before_site levels.Rule = sites.Hook
+before_site levels.Scenario = sites.CaseHook
+
+-- Where the steps of a part of a section are carried out.
+abbrev pub site_in : Level → Part → Site
+site_in level parts.Before = before_site level
+site_in level parts.Steps = sites.Step
+site_in level parts.After = sites.Hook
+
+-- Where the steps at a place are carried out.
+abbrev pub site_of : Place → Site
+site_of place = site_in place.level place.part
 
 -- The events of a section, in four parts, one after another: the steps of its before list; the steps of the scenario, where it is a scenario's; the steps of its after lists; its cleanups.
 pub record Events : Type 0 where

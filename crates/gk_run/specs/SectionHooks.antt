@@ -1,6 +1,5 @@
 -- The hooks of a section: of the run, of a feature, of a rule, of a scenario.
-use Rattle.std.specs.Prelude.{cond, List, [], ◌∷◌, ◌++◌, map, Option, String, Some, None, ℕ}
-use Rattle.std.specs.declared.alloc.Global.{Global}
+use Rattle.std.specs.Prelude.{cond, List, [], ◌∷◌, ◌++◌, map, Option, Some, None, ℕ}
 use Rattle.gk_gherkin.specs.Feature.{StepValue, texts}
 use Rattle.gk_gherkin.specs.Hooks.{HookValue, hooks_value, is_for}
 use Rattle.gk_gherkin.specs.declared.hooks.HookKind.{HookKind}
@@ -8,7 +7,6 @@ use Rattle.gk_gherkin.specs.declared.hooks.HookKind.TheVariants as kinds
 use Rattle.gk_steps.specs.Finding.{LibraryValue, library_value}
 use Rattle.gk_world.specs.Sandbox.{SandboxValue}
 use Rattle.gk_world.specs.State.{State, state_of, enter}
-use Rattle.gk_run.specs.declared.acting.Site.{Site}
 use Rattle.gk_run.specs.declared.acting.Site.TheVariants as sites
 use Rattle.gk_run.specs.declared.cleanups.Cleanups.{Cleanups}
 use Rattle.gk_run.specs.declared.ending.Ending.{Ending}
@@ -18,6 +16,7 @@ use Rattle.gk_run.specs.declared.section.Level.TheVariants as levels
 use Rattle.gk_run.specs.declared.section.Section.{Section}
 use Rattle.gk_run.specs.Acting.{CleanupValue}
 use Rattle.gk_run.specs.Cleanups.{cleanups_value}
+use Rattle.gk_run.specs.Section.{before_site}
 use Rattle.gk_run.specs.Walk.{walk, IsWalked, Walked, at_rest}
 
 -- The hook before a section. (behave's documentation: environment file functions)
@@ -33,13 +32,6 @@ after_kind levels.Run = kinds.AfterAll
 after_kind levels.Feature = kinds.AfterFeature
 after_kind levels.Rule = kinds.AfterRule
 after_kind levels.Scenario = kinds.AfterScenario
-
--- Where the steps of a before hook are carried out: only in that of a scenario may they skip.
-abbrev pub before_site : Level → Site
-before_site levels.Run = sites.Hook
-before_site levels.Feature = sites.Hook
-before_site levels.Rule = sites.Hook
-before_site levels.Scenario = sites.CaseHook
 
 -- The steps of a hook; one that isn't in the hooks file has none.
 abbrev pub hook_steps : List HookValue → HookKind → Option (List ℕ) → List StepValue
@@ -78,10 +70,10 @@ abbrev pub WalksBefore : shared.Run → Section → SandboxValue → Cleanups �
 WalksBefore run section old cleanups ending new new_cleanups =
     IsWalked (walk (library_value run.library.now) (before_site section.level) (state_of old.now) (cleanups_value cleanups) (before_list (hooks_value run.hooks.now) section.level (texts section.tags.now))) ending (state_of new.now) (cleanups_value new_cleanups)
 
--- Each after_tag hook of some tags was walked through by itself.
-abbrev pub WalksTags : shared.Run → List (String Global) → SandboxValue → Cleanups → Ending → SandboxValue → Cleanups → Type 0
-WalksTags run tags old cleanups ending new new_cleanups =
-    IsWalked (walk_each (library_value run.library.now) (state_of old.now) (cleanups_value cleanups) (tag_lists (hooks_value run.hooks.now) (texts tags))) ending (state_of new.now) (cleanups_value new_cleanups)
+-- Each after_tag hook of a section's tags was walked through by itself.
+abbrev pub WalksTags : shared.Run → Section → SandboxValue → Cleanups → Ending → SandboxValue → Cleanups → Type 0
+WalksTags run section old cleanups ending new new_cleanups =
+    IsWalked (walk_each (library_value run.library.now) (state_of old.now) (cleanups_value cleanups) (tag_lists (hooks_value run.hooks.now) (texts section.tags.now))) ending (state_of new.now) (cleanups_value new_cleanups)
 
 -- Each of a section's after lists was walked through by itself.
 abbrev pub WalksAfter : shared.Run → Section → SandboxValue → Cleanups → Ending → SandboxValue → Cleanups → Type 0

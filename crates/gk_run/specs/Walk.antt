@@ -15,12 +15,13 @@ use Rattle.gk_run.specs.declared.results.Mark.{Mark}
 use Rattle.gk_run.specs.declared.results.Mark.TheVariants.{Acted, Skipped, Untested, Undefined}
 use Rattle.gk_run.specs.declared.results.Outcome.TheVariants as outcomes
 use Rattle.gk_run.specs.declared.run.Run as shared
+use Rattle.gk_run.specs.declared.section.Place.{Place}
 use Rattle.gk_run.specs.declared.walk.StepsEnd.{StepsEnd}
 use Rattle.gk_run.specs.Acting.{CleanupValue, act}
 use Rattle.gk_run.specs.Cleanups.{cleanups_value}
 use Rattle.gk_run.specs.Ending.{ended_of, ending_of, has_passed, status_of_mark, reason_of_mark}
 use Rattle.gk_run.specs.Results.{StepRow, step_row}
-use Rattle.gk_run.specs.Section.{is_place, cut_marks}
+use Rattle.gk_run.specs.Section.{is_place, cut_marks, site_of}
 
 -- One step: what becomes of it, the state that it leaves, and the cleanups that it registers.
 pub record Stepped : Type 0 where
@@ -136,10 +137,10 @@ abbrev pub RunsStep : shared.Run → Site → Step → SandboxValue → Cleanups
 RunsStep run site step old cleanups mark new new_cleanups =
     IsStepRun (one_step (library_value run.library.now) site (state_of old.now) (step_value step)) (cleanups_value cleanups) mark (state_of new.now) (cleanups_value new_cleanups)
 
--- The steps of a hook were walked through at a site.
-abbrev pub WalksHook : shared.Run → Site → List Step → SandboxValue → Cleanups → Ending → SandboxValue → Cleanups → Type 0
-WalksHook run site steps old cleanups ending new new_cleanups =
-    IsWalked (walk (library_value run.library.now) site (state_of old.now) (cleanups_value cleanups) (map step_value steps)) ending (state_of new.now) (cleanups_value new_cleanups)
+-- The steps of a hook were walked through at a place.
+abbrev pub WalksHook : shared.Run → Place → List Step → SandboxValue → Cleanups → Ending → SandboxValue → Cleanups → Type 0
+WalksHook run place steps old cleanups ending new new_cleanups =
+    IsWalked (walk (library_value run.library.now) (site_of place) (state_of old.now) (cleanups_value cleanups) (map step_value steps)) ending (state_of new.now) (cleanups_value new_cleanups)
 
 -- The next step was taken, of a case that had ended so far like this.
 abbrev pub TakesNext : shared.Run → Ending → Step → SandboxValue → Cleanups → Mark → SandboxValue → Cleanups → Type 0

@@ -21,6 +21,7 @@ use crate::results::{CaseResult, FeatureResult, NoRoom, RuleResult, Status};
 use crate::rules::run_rules;
 use crate::run::Run;
 use crate::section::{Level, Section};
+use crate::watching::Unwatched;
 use gk_gherkin::HookFile;
 use gk_steps::Library;
 use gk_world::Sandbox;
@@ -77,14 +78,14 @@ fn begin_feature(
         level: Level::Feature,
         tags,
     };
-    let opened = open_section(run, sandbox, &section);
+    let opened = open_section(run, sandbox, &section, &mut Unwatched);
     match run_inside(run, sandbox, has_passed(opened.before), content) {
         Err(NoRoom) => {
             leave_section(sandbox, opened);
             Err(NoRoom)
         }
         Ok(inside) => Ok(FeatureEnd {
-            around: end_around(run, sandbox, &section, opened),
+            around: end_around(run, sandbox, &section, opened, &mut Unwatched),
             inside,
         }),
     }

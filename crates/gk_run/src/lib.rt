@@ -24,6 +24,7 @@ mod running;
 mod section;
 mod section_hooks;
 mod walk;
+mod watching;
 
 pub use acting::{Site, act};
 pub use chosen::{Chosen, RuleHead};
@@ -39,6 +40,8 @@ pub use judged::{
 };
 pub use open_run::{Suite, finished_runs_are_judged, unfinished_runs_are_judged};
 pub use results::{
-    CaseResult, FeatureResult, NoRoom, Outcome, Reason, RuleResult, Status, StepResult,
+    CaseResult, FeatureResult, Mark, NoRoom, Outcome, Reason, RuleResult, Status, StepResult,
 };
-pub use running::run_case;
+pub use running::{run_case, run_case_watched};
+pub use section::{Level, Part, Place};
+pub use watching::{Observer, Unwatched, told_events_are_the_cases_own};

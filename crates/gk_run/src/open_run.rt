@@ -22,6 +22,7 @@ use crate::open_section::{end_around, open_section};
 use crate::results::{FeatureResult, NoRoom, Status};
 use crate::run::Run;
 use crate::section::{Level, Section};
+use crate::watching::Unwatched;
 use gk_gherkin::HookFile;
 use gk_steps::Library;
 use gk_world::Sandbox;
@@ -53,7 +54,7 @@ impl Suite {
             level: Level::Run,
             tags: &[],
         };
-        let section = open_section(&run, sandbox, &section);
+        let section = open_section(&run, sandbox, &section, &mut Unwatched);
         let is_open = has_passed(section.before);
         Suite {
             section,
@@ -134,7 +135,7 @@ impl Suite {
             level: Level::Run,
             tags: &[],
         };
-        end_around(&run, sandbox, &section, opened)
+        end_around(&run, sandbox, &section, opened, &mut Unwatched)
     }
 }
 

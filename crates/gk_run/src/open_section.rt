@@ -8,6 +8,7 @@ ghost use Rattle.gk_run.specs.Ending as endings;
 ghost use Rattle.gk_run.specs.Closing.{ClosesAfter};
 ghost use Rattle.gk_run.specs.OpenSection.{IsBegun, IsOpened, IsSectionEnd};
 ghost use Rattle.gk_run.specs.Run.{run_of, run_value};
+ghost use Rattle.gk_run.specs.Watching.{TellsClosingAfter, TellsOpening};
 
 use crate::cleanups::Cleanups;
 use crate::closing::{Closed, close};
@@ -16,6 +17,7 @@ use crate::results::Status;
 use crate::run::Run;
 use crate::section::Section;
 use crate::section_hooks::walk_before;
+use crate::watching::Observer;
 use gk_world::{Layer, Sandbox, layers_enter};
 
 /// A section that was begun. It has to be ended. (behave's documentation: context layers)
@@ -28,16 +30,23 @@ pub struct OpenSection {
 }
 
 /// Begins a section: its layer, and the walk through its before list.
-pub fn open_section(run: &Run<'_>, sandbox: &mut Sandbox, section: &Section<'_>) -> OpenSection
+pub fn open_section<O: Observer>(
+    run: &Run<'_>,
+    sandbox: &mut Sandbox,
+    section: &Section<'_>,
+    observer: &mut O,
+) -> OpenSection
     requires room { depth sandbox.old < layers }
     ensures opened { IsOpened (run_value run.now) section.now.level (texts section.now.tags.now)
         sandbox.old sandbox.new result }
+    ensures told { TellsOpening O.hears run.now section.now
+        sandbox.old result observer.old observer.new }
 {
     // No code runs here: the law says that the layer's state is the one outside, entered.
     layers_enter();
     let layer = sandbox.begin();
     let mut cleanups = Cleanups::new(run.alloc);
-    let before = walk_before(run, sandbox, &mut cleanups, section);
+    let before = walk_before(run, sandbox, &mut cleanups, section, observer);
     OpenSection {
         layer,
         before,
@@ -45,37 +54,50 @@ pub fn open_section(run: &Run<'_>, sandbox: &mut Sandbox, section: &Section<'_>)
     }
 }
 
-// Closes a section that ended so before. After refused memory nothing more runs in it.
-fn close_after(
+// What is left to be closed of a section: how it ended before, and its cleanups.
+struct Unclosed {
+    ending: Ending,
+    cleanups: Cleanups,
+}
+
+// Closes a section. After refused memory nothing more runs in it.
+fn close_after<O: Observer>(
     run: &Run<'_>,
     sandbox: &mut Sandbox,
     section: &Section<'_>,
-    cleanups: Cleanups,
-    ending: Ending,
+    left: Unclosed,
+    observer: &mut O,
 ) -> Closed
     requires in_layer { 0 < depth sandbox.old }
-    ensures closed { ClosesAfter ending run.now section.now cleanups sandbox.old result }
+    ensures closed { ClosesAfter left.ending run.now section.now left.cleanups
+        sandbox.old result }
+    ensures told { TellsClosingAfter O.hears left.ending run.now section.now left.cleanups
+        sandbox.old result observer.old observer.new }
     ensures layers { KeepsLayers sandbox.old sandbox.new }
 {
+    let Unclosed { ending, cleanups } = left;
     if is_memory(ending) {
         return Closed {
             ending: Ending::Passed,
             outcomes: cleanups.none(),
         };
     }
-    close(run, sandbox, cleanups, section)
+    close(run, sandbox, cleanups, section, observer)
 }
 
 /// Ends a section that ended so before: closes it, unless memory was refused in it, and ends its layer.
-pub fn end_section(
+pub fn end_section<O: Observer>(
     run: &Run<'_>,
     sandbox: &mut Sandbox,
     section: &Section<'_>,
     opened: OpenSection,
     ending: Ending,
+    observer: &mut O,
 ) -> Closed
     requires innermost { opened.layer ≡ depth sandbox.old }
     ensures closed { ClosesAfter ending run.now section.now opened.cleanups sandbox.old result }
+    ensures told { TellsClosingAfter O.hears ending run.now section.now opened.cleanups
+        sandbox.old result observer.old observer.new }
     ensures ends { Ends sandbox.old sandbox.new }
 {
     let OpenSection {
@@ -83,17 +105,19 @@ pub fn end_section(
         before: _,
         cleanups,
     } = opened;
-    let closed = close_after(run, sandbox, section, cleanups, ending);
+    let left = Unclosed { ending, cleanups };
+    let closed = close_after(run, sandbox, section, left, observer);
     sandbox.end(layer);
     closed
 }
 
 /// Ends a section without steps of its own. Returns how its hooks and cleanups ended.
-pub fn end_around(
+pub fn end_around<O: Observer>(
     run: &Run<'_>,
     sandbox: &mut Sandbox,
     section: &Section<'_>,
     opened: OpenSection,
+    observer: &mut O,
 ) -> Status
     requires innermost { opened.layer ≡ depth sandbox.old }
     ensures around { (outside : State) (stop : Bool) →
@@ -104,7 +128,7 @@ pub fn end_around(
     ensures ends { Ends sandbox.old sandbox.new }
 {
     let before = opened.before;
-    let closed = end_section(run, sandbox, section, opened, before);
+    let closed = end_section(run, sandbox, section, opened, before, observer);
     around_status(worse(before, closed.ending))
 }
 

@@ -16,6 +16,7 @@ use crate::reserved::ReservedRules;
 use crate::results::{NoRoom, RuleResult, Status};
 use crate::run::Run;
 use crate::section::{Level, Section};
+use crate::watching::Unwatched;
 use gk_world::Sandbox;
 
 /// What a rule comes to beside its cases.
@@ -42,14 +43,14 @@ fn begin_rule(
         level: Level::Rule,
         tags,
     };
-    let opened = open_section(run, sandbox, &section);
+    let opened = open_section(run, sandbox, &section, &mut Unwatched);
     match run_cases(run, sandbox, has_passed(opened.before), cases) {
         Err(NoRoom) => {
             leave_section(sandbox, opened);
             Err(NoRoom)
         }
         Ok(all_stay) => {
-            let around = end_around(run, sandbox, &section, opened);
+            let around = end_around(run, sandbox, &section, opened, &mut Unwatched);
             Ok(RuleEnd {
                 around,
                 stays_open: both(stays_open(run.stop, around), all_stay),

@@ -1,5 +1,5 @@
 //! Running a case.
-ghost use Rattle.std.specs.Prelude.{◌≡◌, ◌<◌, map, IfOk, false};
+ghost use Rattle.std.specs.Prelude.{◌≡◌, ◌<◌, map, IfOk, OnErr, false};
 ghost use Rattle.gk_gherkin.specs.Feature.{step_value};
 ghost use Rattle.gk_select.specs.Case.{case_value};
 ghost use Rattle.gk_world.specs.State.{state_of, layers};
@@ -8,6 +8,7 @@ ghost use Rattle.gk_run.specs.Results.{step_row, case_row};
 ghost use Rattle.gk_run.specs.Run.{run_of, run_value};
 ghost use Rattle.gk_run.specs.Running.{unrun_row, IsSame, IsReached, marks_of, EndsCase, row_with};
 ghost use Rattle.gk_run.specs.Walk.{row_of_step};
+ghost use Rattle.gk_run.specs.Watching.{IsCaseTold, TellsCase};
 
 use crate::ending::{around_status, verdict_status, worse};
 use crate::open_section::{end_section, open_section};
@@ -16,6 +17,7 @@ use crate::results::{CaseResult, Mark, NoRoom, Outcome, Status, StepResult};
 use crate::run::Run;
 use crate::section::{Level, Section};
 use crate::walk::{StepsEnd, row_of, run_steps};
+use crate::watching::{Observer, Unwatched};
 use gk_gherkin::HookFile;
 use gk_select::Case;
 use gk_steps::Library;
@@ -58,19 +60,34 @@ pub fn case_result(heading: Heading, end: CaseEnd) -> CaseResult
 }
 
 // Runs a case in a layer of its own.
-fn run_alone(run: &Run<'_>, sandbox: &mut Sandbox, tags: &[String], steps: ReservedSteps) -> CaseEnd
+fn run_alone<O: Observer>(
+    run: &Run<'_>,
+    sandbox: &mut Sandbox,
+    tags: &[String],
+    steps: ReservedSteps,
+    observer: &mut O,
+) -> CaseEnd
     requires room { depth sandbox.old < layers }
     ensures end { EndsCase run.now tags.now steps (state_of sandbox.old.now) result }
+    ensures told { TellsCase O.hears run.now tags.now steps
+        sandbox.old result observer.old observer.new }
     ensures same { IsSame sandbox.old sandbox.new }
 {
     let section = Section {
         level: Level::Scenario,
         tags,
     };
-    let mut opened = open_section(run, sandbox, &section);
+    let mut opened = open_section(run, sandbox, &section, observer);
     let before = opened.before;
-    let StepsEnd { ending, results } = run_steps(run, sandbox, &mut opened.cleanups, before, steps);
-    let closed = end_section(run, sandbox, &section, opened, ending);
+    let StepsEnd { ending, results } = run_steps(
+        run,
+        sandbox,
+        &mut opened.cleanups,
+        before,
+        steps,
+        observer,
+    );
+    let closed = end_section(run, sandbox, &section, opened, ending, observer);
     CaseEnd {
         status: verdict_status(worse(ending, closed.ending)),
         around: around_status(worse(before, closed.ending)),
@@ -79,15 +96,19 @@ fn run_alone(run: &Run<'_>, sandbox: &mut Sandbox, tags: &[String], steps: Reser
     }
 }
 
-/// Runs a case of a run in a layer of its own.
-pub(crate) fn case_in(
+/// Runs a case of a run in a layer of its own, and tells an observer its events and its result.
+pub(crate) fn case_in<O: Observer>(
     run: &Run<'_>,
     sandbox: &mut Sandbox,
     case: Case,
+    observer: &mut O,
 ) -> Result<CaseResult, NoRoom>
     requires room { depth sandbox.old < layers }
     ensures row { IfOk result (λ r. IsReached (run_value run.now)
         (state_of sandbox.old.now) (case_value case) (case_row r)) }
+    ensures told { IfOk result (λ r. IsCaseTold O.hears O.ends (run_value run.now)
+        (state_of sandbox.old.now) (case_value case) (case_row r) observer.old observer.new) }
+    ensures untold { OnErr result (observer.new ≡ observer.old) }
     ensures same { IsSame sandbox.old sandbox.new }
 {
     let reserved = reserve_case(run.alloc, case)?;
@@ -96,8 +117,10 @@ pub(crate) fn case_in(
         own_tags,
         steps,
     } = reserved;
-    let end = run_alone(run, sandbox, own_tags.as_slice(), steps);
-    Ok(case_result(heading, end))
+    let end = run_alone(run, sandbox, own_tags.as_slice(), steps, observer);
+    let result = case_result(heading, end);
+    observer.case_ended(&result);
+    Ok(result)
 }
 
 /// Runs a case in a layer of its own: its before hooks, its steps, its after hooks and its cleanups.
@@ -118,13 +141,37 @@ pub fn run_case(
         (state_of sandbox.old.now) (case_value case) (case_row r)) }
     ensures same { IsSame sandbox.old sandbox.new }
 {
+    run_case_watched(alloc, sandbox, library, hooks, case, &mut Unwatched)
+}
+
+/// Runs a case as `run_case` does, and tells an observer each of its events once it has happened, in
+/// order, and then its result: all events of the case, or, where memory is refused in one, those up to
+/// that one. They are the events from which its result comes. Nothing is told where `NoRoom` comes.
+/// What is told changes nothing of the run.
+pub fn run_case_watched<O: Observer>(
+    alloc: Global,
+    sandbox: &mut Sandbox,
+    library: &Library,
+    hooks: &HookFile,
+    case: Case,
+    observer: &mut O,
+) -> Result<CaseResult, NoRoom>
+    requires room { depth sandbox.old < layers }
+    ensures row { IfOk result (λ r. IsReached (run_of library.now hooks.now false)
+        (state_of sandbox.old.now) (case_value case) (case_row r)) }
+    ensures told { IfOk result (λ r. IsCaseTold O.hears O.ends
+        (run_of library.now hooks.now false) (state_of sandbox.old.now)
+        (case_value case) (case_row r) observer.old observer.new) }
+    ensures untold { OnErr result (observer.new ≡ observer.old) }
+    ensures same { IsSame sandbox.old sandbox.new }
+{
     let run = Run {
         alloc,
         library,
         hooks,
         stop: false,
     };
-    case_in(&run, sandbox, case)
+    case_in(&run, sandbox, case, observer)
 }
 
 // The results of steps that aren't run: each has this mark.

@@ -5,13 +5,14 @@ ghost use Rattle.gk_gherkin.specs.Hooks.{hooks_value};
 ghost use Rattle.gk_world.specs.Sandbox.{depth, KeepsLayers};
 ghost use Rattle.gk_run.specs.SectionHooks as spec;
 ghost use Rattle.gk_run.specs.SectionHooks.{WalksBefore, WalksTags, WalksAfter};
+ghost use Rattle.gk_run.specs.Watching.{TellsBefore, TellsTags, TellsAfter};
 
-use crate::acting::Site;
 use crate::cleanups::Cleanups;
 use crate::ending::{Ending, has_passed, is_memory, worse};
 use crate::run::Run;
-use crate::section::{Level, Section};
+use crate::section::{Level, Part, Place, Section};
 use crate::walk::walk_hook;
+use crate::watching::Observer;
 use gk_gherkin::{HookFile, HookKind, Step};
 use gk_world::Sandbox;
 
@@ -39,17 +40,6 @@ pub fn after_kind(level: Level) -> HookKind
     }
 }
 
-/// Where the steps of a section's before hook are carried out.
-pub fn before_site(level: Level) -> Site
-    ensures { result ≡ spec.before_site level }
-{
-    match level {
-        Level::Run => Site::Hook,
-        Level::Feature | Level::Rule => Site::Hook,
-        Level::Scenario => Site::CaseHook,
-    }
-}
-
 /// The steps of the hook of a kind and a tag; one that isn't in the file has none.
 pub fn hook_steps<'a>(hooks: &'a HookFile, kind: HookKind, tag: Option<&str>) -> &'a [Step]
     ensures { map step_value result.now
@@ -64,45 +54,58 @@ pub fn hook_steps<'a>(hooks: &'a HookFile, kind: HookKind, tag: Option<&str>) ->
 }
 
 /// Walks through a section's before list.
-pub fn walk_before(
+pub fn walk_before<O: Observer>(
     run: &Run<'_>,
     sandbox: &mut Sandbox,
     cleanups: &mut Cleanups,
     section: &Section<'_>,
+    observer: &mut O,
 ) -> Ending
     requires in_layer { 0 < depth sandbox.old }
     ensures walked { WalksBefore run.now section.now
         sandbox.old cleanups.old result sandbox.new cleanups.new }
+    ensures told { TellsBefore O.hears run.now section.now
+        sandbox.old result observer.old observer.new }
     ensures layers { KeepsLayers sandbox.old sandbox.new }
 {
-    let site = before_site(section.level);
+    let place = Place {
+        level: section.level,
+        part: Part::Before,
+    };
     for tag in section.tags {
         let steps = hook_steps(run.hooks, HookKind::BeforeTag, Some(tag.as_str()));
-        let ending = walk_hook(run, sandbox, cleanups, site, steps);
+        let ending = walk_hook(run, sandbox, cleanups, place, steps, observer);
         if !has_passed(ending) {
             return ending;
         }
     }
     let steps = hook_steps(run.hooks, before_kind(section.level), None);
-    walk_hook(run, sandbox, cleanups, site, steps)
+    walk_hook(run, sandbox, cleanups, place, steps, observer)
 }
 
 // Walks through each after_tag hook by itself.
-fn walk_tags(
+fn walk_tags<O: Observer>(
     run: &Run<'_>,
     sandbox: &mut Sandbox,
     cleanups: &mut Cleanups,
-    tags: &[String],
+    section: &Section<'_>,
+    observer: &mut O,
 ) -> Ending
     requires in_layer { 0 < depth sandbox.old }
-    ensures walked { WalksTags run.now tags.now
+    ensures walked { WalksTags run.now section.now
         sandbox.old cleanups.old result sandbox.new cleanups.new }
+    ensures told { TellsTags O.hears run.now section.now
+        sandbox.old cleanups.old result observer.old observer.new }
     ensures layers { KeepsLayers sandbox.old sandbox.new }
 {
+    let place = Place {
+        level: section.level,
+        part: Part::After,
+    };
     let mut ending = Ending::Passed;
-    for tag in tags {
+    for tag in section.tags {
         let steps = hook_steps(run.hooks, HookKind::AfterTag, Some(tag.as_str()));
-        let this = walk_hook(run, sandbox, cleanups, Site::Hook, steps);
+        let this = walk_hook(run, sandbox, cleanups, place, steps, observer);
         if is_memory(this) {
             return this;
         }
@@ -112,22 +115,29 @@ fn walk_tags(
 }
 
 /// Walks through each of a section's after lists by itself.
-pub fn walk_after(
+pub fn walk_after<O: Observer>(
     run: &Run<'_>,
     sandbox: &mut Sandbox,
     cleanups: &mut Cleanups,
     section: &Section<'_>,
+    observer: &mut O,
 ) -> Ending
     requires in_layer { 0 < depth sandbox.old }
     ensures layers { KeepsLayers sandbox.old sandbox.new }
     ensures walked { WalksAfter run.now section.now
         sandbox.old cleanups.old result sandbox.new cleanups.new }
+    ensures told { TellsAfter O.hears run.now section.now
+        sandbox.old cleanups.old result observer.old observer.new }
 {
     let steps = hook_steps(run.hooks, after_kind(section.level), None);
-    let first = walk_hook(run, sandbox, cleanups, Site::Hook, steps);
+    let place = Place {
+        level: section.level,
+        part: Part::After,
+    };
+    let first = walk_hook(run, sandbox, cleanups, place, steps, observer);
     if is_memory(first) {
         return first;
     }
-    let others = walk_tags(run, sandbox, cleanups, section.tags);
+    let others = walk_tags(run, sandbox, cleanups, section, observer);
     worse(first, others)
 }

@@ -5,13 +5,16 @@ ghost use Rattle.gk_steps.specs.Finding.{library_value};
 ghost use Rattle.gk_world.specs.Sandbox.{depth, KeepsLayers};
 ghost use Rattle.gk_run.specs.Results.{step_row};
 ghost use Rattle.gk_run.specs.Walk.{row_of_step, RunsStep, WalksHook, IsLookedUp, TakesNext, RunsSteps};
+ghost use Rattle.gk_run.specs.Watching.{TellsHook, TellsNext, TellsSteps};
 
 use crate::acting::{Site, act};
 use crate::cleanups::Cleanups;
-use crate::ending::{Ending, ending_of, has_passed, reason_of, status_of, worse};
+use crate::ending::{Ending, ending_of, has_passed, is_memory, reason_of, status_of, worse};
 use crate::reserved::ReservedSteps;
 use crate::results::{Mark, Outcome, StepResult};
 use crate::run::Run;
+use crate::section::{Level, Part, Place, site_of};
+use crate::watching::Observer;
 use gk_gherkin::Step;
 use gk_steps::Library;
 use gk_world::Sandbox;
@@ -46,21 +49,27 @@ fn run_step(
     }
 }
 
-/// Walks through the steps of a hook.
-pub fn walk_hook(
+/// Walks through the steps of a hook that stand at a place.
+pub fn walk_hook<O: Observer>(
     run: &Run<'_>,
     sandbox: &mut Sandbox,
     cleanups: &mut Cleanups,
-    site: Site,
+    place: Place,
     steps: &[Step],
+    observer: &mut O,
 ) -> Ending
     requires in_layer { 0 < depth sandbox.old }
-    ensures walked { WalksHook run.now site steps.now
+    ensures walked { WalksHook run.now place steps.now
         sandbox.old cleanups.old result sandbox.new cleanups.new }
+    ensures told { TellsHook O.hears run.now place steps.now
+        sandbox.old result observer.old observer.new }
     ensures layers { KeepsLayers sandbox.old sandbox.new }
 {
+    let site = site_of(place);
     for step in steps {
-        let ending = ending_of(run_step(run, sandbox, cleanups, site, step));
+        let mark = run_step(run, sandbox, cleanups, site, step);
+        observer.step(place, step, mark, sandbox);
+        let ending = ending_of(mark);
         if !has_passed(ending) {
             return ending;
         }
@@ -128,23 +137,40 @@ pub struct StepsEnd {
     pub results: Vec<StepResult>,
 }
 
+// Tells a step of a case that stood so before it. After refused memory nothing more happens.
+fn tell<O: Observer>(observer: &mut O, stood: Ending, step: &Step, mark: Mark, sandbox: &Sandbox)
+    ensures { TellsNext O.hears stood step.now mark sandbox.now observer.old observer.new }
+{
+    if !is_memory(stood) {
+        let place = Place {
+            level: Level::Scenario,
+            part: Part::Steps,
+        };
+        observer.step(place, step, mark, sandbox);
+    }
+}
+
 /// Runs the steps of a case whose before list ended so.
-pub fn run_steps(
+pub fn run_steps<O: Observer>(
     run: &Run<'_>,
     sandbox: &mut Sandbox,
     cleanups: &mut Cleanups,
     before: Ending,
     steps: ReservedSteps,
+    observer: &mut O,
 ) -> StepsEnd
     requires in_layer { 0 < depth sandbox.old }
     ensures stepped { RunsSteps run.now before steps
         sandbox.old cleanups.old result sandbox.new cleanups.new }
+    ensures told { TellsSteps O.hears run.now before steps
+        sandbox.old result observer.old observer.new }
     ensures layers { KeepsLayers sandbox.old sandbox.new }
 {
     let ReservedSteps { steps, mut results } = steps;
     let mut ending = before;
     for step in steps {
         let mark = next_step(run, sandbox, cleanups, &step, ending);
+        tell(observer, ending, &step, mark, sandbox);
         ending = worse(ending, ending_of(mark));
         results.push_reserved(row_of(step, mark));
     }

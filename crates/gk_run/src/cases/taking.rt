@@ -15,6 +15,7 @@ use crate::reserved::ReservedCases;
 use crate::results::{CaseResult, Mark, NoRoom, Status};
 use crate::run::Run;
 use crate::running::{case_in, unrun_case};
+use crate::watching::Unwatched;
 use gk_select::Case;
 use gk_world::Sandbox;
 use std::collections::VecDeque;
@@ -130,7 +131,7 @@ fn run_member(
     if !is_open {
         return unrun_case(run.alloc, case, Status::Untested, Mark::Untested);
     }
-    case_in(run, sandbox, case)
+    case_in(run, sandbox, case, &mut Unwatched)
 }
 
 /// Whether both hold.

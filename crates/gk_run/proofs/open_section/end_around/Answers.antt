@@ -10,7 +10,7 @@ use Rattle.gk_run.proofs.SectionLemmas.{section_ends}
 use Rattle.gk_run.proofs.open_section.end_around.Goals as goal
 
 pub returns-clause-around : goal.returns-clause-around
-returns-clause-around c = λ outside stop begins.
+returns-clause-around g c = λ outside stop begins.
     let run = run_of c.args.run.now.library.now c.args.run.now.hooks.now stop in
     let tags = texts c.args.section.now.tags.now in
     let opened = c.args.opened in
