@@ -162,11 +162,11 @@ pub record GoesOn (run : Run) (first : State) (is_open : Bool) (old now : Cases)
 apart : (r other n : ℕ) → r < other → n ≡ r → n ≡ other → ⊥
 apart r other n lt this that = omega (arith, lt, this, that)
 
-and_true : (a : Bool) → (a && true) ≡ a
+pub and_true : (a : Bool) → (a && true) ≡ a
 and_true true = refl
 and_true false = refl
 
-and_assoc : (a b c : Bool) → ((a && b) && c) ≡ (a && (b && c))
+pub and_assoc : (a b c : Bool) → ((a && b) && c) ≡ (a && (b && c))
 and_assoc true b c = refl
 and_assoc false b c = refl
 
@@ -182,7 +182,7 @@ goes_first run first is_open old =
       others = λ other lt. refl;
     }
 
-all_stay_push : (run : Run) (rows : List CaseRow) (row : CaseRow) → all_stay_open run (rows ++ row ∷ []) ≡ (all_stay_open run rows && stays_open run row.status)
+pub all_stay_push : (run : Run) (rows : List CaseRow) (row : CaseRow) → all_stay_open run (rows ++ row ∷ []) ≡ (all_stay_open run rows && stays_open run row.status)
 all_stay_push run [] row = and_true (stays_open run row.status)
 all_stay_push run (r ∷ rows) row = ap (λ b. stays_open run r.status && b) (all_stay_push run rows row) ∙ sym (and_assoc (stays_open run r.status) (all_stay_open run rows) (stays_open run row.status))
 

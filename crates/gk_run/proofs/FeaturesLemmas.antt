@@ -18,7 +18,7 @@ use Rattle.gk_run.specs.Run.{Run}
 use Rattle.gk_run.specs.Section.{around_of, before_passed, nowhere}
 use Rattle.gk_run.proofs.GroupingLemmas.{and_left, groups_all, groups_same}
 
-later_rank : (first other : ℕ) → first ≡ 0 → suc zero ≤ other → first < other
+pub later_rank : (first other : ℕ) → first ≡ 0 → suc zero ≤ other → first < other
 later_rank first other is le = omega (arith, is, le)
 
 -- what is inside, from its own cases and its rules

@@ -9,10 +9,12 @@ pub mod CleanLemmas
 pub mod StepsLemmas
 pub mod SectionLemmas
 pub mod WatchedCaseLemmas
+pub mod WatchedSectionLemmas
 pub mod GroupingLemmas
 pub mod CasesLemmas
 pub mod RulesLemmas
 pub mod FeaturesLemmas
+pub mod WatchedRunLemmas
 pub mod FileOrder
 pub mod DryRunLemmas
 pub mod JudgedLemmas

@@ -67,12 +67,12 @@ rules_first run first first_open heads old falls = record {
   goes = λ outside opens cuts. (cuts, refl);
 }
 
-regroup : (rules : List RuleRow) (rows : List CaseRow) (rule : RuleRow) (more : List CaseRow) (n : Inside) → joined (record { rules = rules ++ rule ∷ []; cases = rows ++ more }) n ≡ joined (record { rules = rules; cases = rows }) (record { rules = rule ∷ n.rules; cases = more ++ n.cases })
+pub regroup : (rules : List RuleRow) (rows : List CaseRow) (rule : RuleRow) (more : List CaseRow) (n : Inside) → joined (record { rules = rules ++ rule ∷ []; cases = rows ++ more }) n ≡ joined (record { rules = rules; cases = rows }) (record { rules = rule ∷ n.rules; cases = more ++ n.cases })
 regroup rules rows rule more n =
     ap (λ (rs : List RuleRow). record { rules = rs; cases = (rows ++ more) ++ n.cases }) (append_assoc rules (rule ∷ []) n.rules)
     ∙ ap (λ (cs : List CaseRow). record { rules = rules ++ rule ∷ n.rules; cases = cs }) (append_assoc rows more n.cases)
 
-above : (a r other : ℕ) → a ≡ r → suc r ≤ other → a < other
+pub above : (a r other : ℕ) → a ≡ r → suc r ≤ other → a < other
 above a r other is le = omega (arith, is, le)
 
 pub rules_on : (run : Run) (first now_state : State) (first_open : Bool) (heads : List HeadValue) (old now taken next : Cases) (is_open opens : Bool) (results pushed : List RuleResult) (head : HeadValue) (left : List HeadValue) (end : RuleEnd) (result : RuleResult) →
@@ -115,7 +115,7 @@ rules_on run first now_state first_open heads old now taken next is_open opens r
           );
     }
 
-joined_nil : (i : Inside) → joined i (record { rules = []; cases = [] }) ≡ i
+pub joined_nil : (i : Inside) → joined i (record { rules = []; cases = [] }) ≡ i
 joined_nil i = ap (λ (rs : List RuleRow). record { rules = rs; cases = i.cases ++ [] }) (append-nil i.rules) ∙ ap (λ (cs : List CaseRow). record { rules = i.rules; cases = cs }) (append-nil i.cases)
 
 pub rules_last : (run : Run) (first : State) (first_open : Bool) (heads : List HeadValue) (old now : Cases) (is_open : Bool) (results : List RuleResult) → GoesRules run first first_open heads old now is_open results [] → RunsRules run first first_open heads old now results

@@ -242,7 +242,7 @@ case_ends run outside c b s cs rows endings.Skipped last ls l reported walked st
 
 -- ---- a section beside its cases
 
-pub section_in_before : (run : Run) (level : Level) (tags : List (List ℕ)) (outside : State) (s : State) (cs : List CleanupValue) → IsWalked (begun run.library run.hooks level tags outside) endings.Memory s cs → IsSectionEnd run level tags outside statuses.Memory false
+abbrev pub section_in_before : (run : Run) (level : Level) (tags : List (List ℕ)) (outside : State) (s : State) (cs : List CleanupValue) → IsWalked (begun run.library run.hooks level tags outside) endings.Memory s cs → IsSectionEnd run level tags outside statuses.Memory false
 section_in_before run level tags outside s cs walked =
     let w = begun run.library run.hooks level tags outside in
     let es = section_events run level tags outside in
@@ -256,7 +256,7 @@ section_in_before run level tags outside s cs walked =
       ready = ap has_passed (sym ends) ∙ ap before_passed is;
     }
 
-section_after : (run : Run) (level : Level) (tags : List (List ℕ)) (outside : State) (b : Ending) (n : ℕ) → (let es = section_events run level tags outside in (b ≡ ended_of es.before) × (is_place n es.after ≡ true)) →
+abbrev pub section_after : (run : Run) (level : Level) (tags : List (List ℕ)) (outside : State) (b : Ending) (n : ℕ) → (let es = section_events run level tags outside in (b ≡ ended_of es.before) × (is_place n es.after ≡ true)) →
     IsSectionEnd run level tags outside statuses.Memory (has_passed b)
 section_after run level tags outside b n h =
     let es = section_events run level tags outside in
@@ -265,7 +265,7 @@ section_after run level tags outside b n h =
     let ends = memory_later es.before (cut_marks n es.after ++ []) (memory_first (cut_marks n es.after) [] (cut_ends es.after n h.1)) in
     record { cut = in_after n; hooks = ap around_status (sym ends) ∙ ap around_of is; ready = ap has_passed h.0 ∙ ap before_passed is }
 
-section_cleanups : (run : Run) (level : Level) (tags : List (List ℕ)) (outside : State) (b : Ending) (n : ℕ) → (let es = section_events run level tags outside in (b ≡ ended_of es.before) × (is_place n es.cleanups ≡ true)) →
+abbrev pub section_cleanups : (run : Run) (level : Level) (tags : List (List ℕ)) (outside : State) (b : Ending) (n : ℕ) → (let es = section_events run level tags outside in (b ≡ ended_of es.before) × (is_place n es.cleanups ≡ true)) →
     IsSectionEnd run level tags outside statuses.Memory (has_passed b)
 section_cleanups run level tags outside b n h =
     let es = section_events run level tags outside in
@@ -275,7 +275,7 @@ section_cleanups run level tags outside b n h =
     let ends = memory_later es.before tail (memory_later es.after (map Acted (cut_outcomes n es.cleanups)) (outcomes_cut es.cleanups n h.1)) in
     record { cut = in_cleanups n; hooks = ap around_status (sym ends) ∙ ap around_of is; ready = ap has_passed h.0 ∙ ap before_passed is }
 
-section_whole : (run : Run) (level : Level) (tags : List (List ℕ)) (outside : State) (b l : Ending) → (let es = section_events run level tags outside in (b ≡ ended_of es.before) × (l ≡ ended_of (es.after ++ map Acted es.cleanups))) →
+abbrev pub section_whole : (run : Run) (level : Level) (tags : List (List ℕ)) (outside : State) (b l : Ending) → (let es = section_events run level tags outside in (b ≡ ended_of es.before) × (l ≡ ended_of (es.after ++ map Acted es.cleanups))) →
     IsSectionEnd run level tags outside (around_status (worse b l)) (has_passed b)
 section_whole run level tags outside b l h =
     let es = section_events run level tags outside in

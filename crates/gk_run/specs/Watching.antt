@@ -1,5 +1,5 @@
 -- What an observer of a run is told.
-use Rattle.std.specs.Prelude.{◌≡◌, ◌⊎◌, ℕ, zero, suc, true, cond, String, List, [], ◌∷◌, ◌++◌, reverse, map}
+use Rattle.std.specs.Prelude.{◌≡◌, ◌⊎◌, ◌&&◌, ℕ, zero, suc, Bool, true, false, cond, String, List, [], ◌∷◌, ◌++◌, reverse, map}
 use Rattle.std.specs.List.{FoldsTo}
 use Rattle.std.specs.declared.alloc.Global.{Global}
 use Rattle.gk_gherkin.specs.Feature.{StepValue, step_value, texts}
@@ -10,16 +10,24 @@ use Rattle.gk_steps.specs.Finding.{LibraryValue, library_value}
 use Rattle.gk_world.specs.Sandbox.{SandboxValue}
 use Rattle.gk_world.specs.State.{State, state_of, enter}
 use Rattle.gk_run.specs.declared.acting.Site.TheVariants as sites
+use Rattle.gk_run.specs.declared.cases.Cases.{Cases}
 use Rattle.gk_run.specs.declared.cleanups.Cleanups.{Cleanups}
 use Rattle.gk_run.specs.declared.closing.Closed.{Closed}
 use Rattle.gk_run.specs.declared.ending.Ending.{Ending}
 use Rattle.gk_run.specs.declared.ending.Ending.TheVariants as endings
+use Rattle.gk_run.specs.declared.features.FeatureEnd.{FeatureEnd}
+use Rattle.gk_run.specs.declared.features.Inside as declared
 use Rattle.gk_run.specs.declared.open_section.OpenSection.{OpenSection}
+use Rattle.gk_run.specs.declared.reserved.ReservedFeature.{ReservedFeature}
 use Rattle.gk_run.specs.declared.reserved.ReservedSteps.{ReservedSteps}
+use Rattle.gk_run.specs.declared.results.CaseResult.{CaseResult}
 use Rattle.gk_run.specs.declared.results.Mark.{Mark}
 use Rattle.gk_run.specs.declared.results.Mark.TheVariants.{Acted, Skipped}
 use Rattle.gk_run.specs.declared.results.Outcome.{Outcome}
 use Rattle.gk_run.specs.declared.results.Outcome.TheVariants as outcomes
+use Rattle.gk_run.specs.declared.results.RuleResult.{RuleResult}
+use Rattle.gk_run.specs.declared.results.Status.{Status}
+use Rattle.gk_run.specs.declared.rules.RuleEnd.{RuleEnd}
 use Rattle.gk_run.specs.declared.run.Run as shared
 use Rattle.gk_run.specs.declared.running.CaseEnd.{CaseEnd}
 use Rattle.gk_run.specs.declared.section.Level.{Level}
@@ -29,13 +37,18 @@ use Rattle.gk_run.specs.declared.section.Place.{Place}
 use Rattle.gk_run.specs.declared.section.Section.{Section}
 use Rattle.gk_run.specs.declared.walk.StepsEnd.{StepsEnd}
 use Rattle.gk_run.specs.Acting.{CleanupValue, act, done_of}
+use Rattle.gk_run.specs.Cases.{all_stay_open, members_in, stays_open}
+use Rattle.gk_run.specs.Chosen.{ChosenValue, HeadValue, MemberValue, has_selected, head_value}
 use Rattle.gk_run.specs.Cleanups.{cleanups_value}
 use Rattle.gk_run.specs.Ending.{ended_of, ending_of, has_passed}
-use Rattle.gk_run.specs.OpenSection.{its_steps, no_steps}
-use Rattle.gk_run.specs.Results.{CaseRow, RuleRow, StepRow, step_row}
-use Rattle.gk_run.specs.Run.{Run, run_value}
+use Rattle.gk_run.specs.Features.{feature_row_of, inside_value}
+use Rattle.gk_run.specs.Grouping.{Group, groups_from, members_of_rank, own_members, rule_groups}
+use Rattle.gk_run.specs.OpenSection.{IsBegun, IsSectionEnd, SectionRow, happened_in, its_steps, no_steps, section_state}
+use Rattle.gk_run.specs.Results.{CaseRow, FeatureRow, RuleRow, case_row, rule_row, step_row}
+use Rattle.gk_run.specs.Rules.{Inside, rule_stays_open}
+use Rattle.gk_run.specs.Run.{Run, run_of, run_value}
 use Rattle.gk_run.specs.Running.{IsCaseEnd, alone, ran, reached_row}
-use Rattle.gk_run.specs.Section.{Cut, Events, happened, in_after, in_before, in_cleanups, in_steps, is_place, nowhere, site_of}
+use Rattle.gk_run.specs.Section.{Cut, around_of, before_passed, happened, in_after, in_before, in_cleanups, in_steps, is_place, nowhere, site_of}
 use Rattle.gk_run.specs.SectionHooks.{after_lists, before_list, begun, tag_lists, walk_each}
 use Rattle.gk_run.specs.Walk.{Steps, Walked, looked_up, one_step, rows_of_steps, walk}
 
@@ -150,14 +163,111 @@ told_happened s (in_steps n) t = cond (is_place n t.steps) (record t { steps = c
 told_happened s (in_after n) t = cond (is_place n t.after) (record t { after = cut_told s n t.after; cleanups = [] }) t
 told_happened s (in_cleanups n) t = cond (is_place n t.cleanups) (record t { cleanups = cut_told s n t.cleanups }) t
 
--- An observer was told a case with this result: the events of the case alone, or these cut at one, in order, and then that it has ended. The result is that of the same cut.
-pub record IsCaseTold {S : Type 0} (hears : S → Told → S → Type 0) (ends : S → Ended → S → Type 0) (run : Run) (section : State) (c : CaseValue) (row : CaseRow) (old new : S) : Type 0 where
+-- An observer was told the events of a case with this result: those of the case alone, or these cut at one, in order. The result is that of the same cut.
+pub record AreEventsTold {S : Type 0} (hears : S → Told → S → Type 0) (run : Run) (section : State) (c : CaseValue) (row : CaseRow) (old new : S) : Type 0 where
   pub cut : Cut
   pub is : row ≡ reached_row run section cut c
   pub refusing : State
+  pub told : FoldsTo hears old (in_order (told_happened refusing cut (told_case run section c))) new
+
+-- An observer was told a case with this result: its events, and then that it has ended.
+abbrev pub IsCaseTold : {S : Type 0} → (S → Told → S → Type 0) → (S → Ended → S → Type 0) → Run → State → CaseValue → CaseRow → S → S → Type 0
+IsCaseTold {S} hears ends run section c row old new = (ran : S) × AreEventsTold hears run section c row old ran × ends ran (of_case row) new
+
+-- One of two facts, by a test.
+abbrev pub Whether : Bool → Type 0 → Type 0 → Type 0
+Whether true this that = this
+Whether false this that = that
+
+-- A case of a section that is open, or isn't, was told: its events where it is reached, else nothing.
+abbrev pub IsMemberTold : {S : Type 0} → (S → Told → S → Type 0) → Run → State → Bool → MemberValue → CaseRow → S → S → Type 0
+IsMemberTold hears run section is_open m row old new = Whether (m.selected && is_open) (AreEventsTold hears run section m.scenario row old new) (old ≡ new)
+
+-- The cases of a section were told with these results, one after another: what happened in each, and then that it has ended.
+abbrev pub AreCasesTold : {S : Type 0} → (S → Told → S → Type 0) → (S → Ended → S → Type 0) → Run → State → Bool → List MemberValue → List CaseRow → S → S → Type 0
+AreCasesTold hears ends run section is_open [] [] old new = old ≡ new
+AreCasesTold hears ends run section is_open [] (row ∷ rows) old new = ⊥
+AreCasesTold hears ends run section is_open (m ∷ ms) [] old new = ⊥
+AreCasesTold {S} hears ends run section is_open (m ∷ ms) (row ∷ rows) old new =
+    (ran : S) × (next : S) × IsMemberTold hears run section is_open m row old ran × ends ran (of_case row) next × AreCasesTold hears ends run section (is_open && stays_open run row.status) ms rows next new
+
+-- No event.
+abbrev pub nothing_told : ToldEvents
+nothing_told = record { before = []; steps = []; after = []; cleanups = [] }
+
+-- What is told of a section beside what is inside of it, as `happened_in` says what happens in it.
+abbrev pub told_in : Run → Level → List (List ℕ) → State → Bool → Cut → State → ToldEvents
+told_in run level tags outside is_begun cut s = cond is_begun (told_happened s cut (told_section run level tags outside)) nothing_told
+
+-- An observer was told a section that is begun, or isn't, and whose hooks and cleanups ended so: its before list, what is inside of it, and then its after lists and its cleanups, these cut at one event. What is inside of it is told from its state, and is reached where it was begun and its before list passed whole.
+pub record IsSectionTold {S : Type 0} (hears : S → Told → S → Type 0) (run : Run) (level : Level) (tags : List (List ℕ)) (outside : State) (is_begun : Bool) (around : Status) (Inside : State → Bool → S → S → Type 0) (old new : S) : Type 0 where
+  pub cut : Cut
+  pub is : around ≡ around_of (happened_in run level tags outside is_begun cut)
+  pub refusing : State
+  pub opened : S
   pub last : S
-  pub told : FoldsTo hears old (in_order (told_happened refusing cut (told_case run section c))) last
-  pub ended : ends last (of_case row) new
+  pub before : FoldsTo hears old (let told = told_in run level tags outside is_begun cut refusing in told.before) opened
+  pub inside : Inside (section_state run level tags outside) (is_begun && before_passed (happened_in run level tags outside is_begun cut)) opened last
+  pub closed : FoldsTo hears last (let told = told_in run level tags outside is_begun cut refusing in told.after ++ told.cleanups) new
+
+-- A rule of a feature was told with what it came to, as `rule_of` says.
+abbrev pub IsRuleTold : {S : Type 0} → (S → Told → S → Type 0) → (S → Ended → S → Type 0) → Run → State → Bool → Group → SectionRow (List CaseRow) → S → S → Type 0
+IsRuleTold hears ends run outside is_open g end old new =
+    IsSectionTold hears run levels.Rule g.head.tags outside (is_open && has_selected g.members) end.around (λ section is_ready first last. AreCasesTold hears ends run section is_ready g.members end.inside first last) old new
+
+-- The result of a rule beside its cases.
+abbrev pub row_of_rule : HeadValue → SectionRow (List CaseRow) → RuleRow
+row_of_rule head end = record { line = head.line; around = end.around }
+
+-- The rules of a feature were told with what they came to, one after another, and after each that it has ended.
+abbrev pub AreRulesTold : {S : Type 0} → (S → Told → S → Type 0) → (S → Ended → S → Type 0) → Run → State → Bool → List Group → List (SectionRow (List CaseRow)) → S → S → Type 0
+AreRulesTold hears ends run outside is_open [] [] old new = old ≡ new
+AreRulesTold hears ends run outside is_open [] (end ∷ others) old new = ⊥
+AreRulesTold hears ends run outside is_open (g ∷ gs) [] old new = ⊥
+AreRulesTold {S} hears ends run outside is_open (g ∷ gs) (end ∷ others) old new =
+    (ran : S) × (next : S) × IsRuleTold hears ends run outside is_open g end old ran × ends ran (of_rule (row_of_rule g.head end)) next × AreRulesTold hears ends run outside (is_open && rule_stays_open run end) gs others next new
+
+-- The results of rules and of their cases.
+abbrev pub rules_inside : List Group → List (SectionRow (List CaseRow)) → Inside
+rules_inside [] others = record { rules = []; cases = [] }
+rules_inside (g ∷ gs) [] = record { rules = []; cases = [] }
+rules_inside (g ∷ gs) (end ∷ others) = let next = rules_inside gs others in record { rules = row_of_rule g.head end ∷ next.rules; cases = end.inside ++ next.cases }
+
+-- What is inside of a feature was told with its results: its own cases, and then its rules.
+pub record IsInsideTold {S : Type 0} (hears : S → Told → S → Type 0) (ends : S → Ended → S → Type 0) (run : Run) (section : State) (is_open : Bool) (own : List MemberValue) (groups : List Group) (inside : Inside) (old new : S) : Type 0 where
+  pub rows : List CaseRow
+  pub rules : List (SectionRow (List CaseRow))
+  pub is : inside ≡ (let next = rules_inside groups rules in record next { cases = rows ++ next.cases })
+  pub mid : S
+  pub cases : AreCasesTold hears ends run section is_open own rows old mid
+  pub others : AreRulesTold hears ends run section (is_open && all_stay_open run rows) groups rules mid new
+
+-- An observer was told a feature with this result, as `feature_of` says what it comes to.
+pub record IsFeatureTold {S : Type 0} (hears : S → Told → S → Type 0) (ends : S → Ended → S → Type 0) (run : Run) (outside : State) (is_open : Bool) (f : ChosenValue) (row : FeatureRow) (old new : S) : Type 0 where
+  pub around : Status
+  pub inside : Inside
+  pub is : row ≡ feature_row_of f around inside
+  pub told : IsSectionTold hears run levels.Feature f.tags outside (is_open && has_selected f.members) around (λ section is_ready first last. IsInsideTold hears ends run section is_ready (own_members f) (rule_groups f) inside first last) old new
+
+-- All of these events were told, in order; or, where memory was refused in one, these up to that one.
+abbrev pub IsTold : List Told → Ending → List Told → Type 0
+IsTold all endings.Memory told = (n : ℕ) × (s : State) × (is_place n all ≡ true) × (told ≡ cut_told s n all)
+IsTold all ended told = told ≡ all
+
+-- What was told before and after what is inside of a section are the events of the section, these cut at one, and that cut is the one of how it ended.
+abbrev pub IsAroundTold : Run → Level → List (List ℕ) → State → Ending → Status → List Told → List Told → Type 0
+IsAroundTold run level tags outside before around first last =
+    (end : IsSectionEnd run level tags outside around (has_passed before)) × (s : State)
+    × (first ≡ (let told = told_happened s end.cut (told_section run level tags outside) in told.before)) × (last ≡ (let told = told_happened s end.cut (told_section run level tags outside) in told.after ++ told.cleanups))
+
+-- The before hook of all was told, which ended so: all of its events in order, or those up to the one in which memory was refused.
+abbrev pub IsStartTold : {S : Type 0} → (S → Told → S → Type 0) → Run → State → Ending → S → S → Type 0
+IsStartTold hears run outside ended old new = (told : List Told) × FoldsTo hears old told new × IsTold (let all = told_section run levels.Run [] outside in all.before) ended told
+
+-- The end of a run whose before hook ended so was told, with how its hooks and cleanups ended: whatever was told of the before hook and what is told now are the events of the run beside its features, these cut at one event.
+abbrev pub IsFinishTold : {S : Type 0} → (S → Told → S → Type 0) → Run → State → Ending → Status → S → S → Type 0
+IsFinishTold hears run outside before around old new =
+    (first : List Told) → IsTold (let all = told_section run levels.Run [] outside in all.before) before first → (last : List Told) × FoldsTo hears old last new × IsAroundTold run levels.Run [] outside before around first last
 
 -- What became of the events that are told of a case is what happened of it, wherever it is cut.
 abbrev pub ToldEventsAreTheCasesOwn : Type 0
@@ -167,11 +277,6 @@ ToldEventsAreTheCasesOwn = (run : Run) (section : State) (c : CaseValue) (s : St
     (told_marks told.before ≡ events.before) × (told_marks told.steps ≡ events.steps) × (told_marks told.after ≡ events.after) × (told_marks told.cleanups ≡ map Acted events.cleanups)
 
 -- Proof machinery, from here on: what the code's calls tell.
-
--- All of these events were told, in order; or, where memory was refused in one, these up to that one.
-abbrev pub IsTold : List Told → Ending → List Told → Type 0
-IsTold all endings.Memory told = (n : ℕ) × (s : State) × (is_place n all ≡ true) × (told ≡ cut_told s n all)
-IsTold all ended told = told ≡ all
 
 -- An observer that hears so was told these events, as `IsTold` says.
 abbrev pub Tells : {S : Type 0} → (S → Told → S → Type 0) → List Told → Ending → S → S → Type 0
@@ -273,3 +378,51 @@ TellsCase hears run tags steps old end first last =
     let c = ran (texts tags) (map step_value steps.steps.items) in
     (is : IsCaseEnd (run_value run) (state_of old.now) c end.status end.around end.cleanups.items (map step_row end.steps.items)) × (s : State)
     × FoldsTo hears first (in_order (told_happened s is.cut (told_case (run_value run) (state_of old.now) c))) last
+
+-- A case of a section was told with its result, from the section's state where it is open.
+abbrev pub TellsMember : {S : Type 0} → (S → Told → S → Type 0) → shared.Run → SandboxValue → Bool → MemberValue → S → S → CaseResult → Type 0
+TellsMember hears run old is_open m first last r = (section : State) → (is_open ≡ true → state_of old.now ≡ section) → IsMemberTold hears (run_value run) section is_open m (case_row r) first last
+
+-- The next cases, those of one rank, were told with their results.
+abbrev pub TellsCases : {S : Type 0} → (S → Told → S → Type 0) → (S → Ended → S → Type 0) → Run → State → Bool → Cases → Cases → S → S → Bool → Type 0
+TellsCases hears ends run now is_open old new first last stays =
+    (rows : List CaseRow) × (map case_row new.results.items ≡ map case_row old.results.items ++ rows) × (stays ≡ all_stay_open run rows)
+    × ((section : State) → (is_open ≡ true → now ≡ section) → AreCasesTold hears ends run section is_open (members_of_rank old.rank (members_in old)) rows first last)
+
+-- The hooks and cleanups of a section that was begun were told, with how they ended.
+abbrev pub TellsAround : {S : Type 0} → (S → Told → S → Type 0) → shared.Run → Section → OpenSection → SandboxValue → Status → S → S → Type 0
+TellsAround hears run section opened old around first last =
+    (outside : State) (stop : Bool) → IsBegun (run_of run.library.now run.hooks.now stop) section.level (texts section.tags.now) outside opened old →
+    (us : List Told) → IsTold (let all = told_section (run_of run.library.now run.hooks.now stop) section.level (texts section.tags.now) outside in all.before) opened.before us →
+    (ws : List Told) × FoldsTo hears first ws last × IsAroundTold (run_of run.library.now run.hooks.now stop) section.level (texts section.tags.now) outside opened.before around us ws
+
+-- A rule that was begun was told with what it came to.
+abbrev pub BeginsAndTellsRule : {S : Type 0} → (S → Told → S → Type 0) → (S → Ended → S → Type 0) → shared.Run → State → List (String Global) → Cases → Cases → S → S → RuleEnd → Type 0
+BeginsAndTellsRule hears ends run now tags old new first last end =
+    (rows : List CaseRow) × (map case_row new.results.items ≡ map case_row old.results.items ++ rows) × (end.stays_open ≡ rule_stays_open (run_value run) (record { around = end.around; inside = rows }))
+    × IsSectionTold hears (run_value run) levels.Rule (texts tags) now true end.around (λ section is_ready a b. AreCasesTold hears ends (run_value run) section is_ready (members_of_rank old.rank (members_in old)) rows a b) first last
+
+-- The next rule was told with what it came to, in a feature that is open or isn't.
+abbrev pub TellsRule : {S : Type 0} → (S → Told → S → Type 0) → (S → Ended → S → Type 0) → Run → State → Bool → HeadValue → Cases → Cases → S → S → RuleEnd → Type 0
+TellsRule hears ends run now is_open head old new first last end =
+    (rows : List CaseRow) × (map case_row new.results.items ≡ map case_row old.results.items ++ rows) × (end.stays_open ≡ rule_stays_open run (record { around = end.around; inside = rows }))
+    × ((outside : State) → (is_open ≡ true → now ≡ outside) → IsRuleTold hears ends run outside is_open (record { head = head; members = members_of_rank old.rank (members_in old) }) (record { around = end.around; inside = rows }) first last)
+
+-- The next rules were told with what they came to, in a feature that is open or isn't.
+abbrev pub TellsRules : {S : Type 0} → (S → Told → S → Type 0) → (S → Ended → S → Type 0) → Run → State → Bool → List HeadValue → Cases → Cases → List RuleResult → S → S → Type 0
+TellsRules hears ends run now is_open heads old new results first last =
+    let groups = groups_from (suc old.rank) heads (members_in old) in
+    (rules : List (SectionRow (List CaseRow))) × (map case_row new.results.items ≡ map case_row old.results.items ++ (rules_inside groups rules).cases) × (map rule_row results ≡ (rules_inside groups rules).rules)
+    × ((outside : State) → (is_open ≡ true → now ≡ outside) → AreRulesTold hears ends run outside is_open groups rules first last)
+
+-- What is inside of a feature was told.
+abbrev pub TellsInside : {S : Type 0} → (S → Told → S → Type 0) → (S → Ended → S → Type 0) → shared.Run → State → Bool → ReservedFeature → S → S → declared.Inside → Type 0
+TellsInside hears ends run now is_open content first last inside =
+    (section : State) → (is_open ≡ true → now ≡ section) →
+    IsInsideTold hears ends (run_value run) section is_open (members_of_rank 0 (members_in content.cases)) (groups_from 1 (map head_value content.rules.heads.items) (members_in content.cases)) (inside_value inside) first last
+
+-- A feature that was begun, or wasn't, was told.
+abbrev pub TellsFeature : {S : Type 0} → (S → Told → S → Type 0) → (S → Ended → S → Type 0) → shared.Run → State → Bool → List (String Global) → ReservedFeature → S → S → FeatureEnd → Type 0
+TellsFeature hears ends run now is_begun tags content first last end =
+    IsSectionTold hears (run_value run) levels.Feature (texts tags) now is_begun end.around (λ section is_ready a b.
+    IsInsideTold hears ends (run_value run) section is_ready (members_of_rank 0 (members_in content.cases)) (groups_from 1 (map head_value content.rules.heads.items) (members_in content.cases)) (inside_value end.inside) a b) first last

@@ -11,6 +11,7 @@ ghost use Rattle.gk_run.specs.Chosen.{chosen_value, IsFormed};
 ghost use Rattle.gk_run.specs.Features as spec;
 ghost use Rattle.gk_run.specs.Features.{FeatureCuts, feature_of, rule_statuses, feature_verdict, EndsFeature, IsFeatureResult, RunsInside};
 ghost use Rattle.gk_run.specs.Running.{IsSame};
+ghost use Rattle.gk_run.specs.Watching.{IsFeatureTold, TellsFeature, TellsInside};
 
 use crate::cases::{Cases, both, either, run_cases};
 use crate::chosen::Chosen;
@@ -21,7 +22,7 @@ use crate::results::{CaseResult, FeatureResult, NoRoom, RuleResult, Status};
 use crate::rules::run_rules;
 use crate::run::Run;
 use crate::section::{Level, Section};
-use crate::watching::Unwatched;
+use crate::watching::{Observer, Unwatched};
 use gk_gherkin::HookFile;
 use gk_steps::Library;
 use gk_world::Sandbox;
@@ -35,20 +36,24 @@ struct Inside {
 }
 
 // Runs what is inside of a feature that is open, or isn't: its own cases, and then its rules.
-fn run_inside(
+fn run_inside<O: Observer>(
     run: &Run<'_>,
     sandbox: &mut Sandbox,
     is_open: bool,
     content: ReservedFeature,
+    observer: &mut O,
 ) -> Result<Inside, NoRoom>
     requires layer { suc (depth sandbox.old) < layers }
     ensures inside { IfOk result
         (RunsInside run.now (state_of sandbox.old.now) is_open content) }
+    ensures told { IfOk result (TellsInside O.hears O.ends run.now (state_of sandbox.old.now)
+        is_open content observer.old observer.new) }
     ensures same { IsSame sandbox.old sandbox.new }
 {
     let ReservedFeature { rules, mut cases } = content;
-    let all_stay = run_cases(run, sandbox, is_open, &mut cases)?;
-    let rules = run_rules(run, sandbox, both(is_open, all_stay), rules, &mut cases)?;
+    let all_stay = run_cases(run, sandbox, is_open, &mut cases, observer)?;
+    let is_open = both(is_open, all_stay);
+    let rules = run_rules(run, sandbox, is_open, rules, &mut cases, observer)?;
     Ok(Inside {
         rules,
         cases: cases.results,
@@ -63,51 +68,64 @@ struct FeatureEnd {
 }
 
 // Runs a feature in a layer of its own.
-fn begin_feature(
+fn begin_feature<O: Observer>(
     run: &Run<'_>,
     sandbox: &mut Sandbox,
     tags: &[String],
     content: ReservedFeature,
+    observer: &mut O,
 ) -> Result<FeatureEnd, NoRoom>
     requires layer { suc (suc (depth sandbox.old)) < layers }
     ensures end { IfOk result
         (EndsFeature run.now (state_of sandbox.old.now) true tags.now content) }
+    ensures told { IfOk result (TellsFeature O.hears O.ends run.now (state_of sandbox.old.now)
+        true tags.now content observer.old observer.new) }
     ensures same { IsSame sandbox.old sandbox.new }
 {
     let section = Section {
         level: Level::Feature,
         tags,
     };
-    let opened = open_section(run, sandbox, &section, &mut Unwatched);
-    match run_inside(run, sandbox, has_passed(opened.before), content) {
+    let opened = open_section(run, sandbox, &section, observer);
+    match run_inside(run, sandbox, has_passed(opened.before), content, observer) {
         Err(NoRoom) => {
             leave_section(sandbox, opened);
             Err(NoRoom)
         }
         Ok(inside) => Ok(FeatureEnd {
-            around: end_around(run, sandbox, &section, opened, &mut Unwatched),
+            around: end_around(run, sandbox, &section, opened, observer),
             inside,
         }),
     }
 }
 
+// The tags of a feature that is begun, or isn't.
+#[derive(Clone, Copy)]
+struct FeatureStart<'a> {
+    is_begun: bool,
+    tags: &'a [String],
+}
+
 // Runs a feature that is begun, or gives the results of what is inside of one that isn't.
-fn feature_end(
+fn feature_end<O: Observer>(
     run: &Run<'_>,
     sandbox: &mut Sandbox,
-    is_begun: bool,
-    tags: &[String],
+    start: &FeatureStart<'_>,
     content: ReservedFeature,
+    observer: &mut O,
 ) -> Result<FeatureEnd, NoRoom>
     requires layer { suc (suc (depth sandbox.old)) < layers }
-    ensures end { IfOk result
-        (EndsFeature run.now (state_of sandbox.old.now) is_begun tags.now content) }
+    ensures end { IfOk result (EndsFeature run.now (state_of sandbox.old.now)
+        start.now.is_begun start.now.tags.now content) }
+    ensures told { IfOk result (TellsFeature O.hears O.ends run.now (state_of sandbox.old.now)
+        start.now.is_begun start.now.tags.now content observer.old observer.new) }
     ensures same { IsSame sandbox.old sandbox.new }
 {
+    let is_begun = start.is_begun;
     if is_begun {
-        return begin_feature(run, sandbox, tags, content);
+        return begin_feature(run, sandbox, start.tags, content, observer);
     }
-    let inside = run_inside(run, sandbox, false, content)?;
+    let inside = run_inside(run, sandbox, false, content, observer)?;
     Ok(FeatureEnd {
         around: Status::Passed,
         inside,
@@ -177,16 +195,20 @@ pub fn feature_status(around: Status, rules: &[RuleResult], cases: &[CaseResult]
 }
 
 // Runs a feature of a run that is open, or isn't.
-pub(crate) fn feature_in(
+pub(crate) fn feature_in<O: Observer>(
     run: &Run<'_>,
     sandbox: &mut Sandbox,
     is_open: bool,
     chosen: Chosen,
+    observer: &mut O,
 ) -> Result<FeatureResult, NoRoom>
     requires layer { suc (suc (depth sandbox.old)) < layers }
     requires formed { IsFormed chosen }
     ensures row { IfOk result (λ r. IsFeatureResult (run_value run.now)
         (state_of sandbox.old.now) is_open (chosen_value chosen) (feature_row r)) }
+    ensures told { IfOk result (λ r. IsFeatureTold O.hears O.ends (run_value run.now)
+        (state_of sandbox.old.now) is_open (chosen_value chosen) (feature_row r)
+        observer.old observer.new) }
     ensures same { IsSame sandbox.old sandbox.new }
 {
     let Chosen {
@@ -202,7 +224,11 @@ pub(crate) fn feature_in(
     let rules = reserve_rules(run.alloc, rules)?;
     let cases = Cases::new(reserve_cases(run.alloc, cases, selected)?);
     let content = ReservedFeature { rules, cases };
-    let end = feature_end(run, sandbox, is_begun, tags.as_slice(), content)?;
+    let start = FeatureStart {
+        is_begun,
+        tags: tags.as_slice(),
+    };
+    let end = feature_end(run, sandbox, &start, content, observer)?;
     Ok(FeatureResult {
         source,
         name,
@@ -247,5 +273,5 @@ pub fn run_feature(
         hooks,
         stop,
     };
-    feature_in(&run, sandbox, true, chosen)
+    feature_in(&run, sandbox, true, chosen, &mut Unwatched)
 }

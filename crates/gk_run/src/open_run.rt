@@ -10,6 +10,7 @@ ghost use Rattle.gk_run.specs.Cases.{is_bad, stays_open_by};
 ghost use Rattle.gk_run.specs.Features.{IsFeatureResult};
 ghost use Rattle.gk_run.specs.OpenSection.{IsBegun, IsSectionEnd};
 ghost use Rattle.gk_run.specs.Running.{IsSame};
+ghost use Rattle.gk_run.specs.Watching.{IsFeatureTold, IsFinishTold, IsStartTold};
 ghost use Rattle.gk_run.specs.OpenRun.{IsStarted, IsKept, FinishedRunsAreJudged, UnfinishedRunsAreJudged};
 
 mod state;
@@ -22,7 +23,7 @@ use crate::open_section::{end_around, open_section};
 use crate::results::{FeatureResult, NoRoom, Status};
 use crate::run::Run;
 use crate::section::{Level, Section};
-use crate::watching::Unwatched;
+use crate::watching::{Observer, Unwatched};
 use gk_gherkin::HookFile;
 use gk_steps::Library;
 use gk_world::Sandbox;
@@ -44,6 +45,23 @@ impl Suite {
         requires { suc (suc (suc (depth sandbox.old))) < layers }
         ensures { IsStarted (run_of library.now hooks.now stop) sandbox.old sandbox.new result }
     {
+        Suite::start_watched(alloc, sandbox, library, hooks, stop, &mut Unwatched)
+    }
+
+    /// Begins a run as `start` does, and tells an observer the events of the before hook of all.
+    pub fn start_watched<O: Observer>(
+        alloc: Global,
+        sandbox: &mut Sandbox,
+        library: &Library,
+        hooks: &HookFile,
+        stop: bool,
+        observer: &mut O,
+    ) -> Suite
+        requires { suc (suc (suc (depth sandbox.old))) < layers }
+        ensures started { IsStarted (run_of library.now hooks.now stop) sandbox.old sandbox.new result }
+        ensures told { IsStartTold O.hears (run_of library.now hooks.now stop)
+            (state_of sandbox.old.now) result.section.before observer.old observer.new }
+    {
         let run = Run {
             alloc,
             library,
@@ -54,7 +72,7 @@ impl Suite {
             level: Level::Run,
             tags: &[],
         };
-        let section = open_section(&run, sandbox, &section, &mut Unwatched);
+        let section = open_section(&run, sandbox, &section, observer);
         let is_open = has_passed(section.before);
         Suite {
             section,
@@ -89,13 +107,48 @@ impl Suite {
         ensures no_room { OnErr result (self.new.has_failed ≡ self.old.has_failed) }
         ensures same { IsSame sandbox.old sandbox.new }
     {
+        self.feature_watched(alloc, sandbox, library, hooks, chosen, &mut Unwatched)
+    }
+
+    /// Runs a feature of the run as `feature` does, and tells an observer what happens: the events of the
+    /// feature's before hooks, then each of its own scenarios, then each rule, and then the events of its
+    /// after hooks and its cleanups. A scenario is told by its events and then its result, a rule by its
+    /// hooks, its scenarios and its cleanups and then its result. Where memory is refused in the hooks or
+    /// the cleanups of a scenario, a rule or the feature, these are told up to that event. After `NoRoom`
+    /// some of it was told.
+    pub fn feature_watched<O: Observer>(
+        &mut self,
+        alloc: Global,
+        sandbox: &mut Sandbox,
+        library: &Library,
+        hooks: &HookFile,
+        chosen: Chosen,
+        observer: &mut O,
+    ) -> Result<FeatureResult, NoRoom>
+        requires innermost { self.old.section.layer ≡ depth sandbox.old }
+        requires formed { IsFormed chosen }
+        ensures row { IfOk result (λ r. IsFeatureResult
+            (run_of library.now hooks.now self.old.stop) (state_of sandbox.old.now)
+            self.old.is_open (chosen_value chosen) (feature_row r)) }
+        ensures told { IfOk result (λ r. IsFeatureTold O.hears O.ends
+            (run_of library.now hooks.now self.old.stop) (state_of sandbox.old.now)
+            self.old.is_open (chosen_value chosen) (feature_row r) observer.old observer.new) }
+        ensures next { IfOk result (λ r. self.new.is_open
+            ≡ (self.old.is_open && stays_open_by self.old.stop r.status)) }
+        ensures failed { IfOk result (λ r. self.new.has_failed
+            ≡ (self.old.has_failed || is_bad r.status)) }
+        ensures kept { IsKept self.old self.new }
+        ensures err { OnErr result (self.new.is_open ≡ self.old.is_open) }
+        ensures no_room { OnErr result (self.new.has_failed ≡ self.old.has_failed) }
+        ensures same { IsSame sandbox.old sandbox.new }
+    {
         let run = Run {
             alloc,
             library,
             hooks,
             stop: self.stop,
         };
-        let result = feature_in(&run, sandbox, self.is_open, chosen)?;
+        let result = feature_in(&run, sandbox, self.is_open, chosen, observer)?;
         self.has_failed = either(self.has_failed, is_bad(result.status));
         self.is_open = both(self.is_open, stays_open(self.stop, result.status));
         Ok(result)
@@ -119,6 +172,32 @@ impl Suite {
             (endings.has_passed self.section.before) }
         ensures ends { Ends sandbox.old sandbox.new }
     {
+        self.finish_watched(alloc, sandbox, library, hooks, &mut Unwatched)
+    }
+
+    /// Ends the run as `finish` does, and tells an observer the events of the after hook of all and of the
+    /// run's cleanups, or, where memory is refused in one, those up to that one.
+    pub fn finish_watched<O: Observer>(
+        self,
+        alloc: Global,
+        sandbox: &mut Sandbox,
+        library: &Library,
+        hooks: &HookFile,
+        observer: &mut O,
+    ) -> Status
+        requires innermost { self.section.layer ≡ depth sandbox.old }
+        ensures around { (outside : State) (stop : Bool) →
+            IsBegun (run_of library.now hooks.now stop) Level.Run [] outside self.section
+            sandbox.old →
+            IsSectionEnd (run_of library.now hooks.now stop) Level.Run [] outside result
+            (endings.has_passed self.section.before) }
+        ensures told { (outside : State) (stop : Bool) →
+            IsBegun (run_of library.now hooks.now stop) Level.Run [] outside self.section
+            sandbox.old →
+            IsFinishTold O.hears (run_of library.now hooks.now stop) outside
+            self.section.before result observer.old observer.new }
+        ensures ends { Ends sandbox.old sandbox.new }
+    {
         let Suite {
             section: opened,
             stop,
@@ -135,7 +214,7 @@ impl Suite {
             level: Level::Run,
             tags: &[],
         };
-        end_around(&run, sandbox, &section, opened, &mut Unwatched)
+        end_around(&run, sandbox, &section, opened, observer)
     }
 }
 

@@ -8,7 +8,7 @@ ghost use Rattle.gk_run.specs.Ending as endings;
 ghost use Rattle.gk_run.specs.Closing.{ClosesAfter};
 ghost use Rattle.gk_run.specs.OpenSection.{IsBegun, IsOpened, IsSectionEnd};
 ghost use Rattle.gk_run.specs.Run.{run_of, run_value};
-ghost use Rattle.gk_run.specs.Watching.{TellsClosingAfter, TellsOpening};
+ghost use Rattle.gk_run.specs.Watching.{TellsAround, TellsClosingAfter, TellsOpening};
 
 use crate::cleanups::Cleanups;
 use crate::closing::{Closed, close};
@@ -125,6 +125,8 @@ pub fn end_around<O: Observer>(
         (texts section.now.tags.now) outside opened sandbox.old →
         IsSectionEnd (run_of run.now.library.now run.now.hooks.now stop) section.now.level
         (texts section.now.tags.now) outside result (endings.has_passed opened.before) }
+    ensures told { TellsAround O.hears run.now section.now opened sandbox.old result
+        observer.old observer.new }
     ensures ends { Ends sandbox.old sandbox.new }
 {
     let before = opened.before;

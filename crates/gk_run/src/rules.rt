@@ -7,6 +7,7 @@ ghost use Rattle.gk_run.specs.Chosen.{head_value};
 ghost use Rattle.gk_run.specs.Rules.{BeginsRule, RunsRule, RunsRules};
 ghost use Rattle.gk_run.specs.Run.{run_value};
 ghost use Rattle.gk_run.specs.Running.{IsSame};
+ghost use Rattle.gk_run.specs.Watching.{BeginsAndTellsRule, TellsRule, TellsRules};
 
 use crate::cases::{Cases, both, run_cases, stays_open};
 use crate::chosen::RuleHead;
@@ -16,7 +17,7 @@ use crate::reserved::ReservedRules;
 use crate::results::{NoRoom, RuleResult, Status};
 use crate::run::Run;
 use crate::section::{Level, Section};
-use crate::watching::Unwatched;
+use crate::watching::Observer;
 use gk_world::Sandbox;
 
 /// What a rule comes to beside its cases.
@@ -28,29 +29,32 @@ pub struct RuleEnd {
 }
 
 // Runs a rule in a layer of its own.
-fn begin_rule(
+fn begin_rule<O: Observer>(
     run: &Run<'_>,
     sandbox: &mut Sandbox,
     tags: &[String],
     cases: &mut Cases,
+    observer: &mut O,
 ) -> Result<RuleEnd, NoRoom>
     requires layer { suc (depth sandbox.old) < layers }
     ensures rule { IfOk result (BeginsRule run.now (state_of sandbox.old.now) tags.now
         cases.old cases.new) }
+    ensures told { IfOk result (BeginsAndTellsRule O.hears O.ends run.now
+        (state_of sandbox.old.now) tags.now cases.old cases.new observer.old observer.new) }
     ensures same { IsSame sandbox.old sandbox.new }
 {
     let section = Section {
         level: Level::Rule,
         tags,
     };
-    let opened = open_section(run, sandbox, &section, &mut Unwatched);
-    match run_cases(run, sandbox, has_passed(opened.before), cases) {
+    let opened = open_section(run, sandbox, &section, observer);
+    match run_cases(run, sandbox, has_passed(opened.before), cases, observer) {
         Err(NoRoom) => {
             leave_section(sandbox, opened);
             Err(NoRoom)
         }
         Ok(all_stay) => {
-            let around = end_around(run, sandbox, &section, opened, &mut Unwatched);
+            let around = end_around(run, sandbox, &section, opened, observer);
             Ok(RuleEnd {
                 around,
                 stays_open: both(stays_open(run.stop, around), all_stay),
@@ -59,36 +63,47 @@ fn begin_rule(
     }
 }
 
-// Runs a rule of a feature that is open, or isn't.
-fn run_rule(
+// The next rule of a feature that is open, or isn't.
+#[derive(Clone, Copy)]
+struct NextRule<'a> {
+    is_open: bool,
+    head: &'a RuleHead,
+}
+
+// Runs the next rule of a feature.
+fn run_rule<O: Observer>(
     run: &Run<'_>,
     sandbox: &mut Sandbox,
-    is_open: bool,
-    head: &RuleHead,
+    next: &NextRule<'_>,
     cases: &mut Cases,
+    observer: &mut O,
 ) -> Result<RuleEnd, NoRoom>
     requires layer { suc (depth sandbox.old) < layers }
-    ensures rule { IfOk result (RunsRule (run_value run.now) (state_of sandbox.old.now) is_open
-        (head_value head.now) cases.old cases.new) }
+    ensures rule { IfOk result (RunsRule (run_value run.now) (state_of sandbox.old.now)
+        next.now.is_open (head_value next.now.head.now) cases.old cases.new) }
+    ensures told { IfOk result (TellsRule O.hears O.ends (run_value run.now)
+        (state_of sandbox.old.now) next.now.is_open (head_value next.now.head.now)
+        cases.old cases.new observer.old observer.new) }
     ensures same { IsSame sandbox.old sandbox.new }
 {
-    if both(is_open, cases.has_selected()) {
-        return begin_rule(run, sandbox, head.tags.as_slice(), cases);
+    if both(next.is_open, cases.has_selected()) {
+        return begin_rule(run, sandbox, next.head.tags.as_slice(), cases, observer);
     }
     Ok(RuleEnd {
         around: Status::Passed,
-        stays_open: run_cases(run, sandbox, false, cases)?,
+        stays_open: run_cases(run, sandbox, false, cases, observer)?,
     })
 }
 
 /// Runs the rules of a feature that is open, or isn't, one after another. No case is left of the
 /// cases' rank, so those of the next one are the first rule's.
-pub fn run_rules(
+pub fn run_rules<O: Observer>(
     run: &Run<'_>,
     sandbox: &mut Sandbox,
     is_open: bool,
     rules: ReservedRules,
     cases: &mut Cases,
+    observer: &mut O,
 ) -> Result<Vec<RuleResult>, NoRoom>
     requires layer { suc (depth sandbox.old) < layers }
     requires falls { falls_from (suc cases.old.rank) cases.old.waiting.items ≡ true }
@@ -96,18 +111,27 @@ pub fn run_rules(
     ensures rules { IfOk result (λ results. RunsRules (run_value run.now)
         (state_of sandbox.old.now) is_open (map head_value rules.heads.items)
         cases.old cases.new results.items) }
+    ensures told { IfOk result (λ results. TellsRules O.hears O.ends (run_value run.now)
+        (state_of sandbox.old.now) is_open (map head_value rules.heads.items)
+        cases.old cases.new results.items observer.old observer.new) }
     ensures same { IsSame sandbox.old sandbox.new }
 {
     let ReservedRules { heads, mut results } = rules;
     let mut is_open = is_open;
     for head in heads {
         cases.next_rank();
-        let end = run_rule(run, sandbox, is_open, &head, cases)?;
+        let next = NextRule {
+            is_open,
+            head: &head,
+        };
+        let end = run_rule(run, sandbox, &next, cases, observer)?;
         is_open = both(is_open, end.stays_open);
-        results.push_reserved(RuleResult {
+        let result = RuleResult {
             line: head.line,
             around: end.around,
-        });
+        };
+        observer.rule_ended(&result);
+        results.push_reserved(result);
     }
     Ok(results)
 }

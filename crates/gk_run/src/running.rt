@@ -8,7 +8,7 @@ ghost use Rattle.gk_run.specs.Results.{step_row, case_row};
 ghost use Rattle.gk_run.specs.Run.{run_of, run_value};
 ghost use Rattle.gk_run.specs.Running.{unrun_row, IsSame, IsReached, marks_of, EndsCase, row_with};
 ghost use Rattle.gk_run.specs.Walk.{row_of_step};
-ghost use Rattle.gk_run.specs.Watching.{IsCaseTold, TellsCase};
+ghost use Rattle.gk_run.specs.Watching.{AreEventsTold, IsCaseTold, TellsCase};
 
 use crate::ending::{around_status, verdict_status, worse};
 use crate::open_section::{end_section, open_section};
@@ -96,7 +96,7 @@ fn run_alone<O: Observer>(
     }
 }
 
-/// Runs a case of a run in a layer of its own, and tells an observer its events and its result.
+/// Runs a case of a run in a layer of its own, and tells an observer its events.
 pub(crate) fn case_in<O: Observer>(
     run: &Run<'_>,
     sandbox: &mut Sandbox,
@@ -106,7 +106,7 @@ pub(crate) fn case_in<O: Observer>(
     requires room { depth sandbox.old < layers }
     ensures row { IfOk result (λ r. IsReached (run_value run.now)
         (state_of sandbox.old.now) (case_value case) (case_row r)) }
-    ensures told { IfOk result (λ r. IsCaseTold O.hears O.ends (run_value run.now)
+    ensures told { IfOk result (λ r. AreEventsTold O.hears (run_value run.now)
         (state_of sandbox.old.now) (case_value case) (case_row r) observer.old observer.new) }
     ensures untold { OnErr result (observer.new ≡ observer.old) }
     ensures same { IsSame sandbox.old sandbox.new }
@@ -118,9 +118,7 @@ pub(crate) fn case_in<O: Observer>(
         steps,
     } = reserved;
     let end = run_alone(run, sandbox, own_tags.as_slice(), steps, observer);
-    let result = case_result(heading, end);
-    observer.case_ended(&result);
-    Ok(result)
+    Ok(case_result(heading, end))
 }
 
 /// Runs a case in a layer of its own: its before hooks, its steps, its after hooks and its cleanups.
@@ -171,7 +169,9 @@ pub fn run_case_watched<O: Observer>(
         hooks,
         stop: false,
     };
-    case_in(&run, sandbox, case, observer)
+    let result = case_in(&run, sandbox, case, observer)?;
+    observer.case_ended(&result);
+    Ok(result)
 }
 
 // The results of steps that aren't run: each has this mark.

@@ -9,13 +9,14 @@ ghost use Rattle.gk_run.specs.Chosen.{has_selected, member_of};
 ghost use Rattle.gk_run.specs.Grouping.{falls_from, members_of_rank};
 ghost use Rattle.gk_run.specs.Run.{run_value};
 ghost use Rattle.gk_run.specs.Running.{IsSame};
+ghost use Rattle.gk_run.specs.Watching.{TellsCases, TellsMember};
 
 use crate::cases::{Cases, Member};
 use crate::reserved::ReservedCases;
 use crate::results::{CaseResult, Mark, NoRoom, Status};
 use crate::run::Run;
 use crate::running::{case_in, unrun_case};
-use crate::watching::Unwatched;
+use crate::watching::Observer;
 use gk_select::Case;
 use gk_world::Sandbox;
 use std::collections::VecDeque;
@@ -113,15 +114,18 @@ impl Cases {
 }
 
 // The result of a case in a section that is open, or isn't.
-fn run_member(
+fn run_member<O: Observer>(
     run: &Run<'_>,
     sandbox: &mut Sandbox,
     is_open: bool,
     member: Member,
+    observer: &mut O,
 ) -> Result<CaseResult, NoRoom>
     requires room { depth sandbox.old < layers }
     ensures row { IfOk result
         (IsCaseResult run.now sandbox.old is_open (member_of member.case member.selected)) }
+    ensures told { IfOk result (TellsMember O.hears run.now sandbox.old is_open
+        (member_of member.case member.selected) observer.old observer.new) }
     ensures same { IsSame sandbox.old sandbox.new }
 {
     let Member { case, selected } = member;
@@ -131,7 +135,7 @@ fn run_member(
     if !is_open {
         return unrun_case(run.alloc, case, Status::Untested, Mark::Untested);
     }
-    case_in(run, sandbox, case, &mut Unwatched)
+    case_in(run, sandbox, case, observer)
 }
 
 /// Whether both hold.
@@ -164,20 +168,24 @@ pub fn stays_open(stop: bool, status: Status) -> bool
 
 /// Runs the cases of the rank, in a section that is open, or isn't. Returns whether what comes after
 /// them is still reached.
-pub fn run_cases(
+pub fn run_cases<O: Observer>(
     run: &Run<'_>,
     sandbox: &mut Sandbox,
     is_open: bool,
     cases: &mut Cases,
+    observer: &mut O,
 ) -> Result<bool, NoRoom>
     requires layer { depth sandbox.old < layers }
     ensures cases { IfOk result (RunsCases (run_value run.now) (state_of sandbox.old.now)
         is_open cases.old cases.new) }
+    ensures told { IfOk result (TellsCases O.hears O.ends (run_value run.now)
+        (state_of sandbox.old.now) is_open cases.old cases.new observer.old observer.new) }
     ensures same { IsSame sandbox.old sandbox.new }
 {
     let mut all_stay = true;
     while let Some(member) = cases.next_member() {
-        let row = run_member(run, sandbox, both(is_open, all_stay), member)?;
+        let row = run_member(run, sandbox, both(is_open, all_stay), member, observer)?;
+        observer.case_ended(&row);
         all_stay = both(all_stay, stays_open(run.stop, row.status));
         cases.results.push_reserved(row);
     }

@@ -26,7 +26,7 @@ returns-clause-row g c =
     subst (λ ss. IsCaseEnd run section (ran case.own_tags ss) end.status end.around end.cleanups.items rows) steps
     (subst (λ ts. IsCaseEnd run section (ran ts (map step_value c.in_ok-reserved.reserved.steps.steps.items)) end.status end.around end.cleanups.items rows) tags ended) in
     let is = row_is run section case end.status end.around end.cleanups.items rows known in
-    let row = c.case_result-result.ensures ∙ ap (λ (h : Heading). row_with h end) reserved.heading in
+    let row = c.case_result.ensures ∙ ap (λ (h : Heading). row_with h end) reserved.heading in
     subst (λ (r : CaseRow). IsReached run section case r) (sym row) is
 
 pub returns-clause-told : goal.returns-clause-told
@@ -46,5 +46,5 @@ returns-clause-told g c =
     subst (λ (ss : List StepValue). IsRan (ran case.own_tags ss)) steps
     (subst (λ (ts : List (List ℕ)). IsRan (ran ts (map step_value c.in_ok-reserved.reserved.steps.steps.items))) tags c.run_alone-end.ensures.told) in
     let is = row_is run section case end.status end.around end.cleanups.items rows known.0 in
-    let row = c.case_result-result.ensures ∙ ap (λ (h : Heading). row_with h end) reserved.heading in
-    record { cut = known.0.cut; is = row ∙ is.1; refusing = known.1; last = last; told = known.2; ended = c.case_ended.ensures }
+    let row = c.case_result.ensures ∙ ap (λ (h : Heading). row_with h end) reserved.heading in
+    record { cut = known.0.cut; is = row ∙ is.1; refusing = known.1; told = known.2 }
