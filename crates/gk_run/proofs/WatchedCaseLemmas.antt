@@ -1,7 +1,7 @@
 -- What an observer is told of a case: the events of one cut, which is that of its result.
-use Rattle.std.proofs.Common.{Bool, List, [], ap, append_assoc, cond, false, inl, inr, map, refl, reverse, subst, suc, sym, true, zero, ℕ, ◌++◌, ◌∙◌, ◌∷◌, ◌≡◌}
+use Rattle.std.proofs.Common.{Bool, List, [], ap, cond, false, inl, inr, map, refl, reverse, subst, suc, sym, true, zero, ℕ, ◌++◌, ◌∙◌, ◌∷◌, ◌≡◌}
 use Rattle.std.proofs.lemmas.Bool.{true≢false}
-use Rattle.std.proofs.lemmas.List.{append-nil, map-append}
+use Rattle.std.proofs.lemmas.List.{append-nil}
 use Rattle.gk_gherkin.specs.Feature.{StepValue}
 use Rattle.gk_select.specs.Case.{CaseValue}
 use Rattle.gk_steps.specs.Finding.{LibraryValue}
@@ -26,8 +26,8 @@ use Rattle.gk_run.specs.Run.{Run}
 use Rattle.gk_run.specs.Running.{IsCaseEnd, alone}
 use Rattle.gk_run.specs.Section.{Cut, Events, cut_marks, cut_outcomes, happened, in_after, in_before, in_cleanups, in_steps, is_place, nowhere, site_of}
 use Rattle.gk_run.specs.SectionHooks.{after_lists, before_list, begun, walk_each}
-use Rattle.gk_run.specs.Walk.{AreStepped, AreStepsRun, IsWalked, Steps, followed_by, looked_up, marks_after, one_step, rows_of_steps, steps_after, walk}
-use Rattle.gk_run.specs.Watching.{AreTold, IsClosingTold, IsClosingToldAfter, IsTold, Told, ToldClosing, ToldEvents, ToldEventsAreTheCasesOwn, after_of, before_of, cut_told, in_order, of_cleanup, of_step, steps_of_case, told_case, told_closing, told_each, told_happened, told_in_turn, told_marks, told_steps, told_walk}
+use Rattle.gk_run.specs.Walk.{AreStepped, IsWalked, Steps, followed_by, looked_up, marks_after, one_step, rows_of_steps, steps_after, walk}
+use Rattle.gk_run.specs.Watching.{AreTold, IsClosingTold, IsClosingToldAfter, IsTold, Told, ToldClosing, ToldEvents, ToldEventsAreTheCasesOwn, after_of, before_of, cut_told, in_order, of_cleanup, of_step, told_case, told_closing, told_each, told_happened, told_in_turn, told_marks, told_steps, told_walk}
 use Rattle.gk_run.proofs.EndingLemmas.{cut_acted, not_memory, place_acted, worse_memory, worse_passed}
 use Rattle.gk_run.proofs.SectionLemmas.{Parts, after_worse, before_not, case_in_before, case_in_steps_at, closed_after, closed_cleanups, closed_whole, exact_steps, steps_are}
 use Rattle.gk_run.proofs.WalkLemmas.{exact}

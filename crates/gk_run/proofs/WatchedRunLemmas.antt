@@ -81,11 +81,11 @@ pub told_next : {S : Type 0} (hears : S → Told → S → Type 0) (ends : S →
     next.rank ≡ taken.rank → members_in next ≡ members_in taken → next.results.items ≡ taken.results.items ++ row ∷ [] → GoesTold hears ends run first is_open old next stays begin after
 told_next hears ends run first now_state is_open old now taken next m row all_stay opens stays begin here ran after so_far takes open_is same one ended stays_is rank_is members_is pushed =
     let r = old.rank in
+    let rows = so_far.rows in
+    let of_rank = takes.1 ∙ so_far.rank in
     let all = members_of_rank r (members_in old) in
     let this = member_of m.case m.selected in
     let behind = members_in taken in
-    let rows = so_far.rows in
-    let of_rank = takes.1 ∙ so_far.rank in
     let told : map case_row next.results.items ≡ map case_row old.results.items ++ (rows ++ case_row row ∷ []) =
     ap (map case_row) pushed ∙ map_push case_row taken.results.items row ∙ ap (λ (rs : Vec CaseResult Global). map case_row rs.items ++ case_row row ∷ []) takes.3 ∙ ap (λ rs. rs ++ case_row row ∷ []) so_far.told
     ∙ append_assoc (map case_row old.results.items) rows (case_row row ∷ []) in

@@ -1,17 +1,15 @@
 -- What an observer is told of a section beside what is inside of it: the events of one cut, which is that of how it ended.
-use Rattle.std.proofs.Common.{Bool, List, [], ap, cond, inl, inr, map, refl, reverse, subst, sym, true, ℕ, ◌++◌, ◌∙◌, ◌≡◌}
+use Rattle.std.proofs.Common.{Bool, List, [], ap, cond, inl, inr, refl, reverse, subst, sym, true, ℕ, ◌++◌, ◌∙◌, ◌≡◌}
 use Rattle.std.proofs.lemmas.List.{append-nil}
 use Rattle.gk_world.specs.State.{State, enter}
 use Rattle.gk_run.specs.declared.ending.Ending.{Ending}
 use Rattle.gk_run.specs.declared.ending.Ending.TheVariants as endings
-use Rattle.gk_run.specs.declared.results.Mark.TheVariants.{Acted}
 use Rattle.gk_run.specs.declared.results.Outcome.{Outcome}
-use Rattle.gk_run.specs.declared.results.Status.{Status}
 use Rattle.gk_run.specs.declared.results.Status.TheVariants as statuses
 use Rattle.gk_run.specs.declared.section.Level.{Level}
 use Rattle.gk_run.specs.Acting.{CleanupValue}
 use Rattle.gk_run.specs.Closing.{IsClosed, IsClosedAfter, closing}
-use Rattle.gk_run.specs.Ending.{around_status, ended_of, has_passed, worse}
+use Rattle.gk_run.specs.Ending.{around_status, ended_of, worse}
 use Rattle.gk_run.specs.OpenSection.{section_events}
 use Rattle.gk_run.specs.Run.{Run}
 use Rattle.gk_run.specs.Section.{is_place}

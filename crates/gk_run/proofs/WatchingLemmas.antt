@@ -22,7 +22,7 @@ use Rattle.gk_run.specs.Closing.{cleanup_done}
 use Rattle.gk_run.specs.Ending.{ended_of, ending_of, has_passed, is_memory_ending, is_memory_mark, worse}
 use Rattle.gk_run.specs.Results.{StepRow}
 use Rattle.gk_run.specs.Section.{is_place, site_of}
-use Rattle.gk_run.specs.SectionHooks.{before_kind, before_list, hook_steps, tag_lists, walk_each}
+use Rattle.gk_run.specs.SectionHooks.{before_kind, before_list, hook_steps, tag_lists}
 use Rattle.gk_run.specs.Walk.{IsNext, IsStepRun, IsWalked, Stepped, followed_by, looked_up, one_step, row_of_step, rows_of_steps, walk}
 use Rattle.gk_run.specs.Watching.{AreTold, IsClosingTold, IsTold, Told, after_of, cut_told, of_cleanup, of_step, refused, steps_of_case, told_cleanups, told_each, told_in_turn, told_marks, told_next, told_steps, told_walk}
 use Rattle.gk_run.proofs.EndingLemmas.{past, place_before, place_past}

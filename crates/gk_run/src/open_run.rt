@@ -58,7 +58,8 @@ impl Suite {
         observer: &mut O,
     ) -> Suite
         requires { suc (suc (suc (depth sandbox.old))) < layers }
-        ensures started { IsStarted (run_of library.now hooks.now stop) sandbox.old sandbox.new result }
+        ensures started { IsStarted (run_of library.now hooks.now stop)
+            sandbox.old sandbox.new result }
         ensures told { IsStartTold O.hears (run_of library.now hooks.now stop)
             (state_of sandbox.old.now) result.section.before observer.old observer.new }
     {

@@ -92,10 +92,10 @@ fn walk_tags<O: Observer>(
     observer: &mut O,
 ) -> Ending
     requires in_layer { 0 < depth sandbox.old }
-    ensures walked { WalksTags run.now section.now
-        sandbox.old cleanups.old result sandbox.new cleanups.new }
     ensures told { TellsTags O.hears run.now section.now
         sandbox.old cleanups.old result observer.old observer.new }
+    ensures walked { WalksTags run.now section.now
+        sandbox.old cleanups.old result sandbox.new cleanups.new }
     ensures layers { KeepsLayers sandbox.old sandbox.new }
 {
     let place = Place {

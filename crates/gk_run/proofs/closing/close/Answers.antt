@@ -15,7 +15,7 @@ use Rattle.gk_run.specs.SectionHooks.{after_lists, walk_each}
 use Rattle.gk_run.specs.Walk.{IsWalked}
 use Rattle.gk_run.proofs.EndingLemmas.{ended_append, is_memory, not_memory}
 use Rattle.gk_run.proofs.WalkLemmas.{exact}
-use Rattle.gk_run.specs.Watching.{IsClosingTold, IsTold, told_cleanups, told_closing, told_each}
+use Rattle.gk_run.specs.Watching.{IsClosingTold, IsTold, told_cleanups, told_closing}
 use Rattle.gk_run.proofs.WatchingLemmas.{closing_both, closing_short, exactly, told_then}
 use Rattle.gk_run.proofs.closing.close.Goals as goal
 

@@ -36,18 +36,18 @@ returns-in-Ok-clause-end g c = λ outside opens.
 
 pub returns-in-Ok-clause-told : goal.returns-in-Ok-clause-told
 returns-in-Ok-clause-told g c =
-    let run = run_value c.args.run.now in
-    let outside = state_of c.args.sandbox.now.now in
-    let tags = texts c.args.tags.now in
     let opened = c.open_section-opened.result in
-    let b = opened.before in
-    let s = state_of c.open_section-opened.new.sandbox.now in
+    let walked = c.open_section-opened.ensures.opened.begins in
+    let us = c.open_section-opened.ensures.told in
     let cs = cleanups_value opened.cleanups in
+    let tags = texts c.args.tags.now in
+    let outside = state_of c.args.sandbox.now.now in
+    let run = run_value c.args.run.now in
     let own = members_of_rank 0 (members_in c.args.content.cases) in
     let groups = groups_from 1 (map head_value c.args.content.rules.heads.items) (members_in c.args.content.cases) in
     let before = begun run.library run.hooks levels.Feature tags outside in
-    let walked = c.open_section-opened.ensures.opened.begins in
-    let us = c.open_section-opened.ensures.told in
+    let b = opened.before in
+    let s = state_of c.open_section-opened.new.sandbox.now in
     let end = c.end_around.ensures.told outside run.stop (subst (λ (x : State). IsWalked before b x cs) (sym (ap state_of c.in-Ok.ensures.same.contents)) walked) us.0 us.2 in
     let inside = c.in-Ok.ensures.told (section_state run levels.Feature tags outside) (λ o. passed_state before b s cs walked (sym c.has_passed.ensures ∙ o)) in
     section_begun g.O.Observer.hears run levels.Feature tags outside b c.has_passed.result c.end_around.result (λ section is_ready x y. IsInsideTold g.O.Observer.hears g.O.Observer.ends run section is_ready own groups (inside_value c.in-Ok.inside) x y)

@@ -17,7 +17,6 @@ use Rattle.gk_run.proofs.CasesLemmas.{selected_any}
 use Rattle.gk_run.proofs.FeaturesLemmas.{feature_is}
 use Rattle.gk_run.proofs.GroupingLemmas.{falls_into}
 use Rattle.gk_run.specs.declared.section.Level.TheVariants as levels
-use Rattle.gk_run.specs.Features.{feature_row_of}
 use Rattle.gk_run.specs.Results.{FeatureRow}
 use Rattle.gk_run.specs.declared.results.Status.{Status}
 use Rattle.gk_run.specs.Watching.{IsInsideTold, IsSectionTold}
@@ -52,26 +51,26 @@ returns-clause-row g c =
 
 pub returns-clause-told : goal.returns-clause-told
 returns-clause-told g c =
+    let hears = g.O.Observer.hears in
+    let ends = g.O.Observer.ends in
     let run = run_value c.args.run.now in
-    let now = state_of c.args.sandbox.now.now in
     let f = chosen_value c.args.chosen in
     let end : SectionRow Inside = record { around = c.in_ok-end.end.around; inside = inside_value c.in_ok-end.end.inside } in
     let cases = c.args.chosen.cases.items in
-    let reserved = c.in_ok-reserve_cases.ensures in
-    let begun_with = c.new-cases.ensures in
-    let waiting = begun_with.waiting ∙ ap (λ cs. cs.items) reserved.same_cases in
-    let selected = begun_with.selected ∙ ap (λ ss. ss.items) reserved.same_choice in
-    let members : members_in c.new-cases.result ≡ f.members = ap (λ (cs : List Case). members_of cs c.new-cases.result.selected.items) waiting ∙ ap (members_of cases) selected in
-    let heads : map head_value c.in_ok-rules.rules.heads.items ≡ f.rules = ap (λ hs. map head_value hs.items) c.in_ok-rules.ensures in
-    let begins : c.both-is_begun.result ≡ (c.args.is_open && has_selected f.members) =
-    c.both-is_begun.ensures ∙ ap (λ (b : Bool). c.args.is_open && b) (c.has_selected.ensures ∙ ap (λ (ss : List Bool). list_any (λ (s : Bool). s) ss) c.as_slice.ensures.value ∙ sym (selected_any cases c.args.chosen.selected.items c.requires.formed.paired)) in
     let verdict : c.feature_status.result ≡ feature_verdict end.around (rule_statuses end.inside.rules) (case_statuses end.inside.cases) =
     c.feature_status.ensures ∙ ap (λ (rs : List RuleResult). feature_verdict end.around (rule_statuses (map rule_row rs)) (case_statuses (map case_row c.as_slice-4.result.now))) c.as_slice-3.ensures.value
     ∙ ap (λ (cs : List CaseResult). feature_verdict end.around (rule_statuses end.inside.rules) (case_statuses (map case_row cs))) c.as_slice-4.ensures.value in
-    let hears = g.O.Observer.hears in
-    let ends = g.O.Observer.ends in
+    let heads : map head_value c.in_ok-rules.rules.heads.items ≡ f.rules = ap (λ hs. map head_value hs.items) c.in_ok-rules.ensures in
+    let begins : c.both-is_begun.result ≡ (c.args.is_open && has_selected f.members) =
+    c.both-is_begun.ensures ∙ ap (λ (b : Bool). c.args.is_open && b) (c.has_selected.ensures ∙ ap (λ (ss : List Bool). list_any (λ (s : Bool). s) ss) c.as_slice.ensures.value ∙ sym (selected_any cases c.args.chosen.selected.items c.requires.formed.paired)) in
+    let now = state_of c.args.sandbox.now.now in
     let first = c.args.observer.now in
     let last = c.feature_end.new.observer in
+    let reserved = c.in_ok-reserve_cases.ensures in
+    let begun_with = c.new-cases.ensures in
+    let selected = begun_with.selected ∙ ap (λ ss. ss.items) reserved.same_choice in
+    let waiting = begun_with.waiting ∙ ap (λ cs. cs.items) reserved.same_cases in
+    let members : members_in c.new-cases.result ≡ f.members = ap (λ (cs : List Case). members_of cs c.new-cases.result.selected.items) waiting ∙ ap (members_of cases) selected in
     let Told : Bool → List (List ℕ) → List HeadValue → List MemberValue → Type 0 = λ is_begun tags hs ms. IsSectionTold hears run levels.Feature tags now is_begun end.around (λ section is_ready x y. IsInsideTold hears ends run section is_ready (members_of_rank 0 ms) (groups_from 1 hs ms) end.inside x y) first last in
     let row : Status → FeatureRow = λ s. record { source = f.source; name = f.name; line = f.line; status = s; around = end.around; rules = end.inside.rules; cases = end.inside.cases } in
     record {

@@ -41,19 +41,19 @@ returns-in-Ok-clause-rule g c =
 
 pub returns-in-Ok-clause-told : goal.returns-in-Ok-clause-told
 returns-in-Ok-clause-told g c =
-    let run = run_value c.args.run.now in
-    let outside = state_of c.args.sandbox.now.now in
-    let tags = texts c.args.tags.now in
-    let opened = c.open_section-opened.result in
-    let b = opened.before in
-    let s = state_of c.open_section-opened.new.sandbox.now in
-    let cs = cleanups_value opened.cleanups in
-    let before = begun run.library run.hooks levels.Rule tags outside in
-    let walked = c.open_section-opened.ensures.opened.begins in
     let members = members_of_rank c.args.cases.now.rank (members_in c.args.cases.now) in
-    let us = c.open_section-opened.ensures.told in
     let ran = c.in-Ok.ensures.told in
     let around = c.end_around-around.result in
+    let us = c.open_section-opened.ensures.told in
+    let opened = c.open_section-opened.result in
+    let walked = c.open_section-opened.ensures.opened.begins in
+    let cs = cleanups_value opened.cleanups in
+    let outside = state_of c.args.sandbox.now.now in
+    let tags = texts c.args.tags.now in
+    let run = run_value c.args.run.now in
+    let before = begun run.library run.hooks levels.Rule tags outside in
+    let s = state_of c.open_section-opened.new.sandbox.now in
+    let b = opened.before in
     let end = c.end_around-around.ensures.told outside run.stop (subst (λ (x : State). IsWalked before b x cs) (sym (ap state_of c.in-Ok.ensures.same.contents)) walked) us.0 us.2 in
     let inside = ran.3 (section_state run levels.Rule tags outside) (λ o. passed_state before b s cs walked (sym c.has_passed.ensures ∙ o)) in (
       ran.0,

@@ -31,16 +31,16 @@ returns-clause-row g c =
 
 pub returns-clause-told : goal.returns-clause-told
 returns-clause-told g c =
-    let run = run_value c.args.run.now in
-    let section = state_of c.args.sandbox.now.now in
-    let case = case_value c.args.case in
-    let end = c.run_alone-end.result in
-    let rows = map step_row end.steps.items in
-    let reserved = c.in_ok-reserved.ensures in
-    let tags = ap texts c.as_slice.ensures.value ∙ ap (λ ts. texts ts.items) reserved.own_tags in
-    let steps = ap (λ ss. map step_value ss.items) reserved.steps in
     let first = c.args.observer.now in
     let last = c.run_alone-end.new.observer in
+    let run = run_value c.args.run.now in
+    let section = state_of c.args.sandbox.now.now in
+    let end = c.run_alone-end.result in
+    let case = case_value c.args.case in
+    let reserved = c.in_ok-reserved.ensures in
+    let rows = map step_row end.steps.items in
+    let steps = ap (λ ss. map step_value ss.items) reserved.steps in
+    let tags = ap texts c.as_slice.ensures.value ∙ ap (λ ts. texts ts.items) reserved.own_tags in
     let IsRan : CaseValue → Type 0 = λ x. (is : IsCaseEnd run section x end.status end.around end.cleanups.items rows) × (s : State) × FoldsTo g.O.Observer.hears first (in_order (told_happened s is.cut (told_case run section x))) last in
     let known : IsRan (ran case.own_tags case.steps) =
     subst (λ (ss : List StepValue). IsRan (ran case.own_tags ss)) steps

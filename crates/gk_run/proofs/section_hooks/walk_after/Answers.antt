@@ -67,16 +67,16 @@ returns-then-is_memory-clause-told g c =
 
 pub returns-clause-told : goal.returns-clause-told
 returns-clause-told g c =
+    let us = c.walk_hook-first.ensures.told in
+    let this = c.walk_hook-first.result in
     let library = library_value c.args.run.now.library.now in
+    let s = state_of c.args.sandbox.now.now in
+    let cs = cleanups_value c.args.cleanups.now in
     let hooks = hooks_value c.args.run.now.hooks.now in
     let level = c.args.section.now.level in
     let tags = texts c.args.section.now.tags.now in
-    let s = state_of c.args.sandbox.now.now in
-    let cs = cleanups_value c.args.cleanups.now in
-    let this = c.walk_hook-first.result in
     let steps = hook_steps hooks (after_kind level) None in
     let is : map step_value c.hook_steps-steps.result.now ≡ steps = c.hook_steps-steps.ensures ∙ rw c.after_kind.ensures refl in
-    let us = c.walk_hook-first.ensures.told in
     let heard = subst (λ (xs : List StepValue). IsTold (told_walk library (after_of level) s xs) this us.0) is us.2 in
     let new = state_of c.walk_hook-first.new.sandbox.now in
     let new_cleanups = cleanups_value c.walk_hook-first.new.cleanups in

@@ -8,7 +8,7 @@ use Rattle.gk_run.specs.Cleanups.{cleanups_value}
 use Rattle.gk_run.specs.Walk.{walk, IsWalked}
 use Rattle.gk_run.specs.Section.{before_site}
 use Rattle.gk_run.specs.SectionHooks.{before_kind, before_list, hook_steps}
-use Rattle.gk_run.specs.Watching.{IsTold, Told, before_of, told_walk}
+use Rattle.gk_run.specs.Watching.{IsTold, before_of, told_walk}
 use Rattle.gk_run.proofs.WalkLemmas.{before_on, before_off, before_done, drop_next, drop_none, walked_at}
 use Rattle.gk_run.proofs.WatchingLemmas.{before_told_done, before_told_off, before_told_on, told_then}
 use Rattle.gk_run.proofs.section_hooks.walk_before.Goals as goal
@@ -76,19 +76,19 @@ returns-clause-walked g c =
 
 pub returns-then-not-has_passed-clause-told : goal.returns-then-not-has_passed-clause-told
 returns-then-not-has_passed-clause-told g c =
-    let library = library_value c.args.run.now.library.now in
-    let hooks = hooks_value c.args.run.now.hooks.now in
-    let level = c.args.section.now.level in
-    let tags = c.args.section.now.tags.now in
+    let so_far = c.loop-tag.invariant.told in
+    let us = c.walk_hook-ending.ensures.told in
     let i = c.loop-tag.tag-index in
     let s = state_of c.loop-tag.sandbox.now in
-    let so_far = c.loop-tag.invariant.told in
-    let tag = c.tag-item.result in
     let this = c.walk_hook-ending.result in
-    let us = c.walk_hook-ending.ensures.told in
+    let library = library_value c.args.run.now.library.now in
+    let level = c.args.section.now.level in
+    let tag = c.tag-item.result in
+    let tags = c.args.section.now.tags.now in
+    let hooks = hooks_value c.args.run.now.hooks.now in
     let steps = c.hook_steps-steps.ensures ∙ ap (λ (t : List ℕ). hook_steps hooks kinds.BeforeTag (Some t)) c.as_str.ensures.value in
-    let walked = subst (λ (xs : List StepValue). IsWalked (walk library (before_site level) s (cleanups_value c.loop-tag.cleanups) xs) this (state_of c.walk_hook-ending.new.sandbox.now) (cleanups_value c.walk_hook-ending.new.cleanups)) steps c.walk_hook-ending.ensures.walked in
     let heard = subst (λ (xs : List StepValue). IsTold (told_walk library (before_of level) s xs) this us.0) steps us.2 in
+    let walked = subst (λ (xs : List StepValue). IsWalked (walk library (before_site level) s (cleanups_value c.loop-tag.cleanups) xs) this (state_of c.walk_hook-ending.new.sandbox.now) (cleanups_value c.walk_hook-ending.new.cleanups)) steps c.walk_hook-ending.ensures.walked in
     let all = told_walk library (before_of level) (state_of c.args.sandbox.now.now) (before_list hooks level (texts tags)) in (
       so_far.0 ++ us.0,
       told_then g.O.Observer.hears c.args.observer.now so_far.0 c.loop-tag.observer us.0 c.walk_hook-ending.new.observer so_far.1 us.1,
