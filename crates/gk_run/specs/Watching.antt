@@ -71,7 +71,7 @@ told_mark (of_cleanup level cleanup outcome s) = Acted outcome
 abbrev pub told_marks : List Told → List Mark
 told_marks events = map told_mark events
 
--- A place in a section of a level.
+-- Where the steps of a section's before list stand.
 abbrev pub before_of : Level → Place
 before_of level = record { level = level; part = parts.Before }
 
@@ -340,11 +340,12 @@ abbrev pub IsClosingToldAfter : Ending → List Told → List Told → Ending �
 IsClosingToldAfter endings.Memory after cleanups ended reported told = told ≡ []
 IsClosingToldAfter before after cleanups ended reported told = IsClosingTold after cleanups ended reported told
 
--- The events of a section's end, from the state and with the cleanups that stand before it.
+-- The events of a section's end: its after lists, and its cleanups.
 pub record ToldClosing : Type 0 where
   pub after : List Told
   pub cleanups : List Told
 
+-- They come from the state that is there, and from the cleanups that are registered.
 abbrev pub told_closing : LibraryValue → List HookValue → Level → List (List ℕ) → State → List CleanupValue → ToldClosing
 told_closing library hooks level tags s cleanups =
     let lists = after_lists hooks level tags in
