@@ -6,6 +6,7 @@ makes and removes. Each test has a trouble, a text that says what is wrong, or n
 
 import concurrent.futures
 import os
+import resource
 import subprocess
 
 HOME = os.path.dirname(os.path.dirname(os.path.realpath(__file__)))
@@ -13,6 +14,10 @@ EXAMPLES = os.path.join(HOME, "examples")
 PATIENCE = 60  # seconds
 SHOWN = 1200  # characters of a text that are shown whole
 STREAMS = ("stdout", "stderr")
+
+# A driver may take longer than any run of tests/setup.sh: each of its own runs has its patience.
+_most = resource.getrlimit(resource.RLIMIT_CPU)[1]
+resource.setrlimit(resource.RLIMIT_CPU, (_most, _most))
 
 
 # ---- files
@@ -91,6 +96,13 @@ def limited(room, **limits):
 def on_all_processors(work, items):
     """What `work` answers for each item, in order. Several items are worked on at a time."""
     with concurrent.futures.ThreadPoolExecutor(os.cpu_count()) as pool:
+        yield from pool.map(work, items)
+
+
+def in_processes(work, items):
+    """The same in processes of their own, for work whose time Python itself takes. `work`, the items and
+    the answers are handed over as copies."""
+    with concurrent.futures.ProcessPoolExecutor(os.cpu_count()) as pool:
         yield from pool.map(work, items)
 
 

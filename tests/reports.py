@@ -504,9 +504,10 @@ def read_plain(text, style):
 
 def plain_part(feature, _):
     """The lines of a feature in a plain report: its own, those of each scenario and rule, and those after them."""
-    texts = [f"{feature.head} ... {feature.status}\n", *plain_rules(feature, 0)]
+    rules = plain_rules(feature)
+    texts = [f"{feature.head} ... {feature.status}\n", *rules[0]]
     for place, scenario in enumerate(feature.scenarios, 1):
-        texts += [plain_scenario(scenario), *plain_rules(feature, place)]
+        texts += [plain_scenario(scenario), *rules[place]]
     around = f"  {AROUND} ... {feature.around}\n" if feature.around != "passed" else ""
     return [*texts, around + "\n"]
 
@@ -520,10 +521,13 @@ def plain_scenario(scenario):
     return "\n".join([*lines, ""])
 
 
-def plain_rules(feature, place):
-    """The lines of the rules whose last scenario stands right above a place."""
-    return [f"  {RULE_AROUND.format(it.line)} ... {it.around}\n" for it in feature.rules
-            if it.place == place and it.around != "passed"]
+def plain_rules(feature):
+    """The lines of the rules, by the place right above which their last scenario stands."""
+    lines = collections.defaultdict(list)
+    for it in feature.rules:
+        if it.around != "passed":
+            lines[it.place].append(f"  {RULE_AROUND.format(it.line)} ... {it.around}\n")
+    return lines
 
 
 # ---- progress

@@ -13,8 +13,9 @@ esac
 room=$(mktemp -d)
 trap 'rm -rf "$room"' EXIT
 trap 'exit 1' HUP INT TERM
-# No run takes that long, and none may leave a core dump.
-ulimit -t 300
+# No run takes that long, and none may leave a core dump. A driver in Python lifts the first for itself,
+# since it has a time limit for each of its runs (tests/driver.py).
+ulimit -S -t 300
 ulimit -c 0
 passed=0
 failed=0

@@ -899,7 +899,7 @@ class Table:
 def main():
     table = Table(sys.argv[1], sys.argv[2], sys.argv[3:] == ["all"])
     tests = driver.Tests(most_shown=20)
-    for troubles in driver.on_all_processors(table.troubles, range(len(ROWS))):
+    for troubles in driver.in_processes(table.troubles, range(len(ROWS))):
         tests.add_all(troubles)
     return tests.close()
 
