@@ -104,7 +104,7 @@ def code_names():
 PLAIN_WORDS = set("""
     Global Memory Option None Result Err Some String Vec Display Serialize write_all read_to_end ensures requires refl clap indexmap serde serde_json thiserror std rt cc jq malloc
     NAME TEXT TO N E R EXAMPLES LINE FILE KEYWORD VERDICT STATUS REASON TYPE PATTERN ACTION h x n main run test given when then step
-    Andorra EU EN en json name text to absent present differs passed failed skipped undefined untested memory
+    all Andorra EU EN en json name text to absent present differs passed failed skipped undefined untested memory
 """.split())
 # The pages for users name words of features and libraries, not of the code: of them only names that can't
 # be anything else are looked up.
@@ -204,9 +204,10 @@ def clauses_by_function():
 # ---- must-fail edits
 
 def edits():
-    """The must-fail edits of each crate."""
+    """The must-fail edits of each crate: those that the gate tries, and those of tests/edits/."""
     return {crate: sorted(os.path.basename(it)[:-5] for it in FILES
-                          if it.startswith(f"crates/{crate}/must-fail/") and it.endswith(".edit")) for crate in CRATES}
+                          if it.startswith((f"crates/{crate}/must-fail/", f"tests/edits/{crate}/"))
+                          and it.endswith(".edit")) for crate in CRATES}
 
 
 def listed_edits():
