@@ -1,0 +1,2 @@
+-- Findings, and their order.
+use Rattle.std.specs.Prelude.{ℕ, List}

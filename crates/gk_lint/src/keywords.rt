@@ -1,0 +1,71 @@
+//! The keywords that a misspelt line may have meant.
+ghost use Rattle.std.specs.Prelude.{◌≡◌, ◌≤◌, length};
+ghost use Rattle.gk_lint.specs.Keywords as spec;
+
+/// A keyword of a heading or of a step. (Cucumber's Gherkin reference: keywords)
+#[derive(Clone, Copy, Debug, PartialEq, Eq)]
+pub enum Keyword {
+    Feature,
+    Rule,
+    Background,
+    ScenarioOutline,
+    ScenarioTemplate,
+    Scenarios,
+    Scenario,
+    Examples,
+    Example,
+    Given,
+    When,
+    Then,
+    And,
+    But,
+    Star,
+}
+
+/// The keywords of headings. One that another begins with comes after it.
+pub const HEADINGS: [Keyword; 9] = [
+    Keyword::Feature,
+    Keyword::Rule,
+    Keyword::Background,
+    Keyword::ScenarioOutline,
+    Keyword::ScenarioTemplate,
+    Keyword::Scenarios,
+    Keyword::Scenario,
+    Keyword::Examples,
+    Keyword::Example,
+];
+
+/// The keywords of steps.
+pub const STEP_WORDS: [Keyword; 6] = [
+    Keyword::Given,
+    Keyword::When,
+    Keyword::Then,
+    Keyword::And,
+    Keyword::But,
+    Keyword::Star,
+];
+
+impl Keyword {
+    /// The keyword as it is written, a heading's without its colon.
+    pub fn text(self) -> &'static str
+        ensures { result.now ≡ spec.keyword_text self }
+    {
+        match self {
+            Keyword::Feature => "Feature",
+            Keyword::Rule => "Rule",
+            Keyword::Background => "Background",
+            Keyword::ScenarioOutline => "Scenario Outline",
+            Keyword::ScenarioTemplate => "Scenario Template",
+            Keyword::Scenarios => "Scenarios",
+            Keyword::Scenario => "Scenario",
+            Keyword::Examples => "Examples",
+            Keyword::Example => "Example",
+            Keyword::Given => "Given",
+            Keyword::When => "When",
+            Keyword::Then => "Then",
+            Keyword::And => "And",
+            Keyword::But => "But",
+            Keyword::Star => "*",
+        }
+    }
+}

@@ -1,0 +1,9 @@
+//! Findings in the inputs of a run, before it is run: what would vanish in silence. The bytes of a
+//! file come in; findings go out, in the order of their lines. Where a comment names no source, what
+//! it says is this project's profile.
+#![tactic(auto)]
+
+mod keywords;
+mod likeness;
+
+pub use keywords::Keyword;
