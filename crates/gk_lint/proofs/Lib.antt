@@ -1,1 +1,4 @@
 pub mod Letters
+pub mod LineOrder
+pub mod MisspeltLoop
+pub mod WorkedLikeness

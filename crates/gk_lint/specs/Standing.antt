@@ -1,1 +1,67 @@
--- Standing
+-- Where a line stands: among steps, in a doc string or elsewhere.
+use Rattle.std.specs.Prelude.{if◌then◌else◌}
+use Rattle.gk_gherkin.specs.declared.class.Class.{Class}
+use Rattle.gk_gherkin.specs.declared.class.Class.TheVariants as classes
+use Rattle.gk_gherkin.specs.declared.class.Fence.{Fence}
+use Rattle.gk_gherkin.specs.declared.class.Fence.TheVariants as fences
+use Rattle.gk_gherkin.specs.Lines.{LineValue}
+use Rattle.gk_gherkin.specs.Class.{class}
+use Rattle.gk_gherkin.specs.DocStrings.{closes}
+use Rattle.gk_lint.specs.declared.standing.TextFence.{TextFence}
+use Rattle.gk_lint.specs.declared.standing.TextFence.TheVariants.{Quotes, Backticks}
+use Rattle.gk_lint.specs.declared.standing.LineKind.{LineKind}
+use Rattle.gk_lint.specs.declared.standing.LineKind.TheVariants.{Ignored, StepsHeading, OtherHeading, Description}
+use Rattle.gk_lint.specs.declared.standing.LineKind.TheVariants as kinds
+use Rattle.gk_lint.specs.declared.standing.Standing.{Standing}
+use Rattle.gk_lint.specs.declared.standing.Standing.TheVariants.{Elsewhere, AmongSteps, AfterStep, InText}
+
+-- The fence of doc strings, as the grammar has it.
+abbrev pub fence_of : TextFence → Fence
+fence_of Quotes = fences.Quotes
+fence_of Backticks = fences.Backticks
+
+-- What a line of a class is, as far as it says where the next one stands.
+abbrev pub kind_of : Class → LineKind
+kind_of classes.Blank = Ignored
+kind_of classes.Comment = Ignored
+kind_of classes.TagLine = kinds.Other
+kind_of classes.FeatureHeading = OtherHeading
+kind_of classes.RuleHeading = OtherHeading
+kind_of classes.BackgroundHeading = StepsHeading
+kind_of classes.ScenarioHeading = StepsHeading
+kind_of classes.ExamplesHeading = OtherHeading
+kind_of classes.StepLine = kinds.Step
+kind_of classes.RowLine = kinds.Other
+kind_of (classes.FenceLine fences.Quotes) = kinds.Fence Quotes
+kind_of (classes.FenceLine fences.Backticks) = kinds.Fence Backticks
+kind_of classes.Other = Description
+
+-- What a line is outside of doc strings.
+abbrev pub line_kind : LineValue → LineKind
+line_kind line = kind_of (class line)
+
+-- A standing under a heading that steps stand under, unless the line before stood elsewhere.
+abbrev pub under : Standing → Standing → Standing
+under next Elsewhere = Elsewhere
+under next standing = next
+
+-- A fence opens a doc string after a step alone. (Cucumber's Gherkin reference: doc strings)
+abbrev pub after_fence : TextFence → Standing → Standing
+after_fence fence Elsewhere = Elsewhere
+after_fence fence AfterStep = InText fence
+after_fence fence standing = AmongSteps
+
+-- Where the line after one of this kind stands, outside of doc strings. Steps stand under the headings of backgrounds and scenarios, and nowhere else. (Cucumber's Gherkin reference: steps)
+abbrev pub after_kind : Standing → LineKind → Standing
+after_kind standing Ignored = standing
+after_kind standing StepsHeading = AmongSteps
+after_kind standing OtherHeading = Elsewhere
+after_kind standing kinds.Step = under AfterStep standing
+after_kind standing (kinds.Fence fence) = after_fence fence standing
+after_kind standing Description = under AmongSteps standing
+after_kind standing kinds.Other = under AmongSteps standing
+
+-- Where the line after this one stands. A doc string goes on up to the line that closes it. (Cucumber's Gherkin reference: doc strings)
+unfoldable pub after : Standing → LineValue → Standing
+after (InText fence) line = if closes (fence_of fence) line then AmongSteps else InText fence
+after standing line = after_kind standing (line_kind line)

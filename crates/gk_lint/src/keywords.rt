@@ -68,4 +68,27 @@ impl Keyword {
             Keyword::Star => "*",
         }
     }
+
+    /// The keyword as it has to be spelt: a heading's with its colon.
+    pub fn spelling(self) -> &'static str
+        ensures { result.now ≡ spec.spelling self }
+    {
+        match self {
+            Keyword::Feature => "Feature:",
+            Keyword::Rule => "Rule:",
+            Keyword::Background => "Background:",
+            Keyword::ScenarioOutline => "Scenario Outline:",
+            Keyword::ScenarioTemplate => "Scenario Template:",
+            Keyword::Scenarios => "Scenarios:",
+            Keyword::Scenario => "Scenario:",
+            Keyword::Examples => "Examples:",
+            Keyword::Example => "Example:",
+            Keyword::Given => "Given",
+            Keyword::When => "When",
+            Keyword::Then => "Then",
+            Keyword::And => "And",
+            Keyword::But => "But",
+            Keyword::Star => "*",
+        }
+    }
 }

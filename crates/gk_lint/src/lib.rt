@@ -3,7 +3,11 @@
 //! it says is this project's profile.
 #![tactic(auto)]
 
+mod finding;
 mod keywords;
 mod likeness;
+mod misspelt;
+mod standing;
 
+pub use finding::{Finding, FindingKind};
 pub use keywords::Keyword;

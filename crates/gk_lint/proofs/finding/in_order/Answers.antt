@@ -1,0 +1,12 @@
+use Rattle.std.proofs.Common.{ℕ, rules}
+use Rattle.std.proofs.lemmas.List.Sorted.{IsNonDecreasingBy-from_sort_by_key}
+use Rattle.gk_lint.specs.declared.finding.Finding.{Finding}
+use Rattle.gk_lint.proofs.LineOrder as order
+use Rattle.gk_lint.proofs.finding.in_order.Goals as goal
+
+pub returns : goal.returns
+returns c =
+    record {
+      by_line = IsNonDecreasingBy-from_sort_by_key (λ (f : Finding). f.line) _ c.in_ok-sort_by_key.ensures.sorted (λ a r q k. search rules);
+      of_each_line = λ n. order.of_each_line _ _ c.in_ok-sort_by_key.ensures.stable (λ a r q k. search rules) n;
+    }

@@ -1,0 +1,61 @@
+//! Findings, their texts and their order.
+ghost use Rattle.std.specs.Prelude.{◌≡◌, ◌++◌, OnOk, IfOk};
+ghost use Rattle.std.specs.String.{string_bytes};
+ghost use Rattle.gk_lint.specs.Finding as spec;
+ghost use Rattle.gk_lint.specs.Finding.{AreInOrder};
+
+use crate::keywords::Keyword;
+use std::alloc::{AllocError, Global};
+
+/// What was found.
+#[derive(Clone, Copy, Debug, PartialEq, Eq)]
+pub enum FindingKind {
+    /// The file has no feature.
+    FileWithoutFeature,
+    /// The feature has no scenarios, and none of its rules has any.
+    FeatureWithoutScenarios,
+    /// The scenario has no steps of its own.
+    ScenarioWithoutSteps,
+    /// The outline has no rows, so there is no case of it.
+    OutlineWithoutRows,
+    /// The line of a description begins like the keyword.
+    LikeKeyword(Keyword),
+}
+
+/// What was found, and the line at which it stands, counted from 1.
+#[derive(Clone, Copy, Debug, PartialEq, Eq)]
+pub struct Finding {
+    pub line: u32,
+    pub kind: FindingKind,
+}
+
+impl FindingKind {
+    /// The text of a finding, which names the keyword as it has to be spelt.
+    #[tactic(auto, unfolding(crate::specs::Finding::finding_text))]
+    pub fn text(self, alloc: Global) -> Result<String, AllocError>
+        ensures { IfOk result (λ text. string_bytes text ≡ spec.finding_text self) }
+    {
+        match self {
+            FindingKind::FileWithoutFeature => String::from_str(alloc, "file without feature"),
+            FindingKind::FeatureWithoutScenarios => {
+                String::from_str(alloc, "feature without scenarios")
+            }
+            FindingKind::ScenarioWithoutSteps => String::from_str(alloc, "scenario without steps"),
+            FindingKind::OutlineWithoutRows => String::from_str(alloc, "outline without rows"),
+            FindingKind::LikeKeyword(keyword) => {
+                let mut text = String::from_str(alloc, "description begins like the keyword ")?;
+                text.push_str(keyword.spelling())?;
+                Ok(text)
+            }
+        }
+    }
+}
+
+/// The same findings in the order of their lines. Those of one line stay in their order.
+pub fn in_order(findings: Vec<Finding>) -> Result<Vec<Finding>, AllocError>
+    ensures { IfOk result (λ ordered. AreInOrder findings.items ordered.items) }
+{
+    let mut findings = findings;
+    findings.sort_by_key(|finding| finding.line)?;
+    Ok(findings)
+}

@@ -1,0 +1,190 @@
+//! Where a line stands: among steps, in a doc string or elsewhere.
+ghost use Rattle.std.specs.Prelude.{◌≡◌, ◌&&◌, length, slice_index};
+ghost use Rattle.gk_gherkin.specs.Text.{begins, is_blank};
+ghost use Rattle.gk_gherkin.specs.Lines.{borrowed_value};
+ghost use Rattle.gk_gherkin.specs.Class as words;
+ghost use Rattle.gk_gherkin.specs.DocStrings as texts;
+ghost use Rattle.gk_lint.specs.Standing as spec;
+
+use gk_gherkin::BorrowedLine;
+use gk_gherkin::text::{begins, is_blank, trim};
+
+/// The two fences of doc strings. (Cucumber's Gherkin reference: doc strings)
+#[derive(Clone, Copy)]
+pub enum TextFence {
+    Quotes,
+    Backticks,
+}
+
+/// What a line is, as far as it says where the next one stands.
+#[derive(Clone, Copy)]
+pub enum LineKind {
+    /// A blank line or a comment.
+    Ignored,
+    /// The heading of a background or a scenario, under which steps stand.
+    StepsHeading,
+    /// Another heading.
+    OtherHeading,
+    Step,
+    Fence(TextFence),
+    /// A line that is nothing else, and so part of a description.
+    Description,
+    /// Tags or a row.
+    Other,
+}
+
+/// Where a line stands.
+#[derive(Clone, Copy)]
+pub enum Standing {
+    /// Where no step can stand.
+    Elsewhere,
+    /// Under the heading of a background or a scenario.
+    AmongSteps,
+    /// There, with nothing but blank lines and comments since a step.
+    AfterStep,
+    /// In a doc string.
+    InText(TextFence),
+}
+
+fn begins_word(text: &str, word: &str) -> bool
+    ensures { result
+        ≡ (begins text.now word.now && is_blank (slice_index text.now (length word.now))) }
+{
+    begins(text, word) && (word.len() < text.len() && is_blank(text.as_bytes()[word.len()]))
+}
+
+fn begins_as_step(text: &str) -> bool
+    ensures { result ≡ words.begins_as_step text.now }
+{
+    begins_word(text, "Given")
+        || begins_word(text, "When")
+        || begins_word(text, "Then")
+        || begins_word(text, "And")
+        || begins_word(text, "But")
+        || begins_word(text, "*")
+}
+
+fn begins_as_scenario(text: &str) -> bool
+    ensures { result ≡ words.begins_with_one text.now words.scenario_keywords }
+{
+    begins(text, "Scenario:")
+        || begins(text, "Example:")
+        || begins(text, "Scenario Outline:")
+        || begins(text, "Scenario Template:")
+}
+
+fn begins_as_examples(text: &str) -> bool
+    ensures { result ≡ words.begins_with_one text.now words.examples_keywords }
+{
+    begins(text, "Examples:") || begins(text, "Scenarios:")
+}
+
+// The kind of a trimmed text that is neither blank, comment nor tags.
+#[tactic(auto, unfolding(gk_gherkin::specs::Class::class_of_words))]
+fn kind_of_words(text: &str) -> LineKind
+    ensures { result ≡ spec.kind_of (words.class_of_words text.now) }
+{
+    if begins(text, "Feature:") {
+        LineKind::OtherHeading
+    } else if begins(text, "Rule:") {
+        LineKind::OtherHeading
+    } else if begins(text, "Background:") {
+        LineKind::StepsHeading
+    } else if begins_as_scenario(text) {
+        LineKind::StepsHeading
+    } else if begins_as_examples(text) {
+        LineKind::OtherHeading
+    } else if begins_as_step(text) {
+        LineKind::Step
+    } else if begins(text, "|") {
+        LineKind::Other
+    } else if begins(text, "\"\"\"") {
+        LineKind::Fence(TextFence::Quotes)
+    } else if begins(text, "```") {
+        LineKind::Fence(TextFence::Backticks)
+    } else {
+        LineKind::Description
+    }
+}
+
+#[tactic(auto, unfolding(gk_gherkin::specs::Class::class_of))]
+fn kind_of_text(text: &str) -> LineKind
+    ensures { result ≡ spec.kind_of (words.class_of text.now) }
+{
+    if text.is_empty() {
+        LineKind::Ignored
+    } else if begins(text, "#") {
+        LineKind::Ignored
+    } else if begins(text, "@") {
+        LineKind::Other
+    } else {
+        kind_of_words(text)
+    }
+}
+
+/// What a line is outside of doc strings.
+#[tactic(auto, unfolding(gk_gherkin::specs::Class::class))]
+pub fn line_kind(line: &BorrowedLine<'_>) -> LineKind
+    ensures { result ≡ spec.line_kind (borrowed_value line.now) }
+{
+    kind_of_text(trim(line.text))
+}
+
+fn fence_text(fence: TextFence) -> &'static str
+    ensures { result.now ≡ words.fence_text (spec.fence_of fence) }
+{
+    match fence {
+        TextFence::Quotes => "\"\"\"",
+        TextFence::Backticks => "```",
+    }
+}
+
+// Whether a line closes the doc string that a fence opened.
+#[tactic(auto, unfolding(gk_gherkin::specs::DocStrings::closes))]
+fn closes(fence: TextFence, line: &BorrowedLine<'_>) -> bool
+    ensures { result ≡ texts.closes (spec.fence_of fence) (borrowed_value line.now) }
+{
+    let text = trim(line.text);
+    begins(text, fence_text(fence)) && text.len() == 3
+}
+
+// Where the line after one of this kind stands, outside of doc strings.
+fn after_kind(standing: Standing, kind: LineKind) -> Standing
+    ensures { result ≡ spec.after_kind standing kind }
+{
+    match kind {
+        LineKind::Ignored => standing,
+        LineKind::StepsHeading => Standing::AmongSteps,
+        LineKind::OtherHeading => Standing::Elsewhere,
+        LineKind::Step => match standing {
+            Standing::Elsewhere => Standing::Elsewhere,
+            _ => Standing::AfterStep,
+        },
+        LineKind::Fence(fence) => match standing {
+            Standing::Elsewhere => Standing::Elsewhere,
+            Standing::AfterStep => Standing::InText(fence),
+            _ => Standing::AmongSteps,
+        },
+        _ => match standing {
+            Standing::Elsewhere => Standing::Elsewhere,
+            _ => Standing::AmongSteps,
+        },
+    }
+}
+
+/// Where the next line stands.
+#[tactic(auto, unfolding(crate::specs::Standing::after))]
+pub fn after(standing: Standing, line: &BorrowedLine<'_>) -> Standing
+    ensures { result ≡ spec.after standing (borrowed_value line.now) }
+{
+    match standing {
+        Standing::InText(fence) => {
+            if closes(fence, line) {
+                Standing::AmongSteps
+            } else {
+                Standing::InText(fence)
+            }
+        }
+        _ => after_kind(standing, line_kind(line)),
+    }
+}
