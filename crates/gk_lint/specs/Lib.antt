@@ -5,3 +5,4 @@ pub mod Finding
 pub mod Standing
 pub mod Misspelt
 pub mod Vanishing
+pub mod FeatureFile

@@ -3,11 +3,14 @@
 //! it says is this project's profile.
 #![tactic(auto)]
 
+mod feature_file;
 mod finding;
 mod keywords;
 mod likeness;
 mod misspelt;
 mod standing;
+mod vanishing;
 
+pub use feature_file::lint_feature_file;
 pub use finding::{Finding, FindingKind};
 pub use keywords::Keyword;

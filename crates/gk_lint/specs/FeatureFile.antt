@@ -1,0 +1,20 @@
+-- What is found in a feature file.
+use Rattle.std.specs.Prelude.{◌≡◌, ◌⊎◌, ℕ, List, ◌++◌, Option}
+use Rattle.gk_gherkin.specs.Lines.{Lines, lines_of}
+use Rattle.gk_gherkin.specs.Feature.{FeatureValue}
+use Rattle.gk_gherkin.specs.Grammar.{Reads}
+use Rattle.gk_lint.specs.declared.finding.Finding.{Finding}
+use Rattle.gk_lint.specs.declared.standing.Standing.TheVariants.{Elsewhere}
+use Rattle.gk_lint.specs.Finding.{AreInOrder}
+use Rattle.gk_lint.specs.Vanishing.{vanishing}
+use Rattle.gk_lint.specs.Misspelt.{misspelt}
+
+-- What is found of a file that has this feature, or none, and these lines: what vanishes of the feature, and the misspelt lines.
+abbrev pub file_findings : Option FeatureValue → Lines → List Finding
+file_findings feature lines = vanishing feature ++ misspelt Elsewhere lines
+
+-- Findings that are all those of a file of these bytes, in the order of their lines.
+pub record AreOfFile (bytes : List ℕ) (findings : List Finding) : Type 0 where
+  pub feature : Option FeatureValue
+  pub reads : Reads (lines_of bytes) feature
+  pub in_order : AreInOrder (file_findings feature (lines_of bytes)) findings

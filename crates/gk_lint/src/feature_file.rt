@@ -1,0 +1,50 @@
+//! What is found in a feature file.
+ghost use Rattle.std.specs.Prelude.{◌≡◌, ◌≤◌, ◌⊎◌, length, option_map, IfOk, IfErr};
+ghost use Rattle.std.specs.Str.Lines.{lines};
+ghost use Rattle.gk_gherkin.specs.Lines.{numbered_from};
+ghost use Rattle.gk_gherkin.specs.Feature.{feature_value};
+ghost use Rattle.gk_gherkin.specs.ReadFault.{FaultSays, FeatureFault};
+ghost use Rattle.gk_gherkin.specs.declared.read_fault.ReadFault.TheVariants.{Memory};
+ghost use Rattle.gk_lint.specs.Finding.{AreInOrder};
+ghost use Rattle.gk_lint.specs.FeatureFile as spec;
+ghost use Rattle.gk_lint.specs.FeatureFile.{AreOfFile};
+
+use crate::finding::{Finding, in_order};
+use crate::misspelt::add_misspelt;
+use crate::vanishing::add_vanishing;
+use gk_gherkin::{Feature, LIMIT, ReadFault, read_feature, text_of};
+use std::alloc::{AllocError, Global};
+
+// What is found of a file with this feature, or none, and this text.
+fn findings_of(
+    alloc: Global,
+    feature: &Option<Feature>,
+    text: &str,
+) -> Result<Vec<Finding>, AllocError>
+    requires { length text.now ≤ LIMIT }
+    ensures { IfOk result (λ findings. AreInOrder (spec.file_findings
+        (option_map feature_value feature.now) (numbered_from 1 (lines text.now)))
+        findings.items) }
+{
+    let mut findings = Vec::new(alloc);
+    add_vanishing(&mut findings, feature)?;
+    add_misspelt(&mut findings, text)?;
+    in_order(findings)
+}
+
+/// What is found in a feature file of these bytes, in the order of lines: that it has no feature, that
+/// the feature has no scenarios, scenarios without steps, outlines without rows, and the lines of
+/// descriptions that begin like a keyword.
+///
+/// A file that doesn't read is the fault that `read_feature` returns of it. `Memory` comes only where
+/// a growth was refused.
+pub fn lint_feature_file(alloc: Global, bytes: &[u8]) -> Result<Vec<Finding>, ReadFault>
+    // All findings are answered, and nothing else.
+    ensures found { IfOk result (λ findings. AreOfFile bytes.now findings.items) }
+    // Which fault it is.
+    ensures fault { IfErr result (λ e. (e ≡ Memory) ⊎ FaultSays FeatureFault e bytes.now) }
+{
+    let feature = read_feature(alloc, bytes)?;
+    let text = text_of(bytes)?;
+    Ok(findings_of(alloc, &feature, text)?)
+}
