@@ -2,3 +2,4 @@ pub mod Letters
 pub mod LineOrder
 pub mod MisspeltLoop
 pub mod WorkedLikeness
+pub mod WorkedFindings

@@ -1,0 +1,95 @@
+-- What is found in small files, worked by computation.
+use Rattle.std.proofs.Common.{codes, ◌≡◌, List, [], ◌∷◌, Option, Some, None, refl}
+use Rattle.gk_gherkin.specs.declared.feature.StepType.TheVariants.{Given}
+use Rattle.gk_gherkin.specs.Class.{class, class_of, class_of_words}
+use Rattle.gk_gherkin.specs.DocStrings.{closes}
+use Rattle.gk_gherkin.specs.Feature.{Empty, StepValue, RowValue, ExamplesValue, ScenarioValue, RuleValue, FeatureValue}
+use Rattle.gk_gherkin.specs.Lines.{Lines, line_at}
+use Rattle.gk_lint.specs.declared.finding.Finding.{Finding}
+use Rattle.gk_lint.specs.declared.finding.FindingKind.TheVariants.{FileWithoutFeature, FeatureWithoutScenarios, ScenarioWithoutSteps, OutlineWithoutRows, LikeKeyword}
+use Rattle.gk_lint.specs.declared.keywords.Keyword.TheVariants as keywords
+use Rattle.gk_lint.specs.declared.standing.Standing.TheVariants.{Elsewhere}
+use Rattle.gk_lint.specs.Finding.{at_line}
+use Rattle.gk_lint.specs.Likeness.{same_letters, common_len, differ_at_first, is_one_off, spelt_heading, like}
+use Rattle.gk_lint.specs.Standing.{after}
+use Rattle.gk_lint.specs.Misspelt.{misspelt, misspelt_at}
+use Rattle.gk_lint.specs.Vanishing.{of_scenario, of_feature, vanishing}
+
+-- Two misspelt lines; the same words in a doc string are content.
+with_text : Lines
+with_text =
+    line_at 1 (codes "Feature: The lamp")
+    ∷ line_at 2 (codes "  Scenaro: old")
+    ∷ line_at 3 (codes "  Scenario: new")
+    ∷ line_at 4 (codes "    when it is dark")
+    ∷ line_at 5 (codes "    Given a note")
+    ∷ line_at 6 (codes "")
+    ∷ line_at 7 (codes "      ```")
+    ∷ line_at 8 (codes "      Scenaro: old")
+    ∷ line_at 9 (codes "      ```")
+    ∷ []
+
+misspelt_lines : misspelt Elsewhere with_text ≡ at_line 2 (LikeKeyword keywords.Scenario) ∷ at_line 4 (LikeKeyword keywords.When) ∷ []
+unfolding with_text misspelt_at after closes class class_of class_of_words like spelt_heading is_one_off differ_at_first common_len same_letters
+misspelt_lines = refl
+
+-- In a description a fence opens nothing, and neither does one after a line that only looks like a step.
+with_fences : Lines
+with_fences =
+    line_at 1 (codes "Feature: The lamp")
+    ∷ line_at 2 (codes "  Given light")
+    ∷ line_at 3 (codes "  ```")
+    ∷ line_at 4 (codes "  Rul: one")
+    ∷ []
+
+misspelt_in_description : misspelt Elsewhere with_fences ≡ at_line 4 (LikeKeyword keywords.Rule) ∷ []
+unfolding with_fences misspelt_at after closes class class_of class_of_words like spelt_heading is_one_off differ_at_first common_len same_letters
+misspelt_in_description = refl
+
+a_step : StepValue
+a_step = record { keyword = codes "Given"; step_type = Given; text = codes "a lamp"; block = Empty; line = 4 }
+
+plain : List StepValue → ScenarioValue
+plain steps = record { keyword = codes "Scenario"; name = codes "S"; line = 3; tags = []; steps = steps; examples = [] }
+
+with_steps : of_scenario (plain (a_step ∷ [])) ≡ []
+unfolding of_scenario plain
+with_steps = refl
+
+without_steps : of_scenario (plain []) ≡ at_line 3 ScenarioWithoutSteps ∷ []
+unfolding of_scenario plain
+without_steps = refl
+
+-- An outline with a header and no rows; and one, by its keyword, with nothing.
+header_alone : ExamplesValue
+header_alone = record { name = []; line = 9; tags = []; header = codes "n" ∷ []; rows = [] }
+
+outline : List StepValue → List ExamplesValue → ScenarioValue
+outline steps examples = record { keyword = codes "Scenario Outline"; name = codes "O"; line = 7; tags = []; steps = steps; examples = examples }
+
+without_rows : of_scenario (outline (a_step ∷ []) (header_alone ∷ [])) ≡ at_line 7 OutlineWithoutRows ∷ []
+unfolding of_scenario outline header_alone
+without_rows = refl
+
+with_nothing : of_scenario (outline [] []) ≡ at_line 7 ScenarioWithoutSteps ∷ at_line 7 OutlineWithoutRows ∷ []
+unfolding of_scenario outline
+with_nothing = refl
+
+with_a_row : of_scenario (outline (a_step ∷ []) (record header_alone { rows = record { line = 10; cells = codes "1" ∷ [] } ∷ [] } ∷ [])) ≡ []
+unfolding of_scenario outline header_alone
+with_a_row = refl
+
+-- A feature with one rule, with scenarios or none.
+feature : List ScenarioValue → FeatureValue
+feature scenarios = record { name = codes "F"; line = 1; tags = []; background = None; scenarios = []; rules = record { name = codes "R"; line = 2; tags = []; background = None; scenarios = scenarios } ∷ [] }
+
+no_scenarios : vanishing (Some (feature [])) ≡ at_line 1 FeatureWithoutScenarios ∷ []
+unfolding of_feature of_scenario feature
+no_scenarios = refl
+
+scenario_in_rule : vanishing (Some (feature (plain [] ∷ []))) ≡ at_line 3 ScenarioWithoutSteps ∷ []
+unfolding of_feature of_scenario feature plain
+scenario_in_rule = refl
+
+no_feature : vanishing None ≡ at_line 1 FileWithoutFeature ∷ []
+no_feature = refl
