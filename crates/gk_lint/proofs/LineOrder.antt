@@ -1,5 +1,5 @@
 -- A stable sort by lines keeps the findings of each line in their order.
-use Rattle.std.proofs.Common.{◌≡◌, ℕ, Bool, not, ◌&&◌, ◌==◌, List, filter, sym, ◌∙◌, arith, Bor}
+use Rattle.std.proofs.Common.{◌≡◌, ℕ, not, ◌&&◌, ◌==◌, List, filter, sym, ◌∙◌, arith, Bor}
 use Rattle.std.specs.List.Sorted.{ties, IsStableByKey}
 use Rattle.std.specs.Ordering.{nat_cmp, is_lt}
 use Rattle.std.specs.Fn.{Called, ComputesKey}

@@ -1,11 +1,10 @@
 -- What is found in small files, worked by computation.
-use Rattle.std.proofs.Common.{codes, ◌≡◌, List, [], ◌∷◌, Option, Some, None, refl}
+use Rattle.std.proofs.Common.{codes, ◌≡◌, List, [], ◌∷◌, Some, None, refl}
 use Rattle.gk_gherkin.specs.declared.feature.StepType.TheVariants.{Given}
 use Rattle.gk_gherkin.specs.Class.{class, class_of, class_of_words}
 use Rattle.gk_gherkin.specs.DocStrings.{closes}
-use Rattle.gk_gherkin.specs.Feature.{Empty, StepValue, RowValue, ExamplesValue, ScenarioValue, RuleValue, FeatureValue}
+use Rattle.gk_gherkin.specs.Feature.{Empty, StepValue, ExamplesValue, ScenarioValue, FeatureValue}
 use Rattle.gk_gherkin.specs.Lines.{Lines, line_at}
-use Rattle.gk_lint.specs.declared.finding.Finding.{Finding}
 use Rattle.gk_lint.specs.declared.finding.FindingKind.TheVariants.{FileWithoutFeature, FeatureWithoutScenarios, ScenarioWithoutSteps, OutlineWithoutRows, LikeKeyword}
 use Rattle.gk_lint.specs.declared.keywords.Keyword.TheVariants as keywords
 use Rattle.gk_lint.specs.declared.standing.Standing.TheVariants.{Elsewhere}

@@ -1,5 +1,5 @@
 -- What is found in a feature file.
-use Rattle.std.specs.Prelude.{◌≡◌, ◌⊎◌, ℕ, List, ◌++◌, Option}
+use Rattle.std.specs.Prelude.{ℕ, List, ◌++◌, Option}
 use Rattle.gk_gherkin.specs.Lines.{Lines, lines_of}
 use Rattle.gk_gherkin.specs.Feature.{FeatureValue}
 use Rattle.gk_gherkin.specs.Grammar.{Reads}

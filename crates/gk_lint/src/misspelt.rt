@@ -21,7 +21,10 @@ fn add_like(findings: &mut Vec<Finding>, line: &BorrowedLine<'_>) -> Result<(), 
     if let LineKind::Description = line_kind(line) {
         if let Some(keyword) = like(trim(line.text)) {
             let kind = FindingKind::LikeKeyword(keyword);
-            findings.push(Finding { line: line.place.line, kind })?;
+            findings.push(Finding {
+                line: line.place.line,
+                kind,
+            })?;
         }
     }
     Ok(())

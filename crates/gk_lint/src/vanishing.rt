@@ -61,10 +61,7 @@ fn add_of_scenario(findings: &mut Vec<Finding>, scenario: &Scenario) -> Result<(
     add_if(findings, no_rows, line, FindingKind::OutlineWithoutRows)
 }
 
-fn add_of_scenarios(
-    findings: &mut Vec<Finding>,
-    scenarios: &[Scenario],
-) -> Result<(), AllocError>
+fn add_of_scenarios(findings: &mut Vec<Finding>, scenarios: &[Scenario]) -> Result<(), AllocError>
     ensures { OnOk result (findings.new.items
         ≡ findings.old.items ++ spec.of_scenarios (map scenario_value scenarios.now)) }
 {
@@ -107,7 +104,12 @@ fn add_of_feature(findings: &mut Vec<Finding>, feature: &Feature) -> Result<(), 
         ≡ findings.old.items ++ spec.of_feature (feature_value feature.now)) }
 {
     let none = feature.scenarios.is_empty() && have_no_scenarios(&feature.rules);
-    add_if(findings, none, feature.line, FindingKind::FeatureWithoutScenarios)?;
+    add_if(
+        findings,
+        none,
+        feature.line,
+        FindingKind::FeatureWithoutScenarios,
+    )?;
     add_of_scenarios(findings, &feature.scenarios)?;
     add_of_rules(findings, &feature.rules)
 }

@@ -1,4 +1,4 @@
-use Rattle.std.proofs.Common.{◌≡◌, ℕ, List, option_map, subst, sym}
+use Rattle.std.proofs.Common.{ℕ, List, option_map, subst}
 use Rattle.std.specs.Str.Lines.{lines}
 use Rattle.gk_gherkin.specs.Lines.{numbered_from}
 use Rattle.gk_gherkin.specs.Feature.{feature_value}

@@ -1,12 +1,11 @@
-use Rattle.std.proofs.Common.{◌≡◌, ℕ, ◌+◌, ◌++◌, List, length, drop, sym, ap, ◌∙◌, subst, arith}
+use Rattle.std.proofs.Common.{◌≡◌, ℕ, ◌++◌, List, length, sym, ap, ◌∙◌, arith}
 use Rattle.std.proofs.lemmas.Iterator.Splits.{YieldsList-from_lines}
 use Rattle.std.proofs.lemmas.Iterator.Consumers.{YieldsList-turn, YieldsList-end}
 use Rattle.std.proofs.lemmas.List.{length_push}
 use Rattle.std.specs.Str.Lines.{lines}
-use Rattle.gk_gherkin.specs.Lines.{LineValue, numbered_from, line_at}
-use Rattle.gk_lint.specs.declared.finding.Finding.{Finding}
+use Rattle.gk_gherkin.specs.Lines.{LineValue, line_at}
 use Rattle.gk_lint.specs.Standing.{after}
-use Rattle.gk_lint.specs.Misspelt.{misspelt, misspelt_at}
+use Rattle.gk_lint.specs.Misspelt.{misspelt_at}
 use Rattle.gk_lint.proofs.MisspeltLoop.{one_line, no_line}
 use Rattle.gk_lint.proofs.misspelt.add_misspelt.Goals as goal
 
