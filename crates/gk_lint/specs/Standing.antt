@@ -1,11 +1,12 @@
 -- Where a line stands: among steps, in a doc string or elsewhere.
-use Rattle.std.specs.Prelude.{if◌then◌else◌}
+use Rattle.std.specs.Prelude.{ℕ, List, if◌then◌else◌}
 use Rattle.gk_gherkin.specs.declared.class.Class.{Class}
 use Rattle.gk_gherkin.specs.declared.class.Class.TheVariants as classes
 use Rattle.gk_gherkin.specs.declared.class.Fence.{Fence}
 use Rattle.gk_gherkin.specs.declared.class.Fence.TheVariants as fences
 use Rattle.gk_gherkin.specs.Lines.{LineValue}
-use Rattle.gk_gherkin.specs.Class.{class}
+use Rattle.gk_gherkin.specs.Class.{class, fence_text}
+use Rattle.gk_gherkin.specs.Text.{begins}
 use Rattle.gk_gherkin.specs.DocStrings.{closes}
 use Rattle.gk_lint.specs.declared.standing.TextFence.{TextFence}
 use Rattle.gk_lint.specs.declared.standing.TextFence.TheVariants.{Quotes, Backticks}
@@ -35,6 +36,12 @@ kind_of classes.RowLine = kinds.Other
 kind_of (classes.FenceLine fences.Quotes) = kinds.Fence Quotes
 kind_of (classes.FenceLine fences.Backticks) = kinds.Fence Backticks
 kind_of classes.Other = Description
+
+-- What a line with this trimmed text is where it begins neither as a heading nor as a step, a row, a comment or tags: a fence, or else a description.
+abbrev pub kind_of_rest : List ℕ → LineKind
+kind_of_rest text =
+    if begins text (fence_text fences.Quotes) then kinds.Fence Quotes else
+    (if begins text (fence_text fences.Backticks) then kinds.Fence Backticks else Description)
 
 -- What a line is outside of doc strings.
 abbrev pub line_kind : LineValue → LineKind

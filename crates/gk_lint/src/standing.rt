@@ -4,8 +4,11 @@ ghost use Rattle.gk_gherkin.specs.Text.{begins, is_blank};
 ghost use Rattle.gk_gherkin.specs.Lines.{borrowed_value};
 ghost use Rattle.gk_gherkin.specs.Class as words;
 ghost use Rattle.gk_gherkin.specs.DocStrings as texts;
+ghost use Rattle.std.specs.List.{list_any};
+ghost use Rattle.gk_lint.specs.Keywords.{keyword_text};
 ghost use Rattle.gk_lint.specs.Standing as spec;
 
+use crate::keywords::{Keyword, STEP_WORDS};
 use gk_gherkin::BorrowedLine;
 use gk_gherkin::text::{begins, is_blank, trim};
 
@@ -53,15 +56,17 @@ fn begins_word(text: &str, word: &str) -> bool
     begins(text, word) && (word.len() < text.len() && is_blank(text.as_bytes()[word.len()]))
 }
 
+fn begins_with_one_word(text: &str, some: &[Keyword]) -> bool
+    ensures { result ≡ list_any (λ k. begins text.now (keyword_text k)
+        && is_blank (slice_index text.now (length (keyword_text k)))) some.now }
+{
+    some.iter().any(|word| begins_word(text, word.text()))
+}
+
 fn begins_as_step(text: &str) -> bool
     ensures { result ≡ words.begins_as_step text.now }
 {
-    begins_word(text, "Given")
-        || begins_word(text, "When")
-        || begins_word(text, "Then")
-        || begins_word(text, "And")
-        || begins_word(text, "But")
-        || begins_word(text, "*")
+    begins_with_one_word(text, &STEP_WORDS)
 }
 
 fn begins_as_scenario(text: &str) -> bool
@@ -73,32 +78,11 @@ fn begins_as_scenario(text: &str) -> bool
         || begins(text, "Scenario Template:")
 }
 
-fn begins_as_examples(text: &str) -> bool
-    ensures { result ≡ words.begins_with_one text.now words.examples_keywords }
+// The kind of a text that begins neither as a heading nor as a step.
+fn kind_of_rest(text: &str) -> LineKind
+    ensures { result ≡ spec.kind_of_rest text.now }
 {
-    begins(text, "Examples:") || begins(text, "Scenarios:")
-}
-
-// The kind of a trimmed text that is neither blank, comment nor tags.
-#[tactic(auto, unfolding(gk_gherkin::specs::Class::class_of_words))]
-fn kind_of_words(text: &str) -> LineKind
-    ensures { result ≡ spec.kind_of (words.class_of_words text.now) }
-{
-    if begins(text, "Feature:") {
-        LineKind::OtherHeading
-    } else if begins(text, "Rule:") {
-        LineKind::OtherHeading
-    } else if begins(text, "Background:") {
-        LineKind::StepsHeading
-    } else if begins_as_scenario(text) {
-        LineKind::StepsHeading
-    } else if begins_as_examples(text) {
-        LineKind::OtherHeading
-    } else if begins_as_step(text) {
-        LineKind::Step
-    } else if begins(text, "|") {
-        LineKind::Other
-    } else if begins(text, "\"\"\"") {
+    if begins(text, "\"\"\"") {
         LineKind::Fence(TextFence::Quotes)
     } else if begins(text, "```") {
         LineKind::Fence(TextFence::Backticks)
@@ -107,13 +91,33 @@ fn kind_of_words(text: &str) -> LineKind
     }
 }
 
+// The kind of a trimmed text that is neither blank, comment nor tags.
+#[tactic(auto, unfolding(gk_gherkin::specs::Class::class_of_words))]
+fn kind_of_words(text: &str) -> LineKind
+    ensures { result ≡ spec.kind_of (words.class_of_words text.now) }
+{
+    if begins(text, "Feature:") || begins(text, "Rule:") {
+        LineKind::OtherHeading
+    } else if begins(text, "Background:") {
+        LineKind::StepsHeading
+    } else if begins_as_scenario(text) {
+        LineKind::StepsHeading
+    } else if begins(text, "Examples:") || begins(text, "Scenarios:") {
+        LineKind::OtherHeading
+    } else if begins_as_step(text) {
+        LineKind::Step
+    } else if begins(text, "|") {
+        LineKind::Other
+    } else {
+        kind_of_rest(text)
+    }
+}
+
 #[tactic(auto, unfolding(gk_gherkin::specs::Class::class_of))]
 fn kind_of_text(text: &str) -> LineKind
     ensures { result ≡ spec.kind_of (words.class_of text.now) }
 {
-    if text.is_empty() {
-        LineKind::Ignored
-    } else if begins(text, "#") {
+    if text.is_empty() || begins(text, "#") {
         LineKind::Ignored
     } else if begins(text, "@") {
         LineKind::Other

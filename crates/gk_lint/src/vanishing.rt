@@ -1,5 +1,6 @@
 //! What of a feature would vanish in silence.
 ghost use Rattle.std.specs.Prelude.{◌≡◌, ◌++◌, map, option_map, OnOk};
+ghost use Rattle.std.specs.List.{list_all};
 ghost use Rattle.gk_gherkin.specs.Feature.{examples_value, scenario_value, rule_value, feature_value};
 ghost use Rattle.gk_select.specs.Outline as outlines;
 ghost use Rattle.gk_lint.specs.Vanishing as spec;
@@ -87,15 +88,17 @@ fn has_no_scenarios(rule: &Rule) -> bool
     rule.scenarios.is_empty()
 }
 
+// Whether each of some rules has no scenario.
+fn lack_scenarios(rules: &[Rule]) -> bool
+    ensures { result ≡ list_all (λ r. spec.has_no_scenarios (rule_value r)) rules.now }
+{
+    rules.iter().all(|rule| has_no_scenarios(rule))
+}
+
 fn have_no_scenarios(rules: &[Rule]) -> bool
     ensures { result ≡ spec.have_no_scenarios (map rule_value rules.now) }
 {
-    for rule in rules {
-        if !has_no_scenarios(rule) {
-            return false;
-        }
-    }
-    true
+    lack_scenarios(rules)
 }
 
 #[tactic(auto, unfolding(crate::specs::Vanishing::of_feature))]
