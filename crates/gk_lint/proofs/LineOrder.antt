@@ -7,9 +7,9 @@ use Rattle.std.proofs.lemmas.Fn.{always_returns_same}
 use Rattle.std.proofs.lemmas.List.Elements.{filter_agree}
 use Rattle.std.proofs.lemmas.Bool.Decides.{nat_tests}
 use denote.Param.Members.{Mut}
-use Rattle.gk_lint.specs.declared.finding.Finding.{Finding}
-use Rattle.gk_lint.specs.declared.finding.FindingKind.TheVariants.{FileWithoutFeature}
-use Rattle.gk_lint.specs.Finding.{at_line}
+use Rattle.gk_lint.specs.declared.findings.Finding.{Finding}
+use Rattle.gk_lint.specs.declared.findings.FindingKind.TheVariants.{FileWithoutFeature}
+use Rattle.gk_lint.specs.Findings.{at_line}
 
 -- Two numbers neither of which is below the other are one.
 tie_is_one : (m n : ℕ) → (not (is_lt (nat_cmp m n)) && not (is_lt (nat_cmp n m))) ≡ (n == m)

@@ -3,7 +3,7 @@ use Rattle.std.proofs.Common.{◌≡◌, ℕ, suc, ◌+◌, ◌<◌, ◌≤◌, 
 use Rattle.std.proofs.Math.Seq.{drop-cons}
 use Rattle.std.proofs.lemmas.List.{drop_all, append-nil}
 use Rattle.gk_gherkin.specs.Lines.{LineValue, line_at, numbered_from}
-use Rattle.gk_lint.specs.declared.finding.Finding.{Finding}
+use Rattle.gk_lint.specs.declared.findings.Finding.{Finding}
 use Rattle.gk_lint.specs.declared.standing.Standing.{Standing}
 use Rattle.gk_lint.specs.Standing.{after}
 use Rattle.gk_lint.specs.Misspelt.{misspelt, misspelt_at}

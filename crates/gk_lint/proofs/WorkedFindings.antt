@@ -5,10 +5,10 @@ use Rattle.gk_gherkin.specs.Class.{class, class_of, class_of_words}
 use Rattle.gk_gherkin.specs.DocStrings.{closes}
 use Rattle.gk_gherkin.specs.Feature.{Empty, StepValue, ExamplesValue, ScenarioValue, FeatureValue}
 use Rattle.gk_gherkin.specs.Lines.{Lines, line_at}
-use Rattle.gk_lint.specs.declared.finding.FindingKind.TheVariants.{FileWithoutFeature, FeatureWithoutScenarios, ScenarioWithoutSteps, OutlineWithoutRows, LikeKeyword}
+use Rattle.gk_lint.specs.declared.findings.FindingKind.TheVariants.{FileWithoutFeature, FeatureWithoutScenarios, ScenarioWithoutSteps, OutlineWithoutRows, LikeKeyword}
 use Rattle.gk_lint.specs.declared.keywords.Keyword.TheVariants as keywords
 use Rattle.gk_lint.specs.declared.standing.Standing.TheVariants.{Elsewhere}
-use Rattle.gk_lint.specs.Finding.{at_line}
+use Rattle.gk_lint.specs.Findings.{at_line}
 use Rattle.gk_lint.specs.Likeness.{same_letters, common_len, differ_at_first, is_one_off, spelt_heading, like}
 use Rattle.gk_lint.specs.Standing.{after}
 use Rattle.gk_lint.specs.Misspelt.{misspelt, misspelt_at}

@@ -3,9 +3,9 @@ use Rattle.std.specs.Prelude.{ℕ, List, ◌++◌, Option}
 use Rattle.gk_gherkin.specs.Lines.{Lines, lines_of}
 use Rattle.gk_gherkin.specs.Feature.{FeatureValue}
 use Rattle.gk_gherkin.specs.Grammar.{Reads}
-use Rattle.gk_lint.specs.declared.finding.Finding.{Finding}
+use Rattle.gk_lint.specs.declared.findings.Finding.{Finding}
 use Rattle.gk_lint.specs.declared.standing.Standing.TheVariants.{Elsewhere}
-use Rattle.gk_lint.specs.Finding.{AreInOrder}
+use Rattle.gk_lint.specs.Findings.{AreInOrder}
 use Rattle.gk_lint.specs.Vanishing.{vanishing}
 use Rattle.gk_lint.specs.Misspelt.{misspelt}
 

@@ -1,7 +1,7 @@
 -- What is found in the inputs of a run before it is run, in reading order. A definition whose comment names no source is this project's profile.
 pub mod Keywords
 pub mod Likeness
-pub mod Finding
+pub mod Findings
 pub mod Standing
 pub mod Misspelt
 pub mod Vanishing

@@ -3,13 +3,13 @@ use Rattle.std.specs.Prelude.{List, [], ◌∷◌, ◌++◌, Option, Some, None}
 use Rattle.gk_gherkin.specs.Lines.{LineValue, Lines}
 use Rattle.gk_gherkin.specs.Text.{trim}
 use Rattle.gk_lint.specs.declared.keywords.Keyword.{Keyword}
-use Rattle.gk_lint.specs.declared.finding.Finding.{Finding}
-use Rattle.gk_lint.specs.declared.finding.FindingKind.TheVariants.{LikeKeyword}
+use Rattle.gk_lint.specs.declared.findings.Finding.{Finding}
+use Rattle.gk_lint.specs.declared.findings.FindingKind.TheVariants.{LikeKeyword}
 use Rattle.gk_lint.specs.declared.standing.LineKind.{LineKind}
 use Rattle.gk_lint.specs.declared.standing.LineKind.TheVariants.{Description}
 use Rattle.gk_lint.specs.declared.standing.Standing.{Standing}
 use Rattle.gk_lint.specs.declared.standing.Standing.TheVariants.{InText}
-use Rattle.gk_lint.specs.Finding.{at_line}
+use Rattle.gk_lint.specs.Findings.{at_line}
 use Rattle.gk_lint.specs.Likeness.{like}
 use Rattle.gk_lint.specs.Standing.{line_kind, after}
 

@@ -3,10 +3,10 @@ use Rattle.std.specs.Prelude.{ℕ, Bool, ◌==◌, ◌&&◌, List, [], ◌∷◌
 use Rattle.std.specs.List.{list_all}
 use Rattle.gk_gherkin.specs.Feature.{ExamplesValue, ScenarioValue, RuleValue, FeatureValue}
 use Rattle.gk_select.specs.Outline.{is_outline}
-use Rattle.gk_lint.specs.declared.finding.Finding.{Finding}
-use Rattle.gk_lint.specs.declared.finding.FindingKind.{FindingKind}
-use Rattle.gk_lint.specs.declared.finding.FindingKind.TheVariants.{FileWithoutFeature, FeatureWithoutScenarios, ScenarioWithoutSteps, OutlineWithoutRows}
-use Rattle.gk_lint.specs.Finding.{at_line}
+use Rattle.gk_lint.specs.declared.findings.Finding.{Finding}
+use Rattle.gk_lint.specs.declared.findings.FindingKind.{FindingKind}
+use Rattle.gk_lint.specs.declared.findings.FindingKind.TheVariants.{FileWithoutFeature, FeatureWithoutScenarios, ScenarioWithoutSteps, OutlineWithoutRows}
+use Rattle.gk_lint.specs.Findings.{at_line}
 
 -- A finding at a line where a test holds, and else none.
 abbrev pub found_if : Bool → ℕ → FindingKind → List Finding

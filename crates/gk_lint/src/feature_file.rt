@@ -5,11 +5,11 @@ ghost use Rattle.gk_gherkin.specs.Lines.{numbered_from};
 ghost use Rattle.gk_gherkin.specs.Feature.{feature_value};
 ghost use Rattle.gk_gherkin.specs.ReadFault.{FaultSays, FeatureFault};
 ghost use Rattle.gk_gherkin.specs.declared.read_fault.ReadFault.TheVariants.{Memory};
-ghost use Rattle.gk_lint.specs.Finding.{AreInOrder};
+ghost use Rattle.gk_lint.specs.Findings.{AreInOrder};
 ghost use Rattle.gk_lint.specs.FeatureFile as spec;
 ghost use Rattle.gk_lint.specs.FeatureFile.{AreOfFile};
 
-use crate::finding::{Finding, in_order};
+use crate::findings::{Finding, in_order};
 use crate::misspelt::add_misspelt;
 use crate::vanishing::add_vanishing;
 use gk_gherkin::{Feature, LIMIT, ReadFault, read_feature, text_of};

@@ -22,6 +22,10 @@ pub enum Keyword {
     Star,
 }
 
+const OUTLINE: &str = "Scenario Outline";
+
+const TEMPLATE: &str = "Scenario Template";
+
 /// The keywords of headings. One that another begins with comes after it.
 pub const HEADINGS: [Keyword; 9] = [
     Keyword::Feature,
@@ -54,8 +58,8 @@ impl Keyword {
             Keyword::Feature => "Feature",
             Keyword::Rule => "Rule",
             Keyword::Background => "Background",
-            Keyword::ScenarioOutline => "Scenario Outline",
-            Keyword::ScenarioTemplate => "Scenario Template",
+            Keyword::ScenarioOutline => OUTLINE,
+            Keyword::ScenarioTemplate => TEMPLATE,
             Keyword::Scenarios => "Scenarios",
             Keyword::Scenario => "Scenario",
             Keyword::Examples => "Examples",

@@ -4,7 +4,7 @@
 #![tactic(auto)]
 
 mod feature_file;
-mod finding;
+mod findings;
 mod keywords;
 mod likeness;
 mod misspelt;
@@ -12,5 +12,5 @@ mod standing;
 mod vanishing;
 
 pub use feature_file::lint_feature_file;
-pub use finding::{Finding, FindingKind};
+pub use findings::{Finding, FindingKind};
 pub use keywords::Keyword;

@@ -6,7 +6,7 @@ ghost use Rattle.gk_lint.specs.Misspelt as spec;
 ghost use Rattle.gk_lint.specs.Standing.{line_kind};
 ghost use Rattle.gk_lint.specs.declared.standing.Standing.TheVariants.{Elsewhere};
 
-use crate::finding::{Finding, FindingKind};
+use crate::findings::{Finding, FindingKind};
 use crate::likeness::like;
 use crate::standing::{LineKind, Standing, after, line_kind};
 use gk_gherkin::text::trim;

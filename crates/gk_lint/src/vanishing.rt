@@ -5,7 +5,7 @@ ghost use Rattle.gk_gherkin.specs.Feature.{examples_value, scenario_value, rule_
 ghost use Rattle.gk_select.specs.Outline as outlines;
 ghost use Rattle.gk_lint.specs.Vanishing as spec;
 
-use crate::finding::{Finding, FindingKind};
+use crate::findings::{Finding, FindingKind};
 use gk_gherkin::{Examples, Feature, Rule, Scenario};
 use std::alloc::AllocError;
 

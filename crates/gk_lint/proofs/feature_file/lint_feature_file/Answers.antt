@@ -2,7 +2,7 @@ use Rattle.std.proofs.Common.{ℕ, List, option_map, subst}
 use Rattle.std.specs.Str.Lines.{lines}
 use Rattle.gk_gherkin.specs.Lines.{numbered_from}
 use Rattle.gk_gherkin.specs.Feature.{feature_value}
-use Rattle.gk_lint.specs.Finding.{AreInOrder}
+use Rattle.gk_lint.specs.Findings.{AreInOrder}
 use Rattle.gk_lint.specs.FeatureFile.{file_findings}
 use Rattle.gk_lint.proofs.feature_file.lint_feature_file.Goals as goal
 

@@ -1,9 +1,9 @@
 -- Findings, their texts and their order.
 use Rattle.std.specs.Prelude.{codes, ◌≡◌, ℕ, ◌==◌, List, ◌++◌, filter}
 use Rattle.std.specs.List.Sorted.{IsNonDecreasingBy}
-use Rattle.gk_lint.specs.declared.finding.Finding.{Finding}
-use Rattle.gk_lint.specs.declared.finding.FindingKind.{FindingKind}
-use Rattle.gk_lint.specs.declared.finding.FindingKind.TheVariants.{FileWithoutFeature, FeatureWithoutScenarios, ScenarioWithoutSteps, OutlineWithoutRows, LikeKeyword}
+use Rattle.gk_lint.specs.declared.findings.Finding.{Finding}
+use Rattle.gk_lint.specs.declared.findings.FindingKind.{FindingKind}
+use Rattle.gk_lint.specs.declared.findings.FindingKind.TheVariants.{FileWithoutFeature, FeatureWithoutScenarios, ScenarioWithoutSteps, OutlineWithoutRows, LikeKeyword}
 use Rattle.gk_lint.specs.Keywords.{spelling}
 
 -- A finding at a line.

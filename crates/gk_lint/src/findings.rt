@@ -1,8 +1,8 @@
 //! Findings, their texts and their order.
 ghost use Rattle.std.specs.Prelude.{◌≡◌, ◌++◌, OnOk, IfOk};
 ghost use Rattle.std.specs.String.{string_bytes};
-ghost use Rattle.gk_lint.specs.Finding as spec;
-ghost use Rattle.gk_lint.specs.Finding.{AreInOrder};
+ghost use Rattle.gk_lint.specs.Findings as spec;
+ghost use Rattle.gk_lint.specs.Findings.{AreInOrder};
 
 use crate::keywords::Keyword;
 use std::alloc::{AllocError, Global};
@@ -31,7 +31,7 @@ pub struct Finding {
 
 impl FindingKind {
     /// The text of a finding, which names the keyword as it has to be spelt.
-    #[tactic(auto, unfolding(crate::specs::Finding::finding_text))]
+    #[tactic(auto, unfolding(crate::specs::Findings::finding_text))]
     pub fn text(self, alloc: Global) -> Result<String, AllocError>
         ensures { IfOk result (λ text. string_bytes text ≡ spec.finding_text self) }
     {

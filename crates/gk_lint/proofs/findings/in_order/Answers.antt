@@ -1,8 +1,8 @@
 use Rattle.std.proofs.Common.{rules}
 use Rattle.std.proofs.lemmas.List.Sorted.{IsNonDecreasingBy-from_sort_by_key}
-use Rattle.gk_lint.specs.declared.finding.Finding.{Finding}
+use Rattle.gk_lint.specs.declared.findings.Finding.{Finding}
 use Rattle.gk_lint.proofs.LineOrder as order
-use Rattle.gk_lint.proofs.finding.in_order.Goals as goal
+use Rattle.gk_lint.proofs.findings.in_order.Goals as goal
 
 pub returns : goal.returns
 returns c =
