@@ -10,6 +10,8 @@ mod gherkin_tests;
 #[cfg(test)]
 mod library_tests;
 #[cfg(test)]
+mod lint_tests;
+#[cfg(test)]
 mod select_tests;
 #[cfg(test)]
 mod source_tests;
