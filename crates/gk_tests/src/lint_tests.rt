@@ -15,10 +15,7 @@ fn found_in(alloc: Global, bytes: &[u8]) -> Result<String, ReadFault> {
 // Feature files, and what is found in them.
 const FILES: [(&[u8], &str); 4] = [
     (b"# nothing\n", "1: file without feature\n"),
-    (
-        b"\nFeature: f\nRule: r\n",
-        "2: feature without scenarios\n",
-    ),
+    (b"\nFeature: f\nRule: r\n", "2: feature without scenarios\n"),
     (
         b"Feature: f\n  Scenaro: old\n  Scenario: s\n    given a lamp\n  Scenario Outline: o\n    Given <x>\n      \"\"\"\n      Scenaro: old\n      \"\"\"\n    Examples:\n      | x |\n",
         "2: description begins like the keyword Scenario:\n3: scenario without steps\n4: description begins like the keyword Given\n5: outline without rows\n",
