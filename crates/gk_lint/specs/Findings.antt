@@ -10,7 +10,7 @@ use Rattle.gk_lint.specs.Keywords.{spelling}
 abbrev pub at_line : ℕ → FindingKind → Finding
 at_line line kind = record { line = line; kind = kind }
 
--- What is printed of a finding.
+-- The text of a finding, which names the keyword as it has to be spelt.
 unfoldable pub finding_text : FindingKind → List ℕ
 finding_text FileWithoutFeature = codes "file without feature"
 finding_text FeatureWithoutScenarios = codes "feature without scenarios"

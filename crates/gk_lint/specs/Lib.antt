@@ -1,4 +1,4 @@
--- What is found in the inputs of a run before it is run, in reading order. A definition whose comment names no source is this project's profile.
+-- What is found in a feature file, in reading order. A definition whose comment names no source is this project's profile.
 pub mod Keywords
 pub mod Likeness
 pub mod Findings

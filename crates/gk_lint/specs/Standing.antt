@@ -47,7 +47,7 @@ kind_of_rest text =
 abbrev pub line_kind : LineValue → LineKind
 line_kind line = kind_of (class line)
 
--- A standing under a heading that steps stand under, unless the line before stood elsewhere.
+-- This standing next where steps can stand; where none can, none can next either.
 abbrev pub under : Standing → Standing → Standing
 under next Elsewhere = Elsewhere
 under next standing = next

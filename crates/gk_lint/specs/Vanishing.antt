@@ -52,7 +52,7 @@ lacks_scenarios f = (length f.scenarios == 0) && have_no_scenarios f.rules
 unfoldable pub of_feature : FeatureValue → List Finding
 of_feature f = found_if (lacks_scenarios f) f.line FeatureWithoutScenarios ++ (of_scenarios f.scenarios ++ of_rules f.rules)
 
--- What is found of a file's feature, or that it has none, at its first line.
+-- What is found of a file's feature, or that it has none, at line 1.
 abbrev pub vanishing : Option FeatureValue → List Finding
 vanishing None = at_line 1 FileWithoutFeature ∷ []
 vanishing (Some f) = of_feature f

@@ -36,8 +36,8 @@ fn findings_of(
 /// the feature has no scenarios, scenarios without steps, outlines without rows, and the lines of
 /// descriptions that begin like a keyword.
 ///
-/// A file that doesn't read is the fault that `read_feature` returns of it. `Memory` comes only where
-/// a growth was refused.
+/// Where the file doesn't read, the error is the fault that `read_feature` returns of it. `Memory`
+/// comes only where a growth was refused.
 pub fn lint_feature_file(alloc: Global, bytes: &[u8]) -> Result<Vec<Finding>, ReadFault>
     // All findings are answered, and nothing else.
     ensures found { IfOk result (λ findings. AreOfFile bytes.now findings.items) }

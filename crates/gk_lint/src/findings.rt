@@ -10,7 +10,7 @@ use std::alloc::{AllocError, Global};
 /// What was found.
 #[derive(Clone, Copy, Debug, PartialEq, Eq)]
 pub enum FindingKind {
-    /// The file has no feature.
+    /// The file has no feature. It is found at line 1, in an empty file, too.
     FileWithoutFeature,
     /// The feature has no scenarios, and none of its rules has any.
     FeatureWithoutScenarios,

@@ -1,6 +1,6 @@
-//! Findings in the inputs of a run, before it is run: what would vanish in silence. The bytes of a
-//! file come in; findings go out, in the order of their lines. Where a comment names no source, what
-//! it says is this project's profile.
+//! What of a feature file would vanish in silence. The bytes of a file come in; all its findings
+//! and nothing else go out, in the order of their lines, or the fault of a file that doesn't read.
+//! Where a comment names no source, what it says is this project's profile.
 #![tactic(auto)]
 
 mod feature_file;
