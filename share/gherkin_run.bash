@@ -27,7 +27,7 @@ _gherkin_run() {
     if [[ $word == -* ]]; then
         compopt +o default
         mapfile -t COMPREPLY < <(compgen -W '--tags --line --library --hooks --env --dry-run --stop --format
-            --no-skipped --help -h' -- "$word")
+            --no-skipped --explain --help -h --version -V' -- "$word")
     fi
 }
 

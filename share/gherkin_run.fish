@@ -9,4 +9,6 @@ complete -c gherkin_run -l dry-run -d 'Look up the steps in the library, and run
 complete -c gherkin_run -l stop -d 'Stop at the first failure'
 complete -c gherkin_run -l format -x -a 'plain progress json' -d 'Write the report in this format'
 complete -c gherkin_run -l no-skipped -d 'Leave skipped features and scenarios out of the report'
+complete -c gherkin_run -l explain -d 'Say what happened in each scenario that failed'
 complete -c gherkin_run -s h -l help -d 'Print the help'
+complete -c gherkin_run -s V -l version -d 'Print the version'

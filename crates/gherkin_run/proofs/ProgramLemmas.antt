@@ -19,16 +19,29 @@ use Rattle.gk_cli.specs.Counted.{CanRise, one_more}
 use Rattle.gk_cli.specs.Inputs.{Request}
 use Rattle.gk_cli.specs.Source.{SourceValue, source_value}
 use Rattle.gk_cli.specs.declared.source.Source.{Source}
+use Rattle.gk_cli.specs.GrowingReport.{StopsBy}
 use Rattle.gk_cli.specs.Suite.{Device, IsUntouched, SaysFault}
+use Rattle.gk_cli.specs.ExplainedSuite.{SaysExplanationFault}
+use Rattle.gk_cli.specs.declared.arguments.Mode.{Mode}
+use Rattle.gk_cli.specs.declared.arguments.Mode.TheVariants.{Report, Explanation}
 use Rattle.gk_cli.specs.declared.arguments.Options.{Options}
 use Rattle.gk_cli.specs.declared.arguments.Words.{Words}
 use Rattle.gk_cli.specs.declared.run_fault.RunFault.{RunFault}
 use Rattle.gk_cli.specs.declared.run_fault.RunFault.TheVariants as run
 use Rattle.gherkin_run.specs.Files.{FilesValue, IsFaultOfFiles, IsFileFault, files_value, name_of}
-use Rattle.gherkin_run.specs.Program.{AreGiven, AreTaken, IsFaultOfGiven, IsFaultOfRun, IsFaultOfVariable, IsFlushedRun, IsGiven, IsNamed, IsRefused, IsRun, IsWithin, SaysCallsOfRun, SaysProgram, SaysSuite, SaysVariables, contents_given, bytes_given, request_of_files, variables_given, with_variables}
+use Rattle.gherkin_run.specs.Program.{AreGiven, AreTaken, IsFaultOfGiven, IsFaultOfRun, IsFaultOfVariable, IsFlushedRun, IsGiven, IsNamed, IsRefused, IsRun, IsWithin, SaysCallsOfRun, SaysFaultAs, IsStoppedAs, hooks_name, SaysProgram, SaysSuite, SaysVariables, contents_given, bytes_given, request_of_files, variables_given, with_variables}
 use Rattle.gherkin_run.specs.declared.files.RunFiles.{RunFiles}
 use Rattle.gherkin_run.specs.declared.fault.Fault.{Fault}
 use Rattle.gherkin_run.specs.declared.fault.Fault.TheVariants.{NotUtf8, Usage, Env, CannotRead, TooLong, Library, Hooks, Read, TooMany, BadTags, Write, Memory}
+
+-- what holds of a result, by what is known of it
+pub if_ok_both : {T E : Type 0} {P Q : T → Type 0} (r : Result T E) → IfOk r P → IfOk r Q → IfOk r (λ x. P x × Q x)
+if_ok_both (Ok x) h k = (h, k)
+if_ok_both (Err e) h k = h
+
+pub if_err_by : {T E : Type 0} {P Q : E → Type 0} (r : Result T E) → ((e : E) → P e → Q e) → IfErr r P → IfErr r Q
+if_err_by (Ok x) f h = h
+if_err_by (Err e) f h = f e h
 
 -- a device that isn't called
 pub untouched : (d : Device) → IsUntouched d d
@@ -51,40 +64,67 @@ some_file : (file : Option SourceValue) (bytes : List ℕ) → bytes_given file 
 some_file None bytes e = absurd cc
 some_file (Some s) bytes e = refl
 
-pub within : (options : Options) (files : FilesValue) (c : Contents) (old new : Device) (by : RunFault)
-    → SaysFault (request_of_files options files) c old new by → IsWithin files by
-within options files c old new (run.Read input fault) says = slice_get_within files.sources input says.0.0.first.source says.0.0.first.place
-within options files c old new (run.Library fault) says = some_file files.library says.0.bytes says.0.given
-within options files c old new (run.Hooks fault) says = some_file files.hooks says.0.bytes says.0.given
-within options files c old new (run.Select None select.BadTagText) says = tt
-within options files c old new (run.Select None select.TooMany) says = absurd says.0
-within options files c old new (run.Select None select.Memory) says = absurd says.0
-within options files c old new (run.Select (Some input) select.TooMany) says = slice_get_within files.sources input says.0.first.source says.0.first.place
-within options files c old new (run.Select (Some input) select.BadTagText) says = absurd says.0
-within options files c old new (run.Select (Some input) select.Memory) says = absurd says.0
-within options files c old new run.Write says = tt
-within options files c old new run.Memory says = tt
+-- what a fault says of a run whose report was asked for, and of one whose explanation was
+pub of_report : (files : FilesValue) (r : Request) (c : Contents) (old new : Device) (by : RunFault) → SaysFault r c old new by → SaysFaultAs Report files r c old new by
+of_report files r c old new run.Write says = says
+of_report files r c old new run.Memory says = says
+of_report files r c old new (run.Read input fault) says = says
+of_report files r c old new (run.Library fault) says = says
+of_report files r c old new (run.Hooks fault) says = says
+of_report files r c old new (run.Select input fault) says = says
+
+pub of_explanation : (files : FilesValue) (r : Request) (c : Contents) (old new : Device) (by : RunFault) → SaysExplanationFault r (hooks_name files) c old new by → SaysFaultAs Explanation files r c old new by
+of_explanation files r c old new run.Write says = says
+of_explanation files r c old new run.Memory says = says
+of_explanation files r c old new (run.Read input fault) says = says
+of_explanation files r c old new (run.Library fault) says = says
+of_explanation files r c old new (run.Hooks fault) says = says
+of_explanation files r c old new (run.Select input fault) says = says
+
+-- why a run was stopped
+stopped_by : (mode : Mode) (files : FilesValue) (r : Request) (c : Contents) (old new : Device) (by : RunFault) → IsStoppedAs mode files r c old new by → StopsBy old new by
+stopped_by Report files r c old new by stopped = stopped.1
+stopped_by Explanation files r c old new by stopped = elim stopped.2 [
+  | inl part ↦ part.stopped.why
+  | inr short ↦ short.stopped.why
+]
+
+pub within : (mode : Mode) (options : Options) (files : FilesValue) (c : Contents) (old new : Device) (by : RunFault)
+    → SaysFaultAs mode files (request_of_files options files) c old new by → IsWithin files by
+within mode options files c old new (run.Read input fault) says = slice_get_within files.sources input says.0.0.first.source says.0.0.first.place
+within mode options files c old new (run.Library fault) says = some_file files.library says.0.bytes says.0.given
+within mode options files c old new (run.Hooks fault) says = some_file files.hooks says.0.bytes says.0.given
+within mode options files c old new (run.Select None select.BadTagText) says = tt
+within mode options files c old new (run.Select None select.TooMany) says = absurd says.0
+within mode options files c old new (run.Select None select.Memory) says = absurd says.0
+within mode options files c old new (run.Select (Some input) select.TooMany) says = slice_get_within files.sources input says.0.first.source says.0.first.place
+within mode options files c old new (run.Select (Some input) select.BadTagText) says = absurd says.0
+within mode options files c old new (run.Select (Some input) select.Memory) says = absurd says.0
+within mode options files c old new run.Write says = tt
+within mode options files c old new run.Memory says = tt
 
 pub fewer : (a b : ℕ) → CanRise a → b ≡ one_more a → a < b
 fewer a b room e = omega (arith, e)
 
-pub calls_of_run : (r : Request) (c : Contents) (old new : Device) (files : FilesValue) (by : RunFault) (fault : Fault)
-    → CanRise old.failures → IsFaultOfRun files by fault → SaysFault r c old new by → SaysCallsOfRun old new fault
-calls_of_run r c old new files run.Write Write room is says = (fewer old.failures new.failures room says.1, (let idle = says.2 in omega arith))
-calls_of_run r c old new files run.Write _ room is says = absurd is
-calls_of_run r c old new files run.Memory Memory room is (inl nothing) = inl nothing
-calls_of_run r c old new files run.Memory Memory room is (inr cut) = inr (r, c, cut.0, cut.1, cut.2)
-calls_of_run r c old new files run.Memory _ room is says = absurd is
-calls_of_run r c old new files (run.Read input f) (Read name g) room is says = says.1
-calls_of_run r c old new files (run.Read input f) _ room is says = absurd is
-calls_of_run r c old new files (run.Library f) (Library name g) room is says = says.1
-calls_of_run r c old new files (run.Library f) _ room is says = absurd is
-calls_of_run r c old new files (run.Hooks f) (Hooks name g) room is says = says.1
-calls_of_run r c old new files (run.Hooks f) _ room is says = absurd is
-calls_of_run r c old new files (run.Select (Some input) f) (TooMany name) room is says = says.1
-calls_of_run r c old new files (run.Select (Some input) f) _ room is says = absurd is
-calls_of_run r c old new files (run.Select None f) BadTags room is says = says.1
-calls_of_run r c old new files (run.Select None f) _ room is says = absurd is
+pub calls_of_run : (mode : Mode) (r : Request) (c : Contents) (old new : Device) (files : FilesValue) (by : RunFault) (fault : Fault)
+    → CanRise old.failures → IsFaultOfRun files by fault → SaysFaultAs mode files r c old new by → SaysCallsOfRun old new fault
+calls_of_run mode r c old new files run.Write Write room is says =
+    let why : StopsBy old new run.Write = stopped_by mode files r c old new run.Write says in
+    (fewer old.failures new.failures room why.0, (let idle = why.1 in omega arith))
+calls_of_run mode r c old new files run.Write _ room is says = absurd is
+calls_of_run mode r c old new files run.Memory Memory room is (inl nothing) = inl nothing
+calls_of_run mode r c old new files run.Memory Memory room is (inr cut) = inr (mode, files, r, c, cut)
+calls_of_run mode r c old new files run.Memory _ room is says = absurd is
+calls_of_run mode r c old new files (run.Read input f) (Read name g) room is says = says.1
+calls_of_run mode r c old new files (run.Read input f) _ room is says = absurd is
+calls_of_run mode r c old new files (run.Library f) (Library name g) room is says = says.1
+calls_of_run mode r c old new files (run.Library f) _ room is says = absurd is
+calls_of_run mode r c old new files (run.Hooks f) (Hooks name g) room is says = says.1
+calls_of_run mode r c old new files (run.Hooks f) _ room is says = absurd is
+calls_of_run mode r c old new files (run.Select (Some input) f) (TooMany name) room is says = says.1
+calls_of_run mode r c old new files (run.Select (Some input) f) _ room is says = absurd is
+calls_of_run mode r c old new files (run.Select None f) BadTags room is says = says.1
+calls_of_run mode r c old new files (run.Select None f) _ room is says = absurd is
 
 -- ---- variables
 
@@ -191,9 +231,9 @@ suite_fault files (run.Select (Some input) f) _ is = absurd is
 suite_fault files (run.Select None f) BadTags is = tt
 suite_fault files (run.Select None f) _ is = absurd is
 
-suite_named : (files : FilesValue) (r : Request) (c : Contents) (old new : Device) (fault : Fault) → SaysSuite files r c old new fault → IsSuiteFault fault
-suite_named files r c old new fault (inl says) = suite_fault files says.0 fault says.1
-suite_named files r c old new fault (inr unflushed) = subst IsSuiteFault (sym unflushed.named) tt
+suite_named : (mode : Mode) (files : FilesValue) (r : Request) (c : Contents) (old new : Device) (fault : Fault) → SaysSuite mode files r c old new fault → IsSuiteFault fault
+suite_named mode files r c old new fault (inl says) = suite_fault files says.0 fault says.1
+suite_named mode files r c old new fault (inr unflushed) = subst IsSuiteFault (sym unflushed.named) tt
 
 of_given : (w : Words) (old new : Device) (fault : Fault) → IsSuiteFault fault → IsFaultOfGiven w old new fault → SaysProgram w old new fault
 of_given w old new (Library name f) is h = h
@@ -206,9 +246,9 @@ of_given w old new Memory is h = inr h
 of_given w old new _ is h = absurd is
 
 pub of_suite : (w : Words) (files : FilesValue) (old new : Device) (fault : Fault) → AreGiven w files → AreTaken (variables_given w)
-    → SaysSuite files (request_of_files w.options files) (contents_given w) old new fault → SaysProgram w old new fault
+    → SaysSuite w.mode files (request_of_files w.options files) (contents_given w) old new fault → SaysProgram w old new fault
 of_suite w files old new fault given taken says =
-    of_given w old new fault (suite_named files _ _ old new fault says) record { files = files; given = given; taken = taken; says = says }
+    of_given w old new fault (suite_named w.mode files _ _ old new fault says) record { files = files; given = given; taken = taken; says = says }
 
 -- ---- the run of the files
 
@@ -239,16 +279,16 @@ put_in w start c variables put new same =
     put ∙ ap (λ s. with_variables s.now (map pair_value variables)) new ∙ ap (λ xs. with_variables nothing_yet (map pair_value xs)) same
 
 pub runs : (w : Words) (files : FilesValue) (old new : Device) (c : Contents) (r : Result ℕ Fault) → AreGiven w files → AreTaken (variables_given w) → c ≡ contents_given w
-    → IfOk r (IsFlushedRun (request_of_files w.options files) c old new) → IfOk r (IsRun w old new)
+    → IfOk r (IsFlushedRun w.mode files (request_of_files w.options files) c old new) → IfOk r (IsRun w old new)
 runs w files old new c (Err e) given taken is run = tt
 runs w files old new c (Ok status) given taken is run = record {
   files = files;
   given = given;
   taken = taken;
-  run = subst (λ x. IsFlushedRun (request_of_files w.options files) x old new status) is run;
+  run = subst (λ x. IsFlushedRun w.mode files (request_of_files w.options files) x old new status) is run;
 }
 
 pub fails : (w : Words) (files : FilesValue) (old new : Device) (c : Contents) (r : Result ℕ Fault) → AreGiven w files → AreTaken (variables_given w) → c ≡ contents_given w
-    → IfErr r (SaysSuite files (request_of_files w.options files) c old new) → IfErr r (SaysProgram w old new)
-fails w files old new c (Err e) given taken is says = of_suite w files old new e given taken (subst (λ x. SaysSuite files (request_of_files w.options files) x old new e) is says)
+    → IfErr r (SaysSuite w.mode files (request_of_files w.options files) c old new) → IfErr r (SaysProgram w old new)
+fails w files old new c (Err e) given taken is says = of_suite w files old new e given taken (subst (λ x. SaysSuite w.mode files (request_of_files w.options files) x old new e) is says)
 fails w files old new c (Ok status) given taken is says = tt

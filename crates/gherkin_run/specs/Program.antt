@@ -16,7 +16,12 @@ use Rattle.gk_cli.specs.Counted.{one_more}
 use Rattle.gk_cli.specs.Inputs.{Request, request_of}
 use Rattle.gk_cli.specs.Source.{SourceValue}
 use Rattle.gk_cli.specs.declared.arguments.Options.{Options}
-use Rattle.gk_cli.specs.Suite.{CutShort, Device, IsUntouched, JudgedReport, OnlyReport, SaysFault}
+use Rattle.gk_cli.specs.GrowingReport.{StopsBy}
+use Rattle.gk_cli.specs.RunFault.{IsUnread}
+use Rattle.gk_cli.specs.Suite.{CutShort, Device, IsUntouched, JudgedReport, OnlyReport}
+use Rattle.gk_cli.specs.ExplainedSuite.{Explained, ExplainedInPart, name_of}
+use Rattle.gk_cli.specs.declared.arguments.Mode.{Mode}
+use Rattle.gk_cli.specs.declared.arguments.Mode.TheVariants.{Report, Explanation}
 use Rattle.gk_cli.specs.declared.arguments.Words.{Words}
 use Rattle.gk_cli.specs.declared.arguments.WordsFault.TheVariants as words
 use Rattle.gk_cli.specs.declared.run_fault.RunFault.{RunFault}
@@ -26,6 +31,7 @@ use Rattle.gherkin_run.specs.declared.fault.Fault.{Fault}
 use Rattle.gherkin_run.specs.declared.fault.Fault.TheVariants.{NotUtf8, Usage, Env, CannotRead, TooLong, Library, Hooks, Read, TooMany, BadTags, Write, Memory}
 use Rattle.gherkin_run.specs.declared.program.Asked.{Asked}
 use Rattle.gherkin_run.specs.declared.program.Asked.TheVariants.{Help, Run}
+use Rattle.gherkin_run.specs.declared.program.Manner.{Manner}
 
 -- The text was asked for, and is no mistake.
 abbrev pub IsAskedFor : Error → Type 0
@@ -58,11 +64,20 @@ abbrev pub SaysCalls : Device → Device → Fault → Type 0
 SaysCalls old new Write = (old.failures < new.failures) × (new.idle ≤ old.idle + 1)
 SaysCalls old new _ = IsUntouched old new
 
--- A prefix of the report of some run was written, and standard output neither failed nor was flushed, and moved a byte in each call.
-abbrev pub IsCutShortForSome : Device → Device → Type 0
-IsCutShortForSome old new = (request : Request) × (contents : Contents) × CutShort request contents old new × (new.failures ≡ old.failures) × (new.idle ≡ old.idle)
+-- The name of the hooks file; no name where there is none.
+abbrev pub hooks_name : FilesValue → List ℕ
+hooks_name files = name_of files.hooks
 
--- Standard output failed, or it was not called at all, or memory was refused after a prefix of the report was written.
+-- What was written where this fault ended a run: a prefix of its report, or of what is said of it in an explanation. Standard output failed, and moved a byte in each other call; or it didn't fail, and moved one in each.
+abbrev pub IsStoppedAs : Mode → FilesValue → Request → Contents → Device → Device → RunFault → Type 0
+IsStoppedAs Report files request contents old new by = CutShort request contents old new × StopsBy old new by
+IsStoppedAs Explanation files request contents old new by = ExplainedInPart request (hooks_name files) contents old new by
+
+-- A prefix of what is written of some run was, and then memory was refused.
+abbrev pub IsCutShortForSome : Device → Device → Type 0
+IsCutShortForSome old new = (mode : Mode) × (files : FilesValue) × (request : Request) × (contents : Contents) × IsStoppedAs mode files request contents old new run.Memory
+
+-- Standard output failed, or it was not called at all, or memory was refused after a prefix of what is written of a run was.
 abbrev pub SaysCallsOfRun : Device → Device → Fault → Type 0
 SaysCallsOfRun old new Memory = IsUntouched old new ⊎ IsCutShortForSome old new
 SaysCallsOfRun old new fault = SaysCalls old new fault
@@ -146,27 +161,37 @@ pub record IsFlushed (old new : Device) : Type 0 where
   pub idle : new.idle ≡ old.idle
   pub flushes : new.flushes ≡ one_more old.flushes
 
--- The report of a judged list was written and flushed, and its status is returned; at each status other than 4 that list is the one that plain maps give.
-pub record IsFlushedRun (request : Request) (contents : Contents) (old new : Device) (status : ℕ) : Type 0 where
+-- What is written of a run was, and its status is returned: the report of a judged list, which at each status other than 4 is the one that plain maps give; or the explanation of a run with judged results.
+abbrev pub IsWrittenAs : Mode → FilesValue → Request → Contents → Device → Device → ℕ → Type 0
+IsWrittenAs Report files request contents old new status = JudgedReport request contents old new status × OnlyReport request contents old new status
+IsWrittenAs Explanation files request contents old new status = Explained request (hooks_name files) contents old new status
+
+-- What each fault of a run says: a prefix of what is written of it was where standard output failed or memory was refused, or nothing; else what is asked for doesn't read, and nothing was written.
+abbrev pub SaysFaultAs : Mode → FilesValue → Request → Contents → Device → Device → RunFault → Type 0
+SaysFaultAs mode files request contents old new run.Write = IsStoppedAs mode files request contents old new run.Write
+SaysFaultAs mode files request contents old new run.Memory = IsUntouched old new ⊎ IsStoppedAs mode files request contents old new run.Memory
+SaysFaultAs mode files request contents old new by = IsUnread request by × IsUntouched old new
+
+-- What is written of a run was, and was flushed, and its status is returned.
+pub record IsFlushedRun (mode : Mode) (files : FilesValue) (request : Request) (contents : Contents) (old new : Device) (status : ℕ) : Type 0 where
   pub written : Device
-  pub judged : JudgedReport request contents old written status
-  pub plain : OnlyReport request contents old written status
+  pub is : IsWrittenAs mode files request contents old written status
   pub flushed : IsFlushed written new
 
--- The report was written whole, and then the flush failed.
-pub record FailsToFlush (request : Request) (contents : Contents) (old new : Device) (fault : Fault) : Type 0 where
+-- What is written of a run was, and then the flush failed.
+pub record FailsToFlush (mode : Mode) (files : FilesValue) (request : Request) (contents : Contents) (old new : Device) (fault : Fault) : Type 0 where
   pub named : fault ≡ Write
   pub status : ℕ
   pub written : Device
-  pub judged : JudgedReport request contents old written status
+  pub is : IsWrittenAs mode files request contents old written status
   pub flushed : IsFlushed written new
   pub failed : new.failures ≡ one_more old.failures
 
 -- A fault after the files are read: that of the run, or of the flush.
-abbrev pub SaysSuite : FilesValue → Request → Contents → Device → Device → Fault → Type 0
-SaysSuite files request contents old new fault =
-    ((by : RunFault) × IsFaultOfRun files by fault × SaysFault request contents old new by)
-    ⊎ FailsToFlush request contents old new fault
+abbrev pub SaysSuite : Mode → FilesValue → Request → Contents → Device → Device → Fault → Type 0
+SaysSuite mode files request contents old new fault =
+    ((by : RunFault) × IsFaultOfRun files by fault × SaysFaultAs mode files request contents old new by)
+    ⊎ FailsToFlush mode files request contents old new fault
 
 -- The sources are those of the files that were given, in order, and of the library file and the hooks file.
 pub record AreGiven (w : Words) (files : FilesValue) : Type 0 where
@@ -187,16 +212,21 @@ abbrev pub request_of_files : Options → FilesValue → Request
 request_of_files options files = request_of options (bytes_given files.library) (bytes_given files.hooks) files.sources
 
 -- A fault of the run of these files, or of the flush.
-abbrev pub SaysRun : Options → FilesValue → Contents → Device → Device → Fault → Type 0
-SaysRun options files contents old new fault =
-    SaysSuite files (request_of_files options files) contents old new fault
+abbrev pub SaysRun : Manner → FilesValue → Contents → Device → Device → Fault → Type 0
+SaysRun manner files contents old new fault =
+    SaysSuite manner.mode files (request_of_files manner.options.now files) contents old new fault
+
+-- What is written of a run of these files was, and was flushed.
+abbrev pub IsRunOfFiles : Manner → FilesValue → Contents → Device → Device → ℕ → Type 0
+IsRunOfFiles manner files contents old new status =
+    IsFlushedRun manner.mode files (request_of_files manner.options.now files) contents old new status
 
 -- The variables are taken, and what was written and the status are those of one run of the files that were given, with their bytes as they were read.
 pub record IsRun (w : Words) (old new : Device) (status : ℕ) : Type 0 where
   pub files : FilesValue
   pub given : AreGiven w files
   pub taken : AreTaken (variables_given w)
-  pub run : IsFlushedRun (request_of_files w.options files) (contents_given w) old new status
+  pub run : IsFlushedRun w.mode files (request_of_files w.options files) (contents_given w) old new status
 
 -- A file of this name was given.
 abbrev pub IsGiven : Words → List ℕ → Type 0
@@ -207,9 +237,9 @@ pub record IsFaultOfGiven (w : Words) (old new : Device) (fault : Fault) : Type 
   pub files : FilesValue
   pub given : AreGiven w files
   pub taken : AreTaken (variables_given w)
-  pub says : SaysSuite files (request_of_files w.options files) (contents_given w) old new fault
+  pub says : SaysSuite w.mode files (request_of_files w.options files) (contents_given w) old new fault
 
--- What each fault says of what was asked for: a bad variable comes before every fault of a file; where memory was refused, nothing was written, or a prefix of the report was.
+-- What each fault says of what was asked for: a bad variable comes before every fault of a file; where memory was refused, nothing was written, or a prefix of what is written of the run was.
 abbrev pub SaysProgram : Words → Device → Device → Fault → Type 0
 SaysProgram w old new NotUtf8 = ⊥
 SaysProgram w old new (Usage e) = ⊥

@@ -2,16 +2,18 @@
 ghost use Rattle.std.specs.Prelude.{◌≡◌, ◌<◌, map, IfOk, IfErr, IsSome, OnOk, Some, option_map, string_bytes, vec_len};
 ghost use Rattle.gk_world.specs.Sandbox.{depth, new_sandbox};
 ghost use Rattle.gk_cli.specs.Arguments.{pair_value};
+ghost use Rattle.gk_cli.specs.declared.arguments.Mode.TheVariants.{Report, Explanation};
 ghost use Rattle.gk_cli.specs.Counted.{CountsCanRise, flushes_of, failures_of, one_more};
 ghost use Rattle.gk_cli.specs.Suite.{device_of};
 ghost use Rattle.gk_cli.specs.Source.{source_value};
 ghost use Rattle.gherkin_run.specs.Files.{files_value};
-ghost use Rattle.gherkin_run.specs.Program.{SaysAsked, SaysError, IsHelpFault, IsArgumentsFault, IsFaultOfVariable, SaysVariables, IsWithin, IsNamed, IsFaultOfRun, bytes_given, request_of_files, IsFlushedRun, SaysRun, SaysCalls, SaysCallsOfRun, SaysProgram, IsRun, IsShown, IsHelp, IsDoneFor, IsFaultFor, IsDoneForSome, IsFaultForSome};
+ghost use Rattle.gherkin_run.specs.Program.{SaysAsked, SaysError, IsHelpFault, IsArgumentsFault, IsFaultOfVariable, SaysVariables, IsWithin, IsNamed, IsFaultOfRun, bytes_given, request_of_files, IsRunOfFiles, IsWrittenAs, SaysFaultAs, SaysRun, SaysCalls, SaysCallsOfRun, SaysProgram, IsRun, IsShown, IsHelp, IsDoneFor, IsFaultFor, IsDoneForSome, IsFaultForSome};
 
 use crate::fault::Fault;
 use crate::files::{Machine, RunFiles, read_run_files};
 use gk_cli::{
-    Counted, Options, RunFault, Source, Words, WordsFault, read_words, run_suite, write_whole,
+    Counted, Mode, Options, RunFault, Source, SuiteFiles, Words, WordsFault, explain_suite, read_words,
+    run_suite, write_whole,
 };
 use gk_world::{Sandbox, WorldFault};
 use std::alloc::Global;
@@ -179,35 +181,34 @@ fn bytes_of(file: &Option<Source>) -> Option<&[u8]>
     }
 }
 
-/// Runs the suite, and flushes the report. A fault names the file that it comes from. `Write` comes where a
-/// write or the flush failed; then a prefix of the report, or all of it, was written. At `Memory` nothing or a
-/// prefix of the report was written. At any other fault nothing was.
-fn run_sources<W: Write>(
+/// How a run goes, and what is written of it.
+#[derive(Clone, Copy)]
+pub struct Manner<'a> {
+    options: &'a Options,
+    mode: Mode,
+}
+
+// Runs the suite, and writes its report.
+fn report_run<W: Write>(
     alloc: Global,
     sandbox: &mut Sandbox,
     options: &Options,
-    files: RunFiles,
+    files: &RunFiles,
     out: &mut Counted<W>,
-) -> Result<u8, Fault>
+) -> Result<u8, RunFault>
     requires room { CountsCanRise out.old }
     requires outside { depth sandbox.old ≡ 0 }
-    // What was written and the status are those of one run of these inputs.
-    ensures run { IfOk result (IsFlushedRun (request_of_files options.now (files_value files))
-        sandbox.old.now (device_of W.contents out.old) (device_of W.contents out.new)) }
-    // A status comes only where the writer did not fail, and was flushed once.
+    ensures written { IfOk result (IsWrittenAs Report (files_value files.now)
+        (request_of_files options.now (files_value files.now)) sandbox.old.now
+        (device_of W.contents out.old) (device_of W.contents out.new)) }
     ensures quiet { OnOk result (failures_of out.new ≡ failures_of out.old) }
-    ensures flushed { OnOk result (flushes_of out.new ≡ one_more (flushes_of out.old)) }
-    // A fault is that of the run, or the flush failed.
-    ensures fault { IfErr result (SaysRun options.now (files_value files)
-        sandbox.old.now (device_of W.contents out.old) (device_of W.contents out.new)) }
-    // Where standard output isn't at fault, it was not called, or memory was refused after a
-    // prefix of the report.
-    ensures calls { IfErr result
-        (SaysCallsOfRun (device_of W.contents out.old) (device_of W.contents out.new)) }
+    ensures fault { IfErr result (SaysFaultAs Report (files_value files.now)
+        (request_of_files options.now (files_value files.now)) sandbox.old.now
+        (device_of W.contents out.old) (device_of W.contents out.new)) }
 {
     let steps = bytes_of(&files.library);
     let around = bytes_of(&files.hooks);
-    match run_suite(
+    run_suite(
         alloc,
         sandbox,
         options,
@@ -215,7 +216,86 @@ fn run_sources<W: Write>(
         around,
         files.sources.as_slice(),
         out,
-    ) {
+    )
+}
+
+// Runs the suite, and writes its explanation.
+fn explain_run<W: Write>(
+    alloc: Global,
+    sandbox: &mut Sandbox,
+    options: &Options,
+    files: &RunFiles,
+    out: &mut Counted<W>,
+) -> Result<u8, RunFault>
+    requires room { CountsCanRise out.old }
+    requires outside { depth sandbox.old ≡ 0 }
+    ensures written { IfOk result (IsWrittenAs Explanation (files_value files.now)
+        (request_of_files options.now (files_value files.now)) sandbox.old.now
+        (device_of W.contents out.old) (device_of W.contents out.new)) }
+    ensures quiet { OnOk result (failures_of out.new ≡ failures_of out.old) }
+    ensures fault { IfErr result (SaysFaultAs Explanation (files_value files.now)
+        (request_of_files options.now (files_value files.now)) sandbox.old.now
+        (device_of W.contents out.old) (device_of W.contents out.new)) }
+{
+    let named = SuiteFiles {
+        library: files.library.as_ref(),
+        hooks: files.hooks.as_ref(),
+        sources: files.sources.as_slice(),
+    };
+    explain_suite(alloc, sandbox, options, named, out)
+}
+
+// Runs the suite, and writes what is asked for of it.
+fn write_run<W: Write>(
+    alloc: Global,
+    sandbox: &mut Sandbox,
+    manner: Manner<'_>,
+    files: &RunFiles,
+    out: &mut Counted<W>,
+) -> Result<u8, RunFault>
+    requires room { CountsCanRise out.old }
+    requires outside { depth sandbox.old ≡ 0 }
+    ensures written { IfOk result (IsWrittenAs manner.mode (files_value files.now)
+        (request_of_files manner.options.now (files_value files.now)) sandbox.old.now
+        (device_of W.contents out.old) (device_of W.contents out.new)) }
+    ensures quiet { OnOk result (failures_of out.new ≡ failures_of out.old) }
+    ensures fault { IfErr result (SaysFaultAs manner.mode (files_value files.now)
+        (request_of_files manner.options.now (files_value files.now)) sandbox.old.now
+        (device_of W.contents out.old) (device_of W.contents out.new)) }
+{
+    match manner.mode {
+        Mode::Report => report_run(alloc, sandbox, manner.options, files, out),
+        Mode::Explanation => explain_run(alloc, sandbox, manner.options, files, out),
+    }
+}
+
+/// Runs the suite, and flushes what is written of it. A fault names the file that it comes from. `Write` comes
+/// where a write or the flush failed; then a prefix of that, or all of it, was written. At `Memory` nothing or a
+/// prefix of it was written. At any other fault nothing was.
+fn run_sources<W: Write>(
+    alloc: Global,
+    sandbox: &mut Sandbox,
+    manner: Manner<'_>,
+    files: RunFiles,
+    out: &mut Counted<W>,
+) -> Result<u8, Fault>
+    requires room { CountsCanRise out.old }
+    requires outside { depth sandbox.old ≡ 0 }
+    // What was written and the status are those of one run of these inputs.
+    ensures run { IfOk result (IsRunOfFiles manner (files_value files)
+        sandbox.old.now (device_of W.contents out.old) (device_of W.contents out.new)) }
+    // A status comes only where the writer did not fail, and was flushed once.
+    ensures quiet { OnOk result (failures_of out.new ≡ failures_of out.old) }
+    ensures flushed { OnOk result (flushes_of out.new ≡ one_more (flushes_of out.old)) }
+    // A fault is that of the run, or the flush failed.
+    ensures fault { IfErr result (SaysRun manner (files_value files)
+        sandbox.old.now (device_of W.contents out.old) (device_of W.contents out.new)) }
+    // Where standard output isn't at fault, it was not called, or memory was refused after a
+    // prefix of what is written of the run.
+    ensures calls { IfErr result
+        (SaysCallsOfRun (device_of W.contents out.old) (device_of W.contents out.new)) }
+{
+    match write_run(alloc, sandbox, manner, &files, out) {
         Ok(status) => match out.flush() {
             Ok(()) => Ok(status),
             Err(_) => Err(Fault::Write),
@@ -251,7 +331,11 @@ fn run_in<R: Files + AllocGlobal, W: Write>(
         words.hooks,
         words.files,
     )?;
-    run_sources(rt.alloc(), sandbox, &words.options, files, out)
+    let manner = Manner {
+        options: &words.options,
+        mode: words.mode,
+    };
+    run_sources(rt.alloc(), sandbox, manner, files, out)
 }
 
 /// Runs what is asked for: puts the variables into an empty sandbox, reads the library file, the hooks file and
@@ -314,7 +398,7 @@ pub fn run<R: Env + Files + AllocGlobal, W: Write>(
     ensures fault { IfErr result
         (IsFaultForSome (device_of W.contents out.old) (device_of W.contents out.new)) }
     // Where standard output isn't at fault, it was not called, or memory was refused after a
-    // prefix of the report.
+    // prefix of what is written of the run.
     ensures calls { IfErr result
         (SaysCallsOfRun (device_of W.contents out.old) (device_of W.contents out.new)) }
 {

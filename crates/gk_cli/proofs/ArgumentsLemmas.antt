@@ -33,10 +33,10 @@ use Rattle.clap.proofs.CutLemmas.{list_any-at}
 use Rattle.clap.proofs.WalkLemmas.{first_value-rows}
 use Rattle.clap.specs.declared.error.Error.{Error}
 use Rattle.clap.specs.declared.error.kind.ErrorKind.{ErrorKind}
-use Rattle.clap.specs.declared.error.kind.ErrorKind.TheVariants.{InvalidValue}
+use Rattle.clap.specs.declared.error.kind.ErrorKind.TheVariants.{ArgumentConflict, InvalidValue}
 use Rattle.gk_report.specs.declared.report.Format.{Format}
 use Rattle.gk_report.specs.declared.report.Format.TheVariants.{Plain, Progress, Json}
-use Rattle.gk_cli.specs.Arguments.{HasRule, IsAskedBy, IsCommand, IsFaultBy, IsLineNumber, PairValue, SaysArguments, SaysMatches, SaysVariable, SaysVariables, command, split_at_equals, faults_in, files_rule, format_asked, format_name, found_in, has_equals, is_format, line_number, values_of}
+use Rattle.gk_cli.specs.Arguments.{HasRule, IsAskedBy, IsCommand, IsFaultBy, IsLineNumber, PairValue, SaysArguments, SaysMatches, SaysVariable, SaysVariables, command, split_at_equals, faults_in, files_rule, format_asked, format_name, found_in, has_equals, is_format, line_number, values_of, is_clash, with_version}
 use Rattle.gk_cli.specs.declared.arguments.Words.{Words}
 use Rattle.gk_cli.specs.declared.arguments.WordsFault.{WordsFault}
 use Rattle.gk_cli.specs.declared.arguments.WordsFault.TheVariants.{Usage, Env, Memory}
@@ -79,6 +79,18 @@ texts_apart a old new f is with app args groups globals negates = record {
   );
   local = ap (λ (g : Command-F Command). g.has_globals) with ∙ (globals ∙ is.local);
   demands = ap (λ (g : Command-F Command). g.subcommand_negates_reqs) with ∙ (negates ∙ is.demands);
+}
+
+-- the version changes nothing else
+pub versioned : (a : App) (old new : Command) (text : Bor Text) → IsCommand a old → fields_of new ≡ record (fields_of old) { version = Some text } → IsCommand (with_version a) new
+versioned a old new text is with = record {
+  app = ap app_of_fields with ∙ ap with_version is.app;
+  plain = (
+    subst (All IsPlainArg) (sym (ap (λ (g : Command-F Command). g.args.items) with)) is.plain.0,
+    ap (λ (g : Command-F Command). g.groups.items) with ∙ is.plain.1,
+  );
+  local = ap (λ (g : Command-F Command). g.has_globals) with ∙ is.local;
+  demands = ap (λ (g : Command-F Command). g.subcommand_negates_reqs) with ∙ is.demands;
 }
 
 -- the command as clap returns it: as it was, or built
@@ -451,6 +463,10 @@ stays_among : (k : ErrorKind) (kinds next : Kinds) → IsAmong k kinds → IsAmo
 stays_among k [] next among = absurd among
 stays_among k (x ∷ xs) next among = among
 
+-- the faults in what clap found, by two tests
+abbrev kinds_by : Bool → Bool → Kinds
+kinds_by clashes known = if clashes then (ArgumentConflict ∷ []) else (if known then [] else (InvalidValue ∷ []))
+
 -- clap finds no fault where the parse succeeds, and the matches are the command's
 module _ (arguments : List Text) (old : Command) (m : ArgMatches) (is : IsCommand command old)
     (matches : HasMatchesOf (app_of old) arguments m)
@@ -461,8 +477,9 @@ module _ (arguments : List Text) (old : Command) (m : ArgMatches) (is : IsComman
   rows : rows_of (found_of m) ≡ found_in arguments
   rows = (matches (ap is_simple is.app ∙ simple)).0 ∙ ap (λ a. matches_of a arguments) is.app
 
-  faults : (known : Bool) → is_format (format_asked (rows_of (found_of m))) ≡ known → faults_in arguments ≡ (if known then [] else (InvalidValue ∷ []))
-  faults known e = after_none _ _ passed ∙ ap (λ b. if b then [] else (InvalidValue ∷ [])) (ap (λ r. is_format (format_asked r)) (sym rows) ∙ e)
+  faults : (clashes known : Bool) → is_clash (rows_of (found_of m)) ≡ clashes → is_format (format_asked (rows_of (found_of m))) ≡ known → faults_in arguments ≡ kinds_by clashes known
+  faults clashes known c e =
+      after_none _ _ passed ∙ ap₂ kinds_by (ap is_clash (sym rows) ∙ c) (ap (λ r. is_format (format_asked r)) (sym rows) ∙ e)
 
 -- what a parse that succeeds says of the answer that was made of it
 pub says_found : (arguments : List Text) (old new : Command) (m : ArgMatches) (format : Format) (r : Result Words WordsFault) → IsCommand command old
@@ -470,12 +487,12 @@ pub says_found : (arguments : List Text) (old new : Command) (m : ArgMatches) (f
     → ((fields_of new).has_globals ≡ false → IsParsed new (found_of m) (has_subcommand m))
     → HasMatchesOf (app_of old) arguments m
     → (is_simple_and_free (app_of old) ≡ true → fault_of (app_of old) arguments ≡ [])
-    → format_name format ≡ format_asked (rows_of (found_of m))
+    → is_clash (rows_of (found_of m)) ≡ false → format_name format ≡ format_asked (rows_of (found_of m))
     → SaysMatches (rows_of (found_of m)) r → SaysArguments arguments r
-says_found arguments old new m format r is whole after from parsed matches kinds named says = go r says
+says_found arguments old new m format r is whole after from parsed matches kinds apart named says = go r says
   where
     faultless : faults_in arguments ≡ []
-    faultless = faults arguments old m is matches kinds true (ap is_format (sym named) ∙ known format)
+    faultless = faults arguments old m is matches kinds false true apart (ap is_format (sym named) ∙ known format)
 
     same : rows_of (found_of m) ≡ found_in arguments
     same = rows arguments old m is matches kinds
@@ -497,9 +514,17 @@ says_found arguments old new m format r is whole after from parsed matches kinds
 pub says_unknown : (arguments : List Text) (old : Command) (m : ArgMatches) (e : Error) → IsCommand command old
     → HasMatchesOf (app_of old) arguments m
     → (is_simple_and_free (app_of old) ≡ true → fault_of (app_of old) arguments ≡ [])
-    → is_format (format_asked (rows_of (found_of m))) ≡ false → kind_of e ≡ InvalidValue → SaysArguments arguments (Err (Usage e))
-says_unknown arguments old m e is matches kinds unknown kind =
-    subst (IsAmong (kind_of e)) (sym (faults arguments old m is matches kinds false unknown)) (inl kind)
+    → is_clash (rows_of (found_of m)) ≡ false → is_format (format_asked (rows_of (found_of m))) ≡ false → kind_of e ≡ InvalidValue → SaysArguments arguments (Err (Usage e))
+says_unknown arguments old m e is matches kinds apart unknown kind =
+    subst (IsAmong (kind_of e)) (sym (faults arguments old m is matches kinds false false apart unknown)) (inl kind)
+
+-- what a parse that succeeds says of an explanation beside what there is none of
+pub says_clash : (arguments : List Text) (old : Command) (m : ArgMatches) (e : Error) → IsCommand command old
+    → HasMatchesOf (app_of old) arguments m
+    → (is_simple_and_free (app_of old) ≡ true → fault_of (app_of old) arguments ≡ [])
+    → is_clash (rows_of (found_of m)) ≡ true → kind_of e ≡ ArgumentConflict → SaysArguments arguments (Err (Usage e))
+says_clash arguments old m e is matches kinds clashes kind =
+    subst (IsAmong (kind_of e)) (sym (faults arguments old m is matches kinds true _ clashes refl)) (inl kind)
 
 -- what a parse that fails says of the answer that it leads to
 pub says_fault : (arguments : List Text) (old : Command) (e : Error) (r : Result Words WordsFault) → IsCommand command old

@@ -5,6 +5,8 @@ pub mod WorkedArguments
 pub mod InputsLemmas
 pub mod GrowingReportLemmas
 pub mod WrittenRunLemmas
+pub mod ExplainedRunLemmas
+pub mod ExplainedSuiteLemmas
 pub mod SuiteLemmas
 pub mod WorkedRun
 pub mod WorkedHooksRun

@@ -167,3 +167,33 @@ two_no_skipped = refl
 flag_with_value : faults_in (program ∷ codes "--stop=true" ∷ codes "a" ∷ []) ≡ kind.TooManyValues ∷ []
 unfolding clap_on_literals
 flag_with_value = refl
+
+-- the version is clap's own option, and a request for it comes as help does
+version_asked : faults_in (program ∷ codes "--version" ∷ []) ≡ kind.DisplayVersion ∷ []
+unfolding clap_on_literals
+version_asked = refl
+
+short_version_asked : faults_in (program ∷ codes "-V" ∷ []) ≡ kind.DisplayVersion ∷ []
+unfolding clap_on_literals
+short_version_asked = refl
+
+-- an explanation, and what there is none of
+explaining : mode_asked (found_in (program ∷ codes "a" ∷ codes "--explain" ∷ codes "--stop" ∷ [])) ≡ Explanation
+unfolding clap_on_literals
+explaining = refl
+
+explaining_is_taken : faults_in (program ∷ codes "a" ∷ codes "--explain" ∷ codes "--stop" ∷ []) ≡ []
+unfolding clap_on_literals
+explaining_is_taken = refl
+
+explained_dry_run : faults_in (program ∷ codes "--dry-run" ∷ codes "--explain" ∷ codes "a" ∷ []) ≡ kind.ArgumentConflict ∷ []
+unfolding clap_on_literals
+explained_dry_run = refl
+
+explained_plainly : faults_in (program ∷ codes "--explain" ∷ codes "--format=plain" ∷ codes "a" ∷ []) ≡ kind.ArgumentConflict ∷ []
+unfolding clap_on_literals
+explained_plainly = refl
+
+explained_without_skipped : faults_in (program ∷ codes "--explain" ∷ codes "--no-skipped" ∷ codes "a" ∷ []) ≡ kind.ArgumentConflict ∷ []
+unfolding clap_on_literals
+explained_without_skipped = refl

@@ -1,5 +1,5 @@
 -- What the arguments of the command line ask for.
-use Rattle.std.specs.Prelude.{◌≡◌, ◌≢◌, ◌≤◌, ◌==◌, ℕ, Bool, List, [], ◌∷◌, true, false, Option, Some, None, Result, Ok, Err, if◌then◌else◌, codes, string_bytes, map, fold, option_map, unwrap_or}
+use Rattle.std.specs.Prelude.{◌≡◌, ◌≢◌, ◌≤◌, ◌==◌, ◌&&◌, ◌||◌, is_some, ℕ, Bool, List, [], ◌∷◌, true, false, Option, Some, None, Result, Ok, Err, if◌then◌else◌, codes, string_bytes, map, fold, option_map, unwrap_or}
 use Rattle.std.specs.List.{All, Any, after_first, before_first, list_any}
 use Rattle.std.specs.Option.{option_map_or}
 use Rattle.std.specs.Str.{bytes_eq}
@@ -16,9 +16,11 @@ use Rattle.clap.specs.declared.builder.command.Command.{Command}
 use Rattle.clap.specs.declared.builder.command.Command.TheViews.{out-Command as fields_of}
 use Rattle.clap.specs.declared.builder.value_parser.ValueParser.TheVariants.{Unsigned}
 use Rattle.clap.specs.declared.error.Error.{Error}
-use Rattle.clap.specs.declared.error.kind.ErrorKind.TheVariants.{InvalidValue, OutOfMemory}
+use Rattle.clap.specs.declared.error.kind.ErrorKind.TheVariants.{ArgumentConflict, InvalidValue, OutOfMemory}
 use Rattle.gk_report.specs.declared.report.Format.{Format}
 use Rattle.gk_report.specs.declared.report.Format.TheVariants.{Plain, Progress, Json}
+use Rattle.gk_cli.specs.declared.arguments.Mode.{Mode}
+use Rattle.gk_cli.specs.declared.arguments.Mode.TheVariants.{Report, Explanation}
 use Rattle.gk_cli.specs.declared.arguments.Options.{Options}
 use Rattle.gk_cli.specs.declared.arguments.Words.{Words}
 use Rattle.gk_cli.specs.declared.arguments.WordsFault.{WordsFault}
@@ -70,11 +72,15 @@ flag_rule name = record (new_rule name) { long = Some name; action = Some SetTru
 abbrev pub rules : List Rule
 rules =
     files_rule ∷ tags_rule ∷ line_rule ∷ library_rule ∷ hooks_rule ∷ env_rule
-    ∷ flag_rule (codes "dry-run") ∷ flag_rule (codes "stop") ∷ format_rule ∷ flag_rule (codes "no-skipped") ∷ []
+    ∷ flag_rule (codes "dry-run") ∷ flag_rule (codes "stop") ∷ format_rule ∷ flag_rule (codes "no-skipped") ∷ flag_rule (codes "explain") ∷ []
 
--- The command: its name and its rules. Help is clap's own.
+-- An app that has a version.
+abbrev pub with_version : App → App
+with_version app = record app { top = record app.top { has_version = true } }
+
+-- The command: its name, that it has a version, and its rules. Help and the version's options are clap's own.
 abbrev pub command : App
-command = fold with_rule (new_app (codes "gherkin_run")) rules
+command = fold with_rule (with_version (new_app (codes "gherkin_run"))) rules
 
 -- What clap finds in the arguments, of which the first is the program's name.
 abbrev pub found_in : List Text → List Row
@@ -94,13 +100,25 @@ is_format name = list_any (λ format. bytes_eq (format_name format) name) (Plain
 abbrev pub format_asked : List Row → Text
 format_asked rows = unwrap_or (first_of (codes "format") rows) (codes "plain")
 
--- The faults in the arguments, a request for help among them: those of the first step at which clap fails; where there are none, a format of an unknown name.
-abbrev pub faults_in : List Text → Kinds
-faults_in arguments = or_else (fault_of command arguments) (if is_format (format_asked (found_in arguments)) then [] else (InvalidValue ∷ []))
-
 -- Whether a flag stands among the arguments.
 abbrev pub is_set : Text → List Row → Bool
 is_set name rows = option_map_or (λ text. bytes_eq text (codes "true")) (one_of name rows) false
+
+-- What is asked to be written of a run: the report, or an explanation in place of it.
+abbrev pub mode_asked : List Row → Mode
+mode_asked rows = if is_set (codes "explain") rows then Explanation else Report
+
+-- Whether an explanation is asked for beside a dry run, a format or leaving out what was skipped: there is none of these.
+abbrev pub is_clash : List Row → Bool
+is_clash rows = is_set (codes "explain") rows && (is_set (codes "dry-run") rows || (is_set (codes "no-skipped") rows || is_some (first_of (codes "format") rows)))
+
+-- The faults in what clap found: an explanation that is asked for beside what there is none of; else a format of an unknown name.
+abbrev pub faults_found : List Row → Kinds
+faults_found rows = if is_clash rows then (ArgumentConflict ∷ []) else (if is_format (format_asked rows) then [] else (InvalidValue ∷ []))
+
+-- The faults in the arguments, a request for help among them: those of the first step at which clap fails; where there are none, those in what it found.
+abbrev pub faults_in : List Text → Kinds
+faults_in arguments = or_else (fault_of command arguments) (faults_found (found_in arguments))
 
 -- The values of one option or of the files, in order.
 abbrev pub values_of : Text → List Row → List Text
@@ -163,6 +181,7 @@ pub record AreAsked (rows : List Row) (options : Options) : Type 0 where
 pub record IsAskedBy (rows : List Row) (w : Words) : Type 0 where
   pub files : map string_bytes w.files.items ≡ values_of (codes "files") rows
   pub options : AreAsked rows w.options
+  pub mode : w.mode ≡ mode_asked rows
   pub library : option_map string_bytes w.library ≡ first_of (codes "library") rows
   pub hooks : option_map string_bytes w.hooks ≡ first_of (codes "hooks") rows
   pub variables : map pair_value w.env.items ≡ map split_at_equals (values_of (codes "env") rows)

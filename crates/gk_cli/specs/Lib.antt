@@ -7,3 +7,5 @@ pub mod RunFault
 pub mod Suite
 pub mod GrowingReport
 pub mod WrittenRun
+pub mod ExplainedRun
+pub mod ExplainedSuite

@@ -2,8 +2,9 @@
 ghost use Rattle.std.specs.Prelude.{◌≡◌, map, Some, IfOk, codes, option_map, string_bytes};
 ghost use Rattle.std.specs.List.{All};
 ghost use Rattle.clap.specs.Words.{found_of, kind_of, new_rule, rows_of};
-ghost use Rattle.clap.specs.declared.error.kind.ErrorKind.TheVariants.{InvalidValue};
-ghost use Rattle.gk_cli.specs.Arguments.{files_rule, line_rule, flag_rule, command, HasRule, IsCommand, values_of, is_set, IsLineNumber, line_number, format_name, format_asked, SaysFormat, SaysVariable, SaysVariables, AreAsked, SaysMatches, SaysArguments};
+ghost use Rattle.clap.specs.declared.error.kind.ErrorKind.TheVariants.{ArgumentConflict, InvalidValue};
+ghost use Rattle.gk_cli.specs.Arguments as spec;
+ghost use Rattle.gk_cli.specs.Arguments.{mode_asked, files_rule, line_rule, flag_rule, command, HasRule, IsCommand, values_of, is_set, IsLineNumber, line_number, format_name, format_asked, SaysFormat, SaysVariable, SaysVariables, AreAsked, SaysMatches, SaysArguments};
 
 use clap::builder::ValueParser;
 use clap::error::ErrorKind;
@@ -37,6 +38,13 @@ const STOP_HELP: &str = "Stop at the first failure, and leave later scenarios un
 
 const NO_SKIPPED_HELP: &str = "Leave skipped features and scenarios out of the report";
 
+const EXPLAIN_HELP: &str = "In place of the report, say what happened in each scenario that failed";
+
+const CLASH: &str =
+    "the argument '--explain' cannot be used with '--dry-run', '--format' or '--no-skipped'";
+
+const VERSION: &str = "unreleased, proved with rattle-kit-13f";
+
 /// Which scenarios run, how they run, and how the report is written.
 #[derive(Debug, Drop)]
 pub struct Options {
@@ -56,10 +64,21 @@ pub struct Options {
     pub style: Style,
 }
 
+/// What is written of a run.
+#[derive(Clone, Copy, Debug, PartialEq, Eq)]
+pub enum Mode {
+    /// The report.
+    Report,
+    /// What happened in each scenario, and in the hooks and cleanups of each section, that failed or was
+    /// refused memory.
+    Explanation,
+}
+
 /// What the arguments of the command line ask for.
 #[derive(Debug, Drop)]
 pub struct Words {
     pub options: Options,
+    pub mode: Mode,
     /// The library file, in place of the default library.
     pub library: Option<String>,
     /// The hooks file, if there is one.
@@ -175,6 +194,7 @@ fn command_of<'a>(alloc: Global) -> Result<Command<'a>, AllocError>
 {
     Command::new(alloc, "gherkin_run")
         .about("Runs the scenarios of feature files")
+        .version(VERSION)
         .after_help(EXAMPLE)
         .arg(files_arg(alloc))?
         .next_help_heading("Which scenarios run")
@@ -188,7 +208,8 @@ fn command_of<'a>(alloc: Global) -> Result<Command<'a>, AllocError>
         .arg(flag_arg(alloc, "stop", STOP_HELP))?
         .next_help_heading("Report")
         .arg(value_arg(alloc, "format", "F", FORMAT_HELP, ArgAction::Set))?
-        .arg(flag_arg(alloc, "no-skipped", NO_SKIPPED_HELP))
+        .arg(flag_arg(alloc, "no-skipped", NO_SKIPPED_HELP))?
+        .arg(flag_arg(alloc, "explain", EXPLAIN_HELP))
 }
 
 fn copied(alloc: Global, texts: &[&str]) -> Result<Vec<String>, AllocError>
@@ -280,6 +301,33 @@ fn unknown_format(
     command.error(ErrorKind::InvalidValue, message.as_str())
 }
 
+// What is asked to be written of a run.
+fn mode_of(matches: &ArgMatches) -> Mode
+    ensures { result ≡ mode_asked (rows_of (found_of matches.now)) }
+{
+    if flag(matches, "explain") {
+        Mode::Explanation
+    } else {
+        Mode::Report
+    }
+}
+
+// Whether an explanation is asked for beside what there is none of.
+fn is_clash(matches: &ArgMatches) -> bool
+    ensures { result ≡ spec.is_clash (rows_of (found_of matches.now)) }
+{
+    let formatted = matches.get_str("format").is_some();
+    let unlike = flag(matches, "dry-run") || flag(matches, "no-skipped") || formatted;
+    flag(matches, "explain") && unlike
+}
+
+// The mistake of such an explanation, in clap's words.
+fn clash(command: &mut Command) -> Result<clap::Error, AllocError>
+    ensures { IfOk result (λ error. kind_of error ≡ ArgumentConflict) }
+{
+    command.error(ErrorKind::ArgumentConflict, CLASH)
+}
+
 fn options_of(alloc: Global, matches: &ArgMatches, format: Format) -> Result<Options, AllocError>
     requires lines { All IsLineNumber (values_of (codes "line") (rows_of (found_of matches.now))) }
     requires format { format_name format ≡ format_asked (rows_of (found_of matches.now)) }
@@ -309,6 +357,7 @@ fn words_of(alloc: Global, matches: &ArgMatches, format: Format) -> Result<Words
     let env = variables(alloc, matches.get_strs("env").unwrap_or(&[]))?;
     Ok(Words {
         options,
+        mode: mode_of(matches),
         library,
         hooks,
         env,
@@ -326,6 +375,9 @@ fn words_by<'a>(
     ensures { SaysArguments (map string_bytes words.now) result }
 {
     let matches = reader.try_get_matches_from_mut(words)?;
+    if is_clash(&matches) {
+        return Err(WordsFault::Usage(clash(reader)?));
+    }
     let name = matches.get_str("format").unwrap_or("plain");
     match format_of(name) {
         Some(format) => words_of(alloc, &matches, format),
@@ -336,10 +388,11 @@ fn words_by<'a>(
 /// Reads the arguments of the command line, of which the first is the program's name. `--tags T`,
 /// `--line N` (1 to 4,294,967,295) and `--env NAME=VALUE` may stand several times. `--library FILE`,
 /// `--hooks FILE`, `--format F` (`plain`, `progress` or `json`; `plain` if it is left out), `--dry-run`,
-/// `--stop` and `--no-skipped` stand once at most. Every other argument that begins with no `-` or is `-`
+/// `--stop`, `--no-skipped` and `--explain` stand once at most; `--explain` stands beside none of `--format`,
+/// `--dry-run` and `--no-skipped`. Every other argument that begins with no `-` or is `-`
 /// alone, and every argument after the first `--`, is a feature file; there has to be one. Options and files
 /// stand in any order, and `--opt=value` is the same as `--opt value`. `--help` and `-h` ask for help, and
-/// answer `Usage` with the exit code 0. A mistake is `Usage`, and comes before `Env`; `Memory` may come in
+/// answer `Usage` with the exit code 0, as do `--version` and `-V` for the version. A mistake is `Usage`, and comes before `Env`; `Memory` may come in
 /// place of any answer.
 pub fn read_words(alloc: Global, words: &[String]) -> Result<Words, WordsFault>
     ensures { SaysArguments (map string_bytes words.now) result }

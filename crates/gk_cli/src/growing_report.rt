@@ -13,7 +13,9 @@ use gk_run::{FeatureResult, Status};
 use std::alloc::Global;
 use std::io::Write;
 
-fn write_piece<W: Write>(out: &mut Counted<W>, text: &str) -> Result<(), RunFault>
+/// Writes a piece of a text, by no more calls than it has bytes. `Write` comes where the writer failed, and
+/// a prefix of it was written.
+pub fn write_piece<W: Write>(out: &mut Counted<W>, text: &str) -> Result<(), RunFault>
     requires room { CountsCanRise out.old }
     ensures room { OnOk result (CountsCanRise out.new) }
     ensures ok { OnOk result

@@ -1,9 +1,11 @@
-//! A whole run. Options, a step library, hooks and sources come in; the report is written, and the status
-//! goes out. The arguments of the command line, and readers and writers whose calls are counted, stand here too.
+//! A whole run. Options, a step library, hooks and sources come in; the report is written, or an explanation
+//! in place of it, and the status goes out. The arguments of the command line, and readers and writers whose calls are counted, stand here too.
 #![tactic(auto)]
 
 mod arguments;
 mod counted;
+mod explained_run;
+mod explained_suite;
 mod growing_report;
 mod inputs;
 mod run_fault;
@@ -11,8 +13,9 @@ mod source;
 mod suite;
 mod written_run;
 
-pub use arguments::{Options, Words, WordsFault, read_words};
+pub use arguments::{Mode, Options, Words, WordsFault, read_words};
 pub use counted::{Counted, NotWritten, write_whole};
+pub use explained_suite::{SuiteFiles, explain_suite};
 pub use run_fault::RunFault;
 pub use source::{Source, SourceFault, read_source};
 pub use suite::run_suite;

@@ -33,10 +33,10 @@ use std::io::Write;
 
 /// What the steps and the hooks of a run are looked up in, and where its memory comes from.
 #[derive(Clone, Copy)]
-struct Glue<'a> {
-    alloc: Global,
-    library: &'a Library,
-    hooks: &'a HookFile,
+pub struct Glue<'a> {
+    pub alloc: Global,
+    pub library: &'a Library,
+    pub hooks: &'a HookFile,
 }
 
 /// A run that was begun, and its report so far.

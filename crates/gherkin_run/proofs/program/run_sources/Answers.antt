@@ -7,9 +7,8 @@ use Rattle.gherkin_run.proofs.program.run_sources.Goals as goal
 
 pub returns-in-Ok-flush-clause-run : goal.returns-in-Ok-flush-clause-run
 returns-in-Ok-flush-clause-run g c = record {
-  written = device_of (λ w. g.W.Write.contents w) c.run_suite.new.out;
-  judged = rw (c.bytes_of-steps.ensures, c.bytes_of-around.ensures, c.as_slice.ensures.value) at c.in-Ok.ensures.judged;
-  plain = rw (c.bytes_of-steps.ensures, c.bytes_of-around.ensures, c.as_slice.ensures.value) at c.in-Ok.ensures.plain;
+  written = device_of (λ w. g.W.Write.contents w) c.write_run.new.out;
+  is = c.in-Ok.ensures.written;
   flushed = record { written = c.flush.ensures.bytes; calls = c.flush.ensures.calls; idle = c.flush.ensures.idle; flushes = c.flush.ensures.flushes };
 }
 
@@ -17,22 +16,18 @@ pub returns-in-Ok-clause-fault : goal.returns-in-Ok-clause-fault
 returns-in-Ok-clause-fault g c = inr record {
   named = refl;
   status = c.in-Ok.status;
-  written = device_of (λ w. g.W.Write.contents w) c.run_suite.new.out;
-  judged = rw (c.bytes_of-steps.ensures, c.bytes_of-around.ensures, c.as_slice.ensures.value) at c.in-Ok.ensures.judged;
+  written = device_of (λ w. g.W.Write.contents w) c.write_run.new.out;
+  is = c.in-Ok.ensures.written;
   flushed = record { written = c.flush.ensures.bytes; calls = c.flush.ensures.calls; idle = c.flush.ensures.idle; flushes = c.flush.ensures.flushes };
   failed = c.in-Err-flush.ensures.failures ∙ ap one_more c.in-Ok.ensures.quiet;
 }
 
 pub fault_of_run-requires : goal.fault_of_run-requires
-fault_of_run-requires g c =
-    let says = rw (c.bytes_of-steps.ensures, c.bytes_of-around.ensures, c.as_slice.ensures.value) at c.in-Err.ensures.fault in
-    within c.args.options.now (files_value c.args.files) _ _ _ c.in-Err.fault says
+fault_of_run-requires g c = within c.args.manner.mode c.args.manner.options.now (files_value c.args.files) _ _ _ c.in-Err.fault c.in-Err.ensures.fault
 
 pub returns-clause-fault : goal.returns-clause-fault
-returns-clause-fault g c =
-    let says = rw (c.bytes_of-steps.ensures, c.bytes_of-around.ensures, c.as_slice.ensures.value) at c.in-Err.ensures.fault in
-    inl (c.in-Err.fault, c.fault_of_run.ensures, says)
+returns-clause-fault g c = inl (c.in-Err.fault, c.fault_of_run.ensures, c.in-Err.ensures.fault)
 
 pub returns-clause-calls : goal.returns-clause-calls
 returns-clause-calls g c =
-    calls_of_run _ _ _ _ (files_value c.args.files) c.in-Err.fault c.fault_of_run.result c.requires.room.0.0 c.fault_of_run.ensures c.in-Err.ensures.fault
+    calls_of_run c.args.manner.mode _ _ _ _ (files_value c.args.files) c.in-Err.fault c.fault_of_run.result c.requires.room.0.0 c.fault_of_run.ensures c.in-Err.ensures.fault

@@ -23,11 +23,11 @@ returns-in-Some c =
     let ensures = c.in_ok-matches.ensures in
     let format = format_read (found_of c.in_ok-matches.matches) c.get_str.result _ c.unwrap_or-name.result c.unwrap_or-name.ensures refl c.get_str.ensures in
     says_found (map string_bytes c.args.words.now) c.args.reader.now c.try_get_matches_from_mut.new.self c.in_ok-matches.matches c.in-Some.format c.words_of.result
-    c.requires ensures.fails ensures.after ensures.ok.0 ensures.ok.1 ensures.ok.2 ensures.kinds (c.in-Some.ensures ∙ format) c.words_of.ensures
+    c.requires ensures.fails ensures.after ensures.ok.0 ensures.ok.1 ensures.ok.2 ensures.kinds (sym c.is_clash.ensures ∙ c.if-is_clash.false) (c.in-Some.ensures ∙ format) c.words_of.ensures
 
 pub returns : goal.returns
 returns c =
     let ensures = c.in_ok-matches.ensures in
     let format = format_read (found_of c.in_ok-matches.matches) c.get_str.result _ c.unwrap_or-name.result c.unwrap_or-name.ensures refl c.get_str.ensures in
     says_unknown (map string_bytes c.args.words.now) c.args.reader.now c.in_ok-matches.matches c.in_ok-unknown_format-in-None.field-0
-    c.requires ensures.ok.2 ensures.kinds (ap is_format (sym format) ∙ c.in-None.ensures) c.in_ok-unknown_format-in-None.ensures
+    c.requires ensures.ok.2 ensures.kinds (sym c.is_clash.ensures ∙ c.if-is_clash.false) (ap is_format (sym format) ∙ c.in-None.ensures) c.in_ok-unknown_format-in-None.ensures

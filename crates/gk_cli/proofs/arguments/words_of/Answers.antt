@@ -20,6 +20,7 @@ returns c =
     record {
       files = c.in_ok-files.ensures ∙ files;
       options = c.in_ok-options.ensures;
+      mode = c.mode_of.ensures;
       library = c.in_ok-library.ensures ∙ (c.get_str.ensures ∙ first_value-rows f (codes "library"));
       hooks = c.in_ok-hooks.ensures ∙ (c.get_str-2.ensures ∙ first_value-rows f (codes "hooks"));
       variables = c.in_ok-env.ensures.1 ∙ ap (map split_at_equals) env;

@@ -1,0 +1,20 @@
+" The program as Vim's compiler: put this file into ~/.vim/compiler/, and say
+"     :compiler gherkin_run
+"     :make --explain login.feature
+" Each fault, each explained scenario and each event that failed is then a line of the quickfix list.
+if exists('current_compiler')
+  finish
+endif
+let current_compiler = 'gherkin_run'
+
+if exists(':CompilerSet') != 2
+  command -nargs=* CompilerSet setlocal <args>
+endif
+
+CompilerSet makeprg=gherkin_run
+CompilerSet errorformat=gherkin_run:\ %f:%l:\ %m
+CompilerSet errorformat+=\ \ %f:%l:\ %m\ ...\ failed,\ \ %f:%l:\ %m\ ...\ failed:\ %*[a-z\ ]
+CompilerSet errorformat+=\ \ %f:%l:\ %m\ ...\ undefined,\ \ %f:%l:\ %m\ ...\ memory
+CompilerSet errorformat+=%-G\ %.%#
+CompilerSet errorformat+=%f:%l:\ %m\ ...\ failed,%f:%l:\ %m\ ...\ memory
+CompilerSet errorformat+=%-G%.%#
