@@ -24,12 +24,12 @@ unfoldable pub run_heading : List ℕ
 run_heading = codes "(hooks and cleanups)"
 
 -- An explanation: a heading with a status, the lines of events, an empty line.
-unfoldable pub explanation : List ℕ → Status → List ℕ → List ℕ
-explanation heading status lines = status_line heading (status_text status) ++ lines ++ line_feed
+unfoldable pub explanation_text : List ℕ → Status → List ℕ → List ℕ
+explanation_text heading status lines = status_line heading (status_text status) ++ lines ++ line_feed
 
 -- The explanation of what ended so, where it failed or was refused memory.
 abbrev pub explained : List ℕ → Status → List ℕ → List ℕ
-explained heading status lines = cond (is_bad status) (explanation heading status lines) []
+explained heading status lines = cond (is_bad status) (explanation_text heading status lines) []
 
 -- Its line in the list of what failed.
 abbrev pub listed : List ℕ → Status → List ℕ

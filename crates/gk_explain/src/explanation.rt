@@ -34,7 +34,7 @@ fn push_end(
     lines: &str,
 ) -> Result<(), AllocError>
     ensures ready { Pushes ready.old
-        (headings.explanation heading.now status lines.now) result ready.new }
+        (headings.explanation_text heading.now status lines.now) result ready.new }
     ensures failures { Pushes failures.old (heading.now ++ line_feed) result failures.new }
 {
     push_explanation(ready, heading, status, lines)?;

@@ -55,14 +55,14 @@ pub fn feature_heading(
 
 /// Pushes an explanation: a heading with a status, the lines of events, an empty line. An error comes only
 /// where a growth was refused.
-#[tactic(auto, unfolding(crate::specs::Headings::explanation, gk_report::specs::PlainReport::status_line))]
+#[tactic(auto, unfolding(crate::specs::Headings::explanation_text, gk_report::specs::PlainReport::status_line))]
 pub fn push_explanation(
     out: &mut String,
     heading: &str,
     status: Status,
     lines: &str,
 ) -> Result<(), AllocError>
-    ensures { Pushes out.old (spec.explanation heading.now status lines.now) result out.new }
+    ensures { Pushes out.old (spec.explanation_text heading.now status lines.now) result out.new }
 {
     out.push_str(heading)?;
     push_ending(out, status, None)?;
