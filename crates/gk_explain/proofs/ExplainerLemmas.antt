@@ -104,10 +104,11 @@ hears_all (t ∷ ts) old new a h uncut =
     let rest = hears_all ts h.0 new a.1 h.2 uncut in
     let first = h.1 rest.0 in
     let line = event_line (said old).names t in
-    let next : said h.0 ≡ with_lines line (said old) = first.1 ∙ ap (λ (level : Level). with_line level line (said old)) a.0 in
-    (first.0,
-    rest.1 ∙ ap (λ (e : ExplanationValue). with_lines (flat_map (event_line e.names) ts) e) next
-    ∙ ap (λ (lines : List ℕ). record (said old) { case_lines = lines }) (append_assoc (said old).case_lines line (flat_map (event_line (said old).names) ts)))
+    let next : said h.0 ≡ with_lines line (said old) = first.1 ∙ ap (λ (level : Level). with_line level line (said old)) a.0 in (
+      first.0,
+      rest.1 ∙ ap (λ (e : ExplanationValue). with_lines (flat_map (event_line e.names) ts) e) next
+          ∙ ap (λ (lines : List ℕ). record (said old) { case_lines = lines }) (append_assoc (said old).case_lines line (flat_map (event_line (said old).names) ts)),
+    )
 
 pub explained_by_its_events : CasesAreExplained
 explained_by_its_events run section c row old new told uncut none =
@@ -115,6 +116,10 @@ explained_by_its_events run section c row old new told uncut none =
     let ended = told.2 uncut in
     let at = at_order _ (are_happened levels.Scenario events.refusing events.cut (told_case run section c) (are_case run section c)) in
     let all = hears_all _ old told.0 at events.told ended.0 in
-    let lines = lines_of_case old run section c events.cut events.refusing in
-    (events.cut, events.refusing, events.is, all.0,
-    ended.1 ∙ ap (with_case row) all.1 ∙ ap (λ (before : List ℕ). with_case_of (before ++ lines) row (said old)) none)
+    let lines = lines_of_case old run section c events.cut events.refusing in (
+      events.cut,
+      events.refusing,
+      events.is,
+      all.0,
+      ended.1 ∙ ap (with_case row) all.1 ∙ ap (λ (before : List ℕ). with_case_of (before ++ lines) row (said old)) none,
+    )
