@@ -21,9 +21,14 @@ fn push_verdict(out: &mut String, status: Status, reason: Option<Reason>) -> Res
     Ok(())
 }
 
-// What a line of a status ends with.
+/// Pushes what a line of a status ends with: three dots, the status, and the reason of what failed. An error
+/// comes only where a growth was refused.
 #[inline(always)]
-fn push_ending(out: &mut String, status: Status, reason: Option<Reason>) -> Result<(), AllocError>
+pub fn push_ending(
+    out: &mut String,
+    status: Status,
+    reason: Option<Reason>,
+) -> Result<(), AllocError>
     ensures { Pushes out.old
         (codes " ... " ++ step_verdict status reason ++ line_feed) result out.new }
 {

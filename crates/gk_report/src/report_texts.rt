@@ -51,7 +51,8 @@ pub fn reason_text(reason: Reason) -> &'static str
     }
 }
 
-/// Pushes a name or a text, with a backslash and `n` in place of each line feed.
+/// Pushes a name or a text, with a backslash and `n` in place of each line feed. An error comes only where a
+/// growth was refused.
 #[inline(always)]
 pub fn push_one_line(out: &mut String, text: &str) -> Result<(), AllocError>
     ensures { Pushes out.old (one_line text.now) result out.new }

@@ -27,9 +27,11 @@ mod walk;
 mod watching;
 
 pub use acting::{Site, act};
+pub use cases::is_bad;
 pub use chosen::{Chosen, RuleHead};
 pub use cleanups::Cleanups;
 pub use dry_run::dry_feature;
+pub use ending::{reason_of, status_of};
 pub use features::run_feature;
 pub use grouping::{
     features_without_rules_have_their_cases, formed_cases_fall_into_rules, groups_are_all,

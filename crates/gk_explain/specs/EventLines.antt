@@ -1,0 +1,47 @@
+-- The line of an event of a run.
+use Rattle.std.specs.Prelude.{ℕ, List, [], ◌++◌, codes}
+use Rattle.std.specs.Fmt.{decimal}
+use Rattle.gk_run.specs.declared.results.Mark.{Mark}
+use Rattle.gk_run.specs.declared.results.Mark.TheVariants.{Acted}
+use Rattle.gk_run.specs.declared.section.Part.{Part}
+use Rattle.gk_run.specs.declared.section.Part.TheVariants as parts
+use Rattle.gk_run.specs.Ending.{status_of_mark, reason_of_mark}
+use Rattle.gk_run.specs.Watching.{Told, of_step, of_cleanup}
+use Rattle.gk_report.specs.ReportTexts.{one_line}
+use Rattle.gk_report.specs.PlainReport.{status_line, step_verdict}
+use Rattle.gk_explain.specs.declared.event_lines.Names.{Names}
+
+-- The names of the hooks file and of the feature file that steps stand in.
+pub record NamesValue : Type 0 where
+  pub hooks : List ℕ
+  pub source : List ℕ
+
+-- What a `Names` says.
+abbrev pub names_value : Names → NamesValue
+names_value names = record { hooks = names.hooks.now; source = names.source.now }
+
+-- The file that the steps of a part of a section stand in.
+abbrev pub file_of : NamesValue → Part → List ℕ
+file_of names parts.Before = names.hooks
+file_of names parts.Steps = names.source
+file_of names parts.After = names.hooks
+
+-- What is said in front of a step of a part of a section.
+abbrev pub part_text : Part → List ℕ
+part_text parts.Before = codes "before: "
+part_text parts.Steps = []
+part_text parts.After = codes "after: "
+
+-- A place in a file: its name, and a line.
+unfoldable pub place_text : List ℕ → ℕ → List ℕ
+place_text file line = one_line file ++ codes ":" ++ decimal line ++ codes ": "
+
+-- The status of what became of a step, with the reason of one that failed.
+abbrev pub mark_text : Mark → List ℕ
+mark_text mark = step_verdict (status_of_mark mark) (reason_of_mark mark)
+
+-- The line of an event.
+unfoldable pub event_line : NamesValue → Told → List ℕ
+event_line names (of_step place step mark s) =
+    status_line (codes "  " ++ place_text (file_of names place.part) step.line ++ part_text place.part ++ step.keyword ++ codes " " ++ one_line step.text) (mark_text mark)
+event_line names (of_cleanup level cleanup outcome s) = status_line (codes "  cleanup") (mark_text (Acted outcome))

@@ -1,0 +1,40 @@
+-- The heading of what failed, and its explanation.
+use Rattle.std.specs.Prelude.{ℕ, cond, List, [], ◌++◌, codes, is_empty}
+use Rattle.gk_run.specs.declared.results.Status.{Status}
+use Rattle.gk_run.specs.Results.{CaseRow, RuleRow, FeatureRow}
+use Rattle.gk_run.specs.Cases.{is_bad}
+use Rattle.gk_report.specs.ReportTexts.{status_text, one_line, line_feed}
+use Rattle.gk_report.specs.PlainReport.{status_line}
+use Rattle.gk_explain.specs.EventLines.{place_text}
+
+-- The heading of a scenario of a file.
+unfoldable pub case_heading : List ℕ → CaseRow → List ℕ
+case_heading source c = place_text source c.line ++ c.keyword ++ codes ": " ++ one_line c.name
+
+-- The heading of the hooks and cleanups of a rule of a file.
+unfoldable pub rule_heading : List ℕ → RuleRow → List ℕ
+rule_heading source r = place_text source r.line ++ codes "Rule: (hooks and cleanups)"
+
+-- The heading of the hooks and cleanups of the feature of a file.
+unfoldable pub feature_heading : List ℕ → FeatureRow → List ℕ
+feature_heading source f = place_text source f.line ++ codes "Feature: " ++ one_line f.name ++ codes " (hooks and cleanups)"
+
+-- The heading of the hooks and cleanups of the run.
+unfoldable pub run_heading : List ℕ
+run_heading = codes "(hooks and cleanups)"
+
+-- An explanation: a heading with a status, the lines of events, an empty line.
+unfoldable pub explanation_text : List ℕ → Status → List ℕ → List ℕ
+explanation_text heading status lines = status_line heading (status_text status) ++ lines ++ line_feed
+
+-- The explanation of what ended so, where it failed or was refused memory.
+abbrev pub explained : List ℕ → Status → List ℕ → List ℕ
+explained heading status lines = cond (is_bad status) (explanation_text heading status lines) []
+
+-- Its line in the list of what failed.
+abbrev pub listed : List ℕ → Status → List ℕ
+listed heading status = cond (is_bad status) (heading ++ line_feed) []
+
+-- The list of what failed, with an empty line behind it where there is any.
+unfoldable pub failures_text : List ℕ → List ℕ
+failures_text failures = cond (is_empty failures) [] (failures ++ line_feed)

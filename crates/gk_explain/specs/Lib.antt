@@ -1,0 +1,5 @@
+-- What an explanation says, in reading order. A definition whose comment names no source is this project's profile, or a word that the others use.
+pub mod EventLines
+pub mod Headings
+pub mod Explanation
+pub mod Explainer

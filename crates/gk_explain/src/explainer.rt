@@ -1,0 +1,173 @@
+//! An observer that explains a run.
+ghost use Rattle.std.specs.Prelude.{◌≡◌, true, false, IfOk, OnOk, OnErr, string_bytes};
+ghost use Rattle.gk_run.specs.Results.{feature_row};
+ghost use Rattle.gk_explain.specs.Headings.{failures_text};
+ghost use Rattle.gk_explain.specs.Explanation.{nothing_said, with_source, with_feature, with_run, with_taken};
+ghost use Rattle.gk_explain.specs.Explainer as spec;
+ghost use Rattle.gk_explain.specs.Explainer.{said, Becomes, Hears, Ends, CasesAreExplained};
+
+use crate::explanation::Explanation;
+use gk_gherkin::{Block, Step};
+use gk_run::{
+    CaseResult, FeatureResult, Level, Mark, Observer, Outcome, Place, RuleResult, Status,
+};
+use gk_steps::Found;
+use gk_world::Sandbox;
+use std::alloc::{AllocError, Global};
+
+/// Explains a run that it is told as its observer: each scenario that failed or was refused memory, and the
+/// hooks and cleanups of each rule, each feature and of the run that did, by a line for each of its events, in
+/// order. It keeps no event. Once a growth is refused to it, it is cut, and adds nothing any more.
+#[derive(Debug, Drop)]
+pub struct Explainer<'a> {
+    alloc: Global,
+    explanation: Explanation<'a>,
+    cut: bool,
+}
+
+impl<'a> Explainer<'a> {
+    /// An explainer that was told nothing. `hooks` is the name by which it calls the hooks file. Takes no
+    /// memory.
+    pub fn new(alloc: Global, hooks: &'a str) -> Explainer<'a>
+        ensures uncut { spec.is_cut result ≡ false }
+        ensures said { said result ≡ nothing_said hooks.entry.now }
+    {
+        Explainer {
+            alloc,
+            explanation: Explanation::new(alloc, hooks),
+            cut: false,
+        }
+    }
+
+    /// Whether a growth was refused to it.
+    pub fn is_cut(&self) -> bool
+        ensures { result ≡ spec.is_cut self.now }
+    {
+        self.cut
+    }
+
+    // Cuts it where a growth was refused to it.
+    fn cut_after(&mut self, added: Result<(), AllocError>)
+        ensures cut { OnErr added (spec.is_cut self.new ≡ true) }
+        ensures uncut { OnOk added (self.new ≡ self.old) }
+    {
+        if added.is_err() {
+            self.cut = true;
+        }
+    }
+
+    /// A feature begins, of the source of this name. It comes before the feature's first event.
+    pub fn begin_feature(&mut self, source: &str)
+        ensures { Becomes self.old (with_source source.now) self.new }
+    {
+        if self.cut {
+            return;
+        }
+        let added = self.explanation.begin_feature(source);
+        self.cut_after(added);
+    }
+
+    /// A feature has ended with this result, after its events. What failed of its own hooks and cleanups is
+    /// ready then, too.
+    pub fn end_feature(&mut self, feature: &FeatureResult)
+        ensures { Becomes self.old (with_feature (feature_row feature.now)) self.new }
+    {
+        if self.cut {
+            return;
+        }
+        let added = self.explanation.end_feature(self.alloc, feature);
+        self.cut_after(added);
+    }
+
+    /// The run has ended, after all events, `around` being how its own hooks and cleanups ended. What failed
+    /// of them is ready then, too.
+    pub fn end_run(&mut self, around: Status)
+        ensures { Becomes self.old (with_run around) self.new }
+    {
+        if self.cut {
+            return;
+        }
+        let added = self.explanation.end_run(around);
+        self.cut_after(added);
+    }
+
+    /// The explanations that are ready, and weren't taken before. Takes no memory. An error comes only where
+    /// the explainer is cut, and leaves it so.
+    pub fn take_ready(&mut self) -> Result<String, AllocError>
+        ensures uncut { IfOk result (λ text. spec.is_cut self.old ≡ false) }
+        ensures text { let old = said self.old in IfOk result (λ text.
+            string_bytes text ≡ old.ready) }
+        ensures left { IfOk result (λ text. said self.new ≡ with_taken (said self.old)) }
+        ensures still { spec.is_cut self.new ≡ spec.is_cut self.old }
+        ensures cut { OnErr result (spec.is_cut self.old ≡ true) }
+    {
+        if self.cut {
+            return Err(AllocError);
+        }
+        Ok(self.explanation.take_ready(self.alloc))
+    }
+
+    /// The list of what failed, a line for each, with an empty line behind it; it is empty where nothing
+    /// failed. An error comes only where the explainer is cut or a growth was refused.
+    pub fn into_failures(self) -> Result<String, AllocError>
+        ensures uncut { IfOk result (λ text. spec.is_cut self.entry ≡ false) }
+        ensures text { let said = said self.entry in IfOk result (λ text.
+            string_bytes text ≡ failures_text said.failures) }
+    {
+        if self.cut {
+            return Err(AllocError);
+        }
+        self.explanation.into_failures()
+    }
+}
+
+impl Observer for Explainer<'_> {
+    ghost hears = { Hears };
+
+    ghost ends = { Ends };
+
+    fn step(&mut self, place: Place, step: &Step, mark: Mark, _sandbox: &Sandbox) {
+        if self.cut {
+            return;
+        }
+        let added = self.explanation.add_step(place, step, mark);
+        self.cut_after(added);
+    }
+
+    fn cleanup(
+        &mut self,
+        level: Level,
+        _found: &Found,
+        _block: &Block,
+        outcome: Outcome,
+        _sandbox: &Sandbox,
+    ) {
+        if self.cut {
+            return;
+        }
+        let added = self.explanation.add_cleanup(level, outcome);
+        self.cut_after(added);
+    }
+
+    fn case_ended(&mut self, row: &CaseResult) {
+        if self.cut {
+            return;
+        }
+        let added = self.explanation.end_case(self.alloc, row);
+        self.cut_after(added);
+    }
+
+    fn rule_ended(&mut self, row: &RuleResult) {
+        if self.cut {
+            return;
+        }
+        let added = self.explanation.end_rule(self.alloc, row);
+        self.cut_after(added);
+    }
+}
+
+/// A case that was told is explained where it failed or was refused memory, by the lines of all its events in
+/// order; and nothing is said of another.
+pub fn cases_are_explained()
+    ensures { CasesAreExplained }
+{}

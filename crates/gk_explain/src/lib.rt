@@ -1,0 +1,11 @@
+//! Explanations of a run. Its events come in, as an observer is told them; the lines of what happened in
+//! each scenario that failed, and in the hooks and cleanups of each section that did, go out. Where a
+//! comment names no source, what it says is this project's profile.
+#![tactic(auto)]
+
+mod event_lines;
+mod explainer;
+mod explanation;
+mod headings;
+
+pub use explainer::{Explainer, cases_are_explained};
