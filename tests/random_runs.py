@@ -13,7 +13,7 @@ import shutil
 import sys
 
 import driver
-from reports import Feature, Report, Rule, Scenario, Style, verdict
+from reports import AROUND, Feature, Report, Rule, Scenario, Style, verdict
 
 TAGS = ["@a", "@b", "@c"]
 TEXTS = ["x", "x", "yy", "1", "-7", "9223372036854775807"]
@@ -338,6 +338,8 @@ class Suite:
             yield from self.dry(chosen)
             yield from self.in_formats(chosen)
             yield from self.stopped(chosen)
+            yield from self.explained(chosen, self.choices)
+            yield from self.explained(self.json(["--stop"]), ["--stop"])
             yield from self.rules_as_features()
         except ValueError as trouble:
             yield str(trouble)
@@ -442,6 +444,21 @@ class Suite:
         if stopped["run"] != whole["run"]:
             yield "--stop changes the run's own hooks"
 
+    def explained(self, whole, options):
+        """An explanation has what failed in the report, with the lines of its steps in order, and its closing lines."""
+        printed, status = self.run(["--explain", *options])
+        text, wanted = printed.decode(), list(failures(whole))
+        listed = "".join(f"{heading}\n" for heading, _ in wanted) + ("\n" if wanted else "")
+        if status != whole["status"] or not text.endswith(listed + closing_lines(whole)):
+            yield f"--explain {options} has another status, list or closing lines: {text}"
+            return
+        parts = text.removesuffix(listed + closing_lines(whole)).split("\n\n")[:-1]
+        for part, (heading, steps) in zip(parts, wanted, strict=True):
+            first, *events = part.split("\n")
+            others = [it for it in events if it.startswith(("  h.hooks:", "  cleanup"))]
+            if first != f"{heading} ... failed" or [it for it in events if it not in others] != steps:
+                yield f"--explain {options}: {part}, and not {heading}, {steps}"
+
     def rules_as_features(self):
         """The rules of a feature have the rows of features, where the feature is the run: each hook moved out by one
         section. The hooks of the run, which have no section further out, are left out, and so are scenarios of no rule.
@@ -464,6 +481,28 @@ class Suite:
                 outer = by_features(self.json(options, list(files), "outer.hooks"))
                 if inner != outer:
                     yield f"{options}: the rules of {name} give {inner}, and as features {outer}"
+
+
+def failures(document):
+    """What of a run failed, in the order in which it ended: its heading with its place, and the lines of its steps."""
+    for feature in document["features"]:
+        source, scenarios, rules = feature["source"], feature["scenarios"], converted_rules(feature)
+        for place in range(len(scenarios) + 1):
+            yield from ((f"{source}:{it.line}: Rule: {AROUND}", []) for it in rules if it.place == place)
+            if place < len(scenarios) and scenarios[place]["status"] == "failed":
+                row = converted_scenario(scenarios[place])
+                lines = [it["line"] for it in scenarios[place]["steps"]]
+                yield (f"{source}:{scenarios[place]['line']}: {row.head}",
+                       [f"  {source}:{line}: {head} ... {status}" for line, (head, status) in zip(lines, row.steps)])
+        if feature["around"] == "failed":
+            yield f"{source}:{feature['line']}: Feature: {on_one_line(feature['name'])} {AROUND}", []
+    if document["run"] == "failed":
+        yield AROUND, []
+
+
+def closing_lines(document):
+    """The closing lines of the plain report of a run."""
+    return converted(dict(document, features=[]), "plain").decode()
 
 
 def by_rules(feature):

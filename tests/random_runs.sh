@@ -13,6 +13,7 @@
 # - a dry run calls undefined what the run does, and nothing that the run carried out;
 # - a run that stops has the rows of the whole run up to the first failure, and after it none;
 # - texts of tags choose the scenarios of whose tags they hold, expressions and alternatives;
+# - an explanation has the headings, steps, statuses and counts of what failed in the report;
 # - the three formats say the same, with --no-skipped and without, and each counts its own rows.
 #
 # Where something differs, the suite's files and what differs are kept in out/random_runs/SEED.

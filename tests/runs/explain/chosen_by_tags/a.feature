@@ -1,0 +1,7 @@
+Feature: F
+  @a
+  Scenario: S
+    Given it fails
+  @b
+  Scenario: T
+    Given it fails

@@ -1,0 +1,3 @@
+Feature: F
+  Scenario: S
+    Given it fails

@@ -1,0 +1,2 @@
+Feature: F
+Feature: G

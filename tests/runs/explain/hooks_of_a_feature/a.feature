@@ -1,0 +1,4 @@
+@bad
+Feature: Never begun
+  Scenario: Untested
+    Given it passes

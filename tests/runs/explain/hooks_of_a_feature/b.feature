@@ -1,0 +1,6 @@
+@late
+Feature: Cleaned up
+  Scenario: Passes
+    Given it passes
+  Scenario: Fails
+    Given it fails

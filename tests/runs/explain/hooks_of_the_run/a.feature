@@ -1,0 +1,3 @@
+Feature: F
+  Scenario: S
+    Given the variable "V" is set to "w"

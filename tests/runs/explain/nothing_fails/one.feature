@@ -1,0 +1,3 @@
+Feature: One
+  Scenario: S
+    Given it passes

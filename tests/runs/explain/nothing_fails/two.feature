@@ -1,0 +1,5 @@
+@skipped
+Feature: Two
+  Scenario: T
+    Given the scenario is skipped
+    And it fails

@@ -1,0 +1,5 @@
+Feature: F
+  Scenario: S
+    Given it fails
+  Scenario: T
+    Given it fails
