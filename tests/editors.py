@@ -1,0 +1,108 @@
+#!/usr/bin/env python3
+"""Asks editors for the places in what the program prints: editors.py PROGRAM ROOM, called by tests/editors.sh."""
+
+import json
+import os
+import re
+import shutil
+import subprocess
+import sys
+
+import driver
+
+EDITORS = os.path.join(driver.HOME, "examples", "editors")
+SUITE = {
+    "a.feature": """Feature: F
+  Scenario: Passes
+    Given it passes
+  Scenario: Fails: in three ways ... or so
+    Given the value "v" is set to "x: y"
+    Then the value "v" should be "z"
+    And nobody knows this
+    And it passes
+  Scenario: Asks for it
+    Given it fails
+""",
+    "in a folder/b c.feature": """Feature: G
+  Rule: R
+    Scenario: S
+      Given it passes
+""",
+    "h.hooks": "after_scenario:\n  Then the file \"f\" should not exist\nbefore_rule:\n  Given it fails\nafter_all:\n  Given no such step\n",
+    "bad.feature": "Feature: F\nFeature: G\n",
+    "bad.hooks": "before_everything:\n",
+}
+EXPLAINED = ["--explain", "--hooks", "h.hooks", "a.feature", "in a folder/b c.feature"]
+# The arguments of a run, and the places that an editor finds in what it prints.
+RUNS = [
+    (EXPLAINED, [("a.feature", 4), ("a.feature", 6), ("a.feature", 7), ("a.feature", 9), ("a.feature", 10),
+                 ("in a folder/b c.feature", 2), ("h.hooks", 4), ("h.hooks", 6)]),
+    (["--explain", "--tags", "@none", "a.feature"], []),
+    (["bad.feature"], [("bad.feature", 2)]),
+    (["--hooks", "bad.hooks", "a.feature"], [("bad.hooks", 1)]),
+]
+
+
+def printed(program, arguments, folder):
+    """All that a run prints."""
+    return subprocess.run([program, *arguments], cwd=folder, stdout=subprocess.PIPE, stderr=subprocess.STDOUT,
+                          check=False).stdout.decode()
+
+
+def matchers(name):
+    """The regular expressions of a file of problem matchers."""
+    with open(os.path.join(EDITORS, name), encoding="utf-8") as file:
+        document = json.load(file)
+    found = document.get("problemMatcher") or document["tasks"][0]["problemMatcher"]
+    for matcher in found:
+        pattern = matcher["pattern"]
+        yield pattern[0] if isinstance(pattern, list) else pattern
+
+
+def matched(name, text):
+    """The places that the problem matchers of a file find in a text, in order: each line is for the first that fits."""
+    places = []
+    for line in text.splitlines():
+        fits = [(it, re.search(it["regexp"], line)) for it in matchers(name)]
+        places += [(fit[it["file"]], int(fit[it["line"]])) for it, fit in fits if fit][:1]
+    return places
+
+
+def in_vim(text, folder):
+    """The places in vim's quickfix list."""
+    driver.write(folder, {"printed": text})
+    script = ["set nocompatible", f"source {EDITORS}/gherkin_run.vim", "cgetfile printed",
+              "call writefile(map(filter(getqflist(), 'v:val.valid'), 'json_encode([bufname(v:val.bufnr), v:val.lnum])'), 'places')",
+              "qall!"]
+    driver.write(folder, {"script.vim": "\n".join(script) + "\n"})
+    subprocess.run(["vim", "-es", "-N", "-u", "NONE", "-S", "script.vim"], cwd=folder, stdin=subprocess.DEVNULL,
+                   stdout=subprocess.DEVNULL, stderr=subprocess.DEVNULL, check=False, timeout=60)
+    with open(os.path.join(folder, "places"), encoding="utf-8") as file:
+        return [tuple(json.loads(it)) for it in file]
+
+
+def main():
+    program, folder = sys.argv[1:]
+    driver.write(folder, SUITE)
+    passed, failed = 0, []
+    editors = {name: lambda text, name=name: matched(name, text) for name in ("tasks.json", "problem_matcher.json")}
+    if shutil.which("vim"):
+        editors["gherkin_run.vim"] = lambda text: in_vim(text, folder)
+    else:
+        print("no vim here: gherkin_run.vim isn't tried")
+    for arguments, wanted in RUNS:
+        text = printed(program, arguments, folder)
+        for name, places in editors.items():
+            found = places(text)
+            if found == wanted:
+                passed += 1
+            else:
+                failed.append(f"{name} finds {found} in {arguments}, and not {wanted}: {text}")
+    for it in failed:
+        print(it)
+    print(f"{passed} passed, {len(failed)} failed")
+    return bool(failed)
+
+
+if __name__ == "__main__":
+    sys.exit(main())
