@@ -5,7 +5,7 @@ use Rattle.std.proofs.lemmas.List.{append-nil}
 use Rattle.gk_gherkin.specs.Feature.{StepValue}
 use Rattle.gk_select.specs.Case.{CaseValue}
 use Rattle.gk_steps.specs.Finding.{LibraryValue}
-use Rattle.gk_world.specs.State.{State}
+use Rattle.gk_world.specs.State.{State, enter}
 use Rattle.gk_run.specs.declared.ending.Ending.{Ending}
 use Rattle.gk_run.specs.declared.ending.Ending.TheVariants as endings
 use Rattle.gk_run.specs.declared.acting.Site.TheVariants as sites
@@ -13,12 +13,14 @@ use Rattle.gk_run.specs.declared.section.Level.{Level}
 use Rattle.gk_run.specs.declared.section.Level.TheVariants as levels
 use Rattle.gk_run.specs.declared.section.Place.{Place}
 use Rattle.gk_run.specs.Acting.{CleanupValue, act, done_of}
-use Rattle.gk_run.specs.Ending.{ending_of, has_passed}
+use Rattle.gk_run.specs.Ending.{ended_of, ending_of, has_passed}
+use Rattle.gk_run.specs.OpenSection.{its_steps}
 use Rattle.gk_run.specs.Run.{Run}
 use Rattle.gk_run.specs.Results.{CaseRow}
 use Rattle.gk_run.specs.Section.{Cut, nowhere, in_before, in_steps, in_after, in_cleanups, is_place, site_of}
+use Rattle.gk_run.specs.SectionHooks.{after_lists, before_list, begun, walk_each}
 use Rattle.gk_run.specs.Walk.{one_step, walk}
-use Rattle.gk_run.specs.Watching.{Told, of_step, of_cleanup, ToldEvents, in_order, refused, cut_told, told_walk, told_steps, told_each, told_in_turn, told_happened, told_case, after_of}
+use Rattle.gk_run.specs.Watching.{Told, of_step, of_cleanup, ToldEvents, in_order, refused, cut_told, told_walk, told_steps, told_each, told_in_turn, told_happened, told_case, before_of, after_of}
 use Rattle.gk_explain.specs.declared.explainer.Explainer.{Explainer}
 use Rattle.gk_explain.specs.EventLines.{event_line}
 use Rattle.gk_explain.specs.Explanation.{ExplanationValue, level_of, with_line, with_case, with_case_of}
@@ -29,19 +31,19 @@ abbrev pub AllAt : Level → List Told → Type 0
 AllAt level [] = Unit {0}
 AllAt level (t ∷ ts) = (level_of t ≡ level) × AllAt level ts
 
-at_both : {level : Level} (xs ys : List Told) → AllAt level xs → AllAt level ys → AllAt level (xs ++ ys)
-at_both [] ys a b = b
-at_both (x ∷ xs) ys a b = (a.0, at_both xs ys a.1 b)
+at_both : (level : Level) (xs ys : List Told) → AllAt level xs → AllAt level ys → AllAt level (xs ++ ys)
+at_both level [] ys a b = b
+at_both level (x ∷ xs) ys a b = (a.0, at_both level xs ys a.1 b)
 
-at_if : {level : Level} (test : Bool) (xs : List Told) → AllAt level xs → AllAt level (cond test xs [])
-at_if true xs a = a
-at_if false xs a = tt
+at_if : (level : Level) (test : Bool) (xs : List Told) → AllAt level xs → AllAt level (cond test xs [])
+at_if level true xs a = a
+at_if level false xs a = tt
 
 at_walk : (library : LibraryValue) (place : Place) (s : State) (steps : List StepValue) → AllAt place.level (told_walk library place s steps)
 at_walk library place s [] = tt
 at_walk library place s (step ∷ steps) =
     let this = one_step library (site_of place) s step in
-    (refl, at_if (has_passed (ending_of this.mark)) _ (at_walk library place this.state steps))
+    (refl, at_if _ (has_passed (ending_of this.mark)) _ (at_walk library place this.state steps))
 
 at_steps : (library : LibraryValue) (stood : Ending) (s : State) (steps : List StepValue) → AllAt levels.Scenario (told_steps library stood s steps)
 at_steps library stood s [] = tt
@@ -54,7 +56,7 @@ at_each : (library : LibraryValue) (level : Level) (s : State) (cleanups : List 
 at_each library level s cleanups [] = tt
 at_each library level s cleanups (steps ∷ others) =
     let this = walk library sites.Hook s cleanups steps in
-    at_both (told_walk library (after_of level) s steps) _ (at_walk library (after_of level) s steps) (at_each library level this.state this.cleanups others)
+    at_both _ (told_walk library (after_of level) s steps) _ (at_walk library (after_of level) s steps) (at_each library level this.state this.cleanups others)
 
 at_in_turn : (library : LibraryValue) (level : Level) (s : State) (cleanups : List CleanupValue) → AllAt level (told_in_turn library level s cleanups)
 at_in_turn library level s [] = tt
@@ -64,31 +66,40 @@ at_refused : {level : Level} (s : State) (t : Told) → level_of t ≡ level →
 at_refused s (of_step place step mark s') a = a
 at_refused s (of_cleanup level cleanup outcome s') a = a
 
-at_cut : {level : Level} (s : State) (n : ℕ) (ts : List Told) → AllAt level ts → AllAt level (cut_told s n ts)
-at_cut s n [] a = tt
-at_cut s zero (t ∷ ts) a = (at_refused s t a.0, tt)
-at_cut s (suc n) (t ∷ ts) a = (a.0, at_cut s n ts a.1)
+at_cut : (level : Level) (s : State) (n : ℕ) (ts : List Told) → AllAt level ts → AllAt level (cut_told s n ts)
+at_cut level s n [] a = tt
+at_cut level s zero (t ∷ ts) a = (at_refused s t a.0, tt)
+at_cut level s (suc n) (t ∷ ts) a = (a.0, at_cut level s n ts a.1)
 
 -- The events of a section are all of one level.
 abbrev pub AreAt : Level → ToldEvents → Type 0
 AreAt level t = AllAt level t.before × AllAt level t.steps × AllAt level t.after × AllAt level t.cleanups
 
-either_at : {level : Level} (test : Bool) (x y : ToldEvents) → AreAt level x → AreAt level y → AreAt level (cond test x y)
-either_at true x y a b = a
-either_at false x y a b = b
+either_at : (level : Level) (test : Bool) (x y : ToldEvents) → AreAt level x → AreAt level y → AreAt level (cond test x y)
+either_at level true x y a b = a
+either_at level false x y a b = b
 
 are_happened : (level : Level) (s : State) (cut : Cut) (t : ToldEvents) → AreAt level t → AreAt level (told_happened s cut t)
 are_happened level s nowhere t a = a
-are_happened level s (in_before n) t a = either_at (is_place n t.before) _ t (at_cut s n t.before a.0, tt, tt, tt) a
-are_happened level s (in_steps n) t a = either_at (is_place n t.steps) _ t (a.0, at_cut s n t.steps a.1, tt, tt) a
-are_happened level s (in_after n) t a = either_at (is_place n t.after) _ t (a.0, a.1, at_cut s n t.after a.2, tt) a
-are_happened level s (in_cleanups n) t a = either_at (is_place n t.cleanups) _ t (a.0, a.1, a.2, at_cut s n t.cleanups a.3) a
+are_happened level s (in_before n) t a = either_at level (is_place n t.before) _ t (at_cut level s n t.before a.0, tt, tt, tt) a
+are_happened level s (in_steps n) t a = either_at level (is_place n t.steps) _ t (a.0, at_cut level s n t.steps a.1, tt, tt) a
+are_happened level s (in_after n) t a = either_at level (is_place n t.after) _ t (a.0, a.1, at_cut level s n t.after a.2, tt) a
+are_happened level s (in_cleanups n) t a = either_at level (is_place n t.cleanups) _ t (a.0, a.1, a.2, at_cut level s n t.cleanups a.3) a
 
 are_case : (run : Run) (section : State) (c : CaseValue) → AreAt levels.Scenario (told_case run section c)
-are_case run section c = (at_walk _ _ _ _, at_steps _ _ _ _, at_each _ _ _ _ _, at_in_turn _ _ _ _)
+are_case run section c =
+    let before = begun run.library run.hooks levels.Scenario c.own_tags section in
+    let steps = its_steps run.library c.steps before in
+    let lists = after_lists run.hooks levels.Scenario c.own_tags in
+    let each = walk_each run.library steps.state steps.cleanups lists in (
+      at_walk run.library (before_of levels.Scenario) (enter section) (before_list run.hooks levels.Scenario c.own_tags),
+      at_steps run.library (ended_of before.marks) before.state c.steps,
+      at_each run.library levels.Scenario steps.state steps.cleanups lists,
+      at_in_turn run.library levels.Scenario each.state (reverse each.cleanups),
+    )
 
-at_order : {level : Level} (t : ToldEvents) → AreAt level t → AllAt level (in_order t)
-at_order t a = at_both t.before _ a.0 (at_both t.steps _ a.1 (at_both t.after _ a.2 a.3))
+at_order : (level : Level) (t : ToldEvents) → AreAt level t → AllAt level (in_order t)
+at_order level t a = at_both _ t.before _ a.0 (at_both _ t.steps _ a.1 (at_both _ t.after _ a.2 a.3))
 
 -- Lines more of the scenario.
 abbrev with_lines : List ℕ → ExplanationValue → ExplanationValue
@@ -114,7 +125,7 @@ pub explained_by_its_events : CasesAreExplained
 explained_by_its_events run section c row old new told uncut none =
     let events = told.1 in
     let ended = told.2 uncut in
-    let at = at_order _ (are_happened levels.Scenario events.refusing events.cut (told_case run section c) (are_case run section c)) in
+    let at = at_order levels.Scenario _ (are_happened levels.Scenario events.refusing events.cut (told_case run section c) (are_case run section c)) in
     let all = hears_all _ old told.0 at events.told ended.0 in
     let lines = lines_of_case old run section c events.cut events.refusing in (
       events.cut,

@@ -1,1 +1,2 @@
+pub mod ExplanationLemmas
 pub mod ExplainerLemmas

@@ -1,5 +1,5 @@
 -- What an explainer makes of what it is told.
-use Rattle.std.specs.Prelude.{◌≡◌, Bool, false, List, [], flat_map}
+use Rattle.std.specs.Prelude.{◌≡◌, ℕ, Bool, false, List, [], flat_map}
 use Rattle.gk_select.specs.Case.{CaseValue}
 use Rattle.gk_world.specs.State.{State}
 use Rattle.gk_run.specs.Results.{CaseRow}

@@ -1,5 +1,5 @@
 -- The heading of what failed, and its explanation.
-use Rattle.std.specs.Prelude.{ℕ, cond, List, [], ◌++◌, codes, is_empty}
+use Rattle.std.specs.Prelude.{ℕ, cond, List, [], ◌∷◌, ◌++◌, codes}
 use Rattle.gk_run.specs.declared.results.Status.{Status}
 use Rattle.gk_run.specs.Results.{CaseRow, RuleRow, FeatureRow}
 use Rattle.gk_run.specs.Cases.{is_bad}
@@ -36,5 +36,6 @@ abbrev pub listed : List ℕ → Status → List ℕ
 listed heading status = cond (is_bad status) (heading ++ line_feed) []
 
 -- The list of what failed, with an empty line behind it where there is any.
-unfoldable pub failures_text : List ℕ → List ℕ
-failures_text failures = cond (is_empty failures) [] (failures ++ line_feed)
+abbrev pub failures_text : List ℕ → List ℕ
+failures_text [] = []
+failures_text (byte ∷ bytes) = (byte ∷ bytes) ++ line_feed

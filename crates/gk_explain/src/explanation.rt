@@ -5,7 +5,7 @@ ghost use Rattle.gk_report.specs.ReportTexts.{line_feed, Pushes};
 ghost use Rattle.gk_explain.specs.Headings as headings;
 
 use crate::event_lines::{Names, push_cleanup_line, push_step_line};
-use crate::headings::{RUN_HEADING, case_heading, feature_heading, push_explanation, rule_heading};
+use crate::headings::{case_heading, feature_heading, push_explanation, rule_heading, run_heading};
 use gk_gherkin::Step;
 use gk_run::{CaseResult, FeatureResult, Level, Mark, Outcome, Place, RuleResult, Status, is_bad};
 use std::alloc::{AllocError, Global};
@@ -49,7 +49,8 @@ impl<'a> Explanation<'a> {
     ghost use Rattle.gk_run.specs.Acting.{CleanupValue};
     ghost use Rattle.gk_run.specs.Results.{case_row, rule_row, feature_row};
     ghost use Rattle.gk_run.specs.Watching.{of_step, of_cleanup};
-    ghost use Rattle.gk_explain.specs.Headings.{case_heading, rule_heading, feature_heading, run_heading, failures_text};
+    ghost use Rattle.gk_explain.specs.Headings as headings;
+    ghost use Rattle.gk_explain.specs.Headings.{failures_text};
     ghost use Rattle.gk_explain.specs.Explanation.{explanation_value, nothing_said, with_end, with_event, with_case, with_rule, with_source, with_feature, with_run, with_taken};
 
     /// Nothing was told yet, and no feature was begun; the hooks file has this name. Takes no memory.
@@ -111,7 +112,7 @@ impl<'a> Explanation<'a> {
     // Adds the explanation of the scenario that is open, where it failed or was refused memory.
     fn explain_case(&mut self, alloc: Global, case: &CaseResult) -> Result<(), AllocError>
         ensures { let old = explanation_value self.old in OnOk result (explanation_value self.new
-            ≡ with_end (case_heading old.names.source (case_row case.now))
+            ≡ with_end (headings.case_heading old.names.source (case_row case.now))
             case.now.status old.case_lines old) }
     {
         if !is_bad(case.status) {
@@ -140,7 +141,7 @@ impl<'a> Explanation<'a> {
     // Adds the explanation of the rule that is open, where its hooks or cleanups failed or were refused memory.
     fn explain_rule(&mut self, alloc: Global, rule: &RuleResult) -> Result<(), AllocError>
         ensures { let old = explanation_value self.old in OnOk result (explanation_value self.new
-            ≡ with_end (rule_heading old.names.source (rule_row rule.now))
+            ≡ with_end (headings.rule_heading old.names.source (rule_row rule.now))
             rule.now.around old.rule_lines old) }
     {
         if !is_bad(rule.around) {
@@ -170,7 +171,7 @@ impl<'a> Explanation<'a> {
     // memory.
     fn explain_feature(&mut self, alloc: Global, feature: &FeatureResult) -> Result<(), AllocError>
         ensures { let old = explanation_value self.old in OnOk result (explanation_value self.new
-            ≡ with_end (feature_heading old.names.source (feature_row feature.now))
+            ≡ with_end (headings.feature_heading old.names.source (feature_row feature.now))
             feature.now.around old.feature_lines old) }
     {
         if !is_bad(feature.around) {
@@ -199,7 +200,7 @@ impl<'a> Explanation<'a> {
     // Adds the explanation of the run, where its hooks or cleanups failed or were refused memory.
     fn explain_run(&mut self, around: Status) -> Result<(), AllocError>
         ensures { let old = explanation_value self.old in OnOk result (explanation_value self.new
-            ≡ with_end run_heading around old.run_lines old) }
+            ≡ with_end headings.run_heading around old.run_lines old) }
     {
         if !is_bad(around) {
             return Ok(());
@@ -207,7 +208,7 @@ impl<'a> Explanation<'a> {
         push_end(
             &mut self.ready,
             &mut self.failures,
-            RUN_HEADING,
+            run_heading(),
             around,
             self.run_lines.as_str(),
         )
@@ -234,7 +235,7 @@ impl<'a> Explanation<'a> {
     /// The list of what failed, with an empty line behind it where there is any. An error comes only where a
     /// growth was refused.
     pub fn into_failures(self) -> Result<String, AllocError>
-        ensures { let said = explanation_value self in IfOk result (λ text.
+        ensures { let said = explanation_value self.entry in IfOk result (λ text.
             string_bytes text ≡ failures_text said.failures) }
     {
         let Explanation { mut failures, .. } = self;

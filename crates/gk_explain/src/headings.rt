@@ -1,4 +1,5 @@
 //! The heading of what failed, and its explanation.
+ghost use Rattle.std.specs.Prelude.{◌≡◌};
 ghost use Rattle.gk_run.specs.Results.{case_row, rule_row, feature_row};
 ghost use Rattle.gk_report.specs.ReportTexts.{AnswersText, Pushes};
 ghost use Rattle.gk_explain.specs.Headings as spec;
@@ -9,7 +10,12 @@ use gk_run::{CaseResult, FeatureResult, RuleResult, Status};
 use std::alloc::{AllocError, Global};
 
 /// The heading of the hooks and cleanups of the run.
-pub const RUN_HEADING: &str = "(hooks and cleanups)";
+#[tactic(auto, unfolding(crate::specs::Headings::run_heading))]
+pub fn run_heading() -> &'static str
+    ensures { result.now ≡ spec.run_heading }
+{
+    "(hooks and cleanups)"
+}
 
 /// The heading of a scenario of a file. An error comes only where a growth was refused.
 #[tactic(auto, unfolding(crate::specs::Headings::case_heading))]
