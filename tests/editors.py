@@ -83,6 +83,7 @@ def in_vim(text, folder):
 
 def main():
     program, folder = sys.argv[1:]
+    os.makedirs(os.path.join(folder, "in a folder"))
     driver.write(folder, SUITE)
     passed, failed = 0, []
     editors = {name: lambda text, name=name: matched(name, text) for name in ("tasks.json", "problem_matcher.json")}

@@ -14,6 +14,8 @@ endif
 CompilerSet makeprg=gherkin_run
 " A fault; then what failed, is undefined or ran out of memory; all other lines say nothing of a place.
 CompilerSet errorformat=gherkin_run:\ %f:%l:\ %m
-CompilerSet errorformat+=%-G%.%#\ ...\ passed,%-G%.%#\ ...\ skipped,%-G%.%#\ ...\ untested
-CompilerSet errorformat+=\ \ %f:%l:\ %m\ ...\ %.%#,%f:%l:\ %m\ ...\ %.%#
+CompilerSet errorformat+=\ \ %f:%l:\ %m\ ...\ failed,\ \ %f:%l:\ %m\ ...\ failed:\ %.%#
+CompilerSet errorformat+=\ \ %f:%l:\ %m\ ...\ undefined,\ \ %f:%l:\ %m\ ...\ memory
+CompilerSet errorformat+=%-G\ %.%#
+CompilerSet errorformat+=%f:%l:\ %m\ ...\ failed,%f:%l:\ %m\ ...\ memory
 CompilerSet errorformat+=%-G%.%#

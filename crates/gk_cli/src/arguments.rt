@@ -1,5 +1,5 @@
 //! The arguments of the command line.
-ghost use Rattle.std.specs.Prelude.{◌≡◌, map, Some, IfOk, codes, option_map, string_bytes};
+ghost use Rattle.std.specs.Prelude.{◌≡◌, ◌&&◌, ◌||◌, map, Some, IfOk, codes, option_map, string_bytes};
 ghost use Rattle.std.specs.List.{All};
 ghost use Rattle.clap.specs.Words.{found_of, kind_of, new_rule, rows_of};
 ghost use Rattle.clap.specs.declared.error.kind.ErrorKind.TheVariants.{ArgumentConflict, InvalidValue};
@@ -312,13 +312,23 @@ fn mode_of(matches: &ArgMatches) -> Mode
     }
 }
 
+// Whether an explanation is asked for beside one of these.
+fn is_beside(explain: bool, dry_run: bool, no_skipped: bool, formatted: bool) -> bool
+    ensures { result ≡ (explain && (dry_run || (no_skipped || formatted))) }
+{
+    explain && (dry_run || (no_skipped || formatted))
+}
+
 // Whether an explanation is asked for beside what there is none of.
 fn is_clash(matches: &ArgMatches) -> bool
     ensures { result ≡ spec.is_clash (rows_of (found_of matches.now)) }
 {
-    let formatted = matches.get_str("format").is_some();
-    let unlike = flag(matches, "dry-run") || flag(matches, "no-skipped") || formatted;
-    flag(matches, "explain") && unlike
+    is_beside(
+        flag(matches, "explain"),
+        flag(matches, "dry-run"),
+        flag(matches, "no-skipped"),
+        matches.get_str("format").is_some(),
+    )
 }
 
 // The mistake of such an explanation, in clap's words.
