@@ -2,10 +2,12 @@
 
 Each function that is marked as a large run makes one: the arguments, the input files, and what has
 to come out. The input isn't stored, since it is large. What has to come out is worked out beside
-it, and not taken from the program.
+it, and not taken from the program. A growing run is made at two sizes, and the larger may take only
+so many times the processor time of the smaller.
 """
 
 import os
+import resource
 import shutil
 import threading
 
@@ -22,6 +24,9 @@ PROGRESS = ["--format", "progress"]
 LIBRARY = ["--library", "l.steps", "a.feature"]
 HOOKS = ["--hooks", "h.hooks", "a.feature"]
 RUNS = []
+GROWING_RUNS = []
+TIMES = 10  # a growing run is made once more so many times as large
+MOST_TIMES = 30  # and takes at most so many times the processor time; 100 where each part is compared with each other
 
 
 class Run:
@@ -43,6 +48,14 @@ def large_run(make):
     """Marks a function that makes a large run."""
     RUNS.append(make)
     return make
+
+
+def growing_run(size):
+    """Marks a function that makes a run of any size, which is made of this one, and TIMES as large."""
+    def mark(make):
+        GROWING_RUNS.append((make, size))
+        return make
+    return mark
 
 
 # ---- reports
@@ -860,6 +873,45 @@ def many_hooks():
     return Run({"a.feature": feature, "h.hooks": hooks}, 0, one_passing(steps), arguments=HOOKS)
 
 
+@growing_run(3000)
+def many_headings(count):
+    """Each heading is looked for among those before it."""
+    hooks = "".join(f"before_tag @t{number}:\n" for number in range(count))
+    hooks += 'after_tag @last:\nbefore_scenario:\n* the variable "V" is set to "x"\n'
+    steps = ['Then the variable "V" should be "x"']
+    return Run({"a.feature": driver.feature(*steps), "h.hooks": hooks}, 0, one_passing(steps), arguments=HOOKS)
+
+
+@growing_run(3000)
+def fault_of_the_last_of_many_headings(count):
+    hooks = "".join(f"before_tag @t{number}:\nafter_tag @t{number}:\n" for number in range(count // 2))
+    return Run({"a.feature": "", "h.hooks": hooks + "after_tag @t7:\n"}, 3, "",
+               f"gherkin_run: h.hooks:{count + 1}: bad hook heading\n", arguments=HOOKS)
+
+
+@growing_run(300)
+def many_tags_with_hooks(count):
+    """Each tag of each of 20 scenarios has a hook before it and one after it."""
+    hooks = "".join(f"before_tag @t{number}:\nafter_tag @t{number}:\n" for number in range(count))
+    hooks += 'before_tag @last:\n* the variable "V" is set to "x"\n'
+    tags = " ".join(f"@t{number}" for number in range(count))
+    names, steps = [f"s{number}" for number in range(20)], ['Then the variable "V" should be "x"']
+    feature = "Feature: f\n" + "".join(f"{tags} @last\n" + scenario(name, steps) for name in names)
+    return Run({"a.feature": feature, "h.hooks": hooks}, 0, passing("f", names, steps) + closing(1, 20, 20),
+               arguments=HOOKS)
+
+
+@growing_run(3000)
+def many_scenarios_with_hooks(count):
+    """Each scenario has a tag of its own, and each tag a hook."""
+    numbers = range(count)
+    hooks = "".join(f'before_tag @t{number}:\n* the variable "V" is set to "{number}"\n' for number in numbers)
+    steps = [[f'Then the variable "V" should be "{number}"'] for number in numbers]
+    feature = "Feature: f\n" + "".join(f"@t{number}\n" + scenario("s", steps[number]) for number in numbers)
+    report = part("passed", [case("s", "passed", rows(own, "passed")) for own in steps])
+    return Run({"a.feature": feature, "h.hooks": hooks}, 0, report + closing(1, count, count), arguments=HOOKS)
+
+
 @large_run
 def longest_hooks():
     hooks = "before_all:\n* it passes\n"
@@ -1008,6 +1060,31 @@ def trouble(program, folder, name, run):
     return driver.trouble(f"large run {name}", ended, run.wanted())
 
 
+def processor_time():
+    """The seconds of the processor that runs so far took."""
+    used = resource.getrusage(resource.RUSAGE_CHILDREN)
+    return used.ru_utime + used.ru_stime
+
+
+def growth_trouble(program, room, make, size):
+    """What is wrong with a growing run, or nothing."""
+    least = []
+    for own in (size, size * TIMES):
+        run, times, folder = make(own), [], os.path.join(room, make.__name__)
+        driver.write(folder, run.files)
+        for _ in range(3):
+            before = processor_time()
+            found = trouble(program, folder, f"{make.__name__} of {own}", run)
+            if found:
+                return found
+            times.append(processor_time() - before)
+        shutil.rmtree(folder)
+        least.append(min(times))
+    if least[1] <= MOST_TIMES * least[0]:
+        return ""
+    return f"large run {make.__name__}: {least[0]:.3f} s, and {TIMES} times as large {least[1]:.3f} s"
+
+
 def from_a_pipe(program, folder):
     """What is wrong where the program reads a pipe that gives one byte at a time, or nothing."""
     steps = ["Given it passes"]
@@ -1036,4 +1113,6 @@ def troubles(program, room):
         driver.write(folder, run.files)
         yield trouble(program, folder, make.__name__, run)
         shutil.rmtree(folder)
+    for make, size in GROWING_RUNS:
+        yield growth_trouble(program, room, make, size)
     yield from_a_pipe(program, os.path.join(room, "from_a_pipe"))

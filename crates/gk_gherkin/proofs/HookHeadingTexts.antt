@@ -1,11 +1,11 @@
 -- What stands between the word of a hook's heading and the colon at its end.
-use Rattle.std.proofs.Common.{◌≡◌, inl, inr, ℕ, suc, ◌+◌, ◌-◌, ◌<◌, Bool, true, false, not, ◌&&◌, ◌||◌, map, nat_eq, cond, List, [], ◌∷◌, length, take, drop, get_or, Option, None, slice_index, refl, ap, sym, ◌∙◌, subst, arith, drop-cons, length-drop}
+use Rattle.std.proofs.Common.{◌≡◌, inl, inr, ℕ, suc, ◌+◌, ◌-◌, ◌<◌, Bool, true, false, not, ◌&&◌, nat_eq, cond, List, [], ◌∷◌, length, take, drop, get_or, Option, None, slice_index, refl, ap, sym, ◌∙◌, subst, arith, drop-cons, length-drop}
 use Rattle.std.proofs.lemmas.List.{take_all, get_or-drop}
 use Rattle.std.proofs.Math.ListN.{get_or-eq_default}
 use Rattle.std.proofs.lemmas.Bool.{cases_lt}
 use Rattle.std.proofs.lemmas.List.Sums.{suffix_len-take_no}
 use Rattle.std.proofs.lemmas.Bool.Decides.{nat_tests}
-use Rattle.std.specs.List.{ends_with, before_last, suffix_len, list_any}
+use Rattle.std.specs.List.{ends_with, before_last, suffix_len}
 use Rattle.std.specs.Cmp.Lexicographic.{pointwise}
 use Rattle.gk_gherkin.specs.Text.{is_blank, trim_front}
 use Rattle.gk_gherkin.specs.Class.{is_colon}
@@ -80,8 +80,3 @@ between word text part begun ends cut =
     let all : (begins text word && (is_blank (slice_index text (length word)) && ends_with nat_eq text (58 ∷ []))) ≡ true = all_three (begins text word) (is_blank (slice_index text (length word))) (ends_with nat_eq text (58 ∷ [])) b.0 b.1 ends in
     ap (λ (t : List ℕ). tag_alone (trim_front t)) same
     ∙ sym (ap (λ (b : Bool). let r : Option (List ℕ) = cond b (tag_alone (trim_front (before_last is_colon (drop (length word) text)))) None in r) all)
-
--- A test of what a list is made into is one of the list.
-pub any_mapped : {X Y : Type 0} (p : Y → Bool) (f : X → Y) (xs : List X) → list_any p (map f xs) ≡ list_any (λ x. p (f x)) xs
-any_mapped p f [] = refl
-any_mapped p f (x ∷ xs) = ap (λ (b : Bool). p (f x) || b) (any_mapped p f xs)

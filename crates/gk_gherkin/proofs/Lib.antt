@@ -8,6 +8,7 @@ pub mod TagWords
 pub mod FirstTags
 pub mod FenceTexts
 pub mod HookHeadingTexts
+pub mod HookIndexed
 pub mod HookClasses
 pub mod ReadingRuns
 pub mod ReadingLoop

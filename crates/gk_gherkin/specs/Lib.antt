@@ -19,3 +19,4 @@ pub mod OpenParts
 pub mod Reading
 pub mod FeaturePlace
 pub mod HooksPlace
+pub mod HookIndex

@@ -1,22 +1,21 @@
 //! The places of a hooks file: what was read so far, and how a line goes on from there.
-ghost use Rattle.std.specs.Prelude.{List, option_map, map, Ok, IfErr, ◌≡◌};
-ghost use Rattle.std.specs.List.{list_any};
+ghost use Rattle.std.specs.Prelude.{List, option_map, Ok, IfErr, ◌≡◌};
 ghost use Rattle.std.specs.String.{string_bytes};
 ghost use Rattle.gk_gherkin.specs.Lines.{borrowed_value};
 ghost use Rattle.gk_gherkin.specs.Class as words;
-ghost use Rattle.gk_gherkin.specs.Hooks.{HookValue, hook_value, hooks_value};
+ghost use Rattle.gk_gherkin.specs.Hooks.{HookValue, hooks_value};
 ghost use Rattle.gk_gherkin.specs.HookHeadings.{heading_value};
 ghost use Rattle.gk_gherkin.specs.Gives.{Gives};
 ghost use Rattle.gk_gherkin.specs.OpenParts.Views.{body_value};
 ghost use Rattle.gk_gherkin.specs.HooksPlace as spec;
-ghost use Rattle.gk_gherkin.specs.HooksPlace.Views.{place_value};
-ghost use Rattle.gk_gherkin.specs.HooksPlace.Views as views;
+ghost use Rattle.gk_gherkin.specs.HooksPlace.Views.{place_value, so_far_value};
 ghost use Rattle.gk_gherkin.specs.declared.hook_headings.HooksClass.TheVariants.{HookLine, Plain};
 ghost use Rattle.gk_gherkin.specs.declared.read_fault.ReadFault.TheVariants.{BadHook, Memory};
 
 use crate::class::Class;
 use crate::hook_headings::{Heading, HooksClass, hook_heading, hooks_class};
 use crate::hooks::{Hook, HookFile, HookKind};
+use crate::hooks_so_far::HooksSoFar;
 use crate::lines::BorrowedLine;
 use crate::open_parts::{Body, body_takes_text, on_body, put, put_text, steps_of, unexpected};
 use crate::read_fault::ReadFault;
@@ -27,7 +26,7 @@ use std::mem;
 /// The hooks before the open one, and what its heading says, with its line.
 #[derive(Drop)]
 pub struct Opened {
-    pub before: Vec<Hook>,
+    pub before: HooksSoFar,
     pub kind: HookKind,
     pub tag: Option<String>,
     pub line: u32,
@@ -41,13 +40,12 @@ pub enum HooksPlace {
 }
 
 // The hooks up to a place, of which the open one is the last.
-fn hooks_of(alloc: Global, place: HooksPlace) -> Result<Vec<Hook>, ReadFault>
-    ensures says { let hooks = spec.hooks_of (place_value place) in
-        Gives (λ v. map hook_value v.items) result (Ok hooks) }
+fn hooks_of(alloc: Global, place: HooksPlace) -> Result<HooksSoFar, ReadFault>
+    ensures says { Gives so_far_value result (Ok (spec.hooks_of (place_value place))) }
     ensures memory { IfErr result (λ e. spec.NeedsAtEnd (place_value place)) }
 {
     match place {
-        HooksPlace::NoHook => Ok(Vec::new(alloc)),
+        HooksPlace::NoHook => Ok(HooksSoFar::new(alloc)),
         HooksPlace::InHook { opened, body } => {
             let steps = steps_of(alloc, body)?;
             let mut hooks = opened.before;
@@ -62,19 +60,11 @@ fn hooks_of(alloc: Global, place: HooksPlace) -> Result<Vec<Hook>, ReadFault>
     }
 }
 
-fn has_heading(hooks: &[Hook], heading: &Heading<'_>) -> bool
-    ensures { result ≡ list_any (λ hook. views.is_under hook heading.now) hooks.now }
+// Whether one of some hooks has this heading.
+fn stands(heading: &Heading<'_>, hooks: &HooksSoFar) -> bool
+    ensures { result ≡ spec.stands (heading_value heading.now) (so_far_value hooks.now) }
 {
-    hooks
-        .iter()
-        .any(|hook| hook.is_for(heading.kind, heading.tag))
-}
-
-#[tactic(auto, using(crate::proofs::HookHeadingTexts::any_mapped))]
-fn stands(heading: &Heading<'_>, hooks: &[Hook]) -> bool
-    ensures { result ≡ spec.stands (heading_value heading.now) (map hook_value hooks.now) }
-{
-    has_heading(hooks, heading)
+    hooks.has(heading.kind, heading.tag)
 }
 
 fn tag_of(alloc: Global, heading: &Heading<'_>) -> Result<Option<String>, ReadFault>
@@ -226,8 +216,6 @@ impl FilePlace for HooksPlace {
     }
 
     fn answer(self, alloc: Global) -> Result<HookFile, ReadFault> {
-        Ok(HookFile {
-            hooks: hooks_of(alloc, self)?,
-        })
+        Ok(hooks_of(alloc, self)?.into_file())
     }
 }

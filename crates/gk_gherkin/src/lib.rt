@@ -9,9 +9,12 @@ mod feature;
 mod feature_place;
 mod grammar;
 mod hook_headings;
+mod hook_index;
+mod hook_table;
 mod hooks;
 mod hooks_grammar;
 mod hooks_place;
+mod hooks_so_far;
 mod language;
 mod lines;
 mod open_parts;
@@ -26,6 +29,7 @@ pub use feature::{Background, Block, Examples, Feature, Row, Rule, Scenario, Ste
 pub use grammar::{
     fault_is_unique, parts_are_concatenations, read_feature, reading_is_unique, rules_are_counted,
 };
+pub use hook_table::HookTable;
 pub use hooks::{Hook, HookFile, HookKind};
 pub use hooks_grammar::{hooks_reading_is_unique, read_hooks};
 pub use lines::{BorrowedLine, Document, LIMIT, Line, Place, borrowed_line, read_lines, text_of};

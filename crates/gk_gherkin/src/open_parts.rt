@@ -370,7 +370,7 @@ fn on_row(
 ) -> Result<Vec<String>, ReadFault>
     ensures { Gives (λ v. texts v.items) result (spec.on_row width (borrowed_value line.now)) }
 {
-    match cells_of(alloc, line)? {
+    match cells_of(alloc, width.unwrap_or(0), line)? {
         Some(cells) => match width {
             Some(width) => {
                 if cells.len() == width {

@@ -50,7 +50,7 @@ fn escape(after: &str) -> (&str, &str)
 fn unescaped(alloc: Global, part: &str) -> Result<String, ReadFault>
     ensures { Gives string_bytes result (Ok (spec.unescaped part.now)) }
 {
-    let mut cell = String::new(alloc);
+    let mut cell = String::with_capacity(alloc, part.len())?;
     let mut rest = part;
     'escapes: loop {
         match rest.split_once('\\') {
@@ -68,10 +68,11 @@ fn unescaped(alloc: Global, part: &str) -> Result<String, ReadFault>
     }
 }
 
-fn cells_in(alloc: Global, text: &str) -> Result<Option<Vec<String>>, ReadFault>
+// Room is made for as many cells as the row is to have.
+fn cells_in(alloc: Global, width: usize, text: &str) -> Result<Option<Vec<String>>, ReadFault>
     ensures { Gives found_texts result (Ok (spec.cells_of_parts (spec.parts_of text.now))) }
 {
-    let mut cells = Vec::new(alloc);
+    let mut cells = Vec::with_capacity(alloc, width)?;
     let mut rest = text;
     'parts: while !rest.is_empty() {
         let end = part_len(rest.as_bytes());
@@ -88,12 +89,17 @@ fn cells_in(alloc: Global, text: &str) -> Result<Option<Vec<String>>, ReadFault>
     }
 }
 
-/// The cells of a row; none where the row isn't between two bars.
-pub fn cells_of(alloc: Global, line: &BorrowedLine<'_>) -> Result<Option<Vec<String>>, ReadFault>
+/// The cells of a row; none where the row isn't between two bars. `width` is how many it is to have,
+/// or 0 where that isn't known.
+pub fn cells_of(
+    alloc: Global,
+    width: usize,
+    line: &BorrowedLine<'_>,
+) -> Result<Option<Vec<String>>, ReadFault>
     ensures { Gives found_texts result (Ok (spec.cells_of (borrowed_value line.now))) }
 {
     match trim(line.text).strip_prefix('|') {
-        Some(text) => cells_in(alloc, text),
+        Some(text) => cells_in(alloc, width, text),
         None => Ok(None),
     }
 }

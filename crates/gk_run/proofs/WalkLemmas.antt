@@ -1,10 +1,12 @@
 -- What the code's steps make of a walk.
-use Rattle.std.proofs.Common.{Bool, List, None, Some, [], ap, cond, drop, false, get_or, length, map, refl, subst, sym, true, ℕ, ◌++◌, ◌+◌, ◌<◌, ◌∙◌, ◌∷◌, ◌≡◌, ◌≤◌}
+use Rattle.std.proofs.Common.{Bool, List, None, Some, [], ap, cond, drop, false, get_or, length, map, refl, subst, sym, true, ℕ, ◌++◌, ◌+◌, ◌<◌, ◌∙◌, ◌∷◌, ◌≡◌, ◌≤◌, Option, find}
+use Rattle.std.specs.Option.{option_map_or}
 use Rattle.std.proofs.lemmas.Bool.{true≢false}
 use Rattle.std.proofs.lemmas.List.{at_drop_all, at_drop_more}
 use Rattle.gk_gherkin.specs.declared.hooks.HookKind.TheVariants as kinds
 use Rattle.gk_gherkin.specs.Feature.{StepValue}
-use Rattle.gk_gherkin.specs.Hooks.{HookValue}
+use Rattle.gk_gherkin.specs.declared.hooks.HookKind.{HookKind}
+use Rattle.gk_gherkin.specs.Hooks.{HookValue, is_for}
 use Rattle.gk_steps.specs.Finding.{LibraryValue}
 use Rattle.gk_world.specs.State.{State}
 use Rattle.gk_run.specs.declared.acting.Site.{Site}
@@ -287,3 +289,13 @@ tags_done library hooks first cs0 all rest s cs ended none goes =
     let whole = walk_each library first cs0 (tag_lists hooks all) in
     subst (λ x. IsWalked whole x s cs) (worse_passed ended)
     (goes endings.Passed s cs (subst (λ ts. IsWalked (walk_each library s cs (tag_lists hooks ts)) endings.Passed s cs) (sym none) (refl, refl, refl)))
+
+step_found : (hook : HookValue) (hooks : List HookValue) (kind : HookKind) (tag : Option (List ℕ)) (b : Bool) → option_map_or (λ (h : HookValue). h.steps) (find (λ (h : HookValue). is_for h kind tag) hooks) [] ≡ hook_steps hooks kind tag
+    → option_map_or (λ (h : HookValue). h.steps) (cond b (Some hook) (find (λ (h : HookValue). is_for h kind tag) hooks)) [] ≡ cond b hook.steps (hook_steps hooks kind tag)
+step_found hook hooks kind tag true e = refl
+step_found hook hooks kind tag false e = e
+
+-- the steps of a hook that is found, or none
+pub steps_found : (hooks : List HookValue) (kind : HookKind) (tag : Option (List ℕ)) → option_map_or (λ (hook : HookValue). hook.steps) (find (λ (hook : HookValue). is_for hook kind tag) hooks) [] ≡ hook_steps hooks kind tag
+steps_found [] kind tag = refl
+steps_found (hook ∷ hooks) kind tag = step_found hook hooks kind tag (is_for hook kind tag) (steps_found hooks kind tag)

@@ -73,7 +73,7 @@ Cleans run registered old closed =
 -- A section's after lists and cleanups were run, or memory was refused in them.
 abbrev pub Closes : shared.Run → Section → Cleanups → SandboxValue → Closed → Type 0
 Closes run section registered old closed =
-    IsClosed (closing (library_value run.library.now) (hooks_value run.hooks.now) section.level (texts section.tags.now) (state_of old.now) (cleanups_value registered)) closed.ending closed.outcomes.items
+    IsClosed (closing (library_value run.library.now) (hooks_value run.hooks.now.file.now) section.level (texts section.tags.now) (state_of old.now) (cleanups_value registered)) closed.ending closed.outcomes.items
 
 -- A section was closed that had ended so before; after refused memory nothing more ran in it.
 abbrev pub IsClosedAfter : Ending → Closing → Ending → List Outcome → Type 0
@@ -83,4 +83,4 @@ IsClosedAfter before x ended reported = IsClosed x ended reported
 -- A section that had ended so before was closed.
 abbrev pub ClosesAfter : Ending → shared.Run → Section → Cleanups → SandboxValue → Closed → Type 0
 ClosesAfter before run section registered old closed =
-    IsClosedAfter before (closing (library_value run.library.now) (hooks_value run.hooks.now) section.level (texts section.tags.now) (state_of old.now) (cleanups_value registered)) closed.ending closed.outcomes.items
+    IsClosedAfter before (closing (library_value run.library.now) (hooks_value run.hooks.now.file.now) section.level (texts section.tags.now) (state_of old.now) (cleanups_value registered)) closed.ending closed.outcomes.items

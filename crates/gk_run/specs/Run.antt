@@ -21,4 +21,4 @@ run_of library hooks stop = record { library = library_value library; hooks = ho
 
 -- What the code's `Run` says.
 abbrev pub run_value : shared.Run → Run
-run_value r = run_of r.library.now r.hooks.now r.stop
+run_value r = run_of r.library.now r.hooks.now.file.now r.stop

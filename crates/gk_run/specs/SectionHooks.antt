@@ -68,14 +68,14 @@ walk_each library s cleanups (steps ∷ others) =
 -- A section's before list was walked through.
 abbrev pub WalksBefore : shared.Run → Section → SandboxValue → Cleanups → Ending → SandboxValue → Cleanups → Type 0
 WalksBefore run section old cleanups ending new new_cleanups =
-    IsWalked (walk (library_value run.library.now) (before_site section.level) (state_of old.now) (cleanups_value cleanups) (before_list (hooks_value run.hooks.now) section.level (texts section.tags.now))) ending (state_of new.now) (cleanups_value new_cleanups)
+    IsWalked (walk (library_value run.library.now) (before_site section.level) (state_of old.now) (cleanups_value cleanups) (before_list (hooks_value run.hooks.now.file.now) section.level (texts section.tags.now))) ending (state_of new.now) (cleanups_value new_cleanups)
 
 -- Each after_tag hook of a section's tags was walked through by itself.
 abbrev pub WalksTags : shared.Run → Section → SandboxValue → Cleanups → Ending → SandboxValue → Cleanups → Type 0
 WalksTags run section old cleanups ending new new_cleanups =
-    IsWalked (walk_each (library_value run.library.now) (state_of old.now) (cleanups_value cleanups) (tag_lists (hooks_value run.hooks.now) (texts section.tags.now))) ending (state_of new.now) (cleanups_value new_cleanups)
+    IsWalked (walk_each (library_value run.library.now) (state_of old.now) (cleanups_value cleanups) (tag_lists (hooks_value run.hooks.now.file.now) (texts section.tags.now))) ending (state_of new.now) (cleanups_value new_cleanups)
 
 -- Each of a section's after lists was walked through by itself.
 abbrev pub WalksAfter : shared.Run → Section → SandboxValue → Cleanups → Ending → SandboxValue → Cleanups → Type 0
 WalksAfter run section old cleanups ending new new_cleanups =
-    IsWalked (walk_each (library_value run.library.now) (state_of old.now) (cleanups_value cleanups) (after_lists (hooks_value run.hooks.now) section.level (texts section.tags.now))) ending (state_of new.now) (cleanups_value new_cleanups)
+    IsWalked (walk_each (library_value run.library.now) (state_of old.now) (cleanups_value cleanups) (after_lists (hooks_value run.hooks.now.file.now) section.level (texts section.tags.now))) ending (state_of new.now) (cleanups_value new_cleanups)

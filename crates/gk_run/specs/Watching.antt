@@ -289,17 +289,17 @@ TellsHook hears run place steps old ended first last = Tells hears (told_walk (l
 -- A section's before list was told.
 abbrev pub TellsBefore : {S : Type 0} → (S → Told → S → Type 0) → shared.Run → Section → SandboxValue → Ending → S → S → Type 0
 TellsBefore hears run section old ended first last =
-    Tells hears (told_walk (library_value run.library.now) (before_of section.level) (state_of old.now) (before_list (hooks_value run.hooks.now) section.level (texts section.tags.now))) ended first last
+    Tells hears (told_walk (library_value run.library.now) (before_of section.level) (state_of old.now) (before_list (hooks_value run.hooks.now.file.now) section.level (texts section.tags.now))) ended first last
 
 -- Each after_tag hook of a section's tags was told.
 abbrev pub TellsTags : {S : Type 0} → (S → Told → S → Type 0) → shared.Run → Section → SandboxValue → Cleanups → Ending → S → S → Type 0
 TellsTags hears run section old cleanups ended first last =
-    Tells hears (told_each (library_value run.library.now) section.level (state_of old.now) (cleanups_value cleanups) (tag_lists (hooks_value run.hooks.now) (texts section.tags.now))) ended first last
+    Tells hears (told_each (library_value run.library.now) section.level (state_of old.now) (cleanups_value cleanups) (tag_lists (hooks_value run.hooks.now.file.now) (texts section.tags.now))) ended first last
 
 -- Each of a section's after lists was told.
 abbrev pub TellsAfter : {S : Type 0} → (S → Told → S → Type 0) → shared.Run → Section → SandboxValue → Cleanups → Ending → S → S → Type 0
 TellsAfter hears run section old cleanups ended first last =
-    Tells hears (told_each (library_value run.library.now) section.level (state_of old.now) (cleanups_value cleanups) (after_lists (hooks_value run.hooks.now) section.level (texts section.tags.now))) ended first last
+    Tells hears (told_each (library_value run.library.now) section.level (state_of old.now) (cleanups_value cleanups) (after_lists (hooks_value run.hooks.now.file.now) section.level (texts section.tags.now))) ended first last
 
 -- What is told of a step of a case that stood so before it: nothing where memory was refused before.
 abbrev pub told_next : Ending → Told → List Told
@@ -354,7 +354,7 @@ told_closing library hooks level tags s cleanups =
 
 -- The same of the code's section.
 abbrev pub closing_of : shared.Run → Section → SandboxValue → Cleanups → ToldClosing
-closing_of run section old registered = told_closing (library_value run.library.now) (hooks_value run.hooks.now) section.level (texts section.tags.now) (state_of old.now) (cleanups_value registered)
+closing_of run section old registered = told_closing (library_value run.library.now) (hooks_value run.hooks.now.file.now) section.level (texts section.tags.now) (state_of old.now) (cleanups_value registered)
 
 -- A section's after lists and cleanups were told.
 abbrev pub TellsClosing : {S : Type 0} → (S → Told → S → Type 0) → shared.Run → Section → Cleanups → SandboxValue → Closed → S → S → Type 0
@@ -371,7 +371,7 @@ TellsClosingAfter hears before run section registered old closed first last =
 -- A section was begun, and its before list told.
 abbrev pub TellsOpening : {S : Type 0} → (S → Told → S → Type 0) → shared.Run → Section → SandboxValue → OpenSection → S → S → Type 0
 TellsOpening hears run section old opened first last =
-    Tells hears (told_walk (library_value run.library.now) (before_of section.level) (enter (state_of old.now)) (before_list (hooks_value run.hooks.now) section.level (texts section.tags.now))) opened.before first last
+    Tells hears (told_walk (library_value run.library.now) (before_of section.level) (enter (state_of old.now)) (before_list (hooks_value run.hooks.now.file.now) section.level (texts section.tags.now))) opened.before first last
 
 -- A case that ran was told, at the cut of how it ended.
 abbrev pub TellsCase : {S : Type 0} → (S → Told → S → Type 0) → shared.Run → List (String Global) → ReservedSteps → SandboxValue → CaseEnd → S → S → Type 0
@@ -393,9 +393,9 @@ TellsCases hears ends run now is_open old new first last stays =
 -- The hooks and cleanups of a section that was begun were told, with how they ended.
 abbrev pub TellsAround : {S : Type 0} → (S → Told → S → Type 0) → shared.Run → Section → OpenSection → SandboxValue → Status → S → S → Type 0
 TellsAround hears run section opened old around first last =
-    (outside : State) (stop : Bool) → IsBegun (run_of run.library.now run.hooks.now stop) section.level (texts section.tags.now) outside opened old →
-    (us : List Told) → IsTold (let all = told_section (run_of run.library.now run.hooks.now stop) section.level (texts section.tags.now) outside in all.before) opened.before us →
-    (ws : List Told) × FoldsTo hears first ws last × IsAroundTold (run_of run.library.now run.hooks.now stop) section.level (texts section.tags.now) outside opened.before around us ws
+    (outside : State) (stop : Bool) → IsBegun (run_of run.library.now run.hooks.now.file.now stop) section.level (texts section.tags.now) outside opened old →
+    (us : List Told) → IsTold (let all = told_section (run_of run.library.now run.hooks.now.file.now stop) section.level (texts section.tags.now) outside in all.before) opened.before us →
+    (ws : List Told) × FoldsTo hears first ws last × IsAroundTold (run_of run.library.now run.hooks.now.file.now stop) section.level (texts section.tags.now) outside opened.before around us ws
 
 -- A rule that was begun was told with what it came to.
 abbrev pub BeginsAndTellsRule : {S : Type 0} → (S → Told → S → Type 0) → (S → Ended → S → Type 0) → shared.Run → State → List (String Global) → Cases → Cases → S → S → RuleEnd → Type 0

@@ -23,7 +23,7 @@ use crate::rules::run_rules;
 use crate::run::Run;
 use crate::section::{Level, Section};
 use crate::watching::{Observer, Unwatched};
-use gk_gherkin::HookFile;
+use gk_gherkin::{HookFile, HookTable};
 use gk_steps::Library;
 use gk_world::Sandbox;
 use std::alloc::Global;
@@ -267,10 +267,11 @@ pub fn run_feature(
         (state_of sandbox.old.now) true cuts (chosen_value chosen))) }
     ensures same { IsSame sandbox.old sandbox.new }
 {
+    let hooks = HookTable::new(alloc, hooks);
     let run = Run {
         alloc,
         library,
-        hooks,
+        hooks: &hooks,
         stop,
     };
     feature_in(&run, sandbox, true, chosen, &mut Unwatched)

@@ -24,7 +24,7 @@ use crate::results::{FeatureResult, NoRoom, Status};
 use crate::run::Run;
 use crate::section::{Level, Section};
 use crate::watching::{Observer, Unwatched};
-use gk_gherkin::HookFile;
+use gk_gherkin::{HookFile, HookTable};
 use gk_steps::Library;
 use gk_world::Sandbox;
 pub use state::Suite;
@@ -63,10 +63,11 @@ impl Suite {
         ensures told { IsStartTold O.hears (run_of library.now hooks.now stop)
             (state_of sandbox.old.now) result.section.before observer.old observer.new }
     {
+        let hooks = HookTable::without_index(hooks);
         let run = Run {
             alloc,
             library,
-            hooks,
+            hooks: &hooks,
             stop,
         };
         let section = Section {
@@ -143,10 +144,11 @@ impl Suite {
         ensures no_room { OnErr result (self.new.has_failed ≡ self.old.has_failed) }
         ensures same { IsSame sandbox.old sandbox.new }
     {
+        let hooks = HookTable::new(alloc, hooks);
         let run = Run {
             alloc,
             library,
-            hooks,
+            hooks: &hooks,
             stop: self.stop,
         };
         let result = feature_in(&run, sandbox, self.is_open, chosen, observer)?;
@@ -205,10 +207,11 @@ impl Suite {
             has_failed: _,
             is_open: _,
         } = self;
+        let hooks = HookTable::without_index(hooks);
         let run = Run {
             alloc,
             library,
-            hooks,
+            hooks: &hooks,
             stop,
         };
         let section = Section {

@@ -121,9 +121,9 @@ pub fn end_around<O: Observer>(
 ) -> Status
     requires innermost { opened.layer ≡ depth sandbox.old }
     ensures around { (outside : State) (stop : Bool) →
-        IsBegun (run_of run.now.library.now run.now.hooks.now stop) section.now.level
+        IsBegun (run_of run.now.library.now run.now.hooks.now.file.now stop) section.now.level
         (texts section.now.tags.now) outside opened sandbox.old →
-        IsSectionEnd (run_of run.now.library.now run.now.hooks.now stop) section.now.level
+        IsSectionEnd (run_of run.now.library.now run.now.hooks.now.file.now stop) section.now.level
         (texts section.now.tags.now) outside result (endings.has_passed opened.before) }
     ensures told { TellsAround O.hears run.now section.now opened sandbox.old result
         observer.old observer.new }

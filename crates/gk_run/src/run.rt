@@ -1,6 +1,6 @@
 //! What stays the same during a run.
 
-use gk_gherkin::HookFile;
+use gk_gherkin::HookTable;
 use gk_steps::Library;
 use std::alloc::Global;
 
@@ -9,7 +9,7 @@ use std::alloc::Global;
 pub struct Run<'a> {
     pub alloc: Global,
     pub library: &'a Library,
-    pub hooks: &'a HookFile,
+    pub hooks: &'a HookTable<'a>,
     /// The first case or feature that is failed or memory stops the run.
     pub stop: bool,
 }

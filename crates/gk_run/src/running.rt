@@ -18,7 +18,7 @@ use crate::run::Run;
 use crate::section::{Level, Section};
 use crate::walk::{StepsEnd, row_of, run_steps};
 use crate::watching::{Observer, Unwatched};
-use gk_gherkin::HookFile;
+use gk_gherkin::{HookFile, HookTable};
 use gk_select::Case;
 use gk_steps::Library;
 use gk_world::Sandbox;
@@ -163,10 +163,11 @@ pub fn run_case_watched<O: Observer>(
     ensures untold { OnErr result (observer.new ≡ observer.old) }
     ensures same { IsSame sandbox.old sandbox.new }
 {
+    let hooks = HookTable::new(alloc, hooks);
     let run = Run {
         alloc,
         library,
-        hooks,
+        hooks: &hooks,
         stop: false,
     };
     let result = case_in(&run, sandbox, case, observer)?;

@@ -13,7 +13,7 @@ use crate::run::Run;
 use crate::section::{Level, Part, Place, Section};
 use crate::walk::walk_hook;
 use crate::watching::Observer;
-use gk_gherkin::{HookFile, HookKind, Step};
+use gk_gherkin::{HookKind, HookTable, Step};
 use gk_world::Sandbox;
 
 /// The hook before a section.
@@ -41,16 +41,14 @@ pub fn after_kind(level: Level) -> HookKind
 }
 
 /// The steps of the hook of a kind and a tag; one that isn't in the file has none.
-pub fn hook_steps<'a>(hooks: &'a HookFile, kind: HookKind, tag: Option<&str>) -> &'a [Step]
+pub fn hook_steps<'a>(hooks: &HookTable<'a>, kind: HookKind, tag: Option<&str>) -> &'a [Step]
     ensures { map step_value result.now
-        ≡ spec.hook_steps (hooks_value hooks.now) kind (option_copied tag.entry) }
+        ≡ spec.hook_steps (hooks_value hooks.now.file.now) kind (option_copied tag.entry) }
 {
-    for hook in &hooks.hooks {
-        if hook.is_for(kind, tag) {
-            return hook.steps.as_slice();
-        }
+    match hooks.hook(kind, tag) {
+        Some(hook) => hook.steps.as_slice(),
+        None => &[],
     }
-    &[]
 }
 
 /// Walks through a section's before list.

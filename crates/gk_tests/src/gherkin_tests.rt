@@ -1,4 +1,4 @@
-use gk_gherkin::{ReadFault, read_feature, read_hooks, read_lines, trim_back};
+use gk_gherkin::{HookKind, HookTable, ReadFault, read_feature, read_hooks, read_lines, trim_back};
 use std::alloc::Global;
 use std::test::Fail;
 
@@ -75,5 +75,34 @@ fn reads_each_hook(rt: HostRuntime) -> Result<(), Fail> {
     let shown = format!(in rt.alloc(); "{file:?}")?;
     assert_eq!(rt; shown.as_str(), SHOWN_HOOKS);
     assert_eq!(rt; read_hooks(rt.alloc(), b"")?.hooks.is_empty(), true);
+    Ok(())
+}
+
+// A hooks file that is looked up by an index.
+const LONG_HOOKS: &str =
+    "before_all:\nbefore_tag @a:\nafter_tag @a:\nbefore_tag @b:\nafter_tag @b:\nbefore_tag @c:\nafter_tag @c:\nbefore_tag @d:\nafter_tag @d:\nbefore_tag @e:\nafter_tag @e:\nbefore_tag @f:\nafter_tag @f:\nbefore_tag @g:\nafter_tag @g:\nbefore_tag @h:\nafter_tag @h:\nafter_all:\n";
+
+// What is looked up, and the line of the hook that is found.
+const LOOKED_UP: [(HookKind, Option<&str>, Option<u32>); 5] = [
+    (HookKind::BeforeAll, None, Some(1)),
+    (HookKind::AfterTag, Some("@a"), Some(3)),
+    (HookKind::BeforeTag, Some("@h"), Some(16)),
+    (HookKind::AfterTag, Some("@i"), None),
+    (HookKind::BeforeFeature, None, None),
+];
+
+#[test]
+fn looks_hooks_up(rt: HostRuntime) -> Result<(), Fail> {
+    let file = read_hooks(rt.alloc(), LONG_HOOKS.as_bytes())?;
+    let tables = [
+        HookTable::new(rt.alloc(), &file),
+        HookTable::without_index(&file),
+    ];
+    for table in &tables {
+        for (kind, tag, line) in LOOKED_UP {
+            let found = table.hook(kind, tag).map(|hook| hook.line);
+            assert_eq!(rt; found, line);
+        }
+    }
     Ok(())
 }

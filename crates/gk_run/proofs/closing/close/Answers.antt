@@ -41,7 +41,7 @@ closed_both x endings.Skipped endings.Skipped os m p h = (both x endings.Skipped
 pub returns-then-is_memory-clause-closed : goal.returns-then-is_memory-clause-closed
 returns-then-is_memory-clause-closed g c =
     let library = library_value c.args.run.now.library.now in
-    let hooks = hooks_value c.args.run.now.hooks.now in
+    let hooks = hooks_value c.args.run.now.hooks.now.file.now in
     let tags = texts c.args.section.now.tags.now in
     let s = state_of c.args.sandbox.now.now in
     let cs = cleanups_value c.args.cleanups in
@@ -53,7 +53,7 @@ returns-then-is_memory-clause-closed g c =
 pub returns-clause-closed : goal.returns-clause-closed
 returns-clause-closed g c =
     let library = library_value c.args.run.now.library.now in
-    let hooks = hooks_value c.args.run.now.hooks.now in
+    let hooks = hooks_value c.args.run.now.hooks.now.file.now in
     let tags = texts c.args.section.now.tags.now in
     let s = state_of c.args.sandbox.now.now in
     let cs = cleanups_value c.args.cleanups in
@@ -71,7 +71,7 @@ returns-clause-closed g c =
 pub returns-then-is_memory-clause-told : goal.returns-then-is_memory-clause-told
 returns-then-is_memory-clause-told g c =
     let library = library_value c.args.run.now.library.now in
-    let hooks = hooks_value c.args.run.now.hooks.now in
+    let hooks = hooks_value c.args.run.now.hooks.now.file.now in
     let level = c.args.section.now.level in
     let tags = texts c.args.section.now.tags.now in
     let s = state_of c.args.sandbox.now.now in
@@ -84,7 +84,7 @@ returns-then-is_memory-clause-told g c =
 pub returns-clause-told : goal.returns-clause-told
 returns-clause-told g c =
     let library = library_value c.args.run.now.library.now in
-    let hooks = hooks_value c.args.run.now.hooks.now in
+    let hooks = hooks_value c.args.run.now.hooks.now.file.now in
     let level = c.args.section.now.level in
     let tags = texts c.args.section.now.tags.now in
     let s = state_of c.args.sandbox.now.now in

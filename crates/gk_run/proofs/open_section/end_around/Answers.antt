@@ -13,7 +13,7 @@ use Rattle.gk_run.proofs.open_section.end_around.Goals as goal
 
 pub returns-clause-around : goal.returns-clause-around
 returns-clause-around g c = λ outside stop begins.
-    let run = run_of c.args.run.now.library.now c.args.run.now.hooks.now stop in
+    let run = run_of c.args.run.now.library.now c.args.run.now.hooks.now.file.now stop in
     let tags = texts c.args.section.now.tags.now in
     let opened = c.args.opened in
     let closed = c.end_section-closed.result in
@@ -22,7 +22,7 @@ returns-clause-around g c = λ outside stop begins.
 
 pub returns-clause-told : goal.returns-clause-told
 returns-clause-told g c = λ outside stop begins us heard.
-    let run = run_of c.args.run.now.library.now c.args.run.now.hooks.now stop in
+    let run = run_of c.args.run.now.library.now c.args.run.now.hooks.now.file.now stop in
     let tags = texts c.args.section.now.tags.now in
     let opened = c.args.opened in
     let closed = c.end_section-closed.result in

@@ -12,7 +12,7 @@ use Rattle.gk_run.proofs.rules.run_rules.Goals as goal
 
 pub loop-head-init : goal.loop-head-init
 loop-head-init g c =
-    let run = run_of c.args.run.now.library.now c.args.run.now.hooks.now c.args.run.now.stop in
+    let run = run_of c.args.run.now.library.now c.args.run.now.hooks.now.file.now c.args.run.now.stop in
     let first = state_of c.args.sandbox.now.now in
     let old = c.args.cases.now in
     let heads = map head_value c.args.rules.heads.items in
@@ -31,7 +31,7 @@ loop-head-init g c =
 
 pub loop-head-preserved : goal.loop-head-preserved
 loop-head-preserved g c =
-    let run = run_of c.args.run.now.library.now c.args.run.now.hooks.now c.args.run.now.stop in
+    let run = run_of c.args.run.now.library.now c.args.run.now.hooks.now.file.now c.args.run.now.stop in
     let first = state_of c.args.sandbox.now.now in
     let heads = map head_value c.args.rules.heads.items in
     let old = c.args.cases.now in
@@ -65,7 +65,7 @@ loop-head-preserved g c =
 
 pub returns-clause-rules : goal.returns-clause-rules
 returns-clause-rules g c =
-    let run = run_of c.args.run.now.library.now c.args.run.now.hooks.now c.args.run.now.stop in
+    let run = run_of c.args.run.now.library.now c.args.run.now.hooks.now.file.now c.args.run.now.stop in
     let first = state_of c.args.sandbox.now.now in
     let heads = map head_value c.args.rules.heads.items in
     let none : into_iter_items c.loop-head.head-iterator ≡ [] = nothing_in (into_iter_items c.loop-head.head-iterator) (c.loop-head.invariant.counted ∙ c.in-None.ensures.steps.0) in
@@ -74,7 +74,7 @@ returns-clause-rules g c =
 
 pub returns-clause-told : goal.returns-clause-told
 returns-clause-told g c =
-    let run = run_of c.args.run.now.library.now c.args.run.now.hooks.now c.args.run.now.stop in
+    let run = run_of c.args.run.now.library.now c.args.run.now.hooks.now.file.now c.args.run.now.stop in
     let first = state_of c.args.sandbox.now.now in
     let heads = map head_value c.args.rules.heads.items in
     let none : into_iter_items c.loop-head.head-iterator ≡ [] = nothing_in (into_iter_items c.loop-head.head-iterator) (c.loop-head.invariant.counted ∙ c.in-None.ensures.steps.0) in

@@ -17,7 +17,7 @@ use Rattle.gk_run.proofs.section_hooks.walk_after.Goals as goal
 pub returns-then-is_memory-clause-walked : goal.returns-then-is_memory-clause-walked
 returns-then-is_memory-clause-walked g c =
     let library = library_value c.args.run.now.library.now in
-    let hooks = hooks_value c.args.run.now.hooks.now in
+    let hooks = hooks_value c.args.run.now.hooks.now.file.now in
     let tags = texts c.args.section.now.tags.now in
     let s = state_of c.args.sandbox.now.now in
     let cs = cleanups_value c.args.cleanups.now in
@@ -34,7 +34,7 @@ returns-then-is_memory-clause-walked g c =
 pub returns-clause-walked : goal.returns-clause-walked
 returns-clause-walked g c =
     let library = library_value c.args.run.now.library.now in
-    let hooks = hooks_value c.args.run.now.hooks.now in
+    let hooks = hooks_value c.args.run.now.hooks.now.file.now in
     let tags = texts c.args.section.now.tags.now in
     let s = state_of c.args.sandbox.now.now in
     let cs = cleanups_value c.args.cleanups.now in
@@ -53,7 +53,7 @@ returns-clause-walked g c =
 pub returns-then-is_memory-clause-told : goal.returns-then-is_memory-clause-told
 returns-then-is_memory-clause-told g c =
     let library = library_value c.args.run.now.library.now in
-    let hooks = hooks_value c.args.run.now.hooks.now in
+    let hooks = hooks_value c.args.run.now.hooks.now.file.now in
     let level = c.args.section.now.level in
     let tags = texts c.args.section.now.tags.now in
     let s = state_of c.args.sandbox.now.now in
@@ -72,7 +72,7 @@ returns-clause-told g c =
     let library = library_value c.args.run.now.library.now in
     let s = state_of c.args.sandbox.now.now in
     let cs = cleanups_value c.args.cleanups.now in
-    let hooks = hooks_value c.args.run.now.hooks.now in
+    let hooks = hooks_value c.args.run.now.hooks.now.file.now in
     let level = c.args.section.now.level in
     let tags = texts c.args.section.now.tags.now in
     let steps = hook_steps hooks (after_kind level) None in

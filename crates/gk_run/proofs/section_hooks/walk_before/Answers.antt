@@ -15,7 +15,7 @@ use Rattle.gk_run.proofs.section_hooks.walk_before.Goals as goal
 
 pub returns-then-not-has_passed-clause-walked : goal.returns-then-not-has_passed-clause-walked
 returns-then-not-has_passed-clause-walked g c =
-    let hooks = hooks_value c.args.run.now.hooks.now in
+    let hooks = hooks_value c.args.run.now.hooks.now.file.now in
     let level = c.args.section.now.level in
     let tags = c.args.section.now.tags.now in
     let i = c.loop-tag.tag-index in
@@ -31,7 +31,7 @@ loop-tag-init g c = record { goes = λ e last cs h. h; told = ([], refl, refl); 
 pub loop-tag-preserved : goal.loop-tag-preserved
 loop-tag-preserved g c =
     let library = library_value c.args.run.now.library.now in
-    let hooks = hooks_value c.args.run.now.hooks.now in
+    let hooks = hooks_value c.args.run.now.hooks.now.file.now in
     let level = c.args.section.now.level in
     let tags = c.args.section.now.tags.now in
     let i = c.loop-tag.tag-index in
@@ -59,7 +59,7 @@ loop-tag-preserved g c =
 pub returns-clause-walked : goal.returns-clause-walked
 returns-clause-walked g c =
     let library = library_value c.args.run.now.library.now in
-    let hooks = hooks_value c.args.run.now.hooks.now in
+    let hooks = hooks_value c.args.run.now.hooks.now.file.now in
     let tags = c.args.section.now.tags.now in
     let i = c.loop-tag.tag-index in
     let s = state_of c.loop-tag.sandbox.now in
@@ -85,7 +85,7 @@ returns-then-not-has_passed-clause-told g c =
     let level = c.args.section.now.level in
     let tag = c.tag-item.result in
     let tags = c.args.section.now.tags.now in
-    let hooks = hooks_value c.args.run.now.hooks.now in
+    let hooks = hooks_value c.args.run.now.hooks.now.file.now in
     let steps = c.hook_steps-steps.ensures ∙ ap (λ (t : List ℕ). hook_steps hooks kinds.BeforeTag (Some t)) c.as_str.ensures.value in
     let heard = subst (λ (xs : List StepValue). IsTold (told_walk library (before_of level) s xs) this us.0) steps us.2 in
     let walked = subst (λ (xs : List StepValue). IsWalked (walk library (before_site level) s (cleanups_value c.loop-tag.cleanups) xs) this (state_of c.walk_hook-ending.new.sandbox.now) (cleanups_value c.walk_hook-ending.new.cleanups)) steps c.walk_hook-ending.ensures.walked in
@@ -99,7 +99,7 @@ returns-then-not-has_passed-clause-told g c =
 pub returns-clause-told : goal.returns-clause-told
 returns-clause-told g c =
     let library = library_value c.args.run.now.library.now in
-    let hooks = hooks_value c.args.run.now.hooks.now in
+    let hooks = hooks_value c.args.run.now.hooks.now.file.now in
     let level = c.args.section.now.level in
     let tags = c.args.section.now.tags.now in
     let i = c.loop-tag.tag-index in

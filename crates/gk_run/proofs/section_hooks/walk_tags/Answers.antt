@@ -18,7 +18,7 @@ use Rattle.gk_run.proofs.section_hooks.walk_tags.Goals as goal
 pub returns-then-is_memory-clause-walked : goal.returns-then-is_memory-clause-walked
 returns-then-is_memory-clause-walked g c =
     let library = library_value c.args.run.now.library.now in
-    let hooks = hooks_value c.args.run.now.hooks.now in
+    let hooks = hooks_value c.args.run.now.hooks.now.file.now in
     let tags = c.args.section.now.tags.now in
     let i = c.loop-tag.tag-index in
     let tag = c.tag-item.result in
@@ -38,7 +38,7 @@ loop-tag-init g c = record { goes = λ e last cs h. h; told = ([], refl, refl); 
 pub loop-tag-preserved : goal.loop-tag-preserved
 loop-tag-preserved g c =
     let library = library_value c.args.run.now.library.now in
-    let hooks = hooks_value c.args.run.now.hooks.now in
+    let hooks = hooks_value c.args.run.now.hooks.now.file.now in
     let tags = c.args.section.now.tags.now in
     let i = c.loop-tag.tag-index in
     let tag = c.tag-item.result in
@@ -73,13 +73,13 @@ pub returns-clause-walked : goal.returns-clause-walked
 returns-clause-walked g c =
     let tags = c.args.section.now.tags.now in
     let i = c.loop-tag.tag-index in
-    tags_done (library_value c.args.run.now.library.now) (hooks_value c.args.run.now.hooks.now) (state_of c.args.sandbox.now.now) (cleanups_value c.args.cleanups.now) (texts tags) (texts (drop i tags)) (state_of c.loop-tag.sandbox.now) (cleanups_value c.loop-tag.cleanups) c.loop-tag.ending
+    tags_done (library_value c.args.run.now.library.now) (hooks_value c.args.run.now.hooks.now.file.now) (state_of c.args.sandbox.now.now) (cleanups_value c.args.cleanups.now) (texts tags) (texts (drop i tags)) (state_of c.loop-tag.sandbox.now) (cleanups_value c.loop-tag.cleanups) c.loop-tag.ending
     (drop_none string_bytes tags i c.loop-tag-test.false) c.loop-tag.invariant.goes
 
 pub returns-then-is_memory-clause-told : goal.returns-then-is_memory-clause-told
 returns-then-is_memory-clause-told g c =
     let library = library_value c.args.run.now.library.now in
-    let hooks = hooks_value c.args.run.now.hooks.now in
+    let hooks = hooks_value c.args.run.now.hooks.now.file.now in
     let level = c.args.section.now.level in
     let tags = c.args.section.now.tags.now in
     let i = c.loop-tag.tag-index in
@@ -99,7 +99,7 @@ returns-then-is_memory-clause-told g c =
 pub returns-clause-told : goal.returns-clause-told
 returns-clause-told g c =
     let library = library_value c.args.run.now.library.now in
-    let hooks = hooks_value c.args.run.now.hooks.now in
+    let hooks = hooks_value c.args.run.now.hooks.now.file.now in
     let level = c.args.section.now.level in
     let tags = c.args.section.now.tags.now in
     let i = c.loop-tag.tag-index in

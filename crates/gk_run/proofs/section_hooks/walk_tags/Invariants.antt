@@ -15,10 +15,10 @@ use Rattle.gk_run.proofs.section_hooks.walk_tags.Given as goal
 -- whatever the lists of the tags that are left come to, those of all come to
 abbrev pub invariant-loop-tag : goal.invariant-loop-tag
 invariant-loop-tag g l = record {
-  goes : GoesEach (library_value l.fn.run.library.now) (hooks_value l.fn.run.hooks.now) (state_of l.sandbox.now) (cleanups_value l.cleanups) (texts (drop l.tag-index l.fn.section.tags.now)) l.ending (state_of l.fn.sandbox.now) (cleanups_value l.fn.cleanups) (texts l.fn.section.tags.now);
+  goes : GoesEach (library_value l.fn.run.library.now) (hooks_value l.fn.run.hooks.now.file.now) (state_of l.sandbox.now) (cleanups_value l.cleanups) (texts (drop l.tag-index l.fn.section.tags.now)) l.ending (state_of l.fn.sandbox.now) (cleanups_value l.fn.cleanups) (texts l.fn.section.tags.now);
   told : (ts : List Told) × FoldsTo g.O.Observer.hears l.fn.observer ts l.observer
-      × (told_each (library_value l.fn.run.library.now) l.fn.section.level (state_of l.fn.sandbox.now) (cleanups_value l.fn.cleanups) (tag_lists (hooks_value l.fn.run.hooks.now) (texts l.fn.section.tags.now)) ≡
-      ts ++ told_each (library_value l.fn.run.library.now) l.fn.section.level (state_of l.sandbox.now) (cleanups_value l.cleanups) (tag_lists (hooks_value l.fn.run.hooks.now) (texts (drop l.tag-index l.fn.section.tags.now))));
+      × (told_each (library_value l.fn.run.library.now) l.fn.section.level (state_of l.fn.sandbox.now) (cleanups_value l.fn.cleanups) (tag_lists (hooks_value l.fn.run.hooks.now.file.now) (texts l.fn.section.tags.now)) ≡
+      ts ++ told_each (library_value l.fn.run.library.now) l.fn.section.level (state_of l.sandbox.now) (cleanups_value l.cleanups) (tag_lists (hooks_value l.fn.run.hooks.now.file.now) (texts (drop l.tag-index l.fn.section.tags.now))));
   whole : l.ending ≡ endings.Memory → ⊥;
   layers : KeepsLayers l.fn.sandbox l.sandbox;
 }

@@ -7,14 +7,14 @@ use Rattle.gk_run.proofs.cases.taking.run_cases.Goals as goal
 
 pub loop-member-init : goal.loop-member-init
 loop-member-init g c = record {
-  goes = goes_first (run_of c.args.run.now.library.now c.args.run.now.hooks.now c.args.run.now.stop) (state_of c.args.sandbox.now.now) c.args.is_open c.args.cases.now;
-  told = told_first g.O.Observer.hears g.O.Observer.ends (run_of c.args.run.now.library.now c.args.run.now.hooks.now c.args.run.now.stop) (state_of c.args.sandbox.now.now) c.args.is_open c.args.cases.now c.args.observer.now;
+  goes = goes_first (run_of c.args.run.now.library.now c.args.run.now.hooks.now.file.now c.args.run.now.stop) (state_of c.args.sandbox.now.now) c.args.is_open c.args.cases.now;
+  told = told_first g.O.Observer.hears g.O.Observer.ends (run_of c.args.run.now.library.now c.args.run.now.hooks.now.file.now c.args.run.now.stop) (state_of c.args.sandbox.now.now) c.args.is_open c.args.cases.now c.args.observer.now;
   same = record { contents = refl; saved = refl; marks = refl; recorded = refl };
 }
 
 pub loop-member-preserved : goal.loop-member-preserved
 loop-member-preserved g c =
-    let run = run_of c.args.run.now.library.now c.args.run.now.hooks.now c.args.run.now.stop in
+    let run = run_of c.args.run.now.library.now c.args.run.now.hooks.now.file.now c.args.run.now.stop in
     let before = c.loop-member.invariant.same in
     let same = c.in_ok-row.ensures.same in
     record {
@@ -30,10 +30,10 @@ loop-member-preserved g c =
 
 pub returns-clause-cases : goal.returns-clause-cases
 returns-clause-cases g c =
-    goes_last (run_of c.args.run.now.library.now c.args.run.now.hooks.now c.args.run.now.stop) (state_of c.args.sandbox.now.now) c.args.is_open c.args.cases.now c.loop-member.cases c.next_member.new.self c.loop-member.all_stay
+    goes_last (run_of c.args.run.now.library.now c.args.run.now.hooks.now.file.now c.args.run.now.stop) (state_of c.args.sandbox.now.now) c.args.is_open c.args.cases.now c.loop-member.cases c.next_member.new.self c.loop-member.all_stay
     c.loop-member.invariant.goes c.in_default.ensures.taken
 
 pub returns-clause-told : goal.returns-clause-told
 returns-clause-told g c =
-    told_last g.O.Observer.hears g.O.Observer.ends (run_of c.args.run.now.library.now c.args.run.now.hooks.now c.args.run.now.stop) (state_of c.args.sandbox.now.now) c.args.is_open c.args.cases.now c.loop-member.cases c.next_member.new.self c.loop-member.all_stay
+    told_last g.O.Observer.hears g.O.Observer.ends (run_of c.args.run.now.library.now c.args.run.now.hooks.now.file.now c.args.run.now.stop) (state_of c.args.sandbox.now.now) c.args.is_open c.args.cases.now c.loop-member.cases c.next_member.new.self c.loop-member.all_stay
     c.args.observer.now c.loop-member.observer c.loop-member.invariant.told c.in_default.ensures.taken

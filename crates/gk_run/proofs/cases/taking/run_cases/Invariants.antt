@@ -9,8 +9,8 @@ use Rattle.gk_run.proofs.cases.taking.run_cases.Given as goal
 -- the cases so far are told, and however those that are left are cut, all of the rank have cuts with these rows
 abbrev pub invariant-loop-member : goal.invariant-loop-member
 invariant-loop-member g l = record {
-  goes : GoesOn (run_of l.run.library.now l.run.hooks.now l.run.stop) (state_of l.fn.sandbox.now) l.is_open l.fn.cases l.cases l.all_stay;
-  told : GoesTold g.O.Observer.hears g.O.Observer.ends (run_of l.run.library.now l.run.hooks.now l.run.stop) (state_of l.fn.sandbox.now) l.is_open l.fn.cases l.cases l.all_stay l.fn.observer l.observer;
+  goes : GoesOn (run_of l.run.library.now l.run.hooks.now.file.now l.run.stop) (state_of l.fn.sandbox.now) l.is_open l.fn.cases l.cases l.all_stay;
+  told : GoesTold g.O.Observer.hears g.O.Observer.ends (run_of l.run.library.now l.run.hooks.now.file.now l.run.stop) (state_of l.fn.sandbox.now) l.is_open l.fn.cases l.cases l.all_stay l.fn.observer l.observer;
   same : IsSame l.fn.sandbox l.sandbox;
 }
 

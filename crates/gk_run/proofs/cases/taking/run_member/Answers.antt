@@ -16,7 +16,7 @@ use Rattle.gk_run.proofs.cases.taking.run_member.Goals as goal
 
 pub returns-then-not-selected-clause-row : goal.returns-then-not-selected-clause-row
 returns-then-not-selected-clause-row g c =
-    let run = run_of c.args.run.now.library.now c.args.run.now.hooks.now c.args.run.now.stop in
+    let run = run_of c.args.run.now.library.now c.args.run.now.hooks.now.file.now c.args.run.now.stop in
     let m = member_of c.args.member.case c.args.member.selected in
     if_ok (λ (r : CaseResult). case_row r ≡ unrun_row m.scenario statuses.Skipped (marks_of marks.Skipped m.scenario))
     (λ (r : CaseResult). (section : State) → (c.args.is_open ≡ true → state_of c.args.sandbox.now.now ≡ section) → (x : Cut) × (case_row r ≡ case_of run section c.args.is_open x m))
@@ -24,7 +24,7 @@ returns-then-not-selected-clause-row g c =
 
 pub returns-then-not-is_open-clause-row : goal.returns-then-not-is_open-clause-row
 returns-then-not-is_open-clause-row g c =
-    let run = run_of c.args.run.now.library.now c.args.run.now.hooks.now c.args.run.now.stop in
+    let run = run_of c.args.run.now.library.now c.args.run.now.hooks.now.file.now c.args.run.now.stop in
     let m = member_of c.args.member.case c.args.member.selected in
     if_ok (λ (r : CaseResult). case_row r ≡ unrun_row m.scenario statuses.Untested (marks_of marks.Untested m.scenario))
     (λ (r : CaseResult). (section : State) → (c.args.is_open ≡ true → state_of c.args.sandbox.now.now ≡ section) → (x : Cut) × (case_row r ≡ case_of run section c.args.is_open x m))
@@ -32,7 +32,7 @@ returns-then-not-is_open-clause-row g c =
 
 pub returns-clause-row : goal.returns-clause-row
 returns-clause-row g c =
-    let run = run_of c.args.run.now.library.now c.args.run.now.hooks.now c.args.run.now.stop in
+    let run = run_of c.args.run.now.library.now c.args.run.now.hooks.now.file.now c.args.run.now.stop in
     let m = member_of c.args.member.case c.args.member.selected in
     let now = state_of c.args.sandbox.now.now in
     if_ok (λ (r : CaseResult). IsReached run now m.scenario (case_row r)) (λ (r : CaseResult). (section : State) → (c.args.is_open ≡ true → now ≡ section) → (x : Cut) × (case_row r ≡ case_of run section c.args.is_open x m))
@@ -42,7 +42,7 @@ returns-clause-row g c =
 
 pub returns-then-not-selected-clause-told : goal.returns-then-not-selected-clause-told
 returns-then-not-selected-clause-told g c =
-    let run = run_of c.args.run.now.library.now c.args.run.now.hooks.now c.args.run.now.stop in
+    let run = run_of c.args.run.now.library.now c.args.run.now.hooks.now.file.now c.args.run.now.stop in
     let m = member_of c.args.member.case c.args.member.selected in
     let now = state_of c.args.sandbox.now.now in
     let old = c.args.observer.now in
@@ -53,7 +53,7 @@ returns-then-not-selected-clause-told g c =
 
 pub returns-then-not-is_open-clause-told : goal.returns-then-not-is_open-clause-told
 returns-then-not-is_open-clause-told g c =
-    let run = run_of c.args.run.now.library.now c.args.run.now.hooks.now c.args.run.now.stop in
+    let run = run_of c.args.run.now.library.now c.args.run.now.hooks.now.file.now c.args.run.now.stop in
     let m = member_of c.args.member.case c.args.member.selected in
     let now = state_of c.args.sandbox.now.now in
     let old = c.args.observer.now in
@@ -64,7 +64,7 @@ returns-then-not-is_open-clause-told g c =
 
 pub returns-clause-told : goal.returns-clause-told
 returns-clause-told g c =
-    let run = run_of c.args.run.now.library.now c.args.run.now.hooks.now c.args.run.now.stop in
+    let run = run_of c.args.run.now.library.now c.args.run.now.hooks.now.file.now c.args.run.now.stop in
     let m = member_of c.args.member.case c.args.member.selected in
     let now = state_of c.args.sandbox.now.now in
     let old = c.args.observer.now in

@@ -1,0 +1,195 @@
+-- What an index of hooks finds.
+use Rattle.std.specs.Prelude.{◌&&◌, ◌||◌, ◌==◌, is_some, Bool, true, false, cond, find, slice_get, option_copied, option_map, bytes_eq, Result, Ok, Err, OnOk, IfSome, ltb}
+use Rattle.std.specs.List.{list_any}
+use Rattle.std.specs.String.{string_bytes}
+use Rattle.std.proofs.Common.{◌≡◌, ℕ, zero, suc, ◌+◌, ◌≤◌, ◌<◌, inl, inr, List, [], ◌∷◌, ◌++◌, length, map, get_or, Option, Some, None, Bor, refl, sym, ap, subst, ◌∙◌, arith}
+use Rattle.std.proofs.lemmas.Bool.{cases_lt, eqb-true, eq-eqb, lt-ltb, ltb-true}
+use Rattle.std.proofs.lemmas.Option.{slice_get_past, slice_get_within}
+use Rattle.std.proofs.lemmas.Slice.Eq.{bytes_eq-Decides}
+use Rattle.gk_gherkin.specs.declared.hooks.Hook.{Hook}
+use Rattle.gk_gherkin.specs.declared.hooks.HookKind.{HookKind}
+use Rattle.gk_gherkin.specs.declared.hook_index.HookIndex.{HookIndex}
+use Rattle.gk_gherkin.specs.Hooks.{HookValue, hook_value, is_same_kind, is_same_tag, is_for}
+use Rattle.gk_gherkin.specs.HookIndex.{is_among, places_of, AreListed, AreListedTo, IsFirst}
+
+second : (a b : Bool) → (a && b) ≡ true → b ≡ true
+second true b e = e
+second false b e = cc
+
+-- numbers among some
+either : (a b : Bool) → b ≡ true → (a || b) ≡ true
+either true b e = refl
+either false b e = e
+
+either_by : (a b c : Bool) → (b ≡ true → c ≡ true) → (a || b) ≡ true → (a || c) ≡ true
+either_by true b c f e = refl
+either_by false b c f e = f e
+
+pub among_push : (n p : ℕ) (ns : List ℕ) → is_among n ns ≡ true → is_among n (ns ++ p ∷ []) ≡ true
+among_push n p [] h = cc
+among_push n p (k ∷ ns) h = either_by (n == k) (is_among n ns) (is_among n (ns ++ p ∷ [])) (among_push n p ns) h
+
+pub among_last : (p : ℕ) (ns : List ℕ) → is_among p (ns ++ p ∷ []) ≡ true
+among_last p [] = ap (λ (b : Bool). b || false) (eq-eqb p p refl)
+among_last p (k ∷ ns) = either (p == k) (is_among p (ns ++ p ∷ [])) (among_last p ns)
+
+among_next : (n k : ℕ) (ns : List ℕ) (b : Bool) → (n == k) ≡ b → (b || is_among n ns) ≡ true → (is_among n ns ≡ true → (j : ℕ) × (slice_get ns j ≡ Some n)) → (j : ℕ) × (slice_get (k ∷ ns) j ≡ Some n)
+among_next n k ns true e h more = (0, ap Some (sym (eqb-true n k e)))
+among_next n k ns false e h more = let later = more h in (suc later.0, later.1)
+
+among_at : (n : ℕ) (ns : List ℕ) → is_among n ns ≡ true → (k : ℕ) × (slice_get ns k ≡ Some n)
+among_at n [] h = let never : ⊥ = cc in absurd never
+among_at n (k ∷ ns) h = among_next n k ns (n == k) refl h (among_at n ns)
+
+-- a place that was added under a tag
+pub added_there : (t tag : List ℕ) (place : ℕ) (before after : List ℕ) → after ≡ cond (bytes_eq t tag) (before ++ place ∷ []) before → tag ≡ t → is_among place after ≡ true
+added_there t tag place before after e same =
+    ap (λ ns. is_among place ns) (e ∙ ap (λ (b : Bool). cond b (before ++ place ∷ []) before) ((bytes_eq-Decides t tag).1 (sym same))) ∙ among_last place before
+
+pub on_ok : {X E P Q : Type 0} (r : Result X E) → (P → Q) → OnOk r P → OnOk r Q
+on_ok (Ok x) f h = f h
+on_ok (Err e) f h = h
+
+-- hooks that are listed
+pub listed_kept : (old new : HookIndex) (hooks : List Hook) → ((t : Option (List ℕ)) (n : ℕ) → is_among n (places_of old t) ≡ true → is_among n (places_of new t) ≡ true) → AreListed old hooks → AreListed new hooks
+listed_kept old new hooks kept listed place hook at = kept (option_map string_bytes hook.tag) place (listed place hook at)
+
+last_or_before : (hooks : List Hook) (last hook : Hook) (place : ℕ) (P : ℕ → Hook → Type 0) → ((i : ℕ) (h : Hook) → slice_get hooks i ≡ Some h → P i h) → P (length hooks) last → slice_get (hooks ++ last ∷ []) place ≡ Some hook → P place hook
+last_or_before [] last hook zero P before end at = let same : last ≡ hook = cc in subst (P 0) same end
+last_or_before [] last hook (suc place) P before end at = let never : ⊥ = cc in absurd never
+last_or_before (h ∷ hooks) last hook zero P before end at = before 0 hook at
+last_or_before (h ∷ hooks) last hook (suc place) P before end at = last_or_before hooks last hook place (λ i g. P (suc i) g) (λ i g e. before (suc i) g e) end at
+
+pub listed_push : (old new : HookIndex) (hooks : List Hook) (hook : Hook) → ((t : Option (List ℕ)) (n : ℕ) → is_among n (places_of old t) ≡ true → is_among n (places_of new t) ≡ true)
+    → is_among (length hooks) (places_of new (option_map string_bytes hook.tag)) ≡ true → AreListed old hooks → AreListed new (hooks ++ hook ∷ [])
+listed_push old new hooks hook kept added listed place other at =
+    last_or_before hooks hook other place (λ i h. is_among i (places_of new (option_map string_bytes h.tag)) ≡ true) (listed_kept old new hooks kept listed) added at
+
+-- the first that passes
+find_past : {X : Type 0} (test : X → Bool) (x : X) (xs : List X) (r : ℕ) (b : Bool) → test x ≡ b → (test x ≡ true → suc r ≤ 0) → slice_get xs r ≡ find test xs → slice_get xs r ≡ cond (test x) (Some x) (find test xs)
+find_past test x xs r true e never same = let l = never e in let bad : ⊥ = omega arith in absurd bad
+find_past test x xs r false e never same = same ∙ sym (ap (λ (b : Bool). cond b (Some x) (find test xs)) e)
+
+find_first : {X : Type 0} (test : X → Bool) (xs : List X) (r : ℕ) → r ≤ length xs → ((x : X) → slice_get xs r ≡ Some x → test x ≡ true) → ((i : ℕ) (x : X) → slice_get xs i ≡ Some x → test x ≡ true → r ≤ i) → slice_get xs r ≡ find test xs
+find_first test [] r within passes least = refl
+find_first test (x ∷ xs) zero within passes least = sym (ap (λ (b : Bool). cond b (Some x) (find test xs)) (passes x refl))
+find_first test (x ∷ xs) (suc r) within passes least =
+    find_past test x xs r (test x) refl (λ e. least 0 x refl e)
+    (find_first test xs r (omega arith) passes (λ i y at e. let l = least (suc i) y at e in omega arith))
+
+kept_choice : {X Y : Type 0} (f : X → Y) (b : Bool) (x : X) (o : Option X) → option_map f (cond b (Some x) o) ≡ cond b (Some (f x)) (option_map f o)
+kept_choice f true x o = refl
+kept_choice f false x o = refl
+
+find_mapped : {X Y : Type 0} (test : Y → Bool) (f : X → Y) (xs : List X) → find test (map f xs) ≡ option_map f (find (λ x. test (f x)) xs)
+find_mapped test f [] = refl
+find_mapped test f (x ∷ xs) = ap (λ o. cond (test (f x)) (Some (f x)) o) (find_mapped test f xs) ∙ sym (kept_choice f (test (f x)) x (find (λ y. test (f y)) xs))
+
+-- the hook of a kind and a tag
+same_tag : (a b : Option (List ℕ)) → is_same_tag a b ≡ true → a ≡ b
+same_tag None None e = refl
+same_tag None (Some b) e = cc
+same_tag (Some a) None e = cc
+same_tag (Some a) (Some b) e = ap Some ((bytes_eq-Decides a b).0 e)
+
+within_all : (ns : List ℕ) (k n : ℕ) → slice_get ns k ≡ Some n → k < length ns
+within_all [] k n e = let never : ⊥ = cc in absurd never
+within_all (m ∷ ns) zero n e = omega arith
+within_all (m ∷ ns) (suc k) n e = let less = within_all ns k n e in omega arith
+
+pub found_is : (index : HookIndex) (hooks : List Hook) (kind : HookKind) (tag : Option (List ℕ)) (r : ℕ) → AreListed index hooks → IsFirst (λ hook. is_for (hook_value hook) kind tag) hooks (places_of index tag) (length (places_of index tag)) r
+    → option_map hook_value (slice_get hooks r) ≡ find (λ (h : HookValue). is_for h kind tag) (map hook_value hooks)
+found_is index hooks kind tag r listed first =
+    ap (option_map hook_value) (find_first (λ hook. is_for (hook_value hook) kind tag) hooks r first.within first.passes least)
+    ∙ sym (find_mapped (λ (h : HookValue). is_for h kind tag) hook_value hooks) where
+      least : (i : ℕ) (hook : Hook) → slice_get hooks i ≡ Some hook → is_for (hook_value hook) kind tag ≡ true → r ≤ i
+      least i hook at passes =
+          let same = same_tag (option_map string_bytes hook.tag) tag (second (is_same_kind hook.kind kind) (is_same_tag (option_map string_bytes hook.tag) tag) passes) in
+          let there = among_at i (places_of index tag) (subst (λ t. is_among i (places_of index t) ≡ true) same (listed i hook at)) in
+          first.least there.0 i hook (within_all (places_of index tag) there.0 i there.1) there.1 at passes
+
+pub read_behind : {X Y : Type 0} (f : X → Y) (o : Option (Bor X)) → option_map (λ x. f x.now) o ≡ option_map f (option_copied o)
+read_behind f None = refl
+read_behind f (Some x) = refl
+
+-- the first of more places
+pub get_number : (ns : List ℕ) (k : ℕ) → k < length ns → slice_get ns k ≡ Some (get_or ns k 0)
+get_number [] k l = let never : ⊥ = omega arith in absurd never
+get_number (n ∷ ns) zero l = refl
+get_number (n ∷ ns) (suc k) l = get_number ns k (omega arith)
+
+same_place : (a b : ℕ) → ◌≡◌ {A = Option ℕ} (Some a) (Some b) → a ≡ b
+same_place a b e = cc
+
+same_hook : (a b : Hook) → ◌≡◌ {A = Option Hook} (Some a) (Some b) → a ≡ b
+same_hook a b e = cc
+
+pub first_taken : (test : Hook → Bool) (hooks : List Hook) (places : List ℕ) (k first place : ℕ) (hook : Hook) → slice_get places k ≡ Some place → slice_get hooks place ≡ Some hook → test hook ≡ true
+    → place < first → IsFirst test hooks places k first → IsFirst test hooks places (k + 1) place
+first_taken test hooks places k first place hook here at passes less before = record {
+  within = omega (arith, less, before.within);
+  passes = λ other e. subst (λ h. test h ≡ true) (same_hook hook other (sym at ∙ e)) passes;
+  least = λ j p other l e found good. elim (cases_lt j k) [
+    | inl lt ↦ let low = before.least j p other lt e found good in omega (arith, less, low)
+    | inr ge ↦ let end : j ≡ k = omega (arith, l, ge) in
+        let same : place ≡ p = same_place place p (sym here ∙ subst (λ i. slice_get places i ≡ Some p) end e) in omega (arith, same)
+  ];
+}
+
+pub first_passed : (test : Hook → Bool) (hooks : List Hook) (places : List ℕ) (k first place : ℕ) → slice_get places k ≡ Some place
+    → ((hook : Hook) → place < first → slice_get hooks place ≡ Some hook → test hook ≡ true → ⊥) → IsFirst test hooks places k first → IsFirst test hooks places (k + 1) first
+first_passed test hooks places k first place here never before = record {
+  within = before.within;
+  passes = before.passes;
+  least = λ j p other l e found good. elim (cases_lt j k) [
+    | inl lt ↦ before.least j p other lt e found good
+    | inr ge ↦ let end : j ≡ k = omega (arith, l, ge) in
+        let same : p ≡ place = same_place p place (sym (subst (λ i. slice_get places i ≡ Some p) end e) ∙ here) in
+        elim (cases_lt place first) [
+          | inl less ↦ absurd (never other less (subst (λ i. slice_get hooks i ≡ Some other) same found) good)
+          | inr more ↦ omega (arith, same, more)
+        ]
+  ];
+}
+
+pub got_at : {X : Type 0} (xs : List X) (i : ℕ) (x : X) → i < length xs → x ≡ get_or xs i x → slice_get xs i ≡ Some x
+got_at [] i x l e = let never : ⊥ = omega arith in absurd never
+got_at (y ∷ ys) zero x l e = ap Some (sym e)
+got_at (y ∷ ys) (suc i) x l e = got_at ys i x (omega arith) e
+
+pub never_both : (test : Hook → Bool) (hooks : List Hook) (place : ℕ) (a b : Hook) → slice_get hooks place ≡ Some a → test a ≡ false → slice_get hooks place ≡ Some b → test b ≡ true → ⊥
+never_both test hooks place a b here bad there good =
+    let no : test b ≡ false = subst (λ h. test h ≡ false) (same_hook a b (sym here ∙ there)) bad in
+    let never : true ≡ false = sym good ∙ no in cc
+
+-- one of some passes where one is found
+found_next : {X : Type 0} (x : X) (o : Option X) (b c : Bool) → c ≡ is_some o → (b || c) ≡ is_some (cond b (Some x) o)
+found_next x o true c e = refl
+found_next x o false c e = e
+
+pub any_found : {X : Type 0} (test : X → Bool) (xs : List X) → list_any test xs ≡ is_some (find test xs)
+any_found test [] = refl
+any_found test (x ∷ xs) = found_next x (find test xs) (test x) (list_any test xs) (any_found test xs)
+
+-- what a slice gives at a place
+pub looked_up : (hooks : List Hook) (place : ℕ) (o : Option (Bor Hook)) → is_some o ≡ ltb place (length hooks) → IfSome o (λ x. x.now ≡ get_or hooks place x.now) → option_copied o ≡ slice_get hooks place
+looked_up hooks place None none same = elim (cases_lt place (length hooks)) [
+  | inl less ↦ let never : false ≡ true = none ∙ lt-ltb place (length hooks) less in absurd cc
+  | inr past ↦ sym (slice_get_past hooks place past)
+]
+looked_up hooks place (Some x) some same = sym (got_at hooks place x.now (ltb-true place (length hooks) (sym some)) same)
+
+-- hooks that are listed up to a place
+pub none_listed : (index : HookIndex) (hooks : List Hook) → AreListedTo index hooks 0
+none_listed index hooks place hook less at = let never : ⊥ = omega arith in absurd never
+
+pub one_more_listed : (old new : HookIndex) (hooks : List Hook) (k : ℕ) → ((t : Option (List ℕ)) (n : ℕ) → is_among n (places_of old t) ≡ true → is_among n (places_of new t) ≡ true)
+    → ((hook : Hook) → slice_get hooks k ≡ Some hook → is_among k (places_of new (option_map string_bytes hook.tag)) ≡ true) → AreListedTo old hooks k → AreListedTo new hooks (k + 1)
+one_more_listed old new hooks k kept added listed place hook less at = elim (cases_lt place k) [
+  | inl lt ↦ kept (option_map string_bytes hook.tag) place (listed place hook lt at)
+  | inr ge ↦ let end : k ≡ place = omega (arith, less, ge) in
+      subst (λ p. is_among p (places_of new (option_map string_bytes hook.tag)) ≡ true) end (added hook (subst (λ p. slice_get hooks p ≡ Some hook) (sym end) at))
+]
+
+pub all_listed : (index : HookIndex) (hooks : List Hook) (k : ℕ) → length hooks ≤ k → AreListedTo index hooks k → AreListed index hooks
+all_listed index hooks k past listed place hook at = let less = slice_get_within hooks place hook at in listed place hook (omega (arith, less, past)) at

@@ -1,0 +1,12 @@
+use Rattle.std.proofs.Common.{◌∙◌, ap, option_copied}
+use Rattle.std.specs.Prelude.{option_map}
+use Rattle.gk_gherkin.specs.Hooks.{hook_value}
+use Rattle.gk_gherkin.proofs.HookIndexed.{found_is, looked_up, read_behind}
+use Rattle.gk_gherkin.proofs.hook_index.find_hook.Goals as goal
+
+pub returns : goal.returns
+returns c =
+    let first = rw c.of.ensures at c.first_place-place.ensures in
+    read_behind hook_value c.get.result
+    ∙ ap (option_map hook_value) (looked_up c.args.hooks.now c.first_place-place.result c.get.result c.get.ensures.lookup.0 c.get.ensures.lookup.1)
+    ∙ found_is c.args.index.now c.args.hooks.now c.args.kind (option_copied c.args.tag) c.first_place-place.result c.requires first

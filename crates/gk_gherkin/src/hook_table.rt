@@ -1,0 +1,68 @@
+//! The hooks of a file, looked up by their kinds and their tags.
+ghost use Rattle.std.specs.Prelude.{◌≡◌, find, map, option_copied, option_map};
+ghost use Rattle.std.specs.Option.{ForSome};
+ghost use Rattle.gk_gherkin.specs.Hooks.{hook_value, hooks_value, is_for};
+ghost use Rattle.gk_gherkin.specs.HookIndex.{AreListed};
+
+use crate::hook_index::{HookIndex, find_hook, index_of};
+use crate::hooks::{Hook, HookFile, HookKind};
+use std::alloc::Global;
+
+/// So many hooks are looked through as fast as an index is made.
+const FEW: usize = 16;
+
+/// The hooks of a file, looked up by their kinds and their tags.
+#[derive(Drop)]
+pub struct HookTable<'a> {
+    /// The file.
+    pub file: &'a HookFile,
+    /// Where its hooks stand. Without it they are looked through.
+    index: Option<HookIndex>,
+    ghost listed: { ForSome index (λ index. AreListed index file.now.hooks.items) },
+}
+
+fn look_through<'a>(hooks: &'a [Hook], kind: HookKind, tag: Option<&str>) -> Option<&'a Hook>
+    ensures { option_map (λ hook. hook_value hook.now) result
+        ≡ find (λ hook. is_for hook kind (option_copied tag.entry)) (map hook_value hooks.now) }
+{
+    for hook in hooks {
+        if hook.is_for(kind, tag) {
+            return Some(hook);
+        }
+    }
+    None
+}
+
+impl<'a> HookTable<'a> {
+    /// The hooks of a file. Where there are many of them they get an index, if there is memory for it.
+    pub fn new(alloc: Global, file: &'a HookFile) -> HookTable<'a>
+        ensures { result.file.now ≡ file.now }
+    {
+        if file.hooks.len() <= FEW {
+            return HookTable::without_index(file);
+        }
+        HookTable {
+            file,
+            index: index_of(alloc, &file.hooks).ok(),
+        }
+    }
+
+    /// The hooks of a file, of which only few are to be looked up. Takes no memory.
+    pub fn without_index(file: &'a HookFile) -> HookTable<'a>
+        ensures { result.file.now ≡ file.now }
+    {
+        HookTable { file, index: None }
+    }
+
+    /// The first hook for this kind and this tag; with no tag, the first for this kind that has none. With an
+    /// index, how long it takes doesn't grow with the hooks for other tags. (this project's profile)
+    pub fn hook(&self, kind: HookKind, tag: Option<&str>) -> Option<&'a Hook>
+        ensures { option_map (λ hook. hook_value hook.now) result
+            ≡ find (λ hook. is_for hook kind (option_copied tag.entry)) (hooks_value self.now.file.now) }
+    {
+        match &self.index {
+            Some(index) => find_hook(&self.file.hooks, index, kind, tag),
+            None => look_through(&self.file.hooks, kind, tag),
+        }
+    }
+}

@@ -1,0 +1,59 @@
+//! The hooks of a file that were read so far.
+ghost use Rattle.gk_gherkin.specs.HookIndex.{AreListed};
+
+use crate::hook_index::{HookIndex, find_hook};
+use crate::hooks::{Hook, HookFile, HookKind};
+use std::alloc::{AllocError, Global};
+
+/// The hooks that were read so far, in order.
+#[derive(Drop)]
+pub struct HooksSoFar {
+    pub hooks: Vec<Hook>,
+    /// Where they stand.
+    pub index: HookIndex,
+    ghost listed: { AreListed index hooks.items },
+}
+
+impl HooksSoFar {
+    ghost use Rattle.std.specs.Prelude.{◌≡◌, ◌++◌, ◌∷◌, [], OnOk, option_copied};
+    ghost use Rattle.std.specs.List.{list_any};
+    ghost use Rattle.gk_gherkin.specs.Hooks.{hook_value, hooks_value, is_for};
+    ghost use Rattle.gk_gherkin.specs.HooksPlace.Views.{so_far_value};
+
+    /// No hooks. Takes no memory.
+    pub fn new(alloc: Global) -> HooksSoFar
+        ensures { so_far_value result ≡ [] }
+    {
+        HooksSoFar {
+            hooks: Vec::new(alloc),
+            index: HookIndex::new(alloc),
+        }
+    }
+
+    /// Adds a hook, as the last.
+    pub fn push(&mut self, hook: Hook) -> Result<(), AllocError>
+        ensures { OnOk result
+            (so_far_value self.new ≡ so_far_value self.old ++ hook_value hook ∷ []) }
+    {
+        self.index.add(&hook.tag, self.hooks.len())?;
+        self.hooks.push(hook)?;
+        Ok(())
+    }
+
+    /// Whether one of them is for this kind and this tag. How long it takes doesn't grow with the hooks for
+    /// other tags.
+    #[tactic(auto, using(crate::proofs::HookIndexed::any_found))]
+    pub fn has(&self, kind: HookKind, tag: Option<&str>) -> bool
+        ensures { result
+            ≡ list_any (λ hook. is_for hook kind (option_copied tag.entry)) (so_far_value self.now) }
+    {
+        find_hook(&self.hooks, &self.index, kind, tag).is_some()
+    }
+
+    /// The file that has these hooks.
+    pub fn into_file(self) -> HookFile
+        ensures { hooks_value result ≡ so_far_value self }
+    {
+        HookFile { hooks: self.hooks }
+    }
+}
