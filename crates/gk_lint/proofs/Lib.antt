@@ -1,4 +1,5 @@
 pub mod Letters
+pub mod OneLetterOff
 pub mod LineOrder
 pub mod MisspeltLoop
 pub mod WorkedLikeness

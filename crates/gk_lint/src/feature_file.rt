@@ -15,13 +15,16 @@ use crate::vanishing::add_vanishing;
 use gk_gherkin::{Feature, LIMIT, ReadFault, read_feature, text_of};
 use std::alloc::{AllocError, Global};
 
-// What is found of a file with this feature, or none, and this text.
-fn findings_of(
+/// What is found of a feature file that has been read: of its feature, or that it has none, and of its text, in the order of
+/// lines. Of `text_of` a file's bytes and the feature that `read_feature` returns of them, it is what `lint_feature_file`
+/// returns of the file. An error comes only where a growth was refused.
+pub fn lint_feature(
     alloc: Global,
     feature: &Option<Feature>,
     text: &str,
 ) -> Result<Vec<Finding>, AllocError>
     requires { length text.now ≤ LIMIT }
+    // All findings are answered, and nothing else.
     ensures { IfOk result (λ findings. AreInOrder (spec.file_findings
         (option_map feature_value feature.now) (numbered_from 1 (lines text.now)))
         findings.items) }
@@ -46,5 +49,5 @@ pub fn lint_feature_file(alloc: Global, bytes: &[u8]) -> Result<Vec<Finding>, Re
 {
     let feature = read_feature(alloc, bytes)?;
     let text = text_of(bytes)?;
-    Ok(findings_of(alloc, &feature, text)?)
+    Ok(lint_feature(alloc, &feature, text)?)
 }

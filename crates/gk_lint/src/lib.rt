@@ -11,6 +11,7 @@ mod misspelt;
 mod standing;
 mod vanishing;
 
-pub use feature_file::lint_feature_file;
+pub use feature_file::{lint_feature, lint_feature_file};
 pub use findings::{Finding, FindingKind};
 pub use keywords::Keyword;
+pub use likeness::one_off_is_within_one;
