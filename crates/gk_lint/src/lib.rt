@@ -7,11 +7,16 @@ mod feature_file;
 mod findings;
 mod keywords;
 mod likeness;
+mod lookups;
 mod misspelt;
 mod standing;
+mod step_faults;
 mod vanishing;
+mod written_steps;
 
 pub use feature_file::{lint_feature, lint_feature_file};
 pub use findings::{Finding, FindingKind};
 pub use keywords::Keyword;
 pub use likeness::one_off_is_within_one;
+pub use step_faults::StepFault;
+pub use written_steps::{StepFindings, lint_hooks, lint_steps};
