@@ -7,5 +7,6 @@ pub mod Standing
 pub mod Misspelt
 pub mod Vanishing
 pub mod FeatureFile
+pub mod Blocks
 pub mod Lookups
 pub mod WrittenSteps

@@ -1,9 +1,10 @@
 -- What is wrong with a step as it is run, and which entries of the library it finds.
-use Rattle.std.specs.Prelude.{codes, ℕ, List, [], ◌∷◌, flat_map, Option, Some, None, unwrap_or}
-use Rattle.gk_gherkin.specs.Feature.{StepValue}
+use Rattle.std.specs.Prelude.{codes, ℕ, Bool, List, [], ◌∷◌, flat_map, Option, Some, None, is_some, unwrap_or}
+use Rattle.gk_gherkin.specs.Feature.{BlockValue, StepValue}
 use Rattle.gk_steps.specs.declared.action.Action.{Action}
 use Rattle.gk_steps.specs.declared.action.Action.TheVariants as actions
 use Rattle.gk_steps.specs.Finding.{LibraryValue, FoundValue, found, found_any, action_of, text_field}
+use Rattle.gk_lint.specs.Blocks.{block_faults}
 use Rattle.gk_lint.specs.declared.step_faults.StepFault.{StepFault}
 use Rattle.gk_lint.specs.declared.step_faults.StepFault.TheVariants.{Undefined, CleanupWithoutStep}
 
@@ -11,24 +12,28 @@ use Rattle.gk_lint.specs.declared.step_faults.StepFault.TheVariants.{Undefined, 
 abbrev pub cleanup_text : LibraryValue → FoundValue → List ℕ
 cleanup_text library f = unwrap_or (text_field library f (codes "step")) []
 
--- What is wrong with a cleanup, by what its text finds among the entries of type `step`.
-abbrev pub cleanup_faults : Option FoundValue → List StepFault
-cleanup_faults None = CleanupWithoutStep ∷ []
-cleanup_faults (Some f) = []
+-- Whether what was found has a field `text`.
+abbrev pub has_text : LibraryValue → FoundValue → Bool
+has_text library f = is_some (text_field library f (codes "text"))
 
--- What is wrong with a step whose entry has this action.
-abbrev pub action_faults : Action → LibraryValue → FoundValue → List StepFault
-action_faults actions.AtCleanup library f = cleanup_faults (found_any library (cleanup_text library f))
-action_faults action library f = []
+-- What is wrong with a cleanup, by what its text finds among the entries of type `step`: it is carried out with the block of the step that registered it. (behave's documentation: cleanups)
+abbrev pub cleanup_faults : LibraryValue → Option FoundValue → BlockValue → List StepFault
+cleanup_faults library None block = CleanupWithoutStep ∷ []
+cleanup_faults library (Some f) block = block_faults (action_of library f) (has_text library f) block
+
+-- What is wrong with a step whose entry has this action: `at_cleanup` hands the block on to the cleanup.
+abbrev pub action_faults : Action → LibraryValue → FoundValue → BlockValue → List StepFault
+action_faults actions.AtCleanup library f block = cleanup_faults library (found_any library (cleanup_text library f)) block
+action_faults action library f block = block_faults action (has_text library f) block
 
 -- What is wrong with a step, by what its text finds.
-abbrev pub found_faults : LibraryValue → Option FoundValue → List StepFault
-found_faults library None = Undefined ∷ []
-found_faults library (Some f) = action_faults (action_of library f) library f
+abbrev pub found_faults : LibraryValue → Option FoundValue → BlockValue → List StepFault
+found_faults library None block = Undefined ∷ []
+found_faults library (Some f) block = action_faults (action_of library f) library f block
 
--- What is wrong with a step as it is run: it finds no entry, or it registers a cleanup that finds none. (behave's documentation: step implementations, cleanups)
+-- What is wrong with a step as it is run: it finds no entry, it registers a cleanup that finds none, or the block is not what the action works with. (behave's documentation: step implementations, cleanups)
 unfoldable pub faults_of : LibraryValue → StepValue → List StepFault
-faults_of library step = found_faults library (found library step.step_type step.text)
+faults_of library step = found_faults library (found library step.step_type step.text) step.block
 
 -- The place of the entry that was found.
 abbrev pub place_of : Option FoundValue → List ℕ

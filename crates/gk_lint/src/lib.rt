@@ -3,6 +3,7 @@
 //! Where a comment names no source, what it says is this project's profile.
 #![tactic(auto)]
 
+mod blocks;
 mod feature_file;
 mod findings;
 mod keywords;

@@ -1,11 +1,12 @@
 //! What is wrong with a step as it is run, and which entries of the library it finds.
 ghost use Rattle.std.specs.Prelude.{◌≡◌, ◌∷◌, [], ◌++◌, OnOk, option_map};
-ghost use Rattle.gk_gherkin.specs.Feature.{step_value};
+ghost use Rattle.gk_gherkin.specs.Feature.{step_value, block_value};
 ghost use Rattle.gk_steps.specs.Finding.{library_value, found_value, found_any, action_of};
 ghost use Rattle.gk_lint.specs.Lookups as spec;
 
+use crate::blocks::add_block_faults;
 use crate::step_faults::StepFault;
-use gk_gherkin::Step;
+use gk_gherkin::{Block, Step};
 use gk_steps::{Action, Found, Library};
 use std::alloc::{AllocError, Global};
 
@@ -24,6 +25,13 @@ fn cleanup_text<'a>(library: &Library, found: &'a Found) -> &'a str
     library.text(found, "step").unwrap_or("")
 }
 
+// Whether what was found has a field `text`.
+fn has_text(library: &Library, found: &Found) -> bool
+    ensures { result ≡ spec.has_text (library_value library.now) (found_value found.now) }
+{
+    library.text(found, "text").is_some()
+}
+
 impl Lookups {
     /// Nothing was looked up yet. Takes no memory.
     pub fn new(alloc: Global) -> Lookups
@@ -36,22 +44,25 @@ impl Lookups {
         }
     }
 
-    // Looks up the text of a cleanup.
+    // Looks up the text of a cleanup, which is carried out with the block of the step that registers it.
     fn add_cleanup(
         &mut self,
         alloc: Global,
         library: &Library,
         text: &str,
+        block: &Block,
     ) -> Result<(), AllocError>
-        ensures faults { OnOk result (self.new.faults.items ≡ self.old.faults.items
-            ++ spec.cleanup_faults (found_any (library_value library.now) text.now)) }
+        ensures faults { let l = library_value library.now in
+            OnOk result (self.new.faults.items ≡ self.old.faults.items
+            ++ spec.cleanup_faults l (found_any l text.now) (block_value block.now)) }
         ensures used { OnOk result (self.new.used.items ≡ self.old.used.items
             ++ spec.place_of (found_any (library_value library.now) text.now)) }
     {
         match library.find_any(alloc, text)? {
             Some(found) => {
                 self.used.push(found.entry)?;
-                Ok(())
+                let has_text = has_text(library, &found);
+                add_block_faults(&mut self.faults, library.action(&found), has_text, block)
             }
             None => {
                 self.faults.push(StepFault::CleanupWithoutStep)?;
@@ -60,23 +71,30 @@ impl Lookups {
         }
     }
 
-    // Adds what the action of what was found registers.
-    fn add_action(
+    // Adds what is wrong with the block of what was found, or with the cleanup that it registers.
+    fn add_found(
         &mut self,
         alloc: Global,
         library: &Library,
         found: &Found,
+        block: &Block,
     ) -> Result<(), AllocError>
         ensures faults { let l = library_value library.now in let f = found_value found.now in
-            OnOk result (self.new.faults.items
-            ≡ self.old.faults.items ++ spec.action_faults (action_of l f) l f) }
+            OnOk result (self.new.faults.items ≡ self.old.faults.items
+            ++ spec.action_faults (action_of l f) l f (block_value block.now)) }
         ensures used { let l = library_value library.now in let f = found_value found.now in
             OnOk result (self.new.used.items
             ≡ self.old.used.items ++ spec.cleanup_places (action_of l f) l f) }
     {
-        match library.action(found) {
-            Action::AtCleanup => self.add_cleanup(alloc, library, cleanup_text(library, found)),
-            _ => Ok(()),
+        let action = library.action(found);
+        match action {
+            Action::AtCleanup => {
+                self.add_cleanup(alloc, library, cleanup_text(library, found), block)
+            }
+            _ => {
+                let has_text = has_text(library, found);
+                add_block_faults(&mut self.faults, action, has_text, block)
+            }
         }
     }
 
@@ -91,7 +109,7 @@ impl Lookups {
         match library.find(alloc, step.step_type, step.text.as_str())? {
             Some(found) => {
                 self.used.push(found.entry)?;
-                self.add_action(alloc, library, &found)
+                self.add_found(alloc, library, &found, &step.block)
             }
             None => {
                 self.faults.push(StepFault::Undefined)?;

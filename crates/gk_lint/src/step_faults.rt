@@ -10,10 +10,29 @@ pub enum StepFault {
     /// The step registers a cleanup whose text finds no entry of type `step`. (behave's documentation:
     /// cleanups)
     CleanupWithoutStep,
+    /// The action works with a text, and there is neither a field `text` nor a doc string.
+    NoText,
+    /// The action works with a table, and there is none.
+    NoTable,
+    /// The action works with a table of files, and this is none: its first row isn't `name` and `text`, or another row
+    /// hasn't two cells.
+    BadTable,
+    /// The doc string is ignored: the action works with no text, or with the field `text`.
+    IgnoredText,
+    /// The table is ignored: the action works with none.
+    IgnoredTable,
 }
 
 /// The faults that a step can have.
-pub const ALL_FAULTS: [StepFault; 2] = [StepFault::Undefined, StepFault::CleanupWithoutStep];
+pub const ALL_FAULTS: [StepFault; 7] = [
+    StepFault::Undefined,
+    StepFault::CleanupWithoutStep,
+    StepFault::NoText,
+    StepFault::NoTable,
+    StepFault::BadTable,
+    StepFault::IgnoredText,
+    StepFault::IgnoredTable,
+];
 
 impl StepFault {
     /// The text of a fault.
@@ -23,6 +42,11 @@ impl StepFault {
         match self {
             StepFault::Undefined => "undefined step",
             StepFault::CleanupWithoutStep => "cleanup without step",
+            StepFault::NoText => "step without the text that its action needs",
+            StepFault::NoTable => "step without the table that its action needs",
+            StepFault::BadTable => "table that isn't one of name and text",
+            StepFault::IgnoredText => "doc string that is ignored",
+            StepFault::IgnoredTable => "table that is ignored",
         }
     }
 }
