@@ -3,7 +3,7 @@ use Rattle.std.specs.Prelude.{codes, ◌≡◌, ℕ, Bool, ◌==◌, List, [], �
 use Rattle.std.specs.List.Sorted.{IsNonDecreasingBy}
 use Rattle.gk_lint.specs.declared.findings.Finding.{Finding}
 use Rattle.gk_lint.specs.declared.findings.FindingKind.{FindingKind}
-use Rattle.gk_lint.specs.declared.findings.FindingKind.TheVariants.{FileWithoutFeature, FeatureWithoutScenarios, ScenarioWithoutSteps, OutlineWithoutRows, LikeKeyword, OfStep}
+use Rattle.gk_lint.specs.declared.findings.FindingKind.TheVariants.{FileWithoutFeature, FeatureWithoutScenarios, ScenarioWithoutSteps, OutlineWithoutRows, LikeKeyword, OfStep, UnusedEntry}
 use Rattle.gk_lint.specs.declared.step_faults.StepFault.{StepFault}
 use Rattle.gk_lint.specs.Keywords.{spelling}
 use Rattle.gk_lint.specs.StepFaults.{fault_text, has_fault}
@@ -27,6 +27,7 @@ finding_text FeatureWithoutScenarios = codes "feature without scenarios"
 finding_text ScenarioWithoutSteps = codes "scenario without steps"
 finding_text OutlineWithoutRows = codes "outline without rows"
 finding_text (OfStep fault) = fault_text fault
+finding_text UnusedEntry = codes "entry that no step finds"
 finding_text (LikeKeyword keyword) = codes "description begins like the keyword " ++ spelling keyword
 
 -- The same findings in the order of their lines: the lines don't fall, and of each line there are the same findings in the same order.

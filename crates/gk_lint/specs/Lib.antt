@@ -10,3 +10,4 @@ pub mod FeatureFile
 pub mod Blocks
 pub mod Lookups
 pub mod WrittenSteps
+pub mod LibraryUse

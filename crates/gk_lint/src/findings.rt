@@ -23,6 +23,8 @@ pub enum FindingKind {
     LikeKeyword(Keyword),
     /// The step has the fault as it is run, in some row where it stands in an outline.
     OfStep(StepFault),
+    /// No step finds the entry of the library, and no cleanup.
+    UnusedEntry,
 }
 
 /// What was found, and the line at which it stands, counted from 1.
@@ -46,6 +48,7 @@ impl FindingKind {
             FindingKind::ScenarioWithoutSteps => String::from_str(alloc, "scenario without steps"),
             FindingKind::OutlineWithoutRows => String::from_str(alloc, "outline without rows"),
             FindingKind::OfStep(fault) => String::from_str(alloc, fault.text()),
+            FindingKind::UnusedEntry => String::from_str(alloc, "entry that no step finds"),
             FindingKind::LikeKeyword(keyword) => {
                 let mut text = String::from_str(alloc, "description begins like the keyword ")?;
                 text.push_str(keyword.spelling())?;
