@@ -1,6 +1,7 @@
 pub mod Letters
 pub mod OneLetterOff
 pub mod LineOrder
+pub mod NamedAgain
 pub mod RisingNumbers
 pub mod EntryLinesLoop
 pub mod MisspeltLoop

@@ -6,6 +6,8 @@ pub mod Findings
 pub mod Standing
 pub mod Misspelt
 pub mod Vanishing
+pub mod TextSets
+pub mod ScenarioNames
 pub mod FeatureFile
 pub mod Blocks
 pub mod Lookups

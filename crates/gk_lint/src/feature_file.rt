@@ -11,6 +11,7 @@ ghost use Rattle.gk_lint.specs.FeatureFile.{AreOfFile};
 
 use crate::findings::{Finding, in_order};
 use crate::misspelt::add_misspelt;
+use crate::scenario_names::add_same_names;
 use crate::vanishing::add_vanishing;
 use gk_gherkin::{Feature, LIMIT, ReadFault, read_feature, text_of};
 use std::alloc::{AllocError, Global};
@@ -31,13 +32,14 @@ pub fn lint_feature(
 {
     let mut findings = Vec::new(alloc);
     add_vanishing(&mut findings, feature)?;
+    add_same_names(&mut findings, alloc, feature)?;
     add_misspelt(&mut findings, text)?;
     in_order(findings)
 }
 
 /// What is found in a feature file of these bytes, in the order of lines: that it has no feature, that
-/// the feature has no scenarios, scenarios without steps, outlines without rows, and the lines of
-/// descriptions that begin like a keyword.
+/// the feature has no scenarios, scenarios without steps, outlines without rows, scenarios with the name of one
+/// before them, and the lines of descriptions that begin like a keyword.
 ///
 /// Where the file doesn't read, the error is the fault that `read_feature` returns of it. `Memory`
 /// comes only where a growth was refused.

@@ -21,6 +21,8 @@ pub enum FindingKind {
     OutlineWithoutRows,
     /// The line of a description begins like the keyword.
     LikeKeyword(Keyword),
+    /// A scenario before it in the feature has the same name.
+    NameTwice,
     /// The step has the fault as it is run, in some row where it stands in an outline.
     OfStep(StepFault),
     /// No step finds the entry of the library, and no cleanup.
@@ -47,6 +49,9 @@ impl FindingKind {
             }
             FindingKind::ScenarioWithoutSteps => String::from_str(alloc, "scenario without steps"),
             FindingKind::OutlineWithoutRows => String::from_str(alloc, "outline without rows"),
+            FindingKind::NameTwice => {
+                String::from_str(alloc, "scenario with the name of one before it")
+            }
             FindingKind::OfStep(fault) => String::from_str(alloc, fault.text()),
             FindingKind::UnusedEntry => String::from_str(alloc, "entry that no step finds"),
             FindingKind::LikeKeyword(keyword) => {

@@ -11,8 +11,10 @@ mod library_use;
 mod likeness;
 mod lookups;
 mod misspelt;
+mod scenario_names;
 mod standing;
 mod step_faults;
+mod text_sets;
 mod vanishing;
 mod written_steps;
 
