@@ -1,5 +1,9 @@
 pub mod Letters
+pub mod OneLetterOff
 pub mod LineOrder
+pub mod NamedAgain
+pub mod RisingNumbers
+pub mod EntryLinesLoop
 pub mod MisspeltLoop
 pub mod WorkedLikeness
 pub mod WorkedFindings

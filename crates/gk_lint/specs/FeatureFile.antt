@@ -7,11 +7,12 @@ use Rattle.gk_lint.specs.declared.findings.Finding.{Finding}
 use Rattle.gk_lint.specs.declared.standing.Standing.TheVariants.{Elsewhere}
 use Rattle.gk_lint.specs.Findings.{AreInOrder}
 use Rattle.gk_lint.specs.Vanishing.{vanishing}
+use Rattle.gk_lint.specs.ScenarioNames.{same_names}
 use Rattle.gk_lint.specs.Misspelt.{misspelt}
 
--- What is found of a file that has this feature, or none, and these lines: what vanishes of the feature, and the misspelt lines.
+-- What is found of a file that has this feature, or none, and these lines: what vanishes of the feature, scenarios with the name of one before, and the misspelt lines.
 abbrev pub file_findings : Option FeatureValue → Lines → List Finding
-file_findings feature lines = vanishing feature ++ misspelt Elsewhere lines
+file_findings feature lines = vanishing feature ++ (same_names feature ++ misspelt Elsewhere lines)
 
 -- Findings that are all those of a file of these bytes, in the order of their lines.
 pub record AreOfFile (bytes : List ℕ) (findings : List Finding) : Type 0 where

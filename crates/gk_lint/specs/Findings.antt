@@ -1,14 +1,24 @@
 -- Findings, their texts and their order.
-use Rattle.std.specs.Prelude.{codes, ◌≡◌, ℕ, ◌==◌, List, ◌++◌, filter}
+use Rattle.std.specs.Prelude.{codes, ◌≡◌, ℕ, Bool, ◌==◌, List, [], ◌∷◌, ◌++◌, filter, flat_map, if◌then◌else◌}
 use Rattle.std.specs.List.Sorted.{IsNonDecreasingBy}
 use Rattle.gk_lint.specs.declared.findings.Finding.{Finding}
 use Rattle.gk_lint.specs.declared.findings.FindingKind.{FindingKind}
-use Rattle.gk_lint.specs.declared.findings.FindingKind.TheVariants.{FileWithoutFeature, FeatureWithoutScenarios, ScenarioWithoutSteps, OutlineWithoutRows, LikeKeyword}
+use Rattle.gk_lint.specs.declared.findings.FindingKind.TheVariants.{FileWithoutFeature, FeatureWithoutScenarios, ScenarioWithoutSteps, OutlineWithoutRows, LikeKeyword, NameTwice, OfStep, UnusedEntry}
+use Rattle.gk_lint.specs.declared.step_faults.StepFault.{StepFault}
 use Rattle.gk_lint.specs.Keywords.{spelling}
+use Rattle.gk_lint.specs.StepFaults.{fault_text, has_fault}
 
 -- A finding at a line.
 abbrev pub at_line : ℕ → FindingKind → Finding
 at_line line kind = record { line = line; kind = kind }
+
+-- A finding at a line where a test holds, and else none.
+abbrev pub found_if : Bool → ℕ → FindingKind → List Finding
+found_if holds line kind = if holds then at_line line kind ∷ [] else []
+
+-- What is found at a line with some faults: each of these once, however often it stands among them.
+abbrev pub named_once : List StepFault → ℕ → List StepFault → List Finding
+named_once these line faults = flat_map (λ fault. found_if (has_fault faults fault) line (OfStep fault)) these
 
 -- The text of a finding, which names the keyword as it has to be spelt.
 unfoldable pub finding_text : FindingKind → List ℕ
@@ -16,6 +26,9 @@ finding_text FileWithoutFeature = codes "file without feature"
 finding_text FeatureWithoutScenarios = codes "feature without scenarios"
 finding_text ScenarioWithoutSteps = codes "scenario without steps"
 finding_text OutlineWithoutRows = codes "outline without rows"
+finding_text NameTwice = codes "scenario with the name of one before it"
+finding_text (OfStep fault) = fault_text fault
+finding_text UnusedEntry = codes "entry that no step finds"
 finding_text (LikeKeyword keyword) = codes "description begins like the keyword " ++ spelling keyword
 
 -- The same findings in the order of their lines: the lines don't fall, and of each line there are the same findings in the same order.

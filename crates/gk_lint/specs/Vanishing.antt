@@ -1,16 +1,11 @@
 -- What of a feature would vanish in silence.
-use Rattle.std.specs.Prelude.{ℕ, Bool, ◌==◌, ◌&&◌, List, [], ◌∷◌, ◌++◌, length, flat_map, Option, Some, None, if◌then◌else◌}
+use Rattle.std.specs.Prelude.{Bool, ◌==◌, ◌&&◌, List, [], ◌∷◌, ◌++◌, length, flat_map, Option, Some, None}
 use Rattle.std.specs.List.{list_all}
 use Rattle.gk_gherkin.specs.Feature.{ExamplesValue, ScenarioValue, RuleValue, FeatureValue}
 use Rattle.gk_select.specs.Outline.{is_outline}
 use Rattle.gk_lint.specs.declared.findings.Finding.{Finding}
-use Rattle.gk_lint.specs.declared.findings.FindingKind.{FindingKind}
 use Rattle.gk_lint.specs.declared.findings.FindingKind.TheVariants.{FileWithoutFeature, FeatureWithoutScenarios, ScenarioWithoutSteps, OutlineWithoutRows}
-use Rattle.gk_lint.specs.Findings.{at_line}
-
--- A finding at a line where a test holds, and else none.
-abbrev pub found_if : Bool → ℕ → FindingKind → List Finding
-found_if holds line kind = if holds then at_line line kind ∷ [] else []
+use Rattle.gk_lint.specs.Findings.{at_line, found_if}
 
 -- Whether Examples have no row.
 abbrev pub has_no_rows : ExamplesValue → Bool

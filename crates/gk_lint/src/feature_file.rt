@@ -11,30 +11,35 @@ ghost use Rattle.gk_lint.specs.FeatureFile.{AreOfFile};
 
 use crate::findings::{Finding, in_order};
 use crate::misspelt::add_misspelt;
+use crate::scenario_names::add_same_names;
 use crate::vanishing::add_vanishing;
 use gk_gherkin::{Feature, LIMIT, ReadFault, read_feature, text_of};
 use std::alloc::{AllocError, Global};
 
-// What is found of a file with this feature, or none, and this text.
-fn findings_of(
+/// What is found of a feature file that has been read: of its feature, or that it has none, and of its text, in the order of
+/// lines. Of `text_of` a file's bytes and the feature that `read_feature` returns of them, it is what `lint_feature_file`
+/// returns of the file. An error comes only where a growth was refused.
+pub fn lint_feature(
     alloc: Global,
     feature: &Option<Feature>,
     text: &str,
 ) -> Result<Vec<Finding>, AllocError>
     requires { length text.now ≤ LIMIT }
+    // All findings are answered, and nothing else.
     ensures { IfOk result (λ findings. AreInOrder (spec.file_findings
         (option_map feature_value feature.now) (numbered_from 1 (lines text.now)))
         findings.items) }
 {
     let mut findings = Vec::new(alloc);
     add_vanishing(&mut findings, feature)?;
+    add_same_names(&mut findings, alloc, feature)?;
     add_misspelt(&mut findings, text)?;
     in_order(findings)
 }
 
 /// What is found in a feature file of these bytes, in the order of lines: that it has no feature, that
-/// the feature has no scenarios, scenarios without steps, outlines without rows, and the lines of
-/// descriptions that begin like a keyword.
+/// the feature has no scenarios, scenarios without steps, outlines without rows, scenarios with the name of one
+/// before them, and the lines of descriptions that begin like a keyword.
 ///
 /// Where the file doesn't read, the error is the fault that `read_feature` returns of it. `Memory`
 /// comes only where a growth was refused.
@@ -46,5 +51,5 @@ pub fn lint_feature_file(alloc: Global, bytes: &[u8]) -> Result<Vec<Finding>, Re
 {
     let feature = read_feature(alloc, bytes)?;
     let text = text_of(bytes)?;
-    Ok(findings_of(alloc, &feature, text)?)
+    Ok(lint_feature(alloc, &feature, text)?)
 }

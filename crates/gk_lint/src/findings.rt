@@ -5,6 +5,7 @@ ghost use Rattle.gk_lint.specs.Findings as spec;
 ghost use Rattle.gk_lint.specs.Findings.{AreInOrder};
 
 use crate::keywords::Keyword;
+use crate::step_faults::{StepFault, has_fault};
 use std::alloc::{AllocError, Global};
 
 /// What was found.
@@ -20,6 +21,12 @@ pub enum FindingKind {
     OutlineWithoutRows,
     /// The line of a description begins like the keyword.
     LikeKeyword(Keyword),
+    /// A scenario before it in the feature has the same name.
+    NameTwice,
+    /// The step has the fault as it is run, in some row where it stands in an outline.
+    OfStep(StepFault),
+    /// No step finds the entry of the library, and no cleanup.
+    UnusedEntry,
 }
 
 /// What was found, and the line at which it stands, counted from 1.
@@ -42,6 +49,11 @@ impl FindingKind {
             }
             FindingKind::ScenarioWithoutSteps => String::from_str(alloc, "scenario without steps"),
             FindingKind::OutlineWithoutRows => String::from_str(alloc, "outline without rows"),
+            FindingKind::NameTwice => {
+                String::from_str(alloc, "scenario with the name of one before it")
+            }
+            FindingKind::OfStep(fault) => String::from_str(alloc, fault.text()),
+            FindingKind::UnusedEntry => String::from_str(alloc, "entry that no step finds"),
             FindingKind::LikeKeyword(keyword) => {
                 let mut text = String::from_str(alloc, "description begins like the keyword ")?;
                 text.push_str(keyword.spelling())?;
@@ -49,6 +61,39 @@ impl FindingKind {
             }
         }
     }
+}
+
+/// Adds a finding at a line where a test holds.
+pub fn add_if(
+    findings: &mut Vec<Finding>,
+    holds: bool,
+    line: u32,
+    kind: FindingKind,
+) -> Result<(), AllocError>
+    ensures { OnOk result (findings.new.items
+        ≡ findings.old.items ++ spec.found_if holds line kind) }
+{
+    if holds {
+        findings.push(Finding { line, kind })?;
+    }
+    Ok(())
+}
+
+/// Adds what is found at a line with some faults: each of these once, however often it stands among them.
+pub fn add_once(
+    findings: &mut Vec<Finding>,
+    these: &[StepFault],
+    line: u32,
+    faults: &[StepFault],
+) -> Result<(), AllocError>
+    ensures { OnOk result (findings.new.items
+        ≡ findings.old.items ++ spec.named_once these.now line faults.now) }
+{
+    for fault in these {
+        let holds = has_fault(faults, *fault);
+        add_if(findings, holds, line, FindingKind::OfStep(*fault))?;
+    }
+    Ok(())
 }
 
 /// The same findings in the order of their lines. Those of one line stay in their order.

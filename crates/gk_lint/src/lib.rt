@@ -3,14 +3,25 @@
 //! Where a comment names no source, what it says is this project's profile.
 #![tactic(auto)]
 
+mod blocks;
 mod feature_file;
 mod findings;
 mod keywords;
+mod library_use;
 mod likeness;
+mod lookups;
 mod misspelt;
+mod scenario_names;
 mod standing;
+mod step_faults;
+mod text_sets;
 mod vanishing;
+mod written_steps;
 
-pub use feature_file::lint_feature_file;
+pub use feature_file::{lint_feature, lint_feature_file};
 pub use findings::{Finding, FindingKind};
 pub use keywords::Keyword;
+pub use library_use::lint_library;
+pub use likeness::one_off_is_within_one;
+pub use step_faults::StepFault;
+pub use written_steps::{StepFindings, lint_hooks, lint_steps};

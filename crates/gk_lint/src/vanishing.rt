@@ -5,27 +5,12 @@ ghost use Rattle.gk_gherkin.specs.Feature.{examples_value, scenario_value, rule_
 ghost use Rattle.gk_select.specs.Outline as outlines;
 ghost use Rattle.gk_lint.specs.Vanishing as spec;
 
-use crate::findings::{Finding, FindingKind};
+use crate::findings::{Finding, FindingKind, add_if};
 use gk_gherkin::{Examples, Feature, Rule, Scenario};
 use std::alloc::AllocError;
 
-// Adds a finding at a line where a test holds.
-fn add_if(
-    findings: &mut Vec<Finding>,
-    holds: bool,
-    line: u32,
-    kind: FindingKind,
-) -> Result<(), AllocError>
-    ensures { OnOk result (findings.new.items
-        ≡ findings.old.items ++ spec.found_if holds line kind) }
-{
-    if holds {
-        findings.push(Finding { line, kind })?;
-    }
-    Ok(())
-}
-
-fn is_outline(scenario: &Scenario) -> bool
+/// Whether a scenario is an outline. (Cucumber's Gherkin reference: scenario outline)
+pub fn is_outline(scenario: &Scenario) -> bool
     ensures { result ≡ outlines.is_outline (scenario_value scenario.now) }
 {
     scenario.keyword.as_str() == "Scenario Outline"

@@ -70,7 +70,10 @@ fn fill_block(
     }
 }
 
-fn fill_step(
+/// A step of an outline as it is run for a row: its text, its doc string and its table's cells are filled from the row. The
+/// row has as many cells as the header. An error comes only where a growth was refused. (Cucumber's Gherkin reference:
+/// scenario outline)
+pub fn fill_step(
     alloc: Global,
     step: &Step,
     header: &[String],

@@ -20,6 +20,7 @@ mod tag_words;
 
 pub use case::Case;
 pub use choice::Choice;
+pub use copies::fill_step;
 pub use counting::STEP_LIMIT;
 pub use expansion::{
     expand, into_cases, plain_scenarios_are_cases, read_features_are_expandable, rows_are_cases,

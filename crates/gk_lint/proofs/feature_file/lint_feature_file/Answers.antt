@@ -9,9 +9,9 @@ use Rattle.gk_lint.proofs.feature_file.lint_feature_file.Goals as goal
 pub returns-clause-found : goal.returns-clause-found
 returns-clause-found c =
     let feature = option_map feature_value c.in_ok-feature.feature in
-    let Fits : List ℕ → Type 0 = λ text. AreInOrder (file_findings feature (numbered_from 1 (lines text))) c.in_ok-findings_of.field-0.items in
+    let Fits : List ℕ → Type 0 = λ text. AreInOrder (file_findings feature (numbered_from 1 (lines text))) c.in_ok-lint_feature.field-0.items in
     record {
       feature = feature;
       reads = c.in_ok-feature.ensures.found.1;
-      in_order = subst Fits c.in_ok-text.ensures.ok.1 c.in_ok-findings_of.ensures;
+      in_order = subst Fits c.in_ok-text.ensures.ok.1 c.in_ok-lint_feature.ensures;
     }

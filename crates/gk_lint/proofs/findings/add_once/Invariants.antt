@@ -1,0 +1,6 @@
+use Rattle.std.proofs.Common.{◌≡◌, ◌++◌, drop}
+use Rattle.gk_lint.specs.Findings.{named_once}
+use Rattle.gk_lint.proofs.findings.add_once.Given as goal
+
+abbrev pub invariant-loop-fault : goal.invariant-loop-fault
+invariant-loop-fault l = l.findings.items ++ named_once (drop l.fault-index l.these) l.line l.faults ≡ l.fn.findings.items ++ named_once l.these l.line l.faults

@@ -1,0 +1,81 @@
+-- The steps of a feature and of a hooks file, as they are written and as they are run.
+use Rattle.std.specs.Prelude.{ℕ, List, [], ◌∷◌, ◌++◌, map, flat_map, Option, if◌then◌else◌}
+use Rattle.gk_gherkin.specs.Feature.{StepValue, RowValue, ExamplesValue, BackgroundValue, ScenarioValue, RuleValue, FeatureValue}
+use Rattle.gk_gherkin.specs.Hooks.{HookValue}
+use Rattle.gk_select.specs.Filling.{filled, filled_step}
+use Rattle.gk_select.specs.Inherited.{background_steps}
+use Rattle.gk_select.specs.Outline.{is_outline}
+use Rattle.gk_steps.specs.Finding.{LibraryValue}
+use Rattle.gk_lint.specs.declared.findings.Finding.{Finding}
+use Rattle.gk_lint.specs.StepFaults.{all_faults}
+use Rattle.gk_lint.specs.Findings.{named_once}
+use Rattle.gk_lint.specs.Lookups.{faults_in, places_in}
+
+-- A step as it is written, at its line, and the steps that it is run as.
+pub record WrittenStep : Type 0 where
+  pub line : ℕ
+  pub runs : List StepValue
+
+-- A step that is run as it is written.
+abbrev pub as_written : StepValue → WrittenStep
+as_written step = record { line = step.line; runs = step ∷ [] }
+
+-- A step filled from each of some rows under a header. (Cucumber's Gherkin reference: scenario outline)
+abbrev pub in_rows : StepValue → List (List ℕ) → List RowValue → List StepValue
+in_rows step header rows = map (λ (r : RowValue). filled_step (filled header r.cells) step) rows
+
+-- A step filled from each row of Examples. (Cucumber's Gherkin reference: scenario outline)
+abbrev pub in_examples : StepValue → List ExamplesValue → List StepValue
+in_examples step examples = flat_map (λ (e : ExamplesValue). in_rows step e.header e.rows) examples
+
+-- The steps that a step of a scenario is run as: in an outline one for each row, else itself. (Cucumber's Gherkin reference: scenario outline)
+abbrev pub runs_in : ScenarioValue → StepValue → List StepValue
+runs_in s step = if is_outline s then in_examples step s.examples else step ∷ []
+
+-- A step of a scenario, and the steps that it is run as.
+abbrev pub in_scenario : ScenarioValue → StepValue → WrittenStep
+in_scenario s step = record { line = step.line; runs = runs_in s step }
+
+-- The steps of a scenario.
+abbrev pub of_scenario : ScenarioValue → List WrittenStep
+of_scenario s = map (in_scenario s) s.steps
+
+-- The steps of scenarios, one scenario after the other.
+abbrev pub of_scenarios : List ScenarioValue → List WrittenStep
+of_scenarios scenarios = flat_map of_scenario scenarios
+
+-- The steps of a Background, if there is one. (Cucumber's Gherkin reference: background)
+abbrev pub of_background : Option BackgroundValue → List WrittenStep
+of_background background = map as_written (background_steps background)
+
+-- The steps of a rule: of its Background, and of its scenarios. (Cucumber's Gherkin reference: rule)
+abbrev pub of_rule : RuleValue → List WrittenStep
+of_rule r = of_background r.background ++ of_scenarios r.scenarios
+
+-- The steps of rules, one rule after the other. (Cucumber's Gherkin reference: rule)
+abbrev pub of_rules : List RuleValue → List WrittenStep
+of_rules rules = flat_map of_rule rules
+
+-- The steps of a feature: of its Background, of its scenarios, and of its rules. (Cucumber's Gherkin reference: feature)
+abbrev pub of_feature : FeatureValue → List WrittenStep
+of_feature f = of_background f.background ++ (of_scenarios f.scenarios ++ of_rules f.rules)
+
+-- The steps of a hook. (behave's documentation: environment file functions)
+abbrev pub of_hook : HookValue → List WrittenStep
+of_hook h = map as_written h.steps
+
+-- The steps of hooks, one hook after the other. (behave's documentation: environment file functions)
+abbrev pub of_hooks : List HookValue → List WrittenStep
+of_hooks hooks = flat_map of_hook hooks
+
+-- What is found at a written step: each fault that it has as it is run, in some row or other.
+abbrev pub at_step : LibraryValue → WrittenStep → List Finding
+at_step library written = named_once all_faults written.line (faults_in library written.runs)
+
+-- What is found of written steps, one after the other.
+abbrev pub found_in : LibraryValue → List WrittenStep → List Finding
+found_in library written = flat_map (at_step library) written
+
+-- The places of the entries that written steps find, one after the other.
+abbrev pub used_in : LibraryValue → List WrittenStep → List ℕ
+used_in library written = flat_map (λ (w : WrittenStep). places_in library w.runs) written

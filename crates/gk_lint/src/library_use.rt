@@ -1,0 +1,95 @@
+//! The entries of a library that nothing finds.
+ghost use Rattle.std.specs.Prelude.{◌≡◌, ◌≤◌, ◌++◌, ℕ, length, OnOk, IfOk};
+ghost use Rattle.std.specs.List.Sorted.{IsNonDecreasing};
+ghost use Rattle.std.specs.Str.Lines.{lines};
+ghost use Rattle.gk_gherkin.specs.Lines.{borrowed_value, numbered_from};
+ghost use Rattle.gk_steps.specs.LibraryFile as files;
+ghost use Rattle.gk_lint.specs.LibraryUse as spec;
+ghost use Rattle.gk_lint.specs.LibraryUse.{is_among};
+
+use crate::findings::{Finding, FindingKind, add_if};
+use gk_gherkin::text::{begins, trim};
+use gk_gherkin::{BorrowedLine, LIMIT, borrowed_line};
+use std::alloc::{AllocError, Global};
+
+// Whether a line of a library file is blank or a comment.
+fn is_ignored(line: &BorrowedLine<'_>) -> bool
+    ensures { result ≡ files.is_ignored (borrowed_value line.now) }
+{
+    let text = trim(line.text);
+    text.is_empty() || begins(text, "#")
+}
+
+// Adds the number of a line at which an entry stands.
+fn add_entry_line(lines: &mut Vec<u32>, line: &BorrowedLine<'_>) -> Result<(), AllocError>
+    ensures { OnOk result (lines.new.items
+        ≡ lines.old.items ++ spec.entry_line (borrowed_value line.now)) }
+{
+    if !is_ignored(line) {
+        lines.push(line.place.line)?;
+    }
+    Ok(())
+}
+
+// The numbers of the lines at which the entries of a library file stand.
+fn entry_lines(alloc: Global, text: &str) -> Result<Vec<u32>, AllocError>
+    requires { length text.now ≤ LIMIT }
+    ensures { IfOk result (λ found.
+        found.items ≡ spec.entry_lines (numbered_from 1 (lines text.now))) }
+{
+    let mut found = Vec::new(alloc);
+    let mut number: u32 = 1;
+    for part in text.lines() {
+        let line = borrowed_line(number, part);
+        add_entry_line(&mut found, &line)?;
+        number += 1;
+    }
+    Ok(found)
+}
+
+// The same numbers in rising order.
+fn rising(alloc: Global, numbers: &[usize]) -> Result<Vec<usize>, AllocError>
+    ensures rising { IfOk result (λ r. IsNonDecreasing r.items) }
+    ensures same { IfOk result (λ r. (n : ℕ) → is_among r.items n ≡ is_among numbers.now n) }
+{
+    let mut rising = Vec::new(alloc);
+    rising.extend_from_slice(numbers)?;
+    rising.sort_unstable();
+    Ok(rising)
+}
+
+// Whether a number is among numbers in rising order.
+fn has(numbers: &[usize], n: usize) -> bool
+    requires { IsNonDecreasing numbers.now }
+    ensures { result ≡ is_among numbers.now n }
+{
+    numbers.binary_search(&n).is_ok()
+}
+
+// What is found of the entries at these lines. The places that are used rise.
+fn unused_at(alloc: Global, used: &[usize], lines: &[u32]) -> Result<Vec<Finding>, AllocError>
+    requires { IsNonDecreasing used.now }
+    ensures { IfOk result (λ found. found.items ≡ spec.unused_from 0 (is_among used.now) lines.now) }
+{
+    let mut findings = Vec::new(alloc);
+    for (place, line) in lines.iter().enumerate() {
+        let is_unused = !has(used, place);
+        add_if(&mut findings, is_unused, *line, FindingKind::UnusedEntry)?;
+    }
+    Ok(findings)
+}
+
+/// What is found of a library file of this text, in the order of lines: each entry that isn't used. `used` has the
+/// places of the entries that steps, hooks and their cleanups find, in any order and as often as they are found, as
+/// `lint_steps` and `lint_hooks` return them. An error comes only where a growth was refused.
+pub fn lint_library(alloc: Global, text: &str, used: &[usize]) -> Result<Vec<Finding>, AllocError>
+    requires { length text.now ≤ LIMIT }
+    // All findings are answered, and nothing else.
+    ensures { IfOk result (λ findings. findings.items
+        ≡ spec.unused_entries used.now (numbered_from 1 (lines text.now))) }
+{
+    let used = rising(alloc, used)?;
+    let lines = entry_lines(alloc, text)?;
+    let findings = unused_at(alloc, &used, &lines)?;
+    Ok(findings)
+}

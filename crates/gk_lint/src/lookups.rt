@@ -1,0 +1,120 @@
+//! What is wrong with a step as it is run, and which entries of the library it finds.
+ghost use Rattle.std.specs.Prelude.{◌≡◌, ◌∷◌, [], ◌++◌, OnOk, option_map};
+ghost use Rattle.gk_gherkin.specs.Feature.{step_value, block_value};
+ghost use Rattle.gk_steps.specs.Finding.{library_value, found_value, found_any, action_of};
+ghost use Rattle.gk_lint.specs.Lookups as spec;
+
+use crate::blocks::add_block_faults;
+use crate::step_faults::StepFault;
+use gk_gherkin::{Block, Step};
+use gk_steps::{Action, Found, Library};
+use std::alloc::{AllocError, Global};
+
+/// What was found of steps that were looked up: what is wrong with them, and the places in the library of the
+/// entries that they found.
+#[derive(Debug, Drop)]
+pub struct Lookups {
+    pub faults: Vec<StepFault>,
+    pub used: Vec<usize>,
+}
+
+// The text of the step that `at_cleanup` registers.
+fn cleanup_text<'a>(library: &Library, found: &'a Found) -> &'a str
+    ensures { result.now ≡ spec.cleanup_text (library_value library.now) (found_value found.now) }
+{
+    library.text(found, "step").unwrap_or("")
+}
+
+// Whether what was found has a field `text`.
+fn has_text(library: &Library, found: &Found) -> bool
+    ensures { result ≡ spec.has_text (library_value library.now) (found_value found.now) }
+{
+    library.text(found, "text").is_some()
+}
+
+impl Lookups {
+    /// Nothing was looked up yet. Takes no memory.
+    pub fn new(alloc: Global) -> Lookups
+        ensures faults { result.faults.items ≡ [] }
+        ensures used { result.used.items ≡ [] }
+    {
+        Lookups {
+            faults: Vec::new(alloc),
+            used: Vec::new(alloc),
+        }
+    }
+
+    // Looks up the text of a cleanup, which is carried out with the block of the step that registers it.
+    fn add_cleanup(
+        &mut self,
+        alloc: Global,
+        library: &Library,
+        text: &str,
+        block: &Block,
+    ) -> Result<(), AllocError>
+        ensures faults { let l = library_value library.now in
+            OnOk result (self.new.faults.items ≡ self.old.faults.items
+            ++ spec.cleanup_faults l (found_any l text.now) (block_value block.now)) }
+        ensures used { OnOk result (self.new.used.items ≡ self.old.used.items
+            ++ spec.place_of (found_any (library_value library.now) text.now)) }
+    {
+        match library.find_any(alloc, text)? {
+            Some(found) => {
+                self.used.push(found.entry)?;
+                let has_text = has_text(library, &found);
+                add_block_faults(&mut self.faults, library.action(&found), has_text, block)
+            }
+            None => {
+                self.faults.push(StepFault::CleanupWithoutStep)?;
+                Ok(())
+            }
+        }
+    }
+
+    // Adds what is wrong with the block of what was found, or with the cleanup that it registers.
+    fn add_found(
+        &mut self,
+        alloc: Global,
+        library: &Library,
+        found: &Found,
+        block: &Block,
+    ) -> Result<(), AllocError>
+        ensures faults { let l = library_value library.now in let f = found_value found.now in
+            OnOk result (self.new.faults.items ≡ self.old.faults.items
+            ++ spec.action_faults (action_of l f) l f (block_value block.now)) }
+        ensures used { let l = library_value library.now in let f = found_value found.now in
+            OnOk result (self.new.used.items
+            ≡ self.old.used.items ++ spec.cleanup_places (action_of l f) l f) }
+    {
+        let action = library.action(found);
+        match action {
+            Action::AtCleanup => {
+                self.add_cleanup(alloc, library, cleanup_text(library, found), block)
+            }
+            _ => {
+                let has_text = has_text(library, found);
+                add_block_faults(&mut self.faults, action, has_text, block)
+            }
+        }
+    }
+
+    /// Looks a step up as it is run.
+    #[tactic(auto, unfolding(crate::specs::Lookups::faults_of, crate::specs::Lookups::places_of))]
+    pub fn add(&mut self, alloc: Global, library: &Library, step: &Step) -> Result<(), AllocError>
+        ensures faults { OnOk result (self.new.faults.items ≡ self.old.faults.items
+            ++ spec.faults_of (library_value library.now) (step_value step.now)) }
+        ensures used { OnOk result (self.new.used.items ≡ self.old.used.items
+            ++ spec.places_of (library_value library.now) (step_value step.now)) }
+    {
+        match library.find(alloc, step.step_type, step.text.as_str())? {
+            Some(found) => {
+                self.used.push(found.entry)?;
+                self.add_found(alloc, library, &found, &step.block)
+            }
+            None => {
+                self.faults.push(StepFault::Undefined)?;
+                Ok(())
+            }
+        }
+    }
+}

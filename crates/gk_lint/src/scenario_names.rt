@@ -1,0 +1,94 @@
+//! Scenarios of one feature with one name.
+ghost use Rattle.std.specs.Prelude.{◌≡◌, ◌∷◌, [], ◌++◌, false, List, map, option_map, OnOk, IfOk};
+ghost use Rattle.gk_gherkin.specs.Feature.{ScenarioValue, scenario_value, rule_value, feature_value};
+ghost use Rattle.gk_lint.specs.TextSets.{in_set};
+ghost use Rattle.gk_lint.specs.ScenarioNames as spec;
+ghost use Rattle.gk_lint.specs.ScenarioNames.{named_again};
+
+use crate::findings::{Finding, FindingKind, add_if};
+use crate::text_sets::TextSet;
+use gk_gherkin::{Feature, Rule, Scenario};
+use std::alloc::{AllocError, Global};
+
+fn push_scenarios<'a>(
+    all: &mut Vec<&'a Scenario>,
+    scenarios: &'a [Scenario],
+) -> Result<(), AllocError>
+    ensures { OnOk result (map (λ s. scenario_value s.now) all.new.items
+        ≡ map (λ s. scenario_value s.now) all.old.items ++ map scenario_value scenarios.now) }
+{
+    for scenario in scenarios {
+        all.push(scenario)?;
+    }
+    Ok(())
+}
+
+fn push_rules<'a>(all: &mut Vec<&'a Scenario>, rules: &'a [Rule]) -> Result<(), AllocError>
+    ensures { OnOk result (map (λ s. scenario_value s.now) all.new.items
+        ≡ map (λ s. scenario_value s.now) all.old.items
+        ++ spec.scenarios_of_rules (map rule_value rules.now)) }
+{
+    for rule in rules {
+        push_scenarios(all, &rule.scenarios)?;
+    }
+    Ok(())
+}
+
+// All scenarios of a feature.
+fn scenarios_of<'a>(alloc: Global, feature: &'a Feature) -> Result<Vec<&'a Scenario>, AllocError>
+    ensures { IfOk result (λ all. map (λ s. scenario_value s.now) all.items
+        ≡ spec.scenarios_of (feature_value feature.now)) }
+{
+    let mut all = Vec::new(alloc);
+    push_scenarios(&mut all, &feature.scenarios)?;
+    push_rules(&mut all, &feature.rules)?;
+    Ok(all)
+}
+
+// Adds what is found of a scenario, and its name to those that were seen.
+fn add_named<'a>(
+    findings: &mut Vec<Finding>,
+    seen: &mut TextSet<'a>,
+    scenario: &'a Scenario,
+) -> Result<(), AllocError>
+    ensures { OnOk result ((rest : List ScenarioValue) →
+        findings.new.items ++ named_again (in_set seen.new) rest
+        ≡ findings.old.items
+        ++ named_again (in_set seen.old) (scenario_value scenario.now ∷ rest)) }
+{
+    let is_new = seen.add(scenario.name.as_str())?;
+    add_if(findings, !is_new, scenario.line, FindingKind::NameTwice)
+}
+
+fn add_named_again(
+    findings: &mut Vec<Finding>,
+    alloc: Global,
+    scenarios: &[&Scenario],
+) -> Result<(), AllocError>
+    ensures { OnOk result (findings.new.items ≡ findings.old.items
+        ++ named_again (λ name. false) (map (λ s. scenario_value s.now) scenarios.now)) }
+{
+    let mut seen = TextSet::new(alloc);
+    for scenario in scenarios {
+        add_named(findings, &mut seen, *scenario)?;
+    }
+    Ok(())
+}
+
+/// Adds each scenario of a file's feature that has the name of one before it.
+pub fn add_same_names(
+    findings: &mut Vec<Finding>,
+    alloc: Global,
+    feature: &Option<Feature>,
+) -> Result<(), AllocError>
+    ensures { OnOk result (findings.new.items
+        ≡ findings.old.items ++ spec.same_names (option_map feature_value feature.now)) }
+{
+    match feature {
+        Some(feature) => {
+            let scenarios = scenarios_of(alloc, feature)?;
+            add_named_again(findings, alloc, &scenarios)
+        }
+        None => Ok(()),
+    }
+}

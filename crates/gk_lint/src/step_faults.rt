@@ -1,0 +1,65 @@
+//! What is wrong with a step, in the order in which it is named.
+ghost use Rattle.std.specs.Prelude.{◌≡◌};
+ghost use Rattle.gk_lint.specs.StepFaults as spec;
+
+/// What is wrong with a step.
+#[derive(Clone, Copy, Debug, PartialEq, Eq)]
+pub enum StepFault {
+    /// The step finds no entry of the library. (behave's documentation: undefined steps)
+    Undefined,
+    /// The step registers a cleanup whose text finds no entry of type `step`. (behave's documentation:
+    /// cleanups)
+    CleanupWithoutStep,
+    /// The action works with a text, and there is neither a field `text` nor a doc string.
+    NoText,
+    /// The action works with a table, and there is none.
+    NoTable,
+    /// The action works with a table of files, and this is none: its first row isn't `name` and `text`, or another row
+    /// hasn't two cells.
+    BadTable,
+    /// The doc string is ignored: the action works with no text, or with the field `text`.
+    IgnoredText,
+    /// The table is ignored: the action works with none.
+    IgnoredTable,
+}
+
+/// The faults that a step can have.
+pub const ALL_FAULTS: [StepFault; 7] = [
+    StepFault::Undefined,
+    StepFault::CleanupWithoutStep,
+    StepFault::NoText,
+    StepFault::NoTable,
+    StepFault::BadTable,
+    StepFault::IgnoredText,
+    StepFault::IgnoredTable,
+];
+
+impl StepFault {
+    /// The text of a fault.
+    pub fn text(self) -> &'static str
+        ensures { result.now ≡ spec.fault_text self }
+    {
+        match self {
+            StepFault::Undefined => "undefined step",
+            StepFault::CleanupWithoutStep => "cleanup without step",
+            StepFault::NoText => "step without the text that its action needs",
+            StepFault::NoTable => "step without the table that its action needs",
+            StepFault::BadTable => "table that isn't one of name and text",
+            StepFault::IgnoredText => "doc string that is ignored",
+            StepFault::IgnoredTable => "table that is ignored",
+        }
+    }
+}
+
+fn is_same_fault(a: StepFault, b: StepFault) -> bool
+    ensures { result ≡ spec.is_same_fault a b }
+{
+    a == b
+}
+
+/// Whether a fault is among some faults.
+pub fn has_fault(faults: &[StepFault], fault: StepFault) -> bool
+    ensures { result ≡ spec.has_fault faults.now fault }
+{
+    faults.iter().any(|other| is_same_fault(fault, *other))
+}

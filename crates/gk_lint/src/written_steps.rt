@@ -1,0 +1,378 @@
+//! What is found of the steps of a feature and of a hooks file.
+ghost use Rattle.std.specs.Prelude.{◌≡◌, [], ◌++◌, map, option_map, OnOk, IfOk};
+ghost use Rattle.std.specs.List.{AllByRecursion};
+ghost use Rattle.gk_gherkin.specs.Feature.{step_value, row_value, examples_value, background_value};
+ghost use Rattle.gk_gherkin.specs.Feature.{scenario_value, rule_value, feature_value};
+ghost use Rattle.gk_gherkin.specs.Hooks.{hook_value, hooks_value};
+ghost use Rattle.gk_select.specs.Outline.{AllFit};
+ghost use Rattle.gk_select.specs.Expansion.{RowsFit, IsExpandable};
+ghost use Rattle.gk_steps.specs.Finding.{library_value};
+ghost use Rattle.gk_lint.specs.Findings.{AreInOrder, named_once};
+ghost use Rattle.gk_lint.specs.StepFaults.{all_faults};
+ghost use Rattle.gk_lint.specs.Lookups.{faults_in, places_in};
+ghost use Rattle.gk_lint.specs.WrittenSteps as spec;
+ghost use Rattle.gk_lint.specs.WrittenSteps.{found_in, used_in};
+
+use crate::findings::{Finding, add_once, in_order};
+use crate::lookups::Lookups;
+use crate::step_faults::ALL_FAULTS;
+use crate::vanishing::is_outline;
+use gk_gherkin::{Background, Examples, Feature, Hook, HookFile, Rule, Scenario, Step};
+use gk_select::fill_step;
+use gk_steps::Library;
+use std::alloc::{AllocError, Global};
+
+/// What is found of steps, and the place in the library of each entry that a step or its cleanup finds, as often as
+/// it is found.
+#[derive(Debug, Drop)]
+pub struct StepFindings {
+    pub findings: Vec<Finding>,
+    pub used: Vec<usize>,
+}
+
+// Looks up a step filled from each row of Examples.
+fn look_up_rows(
+    lookups: &mut Lookups,
+    alloc: Global,
+    library: &Library,
+    step: &Step,
+    part: &Examples,
+) -> Result<(), AllocError>
+    requires { AllFit (examples_value part.now) }
+    ensures faults { let e = examples_value part.now in
+        OnOk result (lookups.new.faults.items ≡ lookups.old.faults.items
+        ++ faults_in (library_value library.now)
+        (spec.in_rows (step_value step.now) e.header e.rows)) }
+    ensures used { let e = examples_value part.now in
+        OnOk result (lookups.new.used.items ≡ lookups.old.used.items
+        ++ places_in (library_value library.now)
+        (spec.in_rows (step_value step.now) e.header e.rows)) }
+{
+    for row in &part.rows {
+        let filled = fill_step(alloc, step, &part.header, &row.cells)?;
+        lookups.add(alloc, library, &filled)?;
+    }
+    Ok(())
+}
+
+// Looks up a step filled from each row of some Examples.
+fn look_up_examples(
+    lookups: &mut Lookups,
+    alloc: Global,
+    library: &Library,
+    step: &Step,
+    parts: &[Examples],
+) -> Result<(), AllocError>
+    requires { AllByRecursion AllFit (map examples_value parts.now) }
+    ensures faults { OnOk result (lookups.new.faults.items ≡ lookups.old.faults.items
+        ++ faults_in (library_value library.now)
+        (spec.in_examples (step_value step.now) (map examples_value parts.now))) }
+    ensures used { OnOk result (lookups.new.used.items ≡ lookups.old.used.items
+        ++ places_in (library_value library.now)
+        (spec.in_examples (step_value step.now) (map examples_value parts.now))) }
+{
+    for part in parts {
+        look_up_rows(lookups, alloc, library, step, part)?;
+    }
+    Ok(())
+}
+
+// Looks up what a step of a scenario is run as.
+fn look_up_runs(
+    lookups: &mut Lookups,
+    alloc: Global,
+    library: &Library,
+    scenario: &Scenario,
+    step: &Step,
+) -> Result<(), AllocError>
+    requires { AllByRecursion AllFit (scenario_value scenario.now).examples }
+    ensures faults { OnOk result (lookups.new.faults.items ≡ lookups.old.faults.items
+        ++ faults_in (library_value library.now)
+        (spec.runs_in (scenario_value scenario.now) (step_value step.now))) }
+    ensures used { OnOk result (lookups.new.used.items ≡ lookups.old.used.items
+        ++ places_in (library_value library.now)
+        (spec.runs_in (scenario_value scenario.now) (step_value step.now))) }
+{
+    if is_outline(scenario) {
+        look_up_examples(lookups, alloc, library, step, &scenario.examples)
+    } else {
+        lookups.add(alloc, library, step)
+    }
+}
+
+// Adds what was found of one written step.
+fn add_lookups(found: &mut StepFindings, line: u32, lookups: Lookups) -> Result<(), AllocError>
+    ensures found { OnOk result (found.new.findings.items
+        ≡ found.old.findings.items ++ named_once all_faults line lookups.faults.items) }
+    ensures used { OnOk result (found.new.used.items
+        ≡ found.old.used.items ++ lookups.used.items) }
+{
+    let mut lookups = lookups;
+    add_once(&mut found.findings, &ALL_FAULTS, line, &lookups.faults)?;
+    found.used.append(&mut lookups.used)
+}
+
+// Adds what is found of a step of a scenario.
+fn add_scenario_step(
+    found: &mut StepFindings,
+    alloc: Global,
+    library: &Library,
+    scenario: &Scenario,
+    step: &Step,
+) -> Result<(), AllocError>
+    requires { AllByRecursion AllFit (scenario_value scenario.now).examples }
+    ensures found { OnOk result (found.new.findings.items ≡ found.old.findings.items
+        ++ spec.at_step (library_value library.now)
+        (spec.in_scenario (scenario_value scenario.now) (step_value step.now))) }
+    ensures used { OnOk result (found.new.used.items ≡ found.old.used.items
+        ++ places_in (library_value library.now)
+        (spec.runs_in (scenario_value scenario.now) (step_value step.now))) }
+{
+    let mut lookups = Lookups::new(alloc);
+    look_up_runs(&mut lookups, alloc, library, scenario, step)?;
+    add_lookups(found, step.line, lookups)
+}
+
+fn add_scenario(
+    found: &mut StepFindings,
+    alloc: Global,
+    library: &Library,
+    scenario: &Scenario,
+) -> Result<(), AllocError>
+    requires { AllByRecursion AllFit (scenario_value scenario.now).examples }
+    ensures found { OnOk result (found.new.findings.items ≡ found.old.findings.items
+        ++ found_in (library_value library.now) (spec.of_scenario (scenario_value scenario.now))) }
+    ensures used { OnOk result (found.new.used.items ≡ found.old.used.items
+        ++ used_in (library_value library.now) (spec.of_scenario (scenario_value scenario.now))) }
+{
+    for step in &scenario.steps {
+        add_scenario_step(found, alloc, library, scenario, step)?;
+    }
+    Ok(())
+}
+
+fn add_scenarios(
+    found: &mut StepFindings,
+    alloc: Global,
+    library: &Library,
+    scenarios: &[Scenario],
+) -> Result<(), AllocError>
+    requires { RowsFit (map scenario_value scenarios.now) }
+    ensures found { OnOk result (found.new.findings.items ≡ found.old.findings.items
+        ++ found_in (library_value library.now)
+        (spec.of_scenarios (map scenario_value scenarios.now))) }
+    ensures used { OnOk result (found.new.used.items ≡ found.old.used.items
+        ++ used_in (library_value library.now)
+        (spec.of_scenarios (map scenario_value scenarios.now))) }
+{
+    for scenario in scenarios {
+        add_scenario(found, alloc, library, scenario)?;
+    }
+    Ok(())
+}
+
+// Adds what is found of a step that is run as it is written.
+fn add_plain_step(
+    found: &mut StepFindings,
+    alloc: Global,
+    library: &Library,
+    step: &Step,
+) -> Result<(), AllocError>
+    ensures found { OnOk result (found.new.findings.items ≡ found.old.findings.items
+        ++ spec.at_step (library_value library.now) (spec.as_written (step_value step.now))) }
+    ensures used { OnOk result (found.new.used.items ≡ found.old.used.items
+        ++ places_in (library_value library.now)
+        (spec.as_written (step_value step.now)).runs) }
+{
+    let mut lookups = Lookups::new(alloc);
+    lookups.add(alloc, library, step)?;
+    add_lookups(found, step.line, lookups)
+}
+
+fn add_plain_steps(
+    found: &mut StepFindings,
+    alloc: Global,
+    library: &Library,
+    steps: &[Step],
+) -> Result<(), AllocError>
+    ensures found { OnOk result (found.new.findings.items ≡ found.old.findings.items
+        ++ found_in (library_value library.now)
+        (map spec.as_written (map step_value steps.now))) }
+    ensures used { OnOk result (found.new.used.items ≡ found.old.used.items
+        ++ used_in (library_value library.now)
+        (map spec.as_written (map step_value steps.now))) }
+{
+    for step in steps {
+        add_plain_step(found, alloc, library, step)?;
+    }
+    Ok(())
+}
+
+fn add_background(
+    found: &mut StepFindings,
+    alloc: Global,
+    library: &Library,
+    background: &Option<Background>,
+) -> Result<(), AllocError>
+    ensures found { OnOk result (found.new.findings.items ≡ found.old.findings.items
+        ++ found_in (library_value library.now)
+        (spec.of_background (option_map background_value background.now))) }
+    ensures used { OnOk result (found.new.used.items ≡ found.old.used.items
+        ++ used_in (library_value library.now)
+        (spec.of_background (option_map background_value background.now))) }
+{
+    match background {
+        Some(background) => add_plain_steps(found, alloc, library, &background.steps),
+        None => Ok(()),
+    }
+}
+
+fn add_rule(
+    found: &mut StepFindings,
+    alloc: Global,
+    library: &Library,
+    rule: &Rule,
+) -> Result<(), AllocError>
+    requires { RowsFit (rule_value rule.now).scenarios }
+    ensures found { OnOk result (found.new.findings.items ≡ found.old.findings.items
+        ++ found_in (library_value library.now) (spec.of_rule (rule_value rule.now))) }
+    ensures used { OnOk result (found.new.used.items ≡ found.old.used.items
+        ++ used_in (library_value library.now) (spec.of_rule (rule_value rule.now))) }
+{
+    add_background(found, alloc, library, &rule.background)?;
+    add_scenarios(found, alloc, library, &rule.scenarios)
+}
+
+fn add_rules(
+    found: &mut StepFindings,
+    alloc: Global,
+    library: &Library,
+    rules: &[Rule],
+) -> Result<(), AllocError>
+    requires { AllByRecursion (λ r. RowsFit r.scenarios) (map rule_value rules.now) }
+    ensures found { OnOk result (found.new.findings.items ≡ found.old.findings.items
+        ++ found_in (library_value library.now) (spec.of_rules (map rule_value rules.now))) }
+    ensures used { OnOk result (found.new.used.items ≡ found.old.used.items
+        ++ used_in (library_value library.now) (spec.of_rules (map rule_value rules.now))) }
+{
+    for rule in rules {
+        add_rule(found, alloc, library, rule)?;
+    }
+    Ok(())
+}
+
+fn add_feature(
+    found: &mut StepFindings,
+    alloc: Global,
+    library: &Library,
+    feature: &Feature,
+) -> Result<(), AllocError>
+    requires { IsExpandable (feature_value feature.now) }
+    ensures found { OnOk result (found.new.findings.items ≡ found.old.findings.items
+        ++ found_in (library_value library.now) (spec.of_feature (feature_value feature.now))) }
+    ensures used { OnOk result (found.new.used.items ≡ found.old.used.items
+        ++ used_in (library_value library.now) (spec.of_feature (feature_value feature.now))) }
+{
+    add_background(found, alloc, library, &feature.background)?;
+    add_scenarios(found, alloc, library, &feature.scenarios)?;
+    add_rules(found, alloc, library, &feature.rules)
+}
+
+fn add_hook(
+    found: &mut StepFindings,
+    alloc: Global,
+    library: &Library,
+    hook: &Hook,
+) -> Result<(), AllocError>
+    ensures found { OnOk result (found.new.findings.items ≡ found.old.findings.items
+        ++ found_in (library_value library.now) (spec.of_hook (hook_value hook.now))) }
+    ensures used { OnOk result (found.new.used.items ≡ found.old.used.items
+        ++ used_in (library_value library.now) (spec.of_hook (hook_value hook.now))) }
+{
+    add_plain_steps(found, alloc, library, &hook.steps)
+}
+
+fn add_hooks(
+    found: &mut StepFindings,
+    alloc: Global,
+    library: &Library,
+    hooks: &[Hook],
+) -> Result<(), AllocError>
+    ensures found { OnOk result (found.new.findings.items ≡ found.old.findings.items
+        ++ found_in (library_value library.now) (spec.of_hooks (map hook_value hooks.now))) }
+    ensures used { OnOk result (found.new.used.items ≡ found.old.used.items
+        ++ used_in (library_value library.now) (spec.of_hooks (map hook_value hooks.now))) }
+{
+    for hook in hooks {
+        add_hook(found, alloc, library, hook)?;
+    }
+    Ok(())
+}
+
+// Nothing was found yet.
+fn nothing_found(alloc: Global) -> StepFindings
+    ensures found { result.findings.items ≡ [] }
+    ensures used { result.used.items ≡ [] }
+{
+    StepFindings {
+        findings: Vec::new(alloc),
+        used: Vec::new(alloc),
+    }
+}
+
+// The findings in the order of lines.
+fn ordered(found: StepFindings) -> Result<StepFindings, AllocError>
+    ensures found { IfOk result (λ o. AreInOrder found.findings.items o.findings.items) }
+    ensures used { IfOk result (λ o. o.used.items ≡ found.used.items) }
+{
+    let StepFindings { findings, used } = found;
+    Ok(StepFindings {
+        findings: in_order(findings)?,
+        used,
+    })
+}
+
+/// What is found of the steps of a feature that `read_feature` returned, in the order of lines: those of its
+/// Backgrounds, its scenarios and its rules. Of an outline the steps of its cases are looked up, each filled from its
+/// row; what is found of several rows stands once, at the line of the step. Each step is looked up once, and what is
+/// found at a step is named once.
+///
+/// An error comes only where a growth was refused.
+pub fn lint_steps(
+    alloc: Global,
+    library: &Library,
+    feature: &Feature,
+) -> Result<StepFindings, AllocError>
+    requires { IsExpandable (feature_value feature.now) }
+    // All findings are answered, and nothing else.
+    ensures found { IfOk result (λ r. AreInOrder
+        (found_in (library_value library.now) (spec.of_feature (feature_value feature.now)))
+        r.findings.items) }
+    // So are the places of all entries that the steps find.
+    ensures used { IfOk result (λ r. r.used.items
+        ≡ used_in (library_value library.now) (spec.of_feature (feature_value feature.now))) }
+{
+    let mut found = nothing_found(alloc);
+    add_feature(&mut found, alloc, library, feature)?;
+    ordered(found)
+}
+
+/// What is found of the steps of hooks, in the order of lines, as `lint_steps` has it. An error comes only where a
+/// growth was refused.
+pub fn lint_hooks(
+    alloc: Global,
+    library: &Library,
+    hooks: &HookFile,
+) -> Result<StepFindings, AllocError>
+    // All findings are answered, and nothing else.
+    ensures found { IfOk result (λ r. AreInOrder
+        (found_in (library_value library.now) (spec.of_hooks (hooks_value hooks.now)))
+        r.findings.items) }
+    // So are the places of all entries that the steps find.
+    ensures used { IfOk result (λ r. r.used.items
+        ≡ used_in (library_value library.now) (spec.of_hooks (hooks_value hooks.now))) }
+{
+    let mut found = nothing_found(alloc);
+    add_hooks(&mut found, alloc, library, &hooks.hooks)?;
+    ordered(found)
+}
