@@ -13,26 +13,46 @@ use Rattle.gk_run.specs.Run.{Run}
 use Rattle.gk_run.specs.Chosen.{ChosenValue}
 use Rattle.gk_run.specs.Cases.{stays_open}
 use Rattle.gk_run.specs.Acting.{CleanupValue}
+use Rattle.gk_run.specs.Cleanups.{cleanups_value}
 use Rattle.gk_run.specs.Ending.{has_passed}
+use Rattle.gk_run.specs.Features.{IsFeatureResult}
 use Rattle.gk_run.specs.Judged.{Judged, BeginsJudged}
-use Rattle.gk_run.specs.OpenRun.{AreFeatures, IsStarted}
-use Rattle.gk_run.specs.OpenSection.{section_state}
-use Rattle.gk_run.specs.SectionHooks.{begun}
+use Rattle.gk_run.specs.OpenRun.{AreFeatures, IsStarted, IsKept, FinishedRunsAreJudged}
+use Rattle.gk_run.specs.OpenSection.{section_state, IsBegun, IsSectionEnd}
+use Rattle.gk_run.specs.declared.open_section.OpenSection.{OpenSection}
+use Rattle.gk_run.specs.Running.{IsSame}
+use Rattle.gk_run.specs.SectionHooks.{begun as begun_by}
 use Rattle.gk_run.specs.Walk.{Walked, IsWalked}
-use Rattle.gk_run.specs.Watching.{IsStartTold, IsFinishTold}
+use Rattle.gk_run.specs.Watching.{IsStartTold, IsFeatureTold, IsFinishTold}
 use Rattle.gk_report.specs.declared.summary.Summary.{Summary}
 use Rattle.gk_report.specs.Summary.{summary_of}
 use Rattle.gk_explain.specs.declared.explainer.Explainer.{Explainer}
-use Rattle.gk_explain.specs.Explanation.{nothing_said}
-use Rattle.gk_explain.specs.Explainer.{said, Hears}
+use Rattle.gk_explain.specs.Explanation.{nothing_said, with_source, with_feature, with_taken}
+use Rattle.gk_explain.specs.Explainer.{is_cut, said, Becomes, Hears, Ends}
 use Rattle.gk_cli.specs.declared.explained_run.ExplainedSoFar.{ExplainedSoFar}
 use Rattle.gk_cli.specs.declared.run_fault.RunFault.{RunFault}
 use Rattle.gk_cli.specs.declared.run_fault.RunFault.TheVariants.{Memory}
 use Rattle.gk_cli.specs.Suite.{Device}
 use Rattle.gk_cli.specs.GrowingReport.{results_with, IsWritten, IsStopped}
-use Rattle.gk_cli.specs.ExplainedRun.{last_text, IsFeatureExplained, AreExplained, AreFirstExplained, IsExplanation, IsExplained, IsExplainedUpTo, IsExplainedNext, EndsExplaining, AreExplainedNext, AreExplainedUpTo, IsEndWritten, IsEndStopped}
+use Rattle.gk_cli.specs.ExplainedRun.{last_text, IsFeatureExplained, AreExplained, AreFirstExplained, IsExplanation, IsExplained, IsExplainedUpTo, IsExplainedNext, EndsExplaining, AreExplainedNext, AreExplainedUpTo, IsReadyStopped, IsEndWritten, IsEndStopped}
 use Rattle.gk_cli.proofs.GrowingReportLemmas.{written_none, written_more, stopped_after, stopped_here}
 use Rattle.gk_cli.proofs.WrittenRunLemmas.{RowsSoFar, rows_first, rows_next, rows_last}
+use Rattle.gk_cli.proofs.SuiteLemmas.{judged_by, begun_still}
+
+-- A feature that was told, and what was ready of it was taken.
+pub told_feature : (run : Run) (now : State) (is_open : Bool) (f : ChosenValue) (row : FeatureRow) (old begun heard ended after : Explainer) → Becomes old (with_source f.source) begun →
+    IsFeatureTold Hears Ends run now is_open f row begun heard → Becomes heard (with_feature row) ended → (is_cut ended ≡ false) × (is_cut after ≡ false) → said after ≡ with_taken (said ended) →
+    IsFeatureExplained run now is_open f row (let e = said ended in e.ready) old after
+told_feature run now is_open f row old begun heard ended after begins told ends uncut taken =
+    record { begun = begun; begins = begins; heard = heard; told = told; ended = ended; ends = ends; ready = refl; taken = taken; uncut = uncut }
+
+-- And it wasn't written whole.
+pub next_stopped : (run : Run) (now : State) (is_open : Bool) (f : ChosenValue) (row : FeatureRow) (old begun heard ended after : Explainer) (there new : Device) (fault : RunFault) → IsFeatureResult run now is_open f row →
+    Becomes old (with_source f.source) begun → IsFeatureTold Hears Ends run now is_open f row begun heard → Becomes heard (with_feature row) ended → IsReadyStopped there ended new after fault →
+    EndsExplaining run now is_open f old there new fault
+next_stopped run now is_open f row old begun heard ended after there new fault result begins told ends (inl refused) = inl refused
+next_stopped run now is_open f row old begun heard ended after there new fault result begins told ends (inr stopped) =
+    inr (row, (let e = said ended in e.ready), after, result, told_feature run now is_open f row old begun heard ended after begins told ends (stopped.0, stopped.1) stopped.3, stopped.2)
 
 -- What was told so far goes on with whatever is told of the features that are left.
 abbrev pub ToldSoFar : Run → State → Bool → Explainer → List ChosenValue → List FeatureRow → List ℕ → Bool → Explainer → Type 0
@@ -153,7 +173,7 @@ first_explained run hooks old started suite first begun features rows text told 
   begun = begun;
   start = opening;
   state = state_of started.now;
-  from = λ passed. passed_state _ suite.section.before (state_of started.now) _ start.opened.begins passed;
+  from = λ passed. passed_state (begun_by run.library run.hooks levels.Run [] (state_of old.now)) suite.section.before (state_of started.now) (cleanups_value suite.section.cleanups) start.opened.begins passed;
   told = subst (λ b. AreExplained run (state_of started.now) b features rows text begun told) start.passed explained;
 }
 
@@ -167,7 +187,7 @@ whole_explained run hooks contents before features rows around parts told last o
       results = results_with rows around;
       judged = judged;
       text = parts ++ last_text (said last) rows around;
-      explains = record { before = before; parts = parts; told = told; features = first; last = last; finish = finish; uncut = done.0; text = refl };
+      explains = record { before = before; parts = parts; told = told; first = first; last = last; finish = finish; uncut = done.0; whole = refl };
       written = written_more old there new parts (last_text (said last) rows around) written done.1;
       returned = done.2;
     }
@@ -197,9 +217,27 @@ whole_stopped run hooks contents before features rows around parts told last old
       results = results_with rows around;
       judged = judged;
       text = parts ++ last_text (said last) rows around;
-      explains = record { before = before; parts = parts; told = told; features = first; last = last; finish = finish; uncut = done.0; text = refl };
+      explains = record { before = before; parts = parts; told = told; first = first; last = last; finish = finish; uncut = done.0; whole = refl };
       stopped = stopped_after old there new parts (last_text (said last) rows around) fault written done.1;
     })
+
+-- What is known of a run whose features were told and written, once it was finished.
+pub record IsRunTold (run : Run) (hooks : List ℕ) (contents : Contents) (before : Ending) (features : List ChosenValue) (rows : List FeatureRow) (around : Status) (parts : List ℕ) (told last : Explainer) : Type 0 where
+  pub judged : Judged run contents features (results_with rows around)
+  pub first : AreFirstExplained run hooks (state_of contents) before features rows parts told
+  pub finish : IsFinishTold Hears run (state_of contents) before around told last
+
+pub run_told : FinishedRunsAreJudged → (run : Run) (hooks : List ℕ) (old started later : SandboxValue) (suite left : Suite) (first begun told last : Explainer) (features : List ChosenValue) (rows : List FeatureRow) (around : Status) (parts : List ℕ) →
+    IsStarted run old started suite → said first ≡ nothing_said hooks → IsStartTold Hears run (state_of old.now) suite.section.before first begun →
+    AreFeatures run (state_of started.now) suite.is_open features rows → AreExplained run (state_of started.now) suite.is_open features rows parts begun told → IsKept suite left → IsSame started later →
+    ((outside : State) → IsBegun run levels.Run [] outside left.section later → IsSectionEnd run levels.Run [] outside around (has_passed left.section.before)) →
+    ((outside : State) → IsBegun run levels.Run [] outside left.section later → IsFinishTold Hears run outside left.section.before around told last) →
+    IsRunTold run hooks old.now suite.section.before features rows around parts told last
+run_told law run hooks old started later suite left first begun told last features rows around parts start silent opening are explained kept same ends finish = record {
+  judged = judged_by law run old started later suite left around features rows start kept same are ends;
+  first = first_explained run hooks old started suite first begun features rows parts told start silent opening explained;
+  finish = subst (λ (x : OpenSection). IsFinishTold Hears run (state_of old.now) x.before around told last) kept.section (finish (state_of old.now) (begun_still run old started later suite left start kept same));
+}
 
 -- Not all features of a run were told and written.
 pub part_explained : (run : Run) (hooks : List ℕ) (old started : SandboxValue) (suite : Suite) (first begun : Explainer) (features : List ChosenValue) (before : Device) (so_far : ExplainedSoFar) (new : Device) (fault : RunFault) →

@@ -5,9 +5,9 @@ pub mod WorkedArguments
 pub mod InputsLemmas
 pub mod GrowingReportLemmas
 pub mod WrittenRunLemmas
+pub mod SuiteLemmas
 pub mod ExplainedRunLemmas
 pub mod ExplainedSuiteLemmas
-pub mod SuiteLemmas
 pub mod WorkedRun
 pub mod WorkedHooksRun
 pub mod WorkedLongRun

@@ -50,15 +50,19 @@ kept_through a b d p q = record { section = q.section ∙ p.section; stops = q.s
 pub same_through : (a b d : SandboxValue) → IsSame a b → IsSame b d → IsSame a d
 same_through a b d p q = record { contents = q.contents ∙ p.contents; saved = q.saved ∙ p.saved; marks = q.marks ∙ p.marks; recorded = q.recorded ∙ p.recorded }
 
+-- A run that was begun is so still after features that leave the sandbox as it was.
+pub begun_still : (run : Run) (old started later : SandboxValue) (suite left : Suite) → IsStarted run old started suite → IsKept suite left → IsSame started later → IsBegun run levels.Run [] (state_of old.now) left.section later
+begun_still run old started later suite left start kept same =
+    subst (λ (x : OpenSection). IsBegun run levels.Run [] (state_of old.now) x later) (sym kept.section)
+    (subst (λ (x : Contents). IsWalked (begun run.library run.hooks levels.Run [] (state_of old.now)) suite.section.before (state_of x) (cleanups_value suite.section.cleanups)) (sym same.contents) start.opened.begins)
+
 -- A run that was begun, whose features were run, and that was finished.
 pub judged_by : FinishedRunsAreJudged → (run : Run) (old started later : SandboxValue) (suite left : Suite) (around : Status) (features : List ChosenValue) (rows : List FeatureRow) →
     IsStarted run old started suite → IsKept suite left → IsSame started later → AreFeatures run (state_of started.now) suite.is_open features rows →
     ((outside : State) → IsBegun run levels.Run [] outside left.section later → IsSectionEnd run levels.Run [] outside around (has_passed left.section.before)) →
     Judged run old.now features (record { features = rows; around = around })
 judged_by law run old started later suite left around features rows start kept same are finish =
-    let begins : IsBegun run levels.Run [] (state_of old.now) left.section later =
-    subst (λ (x : OpenSection). IsBegun run levels.Run [] (state_of old.now) x later) (sym kept.section)
-    (subst (λ (x : Contents). IsWalked (begun run.library run.hooks levels.Run [] (state_of old.now)) suite.section.before (state_of x) (cleanups_value suite.section.cleanups)) (sym same.contents) start.opened.begins) in
+    let begins = begun_still run old started later suite left start kept same in
     law run old started suite features rows around start are (subst (λ (x : OpenSection). IsSectionEnd run levels.Run [] (state_of old.now) around (has_passed x.before)) kept.section (finish (state_of old.now) begins))
 
 -- A feature's status is its verdict, by how its hooks and cleanups and those of its rules ended and by its cases.

@@ -3,7 +3,8 @@ use Rattle.std.proofs.Common.{◌≡◌, List, [], ◌∷◌, Some, codes, map, 
 use Rattle.clap.specs.Words.{Text, first_of}
 use Rattle.clap.specs.declared.error.kind.ErrorKind.TheVariants as kind
 use Rattle.clap.proofs.OnLiterals.{clap_on_literals}
-use Rattle.gk_cli.specs.Arguments.{split_at_equals, faults_in, format_asked, found_in, is_set, line_number, values_of}
+use Rattle.gk_cli.specs.Arguments.{split_at_equals, faults_in, format_asked, found_in, is_set, line_number, mode_asked, values_of}
+use Rattle.gk_cli.specs.declared.arguments.Mode.TheVariants.{Explanation}
 
 abbrev program : Text
 program = codes "gherkin_run"

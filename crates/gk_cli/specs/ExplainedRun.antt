@@ -48,7 +48,7 @@ pub record IsFeatureExplained (run : Run) (now : State) (is_open : Bool) (f : Ch
   pub told : IsFeatureTold Hears Ends run now is_open f row begun heard
   pub ended : Explainer
   pub ends : Becomes heard (with_feature row) ended
-  pub text : text ≡ (let e = said ended in e.ready)
+  pub ready : text ≡ (let e = said ended in e.ready)
   pub taken : said new ≡ with_taken (said ended)
   pub uncut : (is_cut ended ≡ false) × (is_cut new ≡ false)
 
@@ -76,11 +76,11 @@ pub record IsExplanation (run : Run) (hooks : List ℕ) (contents : Contents) (f
   pub before : Ending
   pub parts : List ℕ
   pub told : Explainer
-  pub features : AreFirstExplained run hooks (state_of contents) before features results.features parts told
+  pub first : AreFirstExplained run hooks (state_of contents) before features results.features parts told
   pub last : Explainer
   pub finish : IsFinishTold Hears run (state_of contents) before results.around told last
   pub uncut : is_cut last ≡ false
-  pub text : text ≡ parts ++ last_text (said last) results.features results.around
+  pub whole : text ≡ parts ++ last_text (said last) results.features results.around
 
 -- The explanation of a run with judged results was written, and their status is returned.
 pub record IsExplained (run : Run) (hooks : List ℕ) (contents : Contents) (features : List ChosenValue) (old new : Device) (answer : ℕ) : Type 0 where

@@ -143,9 +143,9 @@ fn write_end<W: Write>(
     out: &mut Counted<W>,
 ) -> Result<u8, RunFault>
     requires room { CountsCanRise out.old }
-    ensures ok { IfOk result (IsEndWritten explainer summary.now around
+    ensures ok { IfOk result (IsEndWritten explainer.entry summary.now around
         (device_of W.contents out.old) (device_of W.contents out.new)) }
-    ensures err { IfErr result (IsEndStopped explainer summary.now around
+    ensures err { IfErr result (IsEndStopped explainer.entry summary.now around
         (device_of W.contents out.old) (device_of W.contents out.new)) }
 {
     let mut explainer = explainer;
@@ -174,11 +174,11 @@ pub fn write_explanation<W: Write>(
     requires outside { depth sandbox.old ≡ 0 }
     requires formed { AllByRecursion IsFormed inputs.features.items }
     ensures ok { IfOk result (IsExplained
-        (run_of inputs.library inputs.hooks explaining.stop) explaining.hooks.now sandbox.old.now
+        (run_of inputs.library inputs.hooks explaining.entry.stop) explaining.entry.hooks.now sandbox.old.now
         (map chosen_value inputs.features.items)
         (device_of W.contents out.old) (device_of W.contents out.new)) }
     ensures err { IfErr result (IsExplainedUpTo
-        (run_of inputs.library inputs.hooks explaining.stop) explaining.hooks.now sandbox.old.now
+        (run_of inputs.library inputs.hooks explaining.entry.stop) explaining.entry.hooks.now sandbox.old.now
         (map chosen_value inputs.features.items)
         (device_of W.contents out.old) (device_of W.contents out.new)) }
     ensures same { IsSame sandbox.old sandbox.new }

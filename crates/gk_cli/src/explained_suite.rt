@@ -69,13 +69,13 @@ pub fn explain_suite<W: Write>(
     // What was written is the explanation of a run that was told event by event, whose results are judged; the
     // status is theirs.
     ensures explained { IfOk result (Explained
-        (request_of_files options.now files) (hooks_name files) sandbox.old.now
+        (request_of_files options.now files.entry) (hooks_name files.entry) sandbox.old.now
         (device_of W.contents out.old) (device_of W.contents out.new)) }
     // Whatever is returned, files, variables, values and layers are as they were.
     ensures same { IsSame sandbox.old sandbox.new }
     // Which fault it is, and what was written.
     ensures fault { IfErr result (SaysExplanationFault
-        (request_of_files options.now files) (hooks_name files) sandbox.old.now
+        (request_of_files options.now files.entry) (hooks_name files.entry) sandbox.old.now
         (device_of W.contents out.old) (device_of W.contents out.new)) }
     // A status comes only where the writer didn't fail.
     ensures quiet { OnOk result (HasNotFailed out.old out.new) }

@@ -1,13 +1,19 @@
 use Rattle.std.proofs.Common.{◌∙◌, rules, ap, map, refl, string_bytes, sym}
 use Rattle.clap.specs.Words.{found_of}
 use Rattle.gk_cli.specs.Arguments.{is_format}
-use Rattle.gk_cli.proofs.ArgumentsLemmas.{format_read, found_lines, says_fault, says_found, says_unknown}
+use Rattle.gk_cli.proofs.ArgumentsLemmas.{format_read, found_lines, says_clash, says_fault, says_found, says_unknown}
 use Rattle.gk_cli.proofs.arguments.words_by.Goals as goal
 
 pub returns-in_err-matches : goal.returns-in_err-matches
 returns-in_err-matches c =
     says_fault (map string_bytes c.args.words.now) c.args.reader.now c.in_err-matches.field-0.0 c.from_residual.result
     c.requires c.in_err-matches.ensures.kinds (search rules)
+
+pub returns-then-is_clash : goal.returns-then-is_clash
+returns-then-is_clash c =
+    let ensures = c.in_ok-matches.ensures in
+    says_clash (map string_bytes c.args.words.now) c.args.reader.now c.in_ok-matches.matches c.in_ok-clash.field-0
+    c.requires ensures.ok.2 ensures.kinds (sym c.is_clash.ensures ∙ c.if-is_clash.true) c.in_ok-clash.ensures
 
 pub words_of-requires-clause-lines : goal.words_of-requires-clause-lines
 words_of-requires-clause-lines c =

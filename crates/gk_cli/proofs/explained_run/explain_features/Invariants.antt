@@ -4,7 +4,7 @@ use Rattle.std.specs.Vec.Iter.{into_iter_items, into_iter_len}
 use Rattle.gk_world.specs.State.{state_of}
 use Rattle.gk_run.specs.Run.{run_of}
 use Rattle.gk_run.specs.Chosen.{chosen_value, IsFormed}
-use Rattle.gk_run.specs.Explaining.{IsSame}
+use Rattle.gk_run.specs.Running.{IsSame}
 use Rattle.gk_run.specs.OpenRun.{IsKept}
 use Rattle.gk_cli.specs.Counted.{CountsCanRise}
 use Rattle.gk_cli.specs.Suite.{device_of}
