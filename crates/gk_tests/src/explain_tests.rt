@@ -1,7 +1,3 @@
-ghost use Rattle.std.specs.Prelude.{◌<◌};
-ghost use Rattle.gk_world.specs.Sandbox.{depth};
-ghost use Rattle.gk_world.specs.State.{layers};
-
 use gk_explain::Explainer;
 use gk_gherkin::{HookFile, read_feature, read_hooks};
 use gk_run::{Status, run_case_watched};
