@@ -16,7 +16,6 @@ use Rattle.gk_run.specs.Acting.{CleanupValue, act, done_of}
 use Rattle.gk_run.specs.Ending.{ended_of, ending_of, has_passed}
 use Rattle.gk_run.specs.OpenSection.{its_steps}
 use Rattle.gk_run.specs.Run.{Run}
-use Rattle.gk_run.specs.Results.{CaseRow}
 use Rattle.gk_run.specs.Section.{Cut, nowhere, in_before, in_steps, in_after, in_cleanups, is_place, site_of}
 use Rattle.gk_run.specs.SectionHooks.{after_lists, before_list, begun, walk_each}
 use Rattle.gk_run.specs.Walk.{one_step, walk}

@@ -55,7 +55,7 @@ with_event told e = with_line (level_of told) (event_line e.names told) e
 abbrev pub with_end : List ℕ → Status → List ℕ → ExplanationValue → ExplanationValue
 with_end heading status lines e = record e { ready = e.ready ++ explained heading status lines; failures = e.failures ++ listed heading status }
 
--- A scenario has ended with a result, after these lines; there are none of another.
+-- A scenario with these lines has ended with a result, and no line of a scenario is left.
 abbrev pub with_case_of : List ℕ → CaseRow → ExplanationValue → ExplanationValue
 with_case_of lines c e = let ended = with_end (case_heading e.names.source c) c.status lines e in record ended { case_lines = [] }
 

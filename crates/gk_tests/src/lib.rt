@@ -6,6 +6,8 @@
 #[cfg(test)]
 mod counted_tests;
 #[cfg(test)]
+mod explain_tests;
+#[cfg(test)]
 mod gherkin_tests;
 #[cfg(test)]
 mod library_tests;

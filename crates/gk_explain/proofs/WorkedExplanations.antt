@@ -1,0 +1,83 @@
+-- Worked explanations, by computation.
+use Rattle.std.specs.Prelude.{◌≡◌, ℕ, List, [], ◌∷◌, codes, refl}
+use Rattle.std.specs.Fmt.{digits}
+use Rattle.gk_gherkin.specs.declared.feature.StepType.TheVariants as types
+use Rattle.gk_gherkin.specs.Feature.{StepValue, Empty}
+use Rattle.gk_world.specs.State.{State}
+use Rattle.gk_run.specs.declared.results.Mark.TheVariants as marks
+use Rattle.gk_run.specs.declared.results.Outcome.TheVariants as outcomes
+use Rattle.gk_run.specs.declared.results.Reason.TheVariants as reasons
+use Rattle.gk_run.specs.declared.results.Status.{Status}
+use Rattle.gk_run.specs.declared.results.Status.TheVariants as statuses
+use Rattle.gk_run.specs.declared.section.Level.TheVariants as levels
+use Rattle.gk_run.specs.declared.section.Part.TheVariants as parts
+use Rattle.gk_run.specs.Acting.{CleanupValue}
+use Rattle.gk_run.specs.Results.{CaseRow, FeatureRow}
+use Rattle.gk_run.specs.Watching.{Told, of_step, of_cleanup}
+use Rattle.gk_report.specs.ReportTexts.{status_text, reason_text, one_line}
+use Rattle.gk_report.specs.PlainReport.{status_line}
+use Rattle.gk_explain.specs.EventLines.{event_line, place_text}
+use Rattle.gk_explain.specs.Headings.{case_heading, rule_heading, feature_heading, run_heading, explanation_text}
+use Rattle.gk_explain.specs.Explanation.{ExplanationValue, nothing_said, with_event, with_case, with_rule, with_source, with_feature, with_run}
+
+-- A step with a keyword, a text and a line.
+abbrev step : List ℕ → List ℕ → ℕ → StepValue
+step keyword text line = record { keyword = keyword; step_type = types.Given; text = text; block = Empty; line = line }
+
+-- A scenario with a verdict.
+abbrev scenario : Status → CaseRow
+scenario verdict = record { keyword = codes "Scenario"; name = codes "s"; line = 6; status = verdict; around = statuses.Passed; cleanups = []; steps = [] }
+
+-- A feature whose own hooks and cleanups ended so.
+abbrev feature : Status → FeatureRow
+feature around = record { source = codes "f"; name = codes "n"; line = 1; status = around; around = around; rules = []; cases = [] }
+
+-- A feature of the file `f` begins, with hooks of the file `h`.
+abbrev begun : ExplanationValue
+begun = with_source (codes "f") (nothing_said (codes "h"))
+
+-- Events, one after another.
+abbrev after_events : List Told → ExplanationValue → ExplanationValue
+after_events [] e = e
+after_events (told ∷ others) e = after_events others (with_event told e)
+
+-- A scenario between two hooks, with a cleanup, whose second step failed.
+abbrev of_scenario : State → CleanupValue → ExplanationValue
+of_scenario s cleanup =
+    after_events (of_step (record { level = levels.Scenario; part = parts.Before }) (step (codes "Given") (codes "a") 2) (marks.Acted outcomes.Passed) s
+    ∷ of_step (record { level = levels.Scenario; part = parts.Steps }) (step (codes "When") (codes "b\nc") 7) (marks.Acted outcomes.Passed) s
+    ∷ of_step (record { level = levels.Scenario; part = parts.Steps }) (step (codes "Then") (codes "d") 8) (marks.Acted (outcomes.Failed reasons.Differs)) s
+    ∷ of_step (record { level = levels.Scenario; part = parts.Steps }) (step (codes "And") (codes "e") 10) marks.Skipped s
+    ∷ of_step (record { level = levels.Scenario; part = parts.After }) (step (codes "When") (codes "g") 4) marks.Undefined s
+    ∷ of_cleanup levels.Scenario cleanup outcomes.Memory s ∷ []) begun
+
+-- Where it failed it is explained.
+failed_is_explained : (s : State) (cleanup : CleanupValue) → (with_case (scenario statuses.Failed) (of_scenario s cleanup)).ready
+    ≡ codes "f:6: Scenario: s ... failed\n  h:2: before: Given a ... passed\n  f:7: When b\\nc ... passed\n  f:8: Then d ... failed: differs\n  f:10: And e ... skipped\n  h:4: after: When g ... undefined\n  cleanup ... memory\n\n"
+unfolding digits status_text reason_text one_line status_line event_line place_text case_heading explanation_text
+failed_is_explained s cleanup = refl
+
+-- Where it passed nothing is said of it.
+passed_is_not : (s : State) (cleanup : CleanupValue) → with_case (scenario statuses.Passed) (of_scenario s cleanup) ≡ begun
+unfolding digits status_text reason_text one_line status_line event_line place_text case_heading explanation_text
+passed_is_not s cleanup = refl
+
+-- Hooks and cleanups of a rule, a feature and a run, with one event in each, of which the rule's passed.
+abbrev of_sections : State → ExplanationValue
+of_sections s =
+    after_events (of_step (record { level = levels.Run; part = parts.Before }) (step (codes "Given") (codes "a") 1) (marks.Acted outcomes.Passed) s
+    ∷ of_step (record { level = levels.Feature; part = parts.Before }) (step (codes "Given") (codes "b") 2) (marks.Acted outcomes.Passed) s
+    ∷ of_step (record { level = levels.Rule; part = parts.Before }) (step (codes "Given") (codes "c") 3) (marks.Acted outcomes.Passed) s ∷ []) begun
+
+-- What ended badly is explained and listed.
+abbrev ended : State → Status → ExplanationValue
+ended s rule = with_run statuses.Failed (with_feature (feature statuses.Memory) (with_rule (record { line = 5; around = rule }) (of_sections s)))
+
+sections_are_explained : (s : State) → (ended s statuses.Passed).ready
+    ≡ codes "f:1: Feature: n (hooks and cleanups) ... memory\n  h:2: before: Given b ... passed\n\n(hooks and cleanups) ... failed\n  h:1: before: Given a ... passed\n\n"
+unfolding digits status_text reason_text one_line status_line event_line place_text rule_heading feature_heading run_heading explanation_text
+sections_are_explained s = refl
+
+sections_are_listed : (s : State) → (ended s statuses.Failed).failures ≡ codes "f:5: Rule: (hooks and cleanups)\nf:1: Feature: n (hooks and cleanups)\n(hooks and cleanups)\n"
+unfolding digits status_text reason_text one_line status_line event_line place_text rule_heading feature_heading run_heading explanation_text
+sections_are_listed s = refl
