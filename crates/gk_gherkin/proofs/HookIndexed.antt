@@ -171,6 +171,10 @@ pub any_found : {X : Type 0} (test : X → Bool) (xs : List X) → list_any test
 any_found test [] = refl
 any_found test (x ∷ xs) = found_next x (find test xs) (test x) (list_any test xs) (any_found test xs)
 
+pub some_mapped : {X Y : Type 0} (f : X → Y) (o : Option X) → is_some o ≡ is_some (option_map f o)
+some_mapped f None = refl
+some_mapped f (Some x) = refl
+
 -- what a slice gives at a place
 pub looked_up : (hooks : List Hook) (place : ℕ) (o : Option (Bor Hook)) → is_some o ≡ ltb place (length hooks) → IfSome o (λ x. x.now ≡ get_or hooks place x.now) → option_copied o ≡ slice_get hooks place
 looked_up hooks place None none same = elim (cases_lt place (length hooks)) [

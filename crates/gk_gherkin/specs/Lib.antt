@@ -12,11 +12,13 @@ pub mod Grammar
 pub mod Hooks
 pub mod HookHeadings
 pub mod HooksGrammar
+pub mod HookTable
 pub mod ReadFault
 -- Proof machinery: how lines are read one after the other.
 pub mod Gives
 pub mod OpenParts
 pub mod Reading
 pub mod FeaturePlace
+pub mod HooksSoFar
 pub mod HooksPlace
 pub mod HookIndex

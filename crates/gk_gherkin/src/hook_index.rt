@@ -1,9 +1,10 @@
 //! Where the hooks of a file stand, by their tags.
 ghost use Rattle.std.specs.Prelude.{◌≡◌, ◌++◌, ◌∷◌, [], ℕ, List, Option, true, length};
 ghost use Rattle.std.specs.Prelude.{if◌then◌else◌};
-ghost use Rattle.std.specs.Prelude.{IfOk, OnOk, OnErr, find, map, option_map, option_copied, bytes_eq};
+ghost use Rattle.std.specs.Prelude.{IfOk, OnOk, OnErr, map, option_map, option_copied, bytes_eq};
 ghost use Rattle.std.specs.String.{string_bytes};
 ghost use Rattle.gk_gherkin.specs.Hooks.{hook_value, is_for};
+ghost use Rattle.gk_gherkin.specs.HookTable.{hook_for};
 ghost use Rattle.gk_gherkin.specs.HookIndex as spec;
 ghost use Rattle.gk_gherkin.specs.HookIndex.{is_among, AreListed, IsFirst};
 
@@ -112,7 +113,7 @@ pub fn find_hook<'a>(
 ) -> Option<&'a Hook>
     requires { AreListed index.now hooks.now }
     ensures { option_map (λ hook. hook_value hook.now) result
-        ≡ find (λ hook. is_for hook kind (option_copied tag.entry)) (map hook_value hooks.now) }
+        ≡ hook_for (map hook_value hooks.now) kind (option_copied tag.entry) }
 {
     let place = first_place(hooks, index.of(tag), kind, tag);
     hooks.get(place)

@@ -1,7 +1,8 @@
 //! The hooks of a file, looked up by their kinds and their tags.
-ghost use Rattle.std.specs.Prelude.{◌≡◌, find, map, option_copied, option_map};
+ghost use Rattle.std.specs.Prelude.{◌≡◌, map, option_copied, option_map};
 ghost use Rattle.std.specs.Option.{ForSome};
-ghost use Rattle.gk_gherkin.specs.Hooks.{hook_value, hooks_value, is_for};
+ghost use Rattle.gk_gherkin.specs.Hooks.{hook_value, hooks_value};
+ghost use Rattle.gk_gherkin.specs.HookTable.{hook_for};
 ghost use Rattle.gk_gherkin.specs.HookIndex.{AreListed};
 
 use crate::hook_index::{HookIndex, find_hook, index_of};
@@ -21,9 +22,10 @@ pub struct HookTable<'a> {
     ghost listed: { ForSome index (λ index. AreListed index file.now.hooks.items) },
 }
 
+// The first hook for this kind and this tag.
 fn look_through<'a>(hooks: &'a [Hook], kind: HookKind, tag: Option<&str>) -> Option<&'a Hook>
     ensures { option_map (λ hook. hook_value hook.now) result
-        ≡ find (λ hook. is_for hook kind (option_copied tag.entry)) (map hook_value hooks.now) }
+        ≡ hook_for (map hook_value hooks.now) kind (option_copied tag.entry) }
 {
     for hook in hooks {
         if hook.is_for(kind, tag) {
@@ -58,7 +60,7 @@ impl<'a> HookTable<'a> {
     /// index, how long it takes doesn't grow with the hooks for other tags. (this project's profile)
     pub fn hook(&self, kind: HookKind, tag: Option<&str>) -> Option<&'a Hook>
         ensures { option_map (λ hook. hook_value hook.now) result
-            ≡ find (λ hook. is_for hook kind (option_copied tag.entry)) (hooks_value self.now.file.now) }
+            ≡ hook_for (hooks_value self.now.file.now) kind (option_copied tag.entry) }
     {
         match &self.index {
             Some(index) => find_hook(&self.file.hooks, index, kind, tag),

@@ -8,7 +8,8 @@ ghost use Rattle.gk_gherkin.specs.HookHeadings.{heading_value};
 ghost use Rattle.gk_gherkin.specs.Gives.{Gives};
 ghost use Rattle.gk_gherkin.specs.OpenParts.Views.{body_value};
 ghost use Rattle.gk_gherkin.specs.HooksPlace as spec;
-ghost use Rattle.gk_gherkin.specs.HooksPlace.Views.{place_value, so_far_value};
+ghost use Rattle.gk_gherkin.specs.HooksPlace.Views.{place_value};
+ghost use Rattle.gk_gherkin.specs.HooksSoFar.{so_far_value};
 ghost use Rattle.gk_gherkin.specs.declared.hook_headings.HooksClass.TheVariants.{HookLine, Plain};
 ghost use Rattle.gk_gherkin.specs.declared.read_fault.ReadFault.TheVariants.{BadHook, Memory};
 

@@ -18,7 +18,7 @@ impl HooksSoFar {
     ghost use Rattle.std.specs.Prelude.{◌≡◌, ◌++◌, ◌∷◌, [], OnOk, option_copied};
     ghost use Rattle.std.specs.List.{list_any};
     ghost use Rattle.gk_gherkin.specs.Hooks.{hook_value, hooks_value, is_for};
-    ghost use Rattle.gk_gherkin.specs.HooksPlace.Views.{so_far_value};
+    ghost use Rattle.gk_gherkin.specs.HooksSoFar.{so_far_value};
 
     /// No hooks. Takes no memory.
     pub fn new(alloc: Global) -> HooksSoFar
@@ -42,10 +42,9 @@ impl HooksSoFar {
 
     /// Whether one of them is for this kind and this tag. How long it takes doesn't grow with the hooks for
     /// other tags.
-    #[tactic(auto, using(crate::proofs::HookIndexed::any_found))]
     pub fn has(&self, kind: HookKind, tag: Option<&str>) -> bool
-        ensures { result
-            ≡ list_any (λ hook. is_for hook kind (option_copied tag.entry)) (so_far_value self.now) }
+        ensures { let hooks = so_far_value self.now in
+            result ≡ list_any (λ hook. is_for hook kind (option_copied tag.entry)) hooks }
     {
         find_hook(&self.hooks, &self.index, kind, tag).is_some()
     }

@@ -1,17 +1,12 @@
 -- Proof machinery: what the code's places in a hooks file say. No public contract cites it.
-use Rattle.std.specs.Prelude.{List, map, option_map}
+use Rattle.std.specs.Prelude.{option_map}
 use Rattle.std.specs.String.{string_bytes}
-use Rattle.gk_gherkin.specs.declared.hooks_so_far.HooksSoFar.{HooksSoFar}
 use Rattle.gk_gherkin.specs.declared.hooks_place.Opened.{Opened}
 use Rattle.gk_gherkin.specs.declared.hooks_place.HooksPlace.{HooksPlace}
 use Rattle.gk_gherkin.specs.declared.hooks_place.HooksPlace.TheVariants as places
-use Rattle.gk_gherkin.specs.Hooks.{HookValue, hook_value}
+use Rattle.gk_gherkin.specs.HooksSoFar.{so_far_value}
 use Rattle.gk_gherkin.specs.OpenParts.Views.{body_value}
 use Rattle.gk_gherkin.specs.HooksPlace as spec
-
--- What a `HooksSoFar` says.
-abbrev pub so_far_value : HooksSoFar → List HookValue
-so_far_value s = map hook_value s.hooks.items
 
 -- What an `Opened` says.
 abbrev pub opened_value : Opened → spec.OpenedValue
