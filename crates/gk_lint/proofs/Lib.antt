@@ -3,6 +3,7 @@ pub mod OneLetterOff
 pub mod LineOrder
 pub mod NamedAgain
 pub mod IdleHooks
+pub mod RunSteps
 pub mod RisingNumbers
 pub mod EntryLinesLoop
 pub mod MisspeltLoop

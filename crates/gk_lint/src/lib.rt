@@ -28,4 +28,4 @@ pub use likeness::one_off_is_within_one;
 pub use scenario_lines::lines_without_scenario;
 pub use step_faults::StepFault;
 pub use tag_use::lint_hook_tags;
-pub use written_steps::{StepFindings, lint_hooks, lint_steps};
+pub use written_steps::{StepFindings, lint_hooks, lint_steps, what_is_run_is_looked_up};
