@@ -1,5 +1,6 @@
-//! What of a feature file would vanish in silence. The bytes of a file come in; all its findings
-//! and nothing else go out, in the order of their lines, or the fault of a file that doesn't read.
+//! What is found before a run: what of a feature file would vanish in silence, steps that are undefined or can't
+//! work, and what of a library or a hooks file isn't used. What a run would read comes in; all its findings and nothing
+//! else go out, in the order of their lines. Nothing is run.
 //! Where a comment names no source, what it says is this project's profile.
 #![tactic(auto)]
 
