@@ -2,8 +2,11 @@ pub mod Letters
 pub mod OneLetterOff
 pub mod LineOrder
 pub mod NamedAgain
+pub mod IdleHooks
+pub mod RunSteps
 pub mod RisingNumbers
 pub mod EntryLinesLoop
 pub mod MisspeltLoop
 pub mod WorkedLikeness
 pub mod WorkedFindings
+pub mod WorkedUse

@@ -3,7 +3,7 @@ use Rattle.std.specs.Prelude.{codes, ◌≡◌, ℕ, Bool, ◌==◌, List, [], �
 use Rattle.std.specs.List.Sorted.{IsNonDecreasingBy}
 use Rattle.gk_lint.specs.declared.findings.Finding.{Finding}
 use Rattle.gk_lint.specs.declared.findings.FindingKind.{FindingKind}
-use Rattle.gk_lint.specs.declared.findings.FindingKind.TheVariants.{FileWithoutFeature, FeatureWithoutScenarios, ScenarioWithoutSteps, OutlineWithoutRows, LikeKeyword, NameTwice, OfStep, UnusedEntry}
+use Rattle.gk_lint.specs.declared.findings.FindingKind.TheVariants.{FileWithoutFeature, FeatureWithoutScenarios, ScenarioWithoutSteps, OutlineWithoutRows, LikeKeyword, NameTwice, OfStep, UnusedEntry, HookOfNoTag}
 use Rattle.gk_lint.specs.declared.step_faults.StepFault.{StepFault}
 use Rattle.gk_lint.specs.Keywords.{spelling}
 use Rattle.gk_lint.specs.StepFaults.{fault_text, has_fault}
@@ -28,6 +28,7 @@ finding_text ScenarioWithoutSteps = codes "scenario without steps"
 finding_text OutlineWithoutRows = codes "outline without rows"
 finding_text NameTwice = codes "scenario with the name of one before it"
 finding_text (OfStep fault) = fault_text fault
+finding_text HookOfNoTag = codes "hook for a tag that stands nowhere"
 finding_text UnusedEntry = codes "entry that no step finds"
 finding_text (LikeKeyword keyword) = codes "description begins like the keyword " ++ spelling keyword
 

@@ -13,3 +13,5 @@ pub mod Blocks
 pub mod Lookups
 pub mod WrittenSteps
 pub mod LibraryUse
+pub mod TagUse
+pub mod ScenarioLines

@@ -1,7 +1,10 @@
 -- The steps of a feature and of a hooks file, as they are written and as they are run.
-use Rattle.std.specs.Prelude.{ℕ, List, [], ◌∷◌, ◌++◌, map, flat_map, Option, if◌then◌else◌}
+use Rattle.std.specs.List.{list_any}
+use Rattle.std.specs.Prelude.{◌≡◌, ℕ, Bool, ◌||◌, List, [], ◌∷◌, ◌++◌, map, flat_map, Option, if◌then◌else◌}
 use Rattle.gk_gherkin.specs.Feature.{StepValue, RowValue, ExamplesValue, BackgroundValue, ScenarioValue, RuleValue, FeatureValue}
 use Rattle.gk_gherkin.specs.Hooks.{HookValue}
+use Rattle.gk_select.specs.Case.{CaseValue}
+use Rattle.gk_select.specs.Expansion.{cases}
 use Rattle.gk_select.specs.Filling.{filled, filled_step}
 use Rattle.gk_select.specs.Inherited.{background_steps}
 use Rattle.gk_select.specs.Outline.{is_outline}
@@ -59,6 +62,14 @@ of_rules rules = flat_map of_rule rules
 -- The steps of a feature: of its Background, of its scenarios, and of its rules. (Cucumber's Gherkin reference: feature)
 abbrev pub of_feature : FeatureValue → List WrittenStep
 of_feature f = of_background f.background ++ (of_scenarios f.scenarios ++ of_rules f.rules)
+
+-- The steps of all Backgrounds of a feature, of its own and of those of its rules. (Cucumber's Gherkin reference: background)
+abbrev pub background_steps_of : FeatureValue → List StepValue
+background_steps_of f = background_steps f.background ++ flat_map (λ (r : RuleValue). background_steps r.background) f.rules
+
+-- The steps that the written steps of a feature are run as are those of its cases and of its Backgrounds: whatever is asked of steps, one of the first answers yes exactly where one of the others does. So each step of a run is looked up, and no other but those of a Background that no case has.
+abbrev pub LooksUpWhatIsRun : Type 0
+LooksUpWhatIsRun = (f : FeatureValue) (asked : StepValue → Bool) → list_any asked (flat_map (λ (w : WrittenStep). w.runs) (of_feature f)) ≡ (list_any asked (flat_map (λ (c : CaseValue). c.steps) (cases f)) || list_any asked (background_steps_of f))
 
 -- The steps of a hook. (behave's documentation: environment file functions)
 abbrev pub of_hook : HookValue → List WrittenStep

@@ -27,6 +27,8 @@ pub enum FindingKind {
     OfStep(StepFault),
     /// No step finds the entry of the library, and no cleanup.
     UnusedEntry,
+    /// The hook is for a tag that stands in no feature.
+    HookOfNoTag,
 }
 
 /// What was found, and the line at which it stands, counted from 1.
@@ -53,6 +55,9 @@ impl FindingKind {
                 String::from_str(alloc, "scenario with the name of one before it")
             }
             FindingKind::OfStep(fault) => String::from_str(alloc, fault.text()),
+            FindingKind::HookOfNoTag => {
+                String::from_str(alloc, "hook for a tag that stands nowhere")
+            }
             FindingKind::UnusedEntry => String::from_str(alloc, "entry that no step finds"),
             FindingKind::LikeKeyword(keyword) => {
                 let mut text = String::from_str(alloc, "description begins like the keyword ")?;

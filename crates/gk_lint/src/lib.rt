@@ -1,5 +1,6 @@
-//! What of a feature file would vanish in silence. The bytes of a file come in; all its findings
-//! and nothing else go out, in the order of their lines, or the fault of a file that doesn't read.
+//! What is found before a run: what of a feature file would vanish in silence, steps that are undefined or can't
+//! work, and what of a library or a hooks file isn't used. What a run would read comes in; all its findings and nothing
+//! else go out, in the order of their lines. Nothing is run.
 //! Where a comment names no source, what it says is this project's profile.
 #![tactic(auto)]
 
@@ -11,17 +12,21 @@ mod library_use;
 mod likeness;
 mod lookups;
 mod misspelt;
+mod scenario_lines;
 mod scenario_names;
 mod standing;
 mod step_faults;
+mod tag_use;
 mod text_sets;
 mod vanishing;
 mod written_steps;
 
 pub use feature_file::{lint_feature, lint_feature_file};
-pub use findings::{Finding, FindingKind};
+pub use findings::{Finding, FindingKind, in_order};
 pub use keywords::Keyword;
 pub use library_use::lint_library;
 pub use likeness::one_off_is_within_one;
+pub use scenario_lines::lines_without_scenario;
 pub use step_faults::StepFault;
-pub use written_steps::{StepFindings, lint_hooks, lint_steps};
+pub use tag_use::lint_hook_tags;
+pub use written_steps::{StepFindings, lint_hooks, lint_steps, what_is_run_is_looked_up};

@@ -47,8 +47,8 @@ fn entry_lines(alloc: Global, text: &str) -> Result<Vec<u32>, AllocError>
     Ok(found)
 }
 
-// The same numbers in rising order.
-fn rising(alloc: Global, numbers: &[usize]) -> Result<Vec<usize>, AllocError>
+/// The same numbers in rising order.
+pub fn rising(alloc: Global, numbers: &[usize]) -> Result<Vec<usize>, AllocError>
     ensures rising { IfOk result (λ r. IsNonDecreasing r.items) }
     ensures same { IfOk result (λ r. (n : ℕ) → is_among r.items n ≡ is_among numbers.now n) }
 {
@@ -58,8 +58,8 @@ fn rising(alloc: Global, numbers: &[usize]) -> Result<Vec<usize>, AllocError>
     Ok(rising)
 }
 
-// Whether a number is among numbers in rising order.
-fn has(numbers: &[usize], n: usize) -> bool
+/// Whether a number is among numbers in rising order. Takes no memory.
+pub fn has(numbers: &[usize], n: usize) -> bool
     requires { IsNonDecreasing numbers.now }
     ensures { result ≡ is_among numbers.now n }
 {

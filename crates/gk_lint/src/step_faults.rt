@@ -23,6 +23,20 @@ pub enum StepFault {
     IgnoredTable,
 }
 
+const UNDEFINED: &str = "undefined step";
+
+const CLEANUP_WITHOUT_STEP: &str = "cleanup without step";
+
+const NO_TEXT: &str = "step without the text that its action needs";
+
+const NO_TABLE: &str = "step without the table that its action needs";
+
+const BAD_TABLE: &str = "table that isn't one of name and text";
+
+const IGNORED_TEXT: &str = "doc string that is ignored";
+
+const IGNORED_TABLE: &str = "table that is ignored";
+
 /// The faults that a step can have.
 pub const ALL_FAULTS: [StepFault; 7] = [
     StepFault::Undefined,
@@ -40,13 +54,13 @@ impl StepFault {
         ensures { result.now ≡ spec.fault_text self }
     {
         match self {
-            StepFault::Undefined => "undefined step",
-            StepFault::CleanupWithoutStep => "cleanup without step",
-            StepFault::NoText => "step without the text that its action needs",
-            StepFault::NoTable => "step without the table that its action needs",
-            StepFault::BadTable => "table that isn't one of name and text",
-            StepFault::IgnoredText => "doc string that is ignored",
-            StepFault::IgnoredTable => "table that is ignored",
+            StepFault::Undefined => UNDEFINED,
+            StepFault::CleanupWithoutStep => CLEANUP_WITHOUT_STEP,
+            StepFault::NoText => NO_TEXT,
+            StepFault::NoTable => NO_TABLE,
+            StepFault::BadTable => BAD_TABLE,
+            StepFault::IgnoredText => IGNORED_TEXT,
+            StepFault::IgnoredTable => IGNORED_TABLE,
         }
     }
 }

@@ -11,7 +11,7 @@ ghost use Rattle.gk_lint.specs.Findings.{AreInOrder, named_once};
 ghost use Rattle.gk_lint.specs.StepFaults.{all_faults};
 ghost use Rattle.gk_lint.specs.Lookups.{faults_in, places_in};
 ghost use Rattle.gk_lint.specs.WrittenSteps as spec;
-ghost use Rattle.gk_lint.specs.WrittenSteps.{found_in, used_in};
+ghost use Rattle.gk_lint.specs.WrittenSteps.{found_in, used_in, LooksUpWhatIsRun};
 
 use crate::findings::{Finding, add_once, in_order};
 use crate::lookups::Lookups;
@@ -376,3 +376,9 @@ pub fn lint_hooks(
     add_hooks(&mut found, alloc, library, &hooks.hooks)?;
     ordered(found)
 }
+
+/// The steps that `lint_steps` looks up are those of the feature's cases, as `expand` returns them, and of its
+/// Backgrounds: each step that is run is looked up, and no other but those of a Background that no case has.
+pub fn what_is_run_is_looked_up()
+    ensures { LooksUpWhatIsRun }
+{}

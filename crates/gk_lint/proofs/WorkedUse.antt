@@ -1,0 +1,100 @@
+-- What is found of steps, libraries, names, hooks and lines, worked by computation.
+use Rattle.std.proofs.Common.{codes, ◌≡◌, ℕ, true, false, List, [], ◌∷◌, Option, Some, None, refl}
+use Rattle.gk_gherkin.specs.declared.feature.StepType.TheVariants.{Given}
+use Rattle.gk_gherkin.specs.declared.hooks.HookKind.TheVariants.{BeforeTag}
+use Rattle.gk_gherkin.specs.Feature.{Empty, Text, Table, StepValue, ExamplesValue, ScenarioValue, FeatureValue}
+use Rattle.gk_gherkin.specs.Hooks.{HookValue}
+use Rattle.gk_gherkin.specs.Lines.{Lines, line_at}
+use Rattle.gk_select.specs.Filling.{filled, filled_from, cell_under}
+use Rattle.gk_steps.specs.declared.action.Action.TheVariants.{FileIs, WriteFiles, FileExists, SetValue}
+use Rattle.gk_lint.specs.declared.findings.FindingKind.TheVariants.{NameTwice, OfStep, UnusedEntry, HookOfNoTag}
+use Rattle.gk_lint.specs.declared.step_faults.StepFault.TheVariants.{Undefined, NoText, NoTable, BadTable, IgnoredText, IgnoredTable}
+use Rattle.gk_lint.specs.Findings.{at_line, named_once}
+use Rattle.gk_lint.specs.StepFaults.{all_faults}
+use Rattle.gk_lint.specs.Blocks.{block_faults}
+use Rattle.gk_lint.specs.WrittenSteps.{runs_in}
+use Rattle.gk_lint.specs.LibraryUse.{unused_entries}
+use Rattle.gk_lint.specs.ScenarioNames.{same_names}
+use Rattle.gk_lint.specs.TagUse.{hooks_of_no_tag}
+use Rattle.gk_lint.specs.ScenarioLines.{without_scenario}
+
+-- However many rows have a fault, it is named once, and undefined steps come first.
+once : named_once all_faults 3 (NoText ∷ Undefined ∷ NoText ∷ []) ≡ at_line 3 (OfStep Undefined) ∷ at_line 3 (OfStep NoText) ∷ []
+once = refl
+
+-- A check of a file with no text, with a doc string, with both, and with a table; and a check that works with no text.
+no_text : block_faults FileIs false Empty ≡ NoText ∷ []
+no_text = refl
+
+doc_string : block_faults FileIs false (Text (codes "red")) ≡ []
+doc_string = refl
+
+field_and_doc_string : block_faults FileIs true (Text (codes "red")) ≡ IgnoredText ∷ []
+field_and_doc_string = refl
+
+table_for_text : block_faults SetValue false (Table ((codes "red" ∷ []) ∷ [])) ≡ NoText ∷ IgnoredTable ∷ []
+table_for_text = refl
+
+text_for_none : block_faults FileExists false (Text (codes "red")) ≡ IgnoredText ∷ []
+text_for_none = refl
+
+-- A table of files, another one, and none.
+files : block_faults WriteFiles false (Table ((codes "name" ∷ codes "text" ∷ []) ∷ (codes "a" ∷ codes "1" ∷ []) ∷ [])) ≡ []
+files = refl
+
+other_columns : block_faults WriteFiles false (Table ((codes "text" ∷ codes "name" ∷ []) ∷ [])) ≡ BadTable ∷ []
+other_columns = refl
+
+no_table : block_faults WriteFiles false (Text (codes "red")) ≡ NoTable ∷ IgnoredText ∷ []
+no_table = refl
+
+-- An outline's step is run once for each row, and a scenario's as it is.
+step : StepValue
+step = record { keyword = codes "Given"; step_type = Given; text = codes "<x>"; block = Empty; line = 4 }
+
+part : ExamplesValue
+part = record { name = []; line = 6; tags = codes "@e" ∷ []; header = codes "x" ∷ []; rows = record { line = 8; cells = codes "1" ∷ [] } ∷ record { line = 9; cells = codes "2" ∷ [] } ∷ [] }
+
+scenario : List ExamplesValue → ScenarioValue
+scenario examples = record { keyword = codes "Scenario"; name = codes "S"; line = 3; tags = []; steps = step ∷ []; examples = examples }
+
+in_outline : runs_in (scenario (part ∷ [])) step ≡ record step { text = codes "1" } ∷ record step { text = codes "2" } ∷ []
+unfolding scenario part step filled filled_from cell_under
+in_outline = refl
+
+in_plain : runs_in (scenario []) step ≡ step ∷ []
+unfolding scenario
+in_plain = refl
+
+-- The second of two entries isn't used. Blank lines and comments have no place.
+library : Lines
+library = line_at 1 (codes "# a comment") ∷ line_at 2 (codes "step a => pass") ∷ line_at 3 (codes "") ∷ line_at 4 (codes "step b => pass") ∷ []
+
+second_unused : unused_entries (0 ∷ 0 ∷ []) library ≡ at_line 4 UnusedEntry ∷ []
+unfolding library
+second_unused = refl
+
+both_used : unused_entries (1 ∷ 0 ∷ []) library ≡ []
+unfolding library
+both_used = refl
+
+-- Two scenarios with one name, of which the second stands in a rule; an outline in it.
+feature : FeatureValue
+feature = record { name = codes "F"; line = 1; tags = codes "@f" ∷ []; background = None; scenarios = scenario [] ∷ []; rules = record { name = codes "R"; line = 4; tags = []; background = None; scenarios = record (scenario (part ∷ [])) { line = 5 } ∷ [] } ∷ [] }
+
+second_named : same_names (Some feature) ≡ at_line 5 NameTwice ∷ []
+unfolding feature scenario
+second_named = refl
+
+-- Hooks for tags of the feature and of Examples, for one that stands nowhere, and for no tag.
+hook : Option (List ℕ) → HookValue
+hook tag = record { kind = BeforeTag; tag = tag; line = 7; steps = [] }
+
+one_idle : hooks_of_no_tag (feature ∷ []) (hook (Some (codes "@f")) ∷ hook (Some (codes "@e")) ∷ hook (Some (codes "@g")) ∷ hook None ∷ []) ≡ at_line 7 HookOfNoTag ∷ []
+unfolding feature scenario part hook
+one_idle = refl
+
+-- The scenario and the rows have lines that choose, and neither the outline's heading nor another line has.
+two_lines : without_scenario (feature ∷ []) (3 ∷ 5 ∷ 8 ∷ 10 ∷ []) ≡ 5 ∷ 10 ∷ []
+unfolding feature scenario part
+two_lines = refl

@@ -1,0 +1,7 @@
+use Rattle.std.proofs.Common.{◌≡◌, ◌++◌, map, drop}
+use Rattle.gk_gherkin.specs.Feature.{feature_value}
+use Rattle.gk_lint.specs.ScenarioLines.{lines_of_features}
+use Rattle.gk_lint.proofs.scenario_lines.lines_of_features.Given as goal
+
+abbrev pub invariant-loop-feature : goal.invariant-loop-feature
+invariant-loop-feature l = l.lines.items ++ lines_of_features (map feature_value (drop l.feature-index l.features)) ≡ lines_of_features (map feature_value l.features)

@@ -1,0 +1,7 @@
+use Rattle.std.proofs.Common.{◌≡◌, ◌++◌, map, drop}
+use Rattle.gk_gherkin.specs.Feature.{examples_value}
+use Rattle.gk_lint.specs.ScenarioLines.{lines_of_examples}
+use Rattle.gk_lint.proofs.scenario_lines.push_examples.Given as goal
+
+abbrev pub invariant-loop-part : goal.invariant-loop-part
+invariant-loop-part l = l.lines.items ++ lines_of_examples (map examples_value (drop l.part-index l.parts)) ≡ l.fn.lines.items ++ lines_of_examples (map examples_value l.parts)

@@ -1,0 +1,7 @@
+use Rattle.std.proofs.Common.{◌≡◌, ◌++◌, map, drop}
+use Rattle.gk_gherkin.specs.Feature.{feature_value}
+use Rattle.gk_lint.specs.TagUse.{tags_in}
+use Rattle.gk_lint.proofs.tag_use.tags_in.Given as goal
+
+abbrev pub invariant-loop-feature : goal.invariant-loop-feature
+invariant-loop-feature l = map (λ t. t.now) l.all.items ++ tags_in (map feature_value (drop l.feature-index l.features)) ≡ tags_in (map feature_value l.features)

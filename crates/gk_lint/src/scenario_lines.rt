@@ -1,0 +1,114 @@
+//! The lines at which scenarios are, and those of `--line` at which none is.
+ghost use Rattle.std.specs.Prelude.{◌≡◌, ◌++◌, not, map, filter, OnOk, IfOk};
+ghost use Rattle.std.specs.List.Sorted.{IsNonDecreasing};
+ghost use Rattle.gk_gherkin.specs.Feature.{row_value, examples_value, scenario_value, rule_value, feature_value};
+ghost use Rattle.gk_lint.specs.LibraryUse.{is_among};
+ghost use Rattle.gk_lint.specs.ScenarioLines as spec;
+
+use crate::library_use::{has, rising};
+use crate::vanishing::is_outline;
+use gk_gherkin::{Examples, Feature, Row, Rule, Scenario};
+use std::alloc::{AllocError, Global};
+
+fn push_rows(lines: &mut Vec<usize>, rows: &[Row]) -> Result<(), AllocError>
+    ensures { OnOk result (lines.new.items
+        ≡ lines.old.items ++ spec.lines_of_rows (map row_value rows.now)) }
+{
+    for row in rows {
+        lines.push(row.line as usize)?;
+    }
+    Ok(())
+}
+
+fn push_examples(lines: &mut Vec<usize>, parts: &[Examples]) -> Result<(), AllocError>
+    ensures { OnOk result (lines.new.items
+        ≡ lines.old.items ++ spec.lines_of_examples (map examples_value parts.now)) }
+{
+    for part in parts {
+        push_rows(lines, &part.rows)?;
+    }
+    Ok(())
+}
+
+fn push_scenario(lines: &mut Vec<usize>, scenario: &Scenario) -> Result<(), AllocError>
+    ensures { OnOk result (lines.new.items
+        ≡ lines.old.items ++ spec.lines_of_scenario (scenario_value scenario.now)) }
+{
+    if is_outline(scenario) {
+        push_examples(lines, &scenario.examples)
+    } else {
+        lines.push(scenario.line as usize)?;
+        Ok(())
+    }
+}
+
+fn push_scenarios(lines: &mut Vec<usize>, scenarios: &[Scenario]) -> Result<(), AllocError>
+    ensures { OnOk result (lines.new.items
+        ≡ lines.old.items ++ spec.lines_of_scenarios (map scenario_value scenarios.now)) }
+{
+    for scenario in scenarios {
+        push_scenario(lines, scenario)?;
+    }
+    Ok(())
+}
+
+fn push_rules(lines: &mut Vec<usize>, rules: &[Rule]) -> Result<(), AllocError>
+    ensures { OnOk result (lines.new.items
+        ≡ lines.old.items ++ spec.lines_of_rules (map rule_value rules.now)) }
+{
+    for rule in rules {
+        push_scenarios(lines, &rule.scenarios)?;
+    }
+    Ok(())
+}
+
+fn push_feature(lines: &mut Vec<usize>, feature: &Feature) -> Result<(), AllocError>
+    ensures { OnOk result (lines.new.items
+        ≡ lines.old.items ++ spec.lines_of_feature (feature_value feature.now)) }
+{
+    push_scenarios(lines, &feature.scenarios)?;
+    push_rules(lines, &feature.rules)
+}
+
+// The lines of the cases of features.
+fn lines_of_features(alloc: Global, features: &[Feature]) -> Result<Vec<usize>, AllocError>
+    ensures { IfOk result (λ lines. lines.items
+        ≡ spec.lines_of_features (map feature_value features.now)) }
+{
+    let mut lines = Vec::new(alloc);
+    for feature in features {
+        push_feature(&mut lines, feature)?;
+    }
+    Ok(lines)
+}
+
+// Those of some lines that aren't among numbers in rising order.
+fn not_among(alloc: Global, numbers: &[usize], lines: &[u32]) -> Result<Vec<u32>, AllocError>
+    requires { IsNonDecreasing numbers.now }
+    ensures { IfOk result (λ left. left.items
+        ≡ filter (λ line. not (is_among numbers.now line)) lines.now) }
+{
+    let mut left = Vec::new(alloc);
+    for line in lines {
+        if !has(numbers, *line as usize) {
+            left.push(*line)?;
+        }
+    }
+    Ok(left)
+}
+
+/// Those of some lines at which no scenario and no row of an outline is in these features, in their order: a `--line` of
+/// such a line chooses nothing. An error comes only where a growth was refused.
+pub fn lines_without_scenario(
+    alloc: Global,
+    lines: &[u32],
+    features: &[Feature],
+) -> Result<Vec<u32>, AllocError>
+    ensures { IfOk result (λ left. left.items
+        ≡ spec.without_scenario (map feature_value features.now) lines.now) }
+{
+    let all = lines_of_features(alloc, features)?;
+    let numbers = rising(alloc, &all)?;
+    let left = not_among(alloc, &numbers, lines)?;
+    Ok(left)
+}

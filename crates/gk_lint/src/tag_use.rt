@@ -1,0 +1,139 @@
+//! Hooks for tags that stand nowhere.
+ghost use Rattle.std.specs.Prelude.{◌≡◌, ◌++◌, map, OnOk, IfOk};
+ghost use Rattle.gk_gherkin.specs.Feature.{texts, examples_value, scenario_value, rule_value, feature_value};
+ghost use Rattle.gk_gherkin.specs.Hooks.{hook_value, hooks_value};
+ghost use Rattle.gk_lint.specs.Findings.{AreInOrder};
+ghost use Rattle.gk_lint.specs.TextSets.{in_set};
+ghost use Rattle.gk_lint.specs.TagUse as spec;
+
+use crate::findings::{Finding, FindingKind, add_if, in_order};
+use crate::text_sets::{TextSet, set_of};
+use gk_gherkin::{Examples, Feature, Hook, HookFile, Rule, Scenario};
+use std::alloc::{AllocError, Global};
+
+fn push_tags<'a>(all: &mut Vec<&'a str>, tags: &'a [String]) -> Result<(), AllocError>
+    ensures { OnOk result (map (λ t. t.now) all.new.items
+        ≡ map (λ t. t.now) all.old.items ++ texts tags.now) }
+{
+    for tag in tags {
+        all.push(tag.as_str())?;
+    }
+    Ok(())
+}
+
+fn push_examples<'a>(all: &mut Vec<&'a str>, parts: &'a [Examples]) -> Result<(), AllocError>
+    ensures { OnOk result (map (λ t. t.now) all.new.items ≡ map (λ t. t.now) all.old.items
+        ++ spec.tags_of_examples (map examples_value parts.now)) }
+{
+    for part in parts {
+        push_tags(all, &part.tags)?;
+    }
+    Ok(())
+}
+
+fn push_scenario<'a>(all: &mut Vec<&'a str>, scenario: &'a Scenario) -> Result<(), AllocError>
+    ensures { OnOk result (map (λ t. t.now) all.new.items ≡ map (λ t. t.now) all.old.items
+        ++ spec.tags_of_scenario (scenario_value scenario.now)) }
+{
+    push_tags(all, &scenario.tags)?;
+    push_examples(all, &scenario.examples)
+}
+
+fn push_scenarios<'a>(all: &mut Vec<&'a str>, scenarios: &'a [Scenario]) -> Result<(), AllocError>
+    ensures { OnOk result (map (λ t. t.now) all.new.items ≡ map (λ t. t.now) all.old.items
+        ++ spec.tags_of_scenarios (map scenario_value scenarios.now)) }
+{
+    for scenario in scenarios {
+        push_scenario(all, scenario)?;
+    }
+    Ok(())
+}
+
+fn push_rule<'a>(all: &mut Vec<&'a str>, rule: &'a Rule) -> Result<(), AllocError>
+    ensures { OnOk result (map (λ t. t.now) all.new.items ≡ map (λ t. t.now) all.old.items
+        ++ spec.tags_of_rule (rule_value rule.now)) }
+{
+    push_tags(all, &rule.tags)?;
+    push_scenarios(all, &rule.scenarios)
+}
+
+fn push_rules<'a>(all: &mut Vec<&'a str>, rules: &'a [Rule]) -> Result<(), AllocError>
+    ensures { OnOk result (map (λ t. t.now) all.new.items ≡ map (λ t. t.now) all.old.items
+        ++ spec.tags_of_rules (map rule_value rules.now)) }
+{
+    for rule in rules {
+        push_rule(all, rule)?;
+    }
+    Ok(())
+}
+
+fn push_feature<'a>(all: &mut Vec<&'a str>, feature: &'a Feature) -> Result<(), AllocError>
+    ensures { OnOk result (map (λ t. t.now) all.new.items ≡ map (λ t. t.now) all.old.items
+        ++ spec.tags_of (feature_value feature.now)) }
+{
+    push_tags(all, &feature.tags)?;
+    push_scenarios(all, &feature.scenarios)?;
+    push_rules(all, &feature.rules)
+}
+
+// All tags that stand in features.
+fn tags_in<'a>(alloc: Global, features: &'a [Feature]) -> Result<Vec<&'a str>, AllocError>
+    ensures { IfOk result (λ all. map (λ t. t.now) all.items
+        ≡ spec.tags_in (map feature_value features.now)) }
+{
+    let mut all = Vec::new(alloc);
+    for feature in features {
+        push_feature(&mut all, feature)?;
+    }
+    Ok(all)
+}
+
+// Adds what is found of a hook, by which tags stand in the features.
+fn add_idle_hook(
+    findings: &mut Vec<Finding>,
+    tags: &TextSet<'_>,
+    hook: &Hook,
+) -> Result<(), AllocError>
+    ensures { let h = hook_value hook.now in OnOk result (findings.new.items
+        ≡ findings.old.items ++ spec.of_tag (in_set tags.now) h.line h.tag) }
+{
+    match &hook.tag {
+        Some(tag) => {
+            let is_idle = !tags.has(tag.as_str());
+            add_if(findings, is_idle, hook.line, FindingKind::HookOfNoTag)
+        }
+        None => Ok(()),
+    }
+}
+
+// What is found of hooks, by which tags stand in the features.
+fn idle_hooks(alloc: Global, tags: &TextSet<'_>, hooks: &[Hook]) -> Result<Vec<Finding>, AllocError>
+    ensures { IfOk result (λ findings. findings.items
+        ≡ spec.idle_hooks (in_set tags.now) (map hook_value hooks.now)) }
+{
+    let mut findings = Vec::new(alloc);
+    for hook in hooks {
+        add_idle_hook(&mut findings, tags, hook)?;
+    }
+    Ok(findings)
+}
+
+/// What is found of a hooks file beside these features, in the order of lines: each hook for a tag that stands nowhere
+/// in them, neither above a feature or a rule nor above a scenario or its Examples. An error comes only where a
+/// growth was refused.
+pub fn lint_hook_tags(
+    alloc: Global,
+    hooks: &HookFile,
+    features: &[Feature],
+) -> Result<Vec<Finding>, AllocError>
+    // All findings are answered, and nothing else.
+    ensures { IfOk result (λ findings. AreInOrder
+        (spec.hooks_of_no_tag (map feature_value features.now) (hooks_value hooks.now))
+        findings.items) }
+{
+    let all = tags_in(alloc, features)?;
+    let tags = set_of(alloc, &all)?;
+    let findings = idle_hooks(alloc, &tags, &hooks.hooks)?;
+    let ordered = in_order(findings)?;
+    Ok(ordered)
+}
