@@ -10,6 +10,7 @@ mod digits;
 mod entry_index;
 mod filled_cells;
 mod finding;
+mod kept;
 mod leftmost;
 mod library;
 mod library_fault;
