@@ -6,12 +6,16 @@ it, and not taken from the program.
 """
 
 import os
+import resource
 import shutil
 import threading
 
 import driver
 
 PATIENCE = 120  # seconds
+FEW, MANY = 1_000, 10_000  # of an option
+GROWTH = 20  # at most, from few of an option to many: one that grew with their square would take 100 times as long
+TRIES = 5
 FILE_LIMIT = 16_777_216
 TEXT_LIMIT = 1_048_576
 STEPS_LIMIT = 1_000_000
@@ -22,6 +26,7 @@ PROGRESS = ["--format", "progress"]
 LIBRARY = ["--library", "l.steps", "a.feature"]
 HOOKS = ["--hooks", "h.hooks", "a.feature"]
 RUNS = []
+OPTION_RUNS = []
 
 
 class Run:
@@ -42,6 +47,14 @@ class Run:
 def large_run(make):
     """Marks a function that makes a large run."""
     RUNS.append(make)
+    return make
+
+
+def option_run(make):
+    """Marks a function that makes a run with so many of an option.
+
+    With many of it, it is a large run; and it is timed with few and with many."""
+    OPTION_RUNS.append(make)
     return make
 
 
@@ -770,6 +783,41 @@ def long_option():
                arguments=["--env", f"V={text}", "--tags", "~@" + "t" * 100_000, "a.feature"])
 
 
+def given(option, values):
+    """An option with each of these values."""
+    return [it for value in values for it in (option, str(value))]
+
+
+def first_of_two(options):
+    """A run of which the first of two scenarios is chosen."""
+    step = "Given it passes"
+    feature = "Feature: f\n" + scenario("one", [step]) + "@no\n" + scenario("two", [step])
+    report = part("passed", [case("one", "passed", [(step, "passed")]),
+                             case("two", "skipped", [(step, "skipped")])])
+    return Run({"a.feature": feature}, 0, report + closing(1, (1, 0, 1), (1, 0, 1)),
+               arguments=[*options, "a.feature"])
+
+
+@option_run
+def lines_of_which_the_last_chooses(count):
+    return first_of_two(given("--line", [*range(count + 5, 6, -1), 2]))
+
+
+@option_run
+def tags_of_which_the_last_chooses(count):
+    """Each of them is looked up for each scenario, so the scenarios are few."""
+    return first_of_two(given("--tags", [*(f"~@t{number}" for number in range(count - 1)), "~@no"]))
+
+
+@option_run
+def variables_of_the_run(count):
+    steps = ['Then the variable "V0" should be "0"',
+             f'And the variable "V{count - 1}" should be "{count - 1}"',
+             f'And the variable "V{count}" should be unset']
+    return Run({"a.feature": driver.feature(*steps)}, 0, one_passing(steps),
+               arguments=[*given("--env", (f"V{number}={number}" for number in range(count))), "a.feature"])
+
+
 # ---- libraries
 
 def entries_of(count):
@@ -1008,6 +1056,41 @@ def trouble(program, folder, name, run):
     return driver.trouble(f"large run {name}", ended, run.wanted())
 
 
+def processor_time(program, folder, arguments):
+    """The processor time of a run. No other process may be waited for meanwhile."""
+    def spent():
+        used = resource.getrusage(resource.RUSAGE_CHILDREN)
+        return used.ru_utime + used.ru_stime
+    before = spent()
+    driver.start(program, arguments, folder, patience=PATIENCE)
+    return spent() - before
+
+
+def growth_trouble(program, folder, make):
+    """What is wrong where the time of a run grows more than the number of an option, or nothing.
+
+    Of each number the least time of some tries is taken, each in turn."""
+    few, many = make(FEW).arguments, make(MANY).arguments
+    times = [[processor_time(program, folder, it) for it in (few, many)] for _ in range(TRIES)]
+    short, long = (min(own) for own in zip(*times))
+    if long <= GROWTH * short:
+        return ""
+    return (f"option run {make.__name__}: {long / short:.1f} times the time for {MANY // FEW} times the options, "
+            f"and not at most {GROWTH} times")
+
+
+def option_troubles(program, room):
+    """What is wrong with each run of many of an option, and with its time, or nothing."""
+    for make in OPTION_RUNS:
+        folder = os.path.join(room, make.__name__)
+        for number in (FEW, MANY):
+            run = make(number)
+            driver.write(folder, run.files)
+            yield trouble(program, folder, f"{make.__name__}, {number:,}", run)
+        yield growth_trouble(program, folder, make)
+        shutil.rmtree(folder)
+
+
 def from_a_pipe(program, folder):
     """What is wrong where the program reads a pipe that gives one byte at a time, or nothing."""
     steps = ["Given it passes"]
@@ -1036,4 +1119,5 @@ def troubles(program, room):
         driver.write(folder, run.files)
         yield trouble(program, folder, make.__name__, run)
         shutil.rmtree(folder)
+    yield from option_troubles(program, room)
     yield from_a_pipe(program, os.path.join(room, "from_a_pipe"))
