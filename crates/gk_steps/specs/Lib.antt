@@ -18,5 +18,6 @@ pub mod Columns
 pub mod TableRows
 pub mod Leftmost
 pub mod Kept
+pub mod UsedFields
 pub mod Digits
 pub mod EntryIndex
