@@ -783,6 +783,41 @@ def long_option():
                arguments=["--env", f"V={text}", "--tags", "~@" + "t" * 100_000, "a.feature"])
 
 
+def given(option, values):
+    """An option with each of these values."""
+    return [it for value in values for it in (option, str(value))]
+
+
+def first_of_two(options):
+    """A run of which the first of two scenarios is chosen."""
+    step = "Given it passes"
+    feature = "Feature: f\n" + scenario("one", [step]) + "@no\n" + scenario("two", [step])
+    report = part("passed", [case("one", "passed", [(step, "passed")]),
+                             case("two", "skipped", [(step, "skipped")])])
+    return Run({"a.feature": feature}, 0, report + closing(1, (1, 0, 1), (1, 0, 1)),
+               arguments=[*options, "a.feature"])
+
+
+@growing_run(1000)
+def lines_of_which_the_last_chooses(count):
+    return first_of_two(given("--line", [*range(count + 5, 6, -1), 2]))
+
+
+@growing_run(1000)
+def tags_of_which_the_last_chooses(count):
+    """Each of them is looked up for each scenario, so the scenarios are few."""
+    return first_of_two(given("--tags", [*(f"~@t{number}" for number in range(count - 1)), "~@no"]))
+
+
+@growing_run(1000)
+def variables_of_the_run(count):
+    steps = ['Then the variable "V0" should be "0"',
+             f'And the variable "V{count - 1}" should be "{count - 1}"',
+             f'And the variable "V{count}" should be unset']
+    return Run({"a.feature": driver.feature(*steps)}, 0, one_passing(steps),
+               arguments=[*given("--env", (f"V{number}={number}" for number in range(count))), "a.feature"])
+
+
 # ---- libraries
 
 def entries_of(count):

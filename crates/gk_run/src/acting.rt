@@ -1,7 +1,7 @@
 //! What a step's action does.
-ghost use Rattle.std.specs.Prelude.{◌≡◌, ◌<◌, [], true, not, option_copied, unwrap_or};
+ghost use Rattle.std.specs.Prelude.{◌≡◌, ◌<◌, true, not, option_copied};
 ghost use Rattle.gk_gherkin.specs.Feature.{block_value};
-ghost use Rattle.gk_steps.specs.Finding.{library_value, found_value, found_any, text_field};
+ghost use Rattle.gk_steps.specs.Finding.{library_value, found_value, found_any};
 ghost use Rattle.gk_world.specs.State.{State, state_of};
 ghost use Rattle.gk_world.specs.Sandbox.{depth, KeepsLayers};
 ghost use Rattle.gk_run.specs.Cleanups.{cleanups_value};
@@ -136,27 +136,19 @@ fn doc_string(block: &Block) -> Option<&str>
     }
 }
 
-// A field's text; the empty one where the pattern has no such field.
-#[inline(always)]
-fn field_text<'a>(library: &Library, found: &'a Found, field: &str) -> &'a str
-    ensures { result.now
-        ≡ unwrap_or (text_field (library_value library.now) (found_value found.now) field.now) [] }
-{
-    library.text(found, field).unwrap_or("")
-}
-
 // What a step's action works with.
 #[inline(always)]
 fn arguments_of<'a>(library: &Library, found: &'a Found, block: &'a Block) -> Arguments<'a>
     ensures { given_value result
         ≡ given (library_value library.now) (found_value found.now) (block_value block.now) }
 {
+    let used = library.used_fields(found);
     Arguments {
-        name: field_text(library, found, "name"),
-        to: field_text(library, found, "to"),
-        step: field_text(library, found, "step"),
-        number: library.number(found, "n").unwrap_or(0),
-        text: library.text(found, "text").or(doc_string(block)),
+        name: used.name.unwrap_or(""),
+        to: used.to.unwrap_or(""),
+        step: used.step.unwrap_or(""),
+        number: used.number.unwrap_or(0),
+        text: used.text.or(doc_string(block)),
         block,
     }
 }

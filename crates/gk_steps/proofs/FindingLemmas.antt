@@ -1,8 +1,6 @@
 -- The search over a library.
-use Rattle.std.proofs.Common.{◌≡◌, ℕ, zero, suc, ◌+◌, ◌<◌, ◌≤◌, inl, inr, Bool, true, false, List, [], ◌∷◌, length, map, get_or, Option, Some, None, option_map, refl, ap, sym, subst, ◌∙◌, arith}
-use Rattle.std.specs.Prelude.{slice_get, Result, Ok, Err, IfOk, IfErr}
-use Rattle.std.specs.declared.alloc.AllocError.{AllocError}
-use Rattle.gk_steps.specs.declared.finding.Found.{Found}
+use Rattle.std.proofs.Common.{◌≡◌, ℕ, zero, suc, ◌+◌, ◌<◌, ◌≤◌, inl, inr, Bool, true, false, List, [], ◌∷◌, length, map, get_or, Option, Some, None, refl, ap, sym, subst, ◌∙◌, arith}
+use Rattle.std.specs.Prelude.{slice_get, Result, Ok, Err, IfErr}
 use Rattle.std.specs.Option.{option_or}
 use Rattle.std.proofs.Math.Nat.{eq-or-lt_of_le}
 use Rattle.std.proofs.lemmas.List.{length-map}
@@ -15,7 +13,7 @@ use Rattle.gk_steps.specs.PassingOver.{FitsStart, FitsEnd}
 use Rattle.gk_steps.specs.Matching.{AreSpans, MatchesNot, IsMatchResult, FieldValue, span_values, match_of}
 use Rattle.gk_steps.proofs.MatchingLemmas.{one_result}
 use Rattle.gk_steps.proofs.BestMatchLemmas.{match_of_is}
-use Rattle.gk_steps.specs.Finding.{EntryValue, LibraryValue, FoundValue, entry_value, found_value, HasCandidate, NoneFound, NoneBefore, IsFirstFound, IsFoundOf, IsFound, IsFoundAny, is_same_type, is_of_type, match_where, found_at, found_from, found, found_any, HaveKindsOf, FitsLibrary, FindsWhatIsFound}
+use Rattle.gk_steps.specs.Finding.{EntryValue, LibraryValue, FoundValue, entry_value, HasCandidate, NoneFound, NoneBefore, IsFirstFound, IsFoundOf, IsFound, IsFoundAny, is_same_type, is_of_type, match_where, found_at, found_from, found, found_any, HaveKindsOf, FitsLibrary, FindsWhatIsFound}
 
 pub same_option : {A : Type 0} (x y : A) → ◌≡◌ {A = Option A} (Some x) (Some y) → x ≡ y
 same_option x y e = cc
@@ -237,15 +235,7 @@ finds = record {
   fits_any = λ es text f h. first_fits es None text f h;
 }
 
-pub any_answer : (es : LibraryValue) (text : List ℕ) (r : Result (Option Found) AllocError) → IfOk r (λ o. IsFoundOf es None text (option_map found_value o)) → IfOk r (λ o. option_map found_value o ≡ found_any es text)
-any_answer es text (Ok o) h = any_computed es text (option_map found_value o) h
-any_answer es text (Err e) h = tt
-
-from_any : (es : LibraryValue) (step_type : StepType) (text : List ℕ) (a : Option FoundValue) → IsFoundOf es (Some step_type) text None → a ≡ found_any es text → a ≡ found es step_type text
-unfolding found found_any
-from_any es step_type text a none h = h ∙ ap (λ o. option_or o (found_from 0 es None text)) (of_computed es (Some step_type) text None none)
-
 -- where no entry of the own type has a match, what is found is what the entries of type `step` give
-pub other_answer : (es : LibraryValue) (step_type : StepType) (text : List ℕ) (r : Result (Option Found) AllocError) → IsFoundOf es (Some step_type) text None → IfOk r (λ o. option_map found_value o ≡ found_any es text) → IfOk r (λ o. option_map found_value o ≡ found es step_type text)
-other_answer es step_type text (Ok o) none h = from_any es step_type text (option_map found_value o) none h
-other_answer es step_type text (Err e) none h = tt
+pub found_as_any : (es : LibraryValue) (step_type : StepType) (text : List ℕ) → IsFoundOf es (Some step_type) text None → found_any es text ≡ found es step_type text
+unfolding found found_any
+found_as_any es step_type text none = ap (λ o. option_or o (found_from 0 es None text)) (of_computed es (Some step_type) text None none)

@@ -23,3 +23,4 @@ mod NumberLemmas
 mod LeftmostLemmas
 mod LibraryLemmas
 mod EntryIndexLemmas
+mod KeptLemmas

@@ -17,5 +17,7 @@ pub mod Places
 pub mod Columns
 pub mod TableRows
 pub mod Leftmost
+pub mod Kept
+pub mod UsedFields
 pub mod Digits
 pub mod EntryIndex

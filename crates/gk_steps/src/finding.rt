@@ -3,14 +3,16 @@ ghost use Rattle.std.specs.Prelude.{◌≡◌, ◌≤◌, ◌+◌, map, IfOk, If
 ghost use Rattle.gk_steps.specs.Pattern.{pieces_said};
 ghost use Rattle.gk_steps.specs.Matching.{field_value};
 ghost use Rattle.gk_steps.specs.Finding as spec;
-ghost use Rattle.gk_steps.specs.Finding.{IsFoundOf, HasCandidate, HasCandidateFor, FindsWhatIsFound};
-ghost use Rattle.gk_steps.specs.Finding.{entries_said, library_value, found_value};
+ghost use Rattle.gk_steps.specs.Finding.{HasCandidate, HasCandidateFor, FindsWhatIsFound};
+ghost use Rattle.gk_steps.specs.Finding.{FoundValue, entries_said, library_value, found_value};
+ghost use Rattle.gk_steps.specs.Kept.{IsHit, HitsWhatIsFound};
 ghost use Rattle.gk_steps.specs.FilledCells.{cells_of_type, cells_of_step};
 ghost use Rattle.gk_steps.specs.EntryIndex.{IsShelf};
 
 use crate::action::Action;
 use crate::entry_index::Shelf;
 use crate::filled_cells::Cells;
+use crate::kept::{Kept, Unkept};
 use crate::library::Library;
 use crate::matching::match_from_left;
 use crate::pattern::{Field, Piece};
@@ -22,6 +24,13 @@ use std::alloc::{AllocError, Global};
 pub struct Found {
     pub entry: usize,
     pub fields: Vec<Field>,
+}
+
+/// An entry's place in the library, and what was kept of what its fields took.
+#[derive(Debug, Drop)]
+pub(crate) struct Hit<K> {
+    pub entry: usize,
+    pub kept: K,
 }
 
 // Whether two types are the same.
@@ -40,16 +49,16 @@ fn is_same(a: Option<StepType>, b: Option<StepType>) -> bool
 // What a text finds among the entries of one type. An entry whose ends the text doesn't have is passed over here,
 // before a match begins.
 #[inline(always)]
-pub(crate) fn find_of(
+pub(crate) fn find_of<K: Kept>(
     cells: &mut Cells,
     alloc: Global,
     shelf: &Shelf<'_>,
     step_type: Option<StepType>,
     text: &str,
-) -> Result<Option<Found>, AllocError>
+) -> Result<Option<Hit<K>>, AllocError>
     requires { IsShelf shelf.now }
-    ensures found { let entries = entries_said shelf.now.entries.now in IfOk result (λ found.
-        IsFoundOf entries step_type text.now (option_map found_value found)) }
+    ensures found { let entries = entries_said shelf.now.entries.now in IfOk result (λ hit.
+        HitsWhatIsFound K.keeps entries step_type text.now hit) }
     ensures memory { IfErr result (λ e.
         HasCandidate (entries_said shelf.now.entries.now) step_type text.now) }
     ensures most { cells.new.filled ≤ cells.old.filled
@@ -62,10 +71,7 @@ pub(crate) fn find_of(
         let entry = &entries[place];
         if is_same(entry.step_type, step_type) && entry.pattern.can_match(text) {
             match match_from_left(cells, alloc, &entry.pattern.pieces, text)? {
-                Some(fields) => return Ok(Some(Found {
-                    entry: place,
-                    fields,
-                })),
+                Some(kept) => return Ok(Some(Hit { entry: place, kept })),
                 None => {}
             }
         }
@@ -73,6 +79,21 @@ pub(crate) fn find_of(
         place = shelf.next(place + 1, tries, text);
     }
     Ok(None)
+}
+
+// What was found, where all that the fields took was kept.
+#[inline(always)]
+fn found_of(hit: Option<Hit<Vec<Field>>>) -> Option<Found>
+    ensures { (found : Option FoundValue) → IsHit ⟦<Vec<Field> as Kept>⟧.keeps hit found
+        → option_map found_value result ≡ found }
+{
+    match hit {
+        Some(Hit { entry, kept }) => Some(Found {
+            entry,
+            fields: kept,
+        }),
+        None => None,
+    }
 }
 
 // What the field of a name took.
@@ -94,6 +115,46 @@ fn field_named<'a>(pieces: &[Piece], fields: &'a [Field], name: &str) -> Option<
 }
 
 impl Library {
+    // What a step finds, with what is kept of it, and the cells counted.
+    #[inline(always)]
+    fn search<K: Kept>(
+        &self,
+        alloc: Global,
+        cells: &mut Cells,
+        step_type: StepType,
+        text: &str,
+    ) -> Result<Option<Hit<K>>, AllocError>
+        ensures found { IfOk result (λ hit.
+            IsHit K.keeps hit (spec.found (library_value self.now) step_type text.now)) }
+        ensures memory { IfErr result (λ e.
+            HasCandidateFor (library_value self.now) step_type text.now) }
+        ensures most { cells.new.filled
+            ≤ cells.old.filled + cells_of_step (library_value self.now) step_type text.now }
+    {
+        let typed = self.shelf(self.typed);
+        if let Some(hit) = find_of(cells, alloc, &typed, Some(step_type), text)? {
+            return Ok(Some(hit));
+        }
+        self.search_any(alloc, cells, text)
+    }
+
+    // The same among the entries of type `step` alone.
+    fn search_any<K: Kept>(
+        &self,
+        alloc: Global,
+        cells: &mut Cells,
+        text: &str,
+    ) -> Result<Option<Hit<K>>, AllocError>
+        ensures found { IfOk result (λ hit.
+            IsHit K.keeps hit (spec.found_any (library_value self.now) text.now)) }
+        ensures memory { IfErr result (λ e. HasCandidate (library_value self.now) None text.now) }
+        ensures most { cells.new.filled
+            ≤ cells.old.filled + cells_of_type (library_value self.now) None text.now }
+    {
+        let all = self.whole();
+        find_of(cells, alloc, &all, None, text)
+    }
+
     /// What a step finds: the preferred match of the first entry of its type that has one, in library
     /// order, or else of the first entry of type `step`. An entry whose ends the text doesn't have is
     /// passed over without a table. At most one whole table is filled for each entry of these two types.
@@ -131,11 +192,7 @@ impl Library {
         ensures most { cells.new.filled
             ≤ cells.old.filled + cells_of_step (library_value self.now) step_type text.now }
     {
-        let typed = self.shelf(self.typed);
-        if let Some(found) = find_of(cells, alloc, &typed, Some(step_type), text)? {
-            return Ok(Some(found));
-        }
-        self.find_any_counting(alloc, cells, text)
+        Ok(found_of(self.search(alloc, cells, step_type, text)?))
     }
 
     /// The same among the entries of type `step` alone.
@@ -164,8 +221,7 @@ impl Library {
         ensures most { cells.new.filled
             ≤ cells.old.filled + cells_of_type (library_value self.now) None text.now }
     {
-        let all = self.whole();
-        find_of(cells, alloc, &all, None, text)
+        Ok(found_of(self.search_any(alloc, cells, text)?))
     }
 
     /// Whether a step finds an entry.
@@ -176,7 +232,9 @@ impl Library {
         ensures memory { IfErr result (λ e.
             HasCandidateFor (library_value self.now) step_type text.now) }
     {
-        Ok(self.find(alloc, step_type, text)?.is_some())
+        let mut cells = Cells::new();
+        let hit: Option<Hit<Unkept>> = self.search(alloc, &mut cells, step_type, text)?;
+        Ok(hit.is_some())
     }
 
     /// What `knows` returns, with the cells that it fills counted.
@@ -196,7 +254,10 @@ impl Library {
         ensures memory { IfErr result (λ e.
             HasCandidateFor (library_value self.now) step_type text.now) }
     {
-        Ok(self.find_counting(alloc, cells, step_type, text)?.is_some())
+        Ok(
+            self.search::<Unkept>(alloc, cells, step_type, text)?
+                .is_some(),
+        )
     }
 
     /// The action of what was found in this library. Takes no memory.

@@ -20,6 +20,7 @@ pub(crate) enum Cut {
 }
 
 // Whether a literal stands at a place where the text may be cut.
+#[inline(always)]
 fn stands_at(literal: &str, text: &str, place: usize) -> bool
     requires { place ≤ length text.now }
     ensures { MatchBool result (CanStandAt literal.now text.now place)
@@ -29,6 +30,7 @@ fn stands_at(literal: &str, text: &str, place: usize) -> bool
 }
 
 // The first place after a character or more where a literal stands.
+#[inline(always)]
 fn first_place(literal: &str, text: &str) -> Option<usize>
     ensures { IsFirstPlace literal.now text.now result }
 {
@@ -41,6 +43,7 @@ fn first_place(literal: &str, text: &str) -> Option<usize>
 }
 
 // What a literal takes.
+#[inline(always)]
 fn literal_cut(literal: &str, after: &[Piece], text: &str) -> Cut
     ensures { IsCutOf (Literal literal.now) (pieces_said after.now) text.now result }
 {
@@ -51,6 +54,7 @@ fn literal_cut(literal: &str, after: &[Piece], text: &str) -> Cut
 }
 
 // What a plain field takes before a literal that is the last piece.
+#[inline(always)]
 fn cut_before_last(literal: &str, text: &str) -> Cut
     ensures { IsCutBefore literal.now [] text.now result }
 {
@@ -63,6 +67,7 @@ fn cut_before_last(literal: &str, text: &str) -> Cut
 
 // What a plain field takes before a literal that another plain field comes after: the less the first takes,
 // the more is left for the other.
+#[inline(always)]
 fn cut_before_field(literal: &str, other: &str, after: &[Piece], text: &str) -> Cut
     ensures { let left = FieldPiece other.now kinds.Plain ∷ pieces_said after.now in
         IsCutBefore literal.now left text.now result }
@@ -74,6 +79,7 @@ fn cut_before_field(literal: &str, other: &str, after: &[Piece], text: &str) -> 
 }
 
 // What a plain field takes before a literal.
+#[inline(always)]
 fn cut_before(literal: &str, after: &[Piece], text: &str) -> Cut
     ensures { IsCutBefore literal.now (pieces_said after.now) text.now result }
 {
@@ -90,6 +96,7 @@ fn cut_before(literal: &str, after: &[Piece], text: &str) -> Cut
 }
 
 // What a plain field takes.
+#[inline(always)]
 fn plain_cut(after: &[Piece], text: &str) -> Cut
     ensures { (name : List ℕ)
         → IsCutOf (FieldPiece name kinds.Plain) (pieces_said after.now) text.now result }
@@ -110,6 +117,7 @@ fn plain_cut(after: &[Piece], text: &str) -> Cut
 }
 
 /// What the first piece of a pattern takes, where that is known without a table.
+#[inline(always)]
 pub(crate) fn cut_of(piece: &Piece, after: &[Piece], text: &str) -> Cut
     ensures { IsCutOf (piece_value piece.now) (pieces_said after.now) text.now result }
 {

@@ -18,6 +18,7 @@ use crate::action::{Action, row_named};
 use crate::entry_index::Shelf;
 use crate::filled_cells::Cells;
 use crate::finding::find_of;
+use crate::kept::Unkept;
 use crate::library::Entry;
 use crate::library_fault::LibraryFault;
 use crate::pattern::{FieldKind, Pattern, PatternFault, Piece};
@@ -222,7 +223,7 @@ fn entry_from(
         Err(fault) => return Err(fault),
     };
     let mut cells = Cells::new();
-    match find_of(&mut cells, alloc, earlier, said.step_type, said.pattern)? {
+    match find_of::<Unkept>(&mut cells, alloc, earlier, said.step_type, said.pattern)? {
         Some(_) => Err(LibraryFault::Ambiguous { line: number }),
         None => Ok(Entry {
             step_type: said.step_type,

@@ -1,55 +1,24 @@
 //! A match by a table.
-ghost use Rattle.std.specs.Prelude.{◌≡◌, ◌<◌, ◌≤◌, ◌+◌, ◌*◌, ◌++◌, ℕ, List, length, map};
+ghost use Rattle.std.specs.Prelude.{◌≡◌, ◌<◌, ◌≤◌, ◌+◌, ◌*◌, ℕ, List, length};
 ghost use Rattle.std.specs.Prelude.{false, IfOk, IfErr, OnOk, IsTrue, Some};
 ghost use Rattle.std.specs.Str.{chars};
-ghost use Rattle.gk_steps.specs.Pattern.{piece_value, pieces_said, pattern_value};
-ghost use Rattle.gk_steps.specs.Matching.{IsSpan, Matches, IsMatchResult, MatchesAreDetermined};
-ghost use Rattle.gk_steps.specs.Matching.{field_value, fields_said, span_value};
+ghost use Rattle.gk_steps.specs.Pattern.{pieces_said, pattern_value};
+ghost use Rattle.gk_steps.specs.Matching.{FieldValue, Matches, IsMatchResult, MatchesAreDetermined};
+ghost use Rattle.gk_steps.specs.Matching.{fields_said};
 ghost use Rattle.gk_steps.specs.Places.{ArePlaces};
-ghost use Rattle.gk_steps.specs.Columns.{Takes, values_of};
 ghost use Rattle.gk_steps.specs.TableRows.{IsWholeTable};
-ghost use Rattle.gk_steps.specs.Leftmost.{FindsRest};
+ghost use Rattle.gk_steps.specs.Kept.{IsKeptResult, KeepsRest};
 ghost use Rattle.gk_steps.specs.PassingOver.{FitsStart, FitsEnd};
 ghost use Rattle.gk_steps.specs.FilledCells.{GoesOnBy, table_cells};
 
 use crate::columns::advance;
-use crate::decimal::number_of;
 use crate::filled_cells::Cells;
+use crate::kept::Kept;
 use crate::leftmost::{Cut, cut_of};
-use crate::pattern::{Field, FieldKind, Pattern, Piece};
+use crate::pattern::{Field, Pattern, Piece};
 use crate::places::{RowBelow, places_of};
 use crate::table_rows::{first_row, row_over};
 use std::alloc::{AllocError, Global};
-
-// What a field says that took a span.
-#[inline(always)]
-fn field_of(alloc: Global, kind: FieldKind, span: &str) -> Result<Field, AllocError>
-    requires { IsSpan kind span.now }
-    ensures { IfOk result (λ field. field_value field ≡ span_value kind span.now) }
-{
-    match kind {
-        FieldKind::Plain => Ok(Field::Text(String::from_str(alloc, span)?)),
-        FieldKind::Decimal => Ok(Field::Number(number_of(span).unwrap())),
-    }
-}
-
-// Adds what a piece says that took a span.
-#[inline(always)]
-fn push_taken(
-    fields: &mut Vec<Field>,
-    alloc: Global,
-    piece: &Piece,
-    span: &str,
-) -> Result<(), AllocError>
-    requires { Takes (piece_value piece.now) span.now }
-    ensures { let more = values_of (piece_value piece.now) span.now in
-        OnOk result (map field_value fields.new.items ≡ map field_value fields.old.items ++ more) }
-{
-    if let Piece::Field { kind, .. } = piece {
-        fields.push(field_of(alloc, *kind, span)?)?;
-    }
-    Ok(())
-}
 
 // Whether the cells of a whole table can be counted in 64 bits.
 fn can_count(pieces: &[Piece], places: &[usize]) -> bool
@@ -95,20 +64,20 @@ fn table_of(
 }
 
 // Reads the preferred match from the table.
-fn read(
+fn read<K: Kept>(
     alloc: Global,
     pieces: &[Piece],
     text: &str,
     places: &[usize],
     rows: &[Vec<bool>],
-) -> Result<Vec<Field>, AllocError>
+) -> Result<K, AllocError>
     requires places { ArePlaces text.now places.now }
     requires table { IsWholeTable pieces.now text.now places.now rows.now }
     requires matched { (spans : List (List ℕ)) × Matches (pieces_said pieces.now) text.now spans }
-    ensures { IfOk result (λ fields.
-        IsMatchResult (pieces_said pieces.now) text.now (Some (map field_value fields.items))) }
+    ensures { IfOk result (λ kept.
+        IsKeptResult K.keeps (pieces_said pieces.now) text.now (Some kept)) }
 {
-    let mut fields = Vec::new(alloc);
+    let mut kept = K::empty(alloc);
     let mut column = places.len() - 1;
     for taken in 0..pieces.len() {
         let piece = &pieces[taken];
@@ -117,28 +86,23 @@ fn read(
             cells: &rows[pieces.len() - 1 - taken],
         };
         let next = advance(piece, text, &below, column).unwrap();
-        push_taken(
-            &mut fields,
-            alloc,
-            piece,
-            &text[places[column]..places[next]],
-        )?;
+        kept.add(alloc, piece, &text[places[column]..places[next]])?;
         column = next;
     }
-    Ok(fields)
+    Ok(kept)
 }
 
 // A match by a table of these places.
-fn match_pieces(
+fn match_pieces<K: Kept>(
     cells: &mut Cells,
     alloc: Global,
     pieces: &[Piece],
     text: &str,
     places: &[usize],
-) -> Result<Option<Vec<Field>>, AllocError>
+) -> Result<Option<K>, AllocError>
     requires { ArePlaces text.now places.now }
     ensures found { IfOk result (λ found.
-        IsMatchResult (pieces_said pieces.now) text.now (fields_said found)) }
+        IsKeptResult K.keeps (pieces_said pieces.now) text.now found) }
     ensures most { cells.new.filled
         ≤ cells.old.filled + (length pieces.now + 1) * length places.now }
     ensures filled { OnOk result
@@ -148,8 +112,8 @@ fn match_pieces(
     if !rows[pieces.len()][places.len() - 1] {
         return Ok(None);
     }
-    let fields = read(alloc, pieces, text, places, &rows)?;
-    Ok(Some(fields))
+    let kept = read(alloc, pieces, text, places, &rows)?;
+    Ok(Some(kept))
 }
 
 impl Pattern {
@@ -176,27 +140,25 @@ impl Pattern {
     }
 }
 
-// The match of the pieces that are left by a table, after the fields so far.
-fn match_rest(
+// The match of the pieces that are left by a table, after what is kept so far.
+fn match_rest<K: Kept>(
     cells: &mut Cells,
     alloc: Global,
-    fields: Vec<Field>,
+    kept: K,
     left: &[Piece],
     rest: &str,
-) -> Result<Option<Vec<Field>>, AllocError>
-    ensures found { let before = map field_value fields.items in
-        IfOk result (λ found.
-        FindsRest before (pieces_said left.now) rest.now (fields_said found)) }
+) -> Result<Option<K>, AllocError>
+    ensures found { IfOk result (λ found. (before : List FieldValue) → K.keeps kept before
+        → KeepsRest K.keeps before (pieces_said left.now) rest.now found) }
     ensures most { cells.new.filled
         ≤ cells.old.filled + table_cells (pieces_said left.now) rest.now }
 {
     let places = places_of(alloc, rest)?;
     match match_pieces(cells, alloc, left, rest, &places)? {
-        Some(others) => {
-            let mut fields = fields;
-            let mut others = others;
-            fields.append(&mut others)?;
-            Ok(Some(fields))
+        Some(later) => {
+            let mut kept = kept;
+            kept.join(later)?;
+            Ok(Some(kept))
         }
         None => Ok(None),
     }
@@ -205,33 +167,33 @@ fn match_rest(
 /// A match from the left. From the first piece on whose share depends on the pieces after it, a table is made.
 // Apart, so that an entry that is passed over costs little.
 #[inline(never)]
-pub(crate) fn match_from_left(
+pub(crate) fn match_from_left<K: Kept>(
     cells: &mut Cells,
     alloc: Global,
     pieces: &[Piece],
     text: &str,
-) -> Result<Option<Vec<Field>>, AllocError>
+) -> Result<Option<K>, AllocError>
     ensures found { IfOk result (λ found.
-        IsMatchResult (pieces_said pieces.now) text.now (fields_said found)) }
+        IsKeptResult K.keeps (pieces_said pieces.now) text.now found) }
     ensures most { cells.new.filled
         ≤ cells.old.filled + table_cells (pieces_said pieces.now) text.now }
 {
-    let mut fields = Vec::new(alloc);
+    let mut kept = K::empty(alloc);
     let mut left = pieces;
     let mut rest = text;
     'pieces: while let Some((piece, after)) = left.split_first() {
         match cut_of(piece, after, rest) {
             Cut::At(place) => {
-                push_taken(&mut fields, alloc, piece, &rest[..place])?;
+                kept.add(alloc, piece, &rest[..place])?;
                 left = after;
                 rest = &rest[place..];
             }
             Cut::Nowhere => return Ok(None),
-            Cut::Unknown => return match_rest(cells, alloc, fields, left, rest),
+            Cut::Unknown => return match_rest(cells, alloc, kept, left, rest),
         }
     }
     if rest.is_empty() {
-        Ok(Some(fields))
+        Ok(Some(kept))
     } else {
         Ok(None)
     }

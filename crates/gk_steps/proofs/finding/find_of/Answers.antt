@@ -1,30 +1,32 @@
-use Rattle.std.proofs.Common.{◌≤◌, ◌+◌, arith, sym, map, drop, subst, refl, option_map}
+use Rattle.std.proofs.Common.{◌≤◌, ◌+◌, arith, sym, map, drop, subst, refl, Some, None}
 use Rattle.gk_steps.specs.declared.filled_cells.Cells.{Cells}
 use Rattle.gk_steps.specs.FilledCells.{cells_of_type}
-use Rattle.gk_steps.specs.Finding.{NoneBefore, entry_value}
+use Rattle.gk_steps.specs.Finding.{NoneBefore, entry_value, found_at}
 use Rattle.gk_steps.proofs.FilledCellsLemmas.{asked, passed_over}
-use Rattle.gk_steps.specs.Matching.{IsMatchResult, field_value}
+use Rattle.gk_steps.specs.Kept.{IsKeptResult}
 use Rattle.gk_steps.specs.Pattern.{piece_value}
 use Rattle.gk_steps.proofs.FindingLemmas.{none_more, none_all, first_at, candidate, of_fault}
+use Rattle.gk_steps.proofs.KeptLemmas.{kept_some, kept_none}
 use Rattle.gk_steps.proofs.EntryIndexLemmas.{none_skipped, cells_skipped}
 use Rattle.gk_steps.proofs.finding.find_of.Goals as goal
-use Rattle.gk_steps.proofs.finding.find_of.Goals.{then-is_same+then-can_match+in_ok-fields+in-None, else-is_same, else-is_same-via-then-is_same+else-can_match, else-is_same-via-else-is_same}
+use Rattle.gk_steps.proofs.finding.find_of.Goals.{then-is_same+then-can_match+in_ok-kept+in-None, else-is_same, else-is_same-via-then-is_same+else-can_match, else-is_same-via-else-is_same}
 
 pub returns-in-Some-clause-found : goal.returns-in-Some-clause-found
-returns-in-Some-clause-found c =
-    first_at c.args.shelf.now.entries.now c.args.step_type c.args.text.now c.loop-place.place c.index-entries-place.result (map field_value c.in-Some.fields.items) c.loop-place-test.true c.index-entries-place.is c.if-is_same.ensures
-    (subst (λ o. IsMatchResult (map piece_value c.index-entries-place.result.pattern.pieces.items) c.args.text.now (option_map (λ fields. map field_value fields.items) o)) c.in-Some.is
-    (subst (λ ps. IsMatchResult (map piece_value ps) c.args.text.now (option_map (λ fields. map field_value fields.items) c.in_ok-fields.field-0)) c.deref.ensures.value c.in_ok-fields.ensures.found)) c.loop-place.invariant.0
+returns-in-Some-clause-found g c =
+    let m = kept_some g.K.Kept.keeps (map piece_value c.index-entries-place.result.pattern.pieces.items) c.args.text.now c.in-Some.kept
+    (subst (IsKeptResult g.K.Kept.keeps (map piece_value c.index-entries-place.result.pattern.pieces.items) c.args.text.now) c.in-Some.is
+    (subst (λ ps. IsKeptResult g.K.Kept.keeps (map piece_value ps) c.args.text.now c.in_ok-kept.field-0) c.deref.ensures.value c.in_ok-kept.ensures.found)) in
+    (Some (found_at c.loop-place.place m.0), (refl, m.1), first_at c.args.shelf.now.entries.now c.args.step_type c.args.text.now c.loop-place.place c.index-entries-place.result m.0 c.loop-place-test.true c.index-entries-place.is c.if-is_same.ensures m.2 c.loop-place.invariant.0)
 
 pub returns-clause-found : goal.returns-clause-found
-returns-clause-found c = none_all c.args.shelf.now.entries.now c.args.step_type c.args.text.now c.loop-place.place c.loop-place-test.false c.loop-place.invariant.0
+returns-clause-found g c = (None, tt, none_all c.args.shelf.now.entries.now c.args.step_type c.args.text.now c.loop-place.place c.loop-place-test.false c.loop-place.invariant.0)
 
-pub returns-in_err-fields-clause-memory : goal.returns-in_err-fields-clause-memory
-returns-in_err-fields-clause-memory c =
+pub returns-in_err-kept-clause-memory : goal.returns-in_err-kept-clause-memory
+returns-in_err-kept-clause-memory g c =
     of_fault c.from_residual.result (candidate c.args.shelf.now.entries.now c.args.step_type c.args.text.now c.loop-place.place c.index-entries-place.result c.loop-place-test.true c.index-entries-place.is c.if-is_same.ensures (c.if-can_match.ensures.prefix refl, c.if-can_match.ensures.back refl))
 
 pub loop-place-init : goal.loop-place-init
-loop-place-init c =
+loop-place-init g c =
     let entries = c.args.shelf.now.entries.now in
     let next = c.next-place.result in
     let start : c.args.cells.now.filled + cells_of_type (map entry_value entries) c.args.step_type c.args.text.now ≤ c.args.cells.now.filled + cells_of_type (map entry_value entries) c.args.step_type c.args.text.now = omega arith in (
@@ -33,16 +35,17 @@ loop-place-init c =
     )
 
 pub loop-place-preserved : goal.loop-place-preserved
-loop-place-preserved c =
+loop-place-preserved g c =
     let entries = c.args.shelf.now.entries.now in
     let place = c.loop-place.place + 1 in
     let next = c.next-place-in-loop-place.result in
     let here : NoneBefore (c.loop-place.place + 1) (map entry_value c.args.shelf.now.entries.now) c.args.step_type c.args.text.now
     × (c.if-is_same.cells.filled + cells_of_type (map entry_value (drop (c.loop-place.place + 1) c.args.shelf.now.entries.now)) c.args.step_type c.args.text.now ≤ c.args.cells.now.filled + cells_of_type (map entry_value c.args.shelf.now.entries.now) c.args.step_type c.args.text.now) = elim c.if-is_same.branch [
-      | then-is_same+then-can_match+in_ok-fields+in-None w ↦ (
+      | then-is_same+then-can_match+in_ok-kept+in-None w ↦ (
         none_more c.args.shelf.now.entries.now c.args.step_type c.args.text.now c.loop-place.place c.index-entries-place.result c.loop-place-test.true c.index-entries-place.is
-            (λ same. subst (λ o. IsMatchResult (map piece_value c.index-entries-place.result.pattern.pieces.items) c.args.text.now (option_map (λ fields. map field_value fields.items) o)) w.in-None.is
-            (subst (λ ps. IsMatchResult (map piece_value ps) c.args.text.now (option_map (λ fields. map field_value fields.items) w.in_ok-fields.field-0)) w.deref.ensures.value w.in_ok-fields.ensures.found)) c.loop-place.invariant.0,
+            (λ same. kept_none g.K.Kept.keeps (map piece_value c.index-entries-place.result.pattern.pieces.items) c.args.text.now
+            (subst (IsKeptResult g.K.Kept.keeps (map piece_value c.index-entries-place.result.pattern.pieces.items) c.args.text.now) w.in-None.is
+            (subst (λ ps. IsKeptResult g.K.Kept.keeps (map piece_value ps) c.args.text.now w.in_ok-kept.field-0) w.deref.ensures.value w.in_ok-kept.ensures.found))) c.loop-place.invariant.0,
         subst (λ (cells : Cells). cells.filled + cells_of_type (map entry_value (drop (c.loop-place.place + 1) c.args.shelf.now.entries.now)) c.args.step_type c.args.text.now ≤ c.args.cells.now.filled + cells_of_type (map entry_value c.args.shelf.now.entries.now) c.args.step_type c.args.text.now) (sym w.cells-is)
             (asked c.args.shelf.now.entries.now c.loop-place.place c.index-entries-place.result c.args.step_type c.args.text.now w.deref.result.now c.args.cells.now.filled c.loop-place.cells.filled w.match_from_left.new.cells.filled c.loop-place-test.true c.index-entries-place.is w.if-is_same.ensures w.deref.ensures.value w.match_from_left.ensures.most c.loop-place.invariant.1),
       )

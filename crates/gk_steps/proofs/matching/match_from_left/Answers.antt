@@ -1,29 +1,36 @@
-use Rattle.std.proofs.Common.{rules, ◌≡◌, ◌∷◌, ◌++◌, ◌-◌, length, drop, List, None, option_map, Vec, Global, take, map, ap, subst, sym, ◌∙◌, arith}
+use Rattle.std.proofs.Common.{rules, ◌≡◌, ◌∷◌, ◌++◌, ◌-◌, length, drop, List, Some, None, [], take, map, ap, subst, sym, ◌∙◌, arith}
 use Rattle.std.specs.Str.{chars}
 use Rattle.gk_steps.specs.declared.pattern.Piece.{Piece}
-use Rattle.gk_steps.specs.declared.pattern.Field.{Field}
 use Rattle.gk_steps.specs.Pattern.{PieceValue, piece_value}
-use Rattle.gk_steps.specs.Matching.{field_value, IsMatchResult}
 use Rattle.gk_steps.specs.Columns.{values_of}
-use Rattle.gk_steps.specs.Leftmost.{IsLeft, FindsRest}
+use Rattle.gk_steps.specs.Leftmost.{IsLeft}
+use Rattle.gk_steps.specs.Kept.{IsKeptResult, KeepsRest}
 use Rattle.gk_steps.proofs.TableRowLemmas.{if_ok}
-use Rattle.gk_steps.proofs.LeftmostLemmas.{none_left, left_more, left_nothing, left_over}
+use Rattle.gk_steps.proofs.LeftmostLemmas.{left_start, none_left, left_more, left_nothing, left_over}
 use Rattle.gk_steps.proofs.FilledCellsLemmas.{fewer_chars, left_most}
 use Rattle.gk_steps.proofs.matching.match_from_left.Goals as goal
 
+pub pieces-init : goal.pieces-init
+pieces-init g c = (c.utf8.text, ([], c.empty-kept.ensures, left_start (map piece_value c.args.pieces.now) c.args.text.now), omega arith, omega arith, search rules)
+
 pub pieces-preserved : goal.pieces-preserved
-pieces-preserved c =
+pieces-preserved g c =
     let rest = c.pieces.rest.now in
+    let before = c.pieces.invariant.1.0 in
     let piece = piece_value c.in-Some.piece.now in
     let others = map piece_value c.in-Some.after.now in
-    let known : IsLeft (map piece_value c.args.pieces.now) c.args.text.now (map field_value c.pieces.fields.items) (piece ∷ others) rest =
-    subst (λ (ps : List PieceValue). IsLeft (map piece_value c.args.pieces.now) c.args.text.now (map field_value c.pieces.fields.items) ps rest) (ap (map piece_value) c.in-Some.ensures.cases.0) c.pieces.invariant.1 in
+    let known : IsLeft (map piece_value c.args.pieces.now) c.args.text.now before (piece ∷ others) rest =
+    subst (λ (ps : List PieceValue). IsLeft (map piece_value c.args.pieces.now) c.args.text.now before ps rest) (ap (map piece_value) c.in-Some.ensures.cases.0) c.pieces.invariant.1.2 in
     let size : c.in-At.place - 0 ≡ c.in-At.place = omega arith in
     let taken : c.range.result.now ≡ take c.in-At.place rest = c.range.ensures.value ∙ ap (λ n. take n rest) size in
-    let added = c.in_ok-push_taken-in-At.ensures ∙ ap (λ x. map field_value c.pieces.fields.items ++ values_of piece x) taken in (
+    let after = before ++ values_of piece c.range.result.now in (
       c.range_from-rest.utf8,
-      subst (IsLeft (map piece_value c.args.pieces.now) c.args.text.now (map field_value c.push_taken.new.fields.items) others) (sym c.range_from-rest.ensures.value)
-          (left_more (map piece_value c.args.pieces.now) c.args.text.now (map field_value c.pieces.fields.items) (map field_value c.push_taken.new.fields.items) piece others rest c.in-At.place known c.in-At.ensures added),
+      (
+        after,
+        c.in_ok-add-in-At.ensures before c.pieces.invariant.1.1,
+        subst (IsLeft (map piece_value c.args.pieces.now) c.args.text.now after others) (sym c.range_from-rest.ensures.value)
+            (left_more (map piece_value c.args.pieces.now) c.args.text.now before after piece others rest c.in-At.place known c.in-At.ensures (ap (λ x. before ++ values_of piece x) taken)),
+      ),
       omega (arith, ap length c.in-Some.ensures.cases.0, c.pieces.invariant.2),
       let back : length (chars c.range_from-rest.result.now) ≡ length (chars (drop c.in-At.place rest)) = ap (λ t. length (chars t)) c.range_from-rest.ensures.value in
           omega (arith, back, fewer_chars rest c.in-At.place c.pieces.invariant.0 c.in-At.ensures.boundary, c.pieces.invariant.3),
@@ -31,26 +38,30 @@ pieces-preserved c =
     )
 
 pub returns-in-Nowhere-clause-found : goal.returns-in-Nowhere-clause-found
-returns-in-Nowhere-clause-found c =
-    let known = subst (λ (ps : List PieceValue). IsLeft (map piece_value c.args.pieces.now) c.args.text.now (map field_value c.pieces.fields.items) ps c.pieces.rest.now) (ap (map piece_value) c.in-Some.ensures.cases.0) c.pieces.invariant.1 in
-    known None c.in-Nowhere.ensures
+returns-in-Nowhere-clause-found g c =
+    let known = subst (λ (ps : List PieceValue). IsLeft (map piece_value c.args.pieces.now) c.args.text.now c.pieces.invariant.1.0 ps c.pieces.rest.now) (ap (map piece_value) c.in-Some.ensures.cases.0) c.pieces.invariant.1.2 in
+    (None, tt, known None c.in-Nowhere.ensures)
 
 pub returns-in-Unknown-clause-found : goal.returns-in-Unknown-clause-found
-returns-in-Unknown-clause-found c = if_ok c.match_rest.result
-    (λ found. FindsRest (map field_value c.pieces.fields.items) (map piece_value c.pieces.left.now) c.pieces.rest.now (option_map (λ (fields : Vec Field Global). map field_value fields.items) found))
-    (λ found. IsMatchResult (map piece_value c.args.pieces.now) c.args.text.now (option_map (λ (fields : Vec Field Global). map field_value fields.items) found))
-    (λ found h. h (map piece_value c.args.pieces.now) c.args.text.now c.pieces.invariant.1) c.match_rest.ensures.found
+returns-in-Unknown-clause-found g c =
+    let before = c.pieces.invariant.1.0 in
+    if_ok c.match_rest.result
+    (λ kept. (before : _) → g.K.Kept.keeps c.pieces.kept before → KeepsRest g.K.Kept.keeps before (map piece_value c.pieces.left.now) c.pieces.rest.now kept)
+    (λ kept. IsKeptResult g.K.Kept.keeps (map piece_value c.args.pieces.now) c.args.text.now kept)
+    (λ kept h. let r = h before c.pieces.invariant.1.1 in (r.0, r.1, r.2 (map piece_value c.args.pieces.now) c.args.text.now c.pieces.invariant.1.2)) c.match_rest.ensures.found
 
 pub returns-then-is_empty-clause-found : goal.returns-then-is_empty-clause-found
-returns-then-is_empty-clause-found c =
-    let known = subst (λ (pieces : List Piece). IsLeft (map piece_value c.args.pieces.now) c.args.text.now (map field_value c.pieces.fields.items) (map piece_value pieces) c.pieces.rest.now) (none_left c.pieces.left.now c.in_default.ensures.cases) c.pieces.invariant.1 in
-    left_nothing (map piece_value c.args.pieces.now) c.args.text.now (map field_value c.pieces.fields.items) c.pieces.rest.now known (search rules)
+returns-then-is_empty-clause-found g c =
+    let before = c.pieces.invariant.1.0 in
+    let known = subst (λ (pieces : List Piece). IsLeft (map piece_value c.args.pieces.now) c.args.text.now before (map piece_value pieces) c.pieces.rest.now) (none_left c.pieces.left.now c.in_default.ensures.cases) c.pieces.invariant.1.2 in
+    (Some before, c.pieces.invariant.1.1, left_nothing (map piece_value c.args.pieces.now) c.args.text.now before c.pieces.rest.now known (search rules))
 
 pub returns-else-is_empty-clause-found : goal.returns-else-is_empty-clause-found
-returns-else-is_empty-clause-found c =
-    let known = subst (λ (pieces : List Piece). IsLeft (map piece_value c.args.pieces.now) c.args.text.now (map field_value c.pieces.fields.items) (map piece_value pieces) c.pieces.rest.now) (none_left c.pieces.left.now c.in_default.ensures.cases) c.pieces.invariant.1 in
-    left_over (map piece_value c.args.pieces.now) c.args.text.now (map field_value c.pieces.fields.items) c.pieces.rest.now known (search rules)
+returns-else-is_empty-clause-found g c =
+    let before = c.pieces.invariant.1.0 in
+    let known = subst (λ (pieces : List Piece). IsLeft (map piece_value c.args.pieces.now) c.args.text.now before (map piece_value pieces) c.pieces.rest.now) (none_left c.pieces.left.now c.in_default.ensures.cases) c.pieces.invariant.1.2 in
+    (None, tt, left_over (map piece_value c.args.pieces.now) c.args.text.now before c.pieces.rest.now known (search rules))
 
 pub returns-in-Unknown-clause-most : goal.returns-in-Unknown-clause-most
-returns-in-Unknown-clause-most c =
+returns-in-Unknown-clause-most g c =
     left_most c.pieces.left.now c.args.pieces.now c.pieces.rest.now c.args.text.now c.args.cells.now.filled c.pieces.cells.filled c.match_rest.new.cells.filled c.pieces.invariant.2 c.pieces.invariant.3 c.pieces.invariant.4 c.match_rest.ensures.most

@@ -1,12 +1,16 @@
-use Rattle.std.proofs.Common.{map}
+use Rattle.std.proofs.Common.{None, map}
 use Rattle.gk_steps.specs.Pattern.{piece_value}
 use Rattle.gk_steps.proofs.TableReadLemmas.{top_cell, cell_holds, cell_fails}
 use Rattle.gk_steps.proofs.matching.match_pieces.Goals as goal
 
 pub returns-then-not-index-clause-found : goal.returns-then-not-index-clause-found
-returns-then-not-index-clause-found c = cell_fails (map piece_value c.args.pieces.now) c.args.text.now c.index-2.result.now
-    (top_cell c.args.pieces.now c.args.text.now c.args.places.now c.in_ok-rows.rows.items c.index.result.now c.index-2.result.now c.utf8.text c.requires c.in_ok-rows.ensures.table c.index.ensures c.index-2.ensures) c.if-not-index.true
+returns-then-not-index-clause-found g c = (
+  None,
+  tt,
+  cell_fails (map piece_value c.args.pieces.now) c.args.text.now c.index-2.result.now
+      (top_cell c.args.pieces.now c.args.text.now c.args.places.now c.in_ok-rows.rows.items c.index.result.now c.index-2.result.now c.utf8.text c.requires c.in_ok-rows.ensures.table c.index.ensures c.index-2.ensures) c.if-not-index.true,
+)
 
 pub read-requires-clause-matched : goal.read-requires-clause-matched
-read-requires-clause-matched c = cell_holds (map piece_value c.args.pieces.now) c.args.text.now c.index-2.result.now
+read-requires-clause-matched g c = cell_holds (map piece_value c.args.pieces.now) c.args.text.now c.index-2.result.now
     (top_cell c.args.pieces.now c.args.text.now c.args.places.now c.in_ok-rows.rows.items c.index.result.now c.index-2.result.now c.utf8.text c.requires c.in_ok-rows.ensures.table c.index.ensures c.index-2.ensures) c.if-not-index.false

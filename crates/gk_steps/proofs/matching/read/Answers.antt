@@ -1,6 +1,6 @@
-use Rattle.std.proofs.Common.{◌≡◌, ◌∙◌, ◌+◌, ◌-◌, ◌++◌, ◌∷◌, Some, ap, sym, subst, length, map, drop, get_or, arith}
+use Rattle.std.proofs.Common.{◌≡◌, ◌+◌, ◌++◌, ◌∷◌, [], Some, ap, sym, subst, length, map, drop, get_or, arith}
 use Rattle.gk_steps.specs.Pattern.{piece_value}
-use Rattle.gk_steps.specs.Matching.{Matches, field_value}
+use Rattle.gk_steps.specs.Matching.{Matches}
 use Rattle.gk_steps.specs.Columns.{IsAdvance, IsMatchedTo, Takes, values_of}
 use Rattle.std.proofs.lemmas.List.{length-map}
 use Rattle.gk_steps.proofs.TableLemmas.{is_step}
@@ -9,11 +9,10 @@ use Rattle.gk_steps.proofs.TableReadLemmas.{read_start, read_more, read_end, her
 use Rattle.gk_steps.proofs.matching.read.Goals as goal
 
 pub loop-taken-init : goal.loop-taken-init
-loop-taken-init c = subst (λ fs. IsMatchedTo 0 (length c.args.places.now - 1) (map piece_value c.args.pieces.now) c.args.text.now c.args.places.now (map field_value fs)) (sym c.new-fields.ensures.items)
-    (read_start (map piece_value c.args.pieces.now) c.args.text.now c.args.places.now c.utf8.text c.requires.places c.requires.matched)
+loop-taken-init g c = ([], c.empty-kept.ensures, read_start (map piece_value c.args.pieces.now) c.args.text.now c.args.places.now c.utf8.text c.requires.places c.requires.matched)
 
 pub unwrap-next-requires : goal.unwrap-next-requires
-unwrap-next-requires c =
+unwrap-next-requires g c =
     let ps = map piece_value c.args.pieces.now in
     let text = c.args.text.now in
     let places = c.args.places.now in
@@ -22,10 +21,10 @@ unwrap-next-requires c =
     let here : drop taken ps ≡ piece_value c.index-pieces-taken.result ∷ drop (taken + 1) ps = here_at c.args.pieces.now taken c.index-pieces-taken.result c.loop-taken-test.true c.index-pieces-taken.is in
     is_step (piece_value c.index-pieces-taken.result) (drop (taken + 1) ps) text places c.deref.result.now column c.advance.result c.utf8.text (text_piece c.index-pieces-taken.result) c.requires.places
     (row_under c.args.pieces.now text places c.args.rows.now taken c.index-rows-pieces.result c.deref.result.now c.requires.table c.loop-taken-test.true c.index-rows-pieces.is c.deref.ensures.value)
-    c.loop-taken.invariant.known c.advance.ensures (c.loop-taken.invariant.matched.0, subst (λ ws. Matches ws (drop (get_or places column 0) text) c.loop-taken.invariant.matched.0) here c.loop-taken.invariant.matched.1)
+    c.loop-taken.invariant.2.known c.advance.ensures (c.loop-taken.invariant.2.matched.0, subst (λ ws. Matches ws (drop (get_or places column 0) text) c.loop-taken.invariant.2.matched.0) here c.loop-taken.invariant.2.matched.1)
 
 pub loop-taken-preserved : goal.loop-taken-preserved
-loop-taken-preserved c =
+loop-taken-preserved g c =
     let ps = map piece_value c.args.pieces.now in
     let text = c.args.text.now in
     let places = c.args.places.now in
@@ -33,20 +32,25 @@ loop-taken-preserved c =
     let column = c.loop-taken.column in
     let here : drop taken ps ≡ piece_value c.index-pieces-taken.result ∷ drop (taken + 1) ps = here_at c.args.pieces.now taken c.index-pieces-taken.result c.loop-taken-test.true c.index-pieces-taken.is in
     let stepped : IsAdvance (piece_value c.index-pieces-taken.result) text places c.deref.result.now column (Some c.unwrap-next.result) = subst (IsAdvance (piece_value c.index-pieces-taken.result) text places c.deref.result.now column) c.unwrap-next.ensures c.advance.ensures in
-    read_more ps (drop (taken + 1) ps) (piece_value c.index-pieces-taken.result) text places c.deref.result.now taken column c.unwrap-next.result (map field_value c.loop-taken.fields.items) (map field_value c.push_taken.new.fields.items) c.utf8.text (text_piece c.index-pieces-taken.result) c.requires.places here (λ i. drop (taken + 1) ps)
-    (row_under c.args.pieces.now text places c.args.rows.now taken c.index-rows-pieces.result c.deref.result.now c.requires.table c.loop-taken-test.true c.index-rows-pieces.is c.deref.ensures.value)
-    stepped (c.in_ok-push_taken.ensures ∙ ap (λ x. map field_value c.loop-taken.fields.items ++ values_of (piece_value c.index-pieces-taken.result) x) c.range.ensures.value) c.loop-taken.invariant
+    let before = c.loop-taken.invariant.0 in
+    let after = before ++ values_of (piece_value c.index-pieces-taken.result) c.range.result.now in (
+      after,
+      c.in_ok-add.ensures before c.loop-taken.invariant.1,
+      read_more ps (drop (taken + 1) ps) (piece_value c.index-pieces-taken.result) text places c.deref.result.now taken column c.unwrap-next.result before after c.utf8.text (text_piece c.index-pieces-taken.result) c.requires.places here (λ i. drop (taken + 1) ps)
+          (row_under c.args.pieces.now text places c.args.rows.now taken c.index-rows-pieces.result c.deref.result.now c.requires.table c.loop-taken-test.true c.index-rows-pieces.is c.deref.ensures.value)
+          stepped (ap (λ x. before ++ values_of (piece_value c.index-pieces-taken.result) x) c.range.ensures.value) c.loop-taken.invariant.2,
+    )
 
 pub returns : goal.returns
-returns c =
+returns g c =
     let ps = map piece_value c.args.pieces.now in
     let size : length ps ≡ length c.args.pieces.now = length-map c.args.pieces.now piece_value in
     let all : c.loop-taken.taken ≡ length ps = omega arith in
-    read_end ps c.args.text.now c.args.places.now c.loop-taken.column (map field_value c.loop-taken.fields.items)
-    (subst (λ k. IsMatchedTo k c.loop-taken.column ps c.args.text.now c.args.places.now (map field_value c.loop-taken.fields.items)) all c.loop-taken.invariant)
+    let fields = c.loop-taken.invariant.0 in
+    (Some fields, c.loop-taken.invariant.1, read_end ps c.args.text.now c.args.places.now c.loop-taken.column fields (subst (λ k. IsMatchedTo k c.loop-taken.column ps c.args.text.now c.args.places.now fields) all c.loop-taken.invariant.2))
 
-pub push_taken-requires : goal.push_taken-requires
-push_taken-requires c =
+pub add-requires : goal.add-requires
+add-requires g c =
     let piece = piece_value c.index-pieces-taken.result in
     let stepped : IsAdvance piece c.args.text.now c.args.places.now c.deref.result.now c.loop-taken.column (Some c.unwrap-next.result) = subst (IsAdvance piece c.args.text.now c.args.places.now c.deref.result.now c.loop-taken.column) c.unwrap-next.ensures c.advance.ensures in
     subst (Takes piece) (sym c.range.ensures.value) stepped.0.takes

@@ -1,0 +1,46 @@
+-- Proof machinery: the first fields of the names that actions use.
+use denote.Ref.{Bor}
+use Rattle.std.specs.Prelude.{◌≡◌, codes, ℕ, Bool, List, if◌then◌else◌, Option, Some, None, option_map}
+use Rattle.std.specs.Option.{option_or}
+use Rattle.std.specs.Str.{bytes_eq}
+use Rattle.gk_steps.specs.declared.pattern.Field.{Field}
+use Rattle.gk_steps.specs.declared.used_fields.FirstFields.{FirstFields}
+use Rattle.gk_steps.specs.Pattern.{PieceValue}
+use Rattle.gk_steps.specs.Matching.{FieldValue, field_value}
+use Rattle.gk_steps.specs.Finding.{field_named}
+
+-- What a field says, where there is one.
+abbrev pub said : Option (Bor Field) → Option FieldValue
+said field = option_map (λ (f : Bor Field). field_value f.now) field
+
+-- The first field of a name, with one field more.
+abbrev pub first_of : Option FieldValue → Bool → FieldValue → Option FieldValue
+first_of so_far is_named field = option_or so_far (if is_named then Some field else None)
+
+-- These are the fields that the names have.
+pub record AreFirst (named : List ℕ → Option FieldValue) (firsts : FirstFields) : Type 0 where
+  pub name : said firsts.name ≡ named (codes "name")
+  pub to : said firsts.to ≡ named (codes "to")
+  pub step : said firsts.step ≡ named (codes "step")
+  pub number : said firsts.number ≡ named (codes "n")
+  pub text : said firsts.text ≡ named (codes "text")
+
+-- A field of this name was added.
+pub record IsAdded (n : List ℕ) (f : FieldValue) (old new : FirstFields) : Type 0 where
+  pub name : said new.name ≡ first_of (said old.name) (bytes_eq n (codes "name")) f
+  pub to : said new.to ≡ first_of (said old.to) (bytes_eq n (codes "to")) f
+  pub step : said new.step ≡ first_of (said old.step) (bytes_eq n (codes "step")) f
+  pub number : said new.number ≡ first_of (said old.number) (bytes_eq n (codes "n")) f
+  pub text : said new.text ≡ first_of (said old.text) (bytes_eq n (codes "text")) f
+
+-- With the fields so far before it, what is left has the first field of a name.
+abbrev pub has_with : List ℕ → Option FieldValue → List PieceValue → List FieldValue → Option FieldValue
+has_with n so_far left rest = option_or so_far (field_named n left rest)
+
+-- With these before it, what is left has the first fields that the whole has.
+pub record HasRest (ps : List PieceValue) (fs : List FieldValue) (firsts : FirstFields) (left : List PieceValue) (rest : List FieldValue) : Type 0 where
+  pub name : has_with (codes "name") (said firsts.name) left rest ≡ field_named (codes "name") ps fs
+  pub to : has_with (codes "to") (said firsts.to) left rest ≡ field_named (codes "to") ps fs
+  pub step : has_with (codes "step") (said firsts.step) left rest ≡ field_named (codes "step") ps fs
+  pub number : has_with (codes "n") (said firsts.number) left rest ≡ field_named (codes "n") ps fs
+  pub text : has_with (codes "text") (said firsts.text) left rest ≡ field_named (codes "text") ps fs
