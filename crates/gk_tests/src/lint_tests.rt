@@ -123,7 +123,7 @@ fn tags_and_lines_are_found(rt: HostRuntime) -> Result<(), Fail> {
         "3: hook for a tag that stands nowhere\n4: undefined step\n"
     );
     let left = lines_without_scenario(rt.alloc(), &[2, 7, 10, 13], &features)?;
-    assert_eq!(rt; left.as_slice(), &[2, 13]);
+    assert_eq!(rt; left.as_slice(), [2, 13].as_slice());
     Ok(())
 }
 
