@@ -35,9 +35,9 @@ use Rattle.gherkin_run.specs.declared.fault.Fault.{Fault}
 use Rattle.gherkin_run.specs.declared.fault.Fault.TheVariants.{NotUtf8, Usage, Env, CannotRead, TooLong, Library, Hooks, Read, TooMany, BadTags, Write, Memory}
 
 -- what holds of a result, by what is known of it
-pub if_ok_both : {T E : Type 0} {P Q : T → Type 0} (r : Result T E) → IfOk r P → IfOk r Q → IfOk r (λ x. P x × Q x)
-if_ok_both (Ok x) h k = (h, k)
-if_ok_both (Err e) h k = h
+pub if_ok_both : {T E : Type 0} (P Q : T → Type 0) (r : Result T E) → IfOk r P → IfOk r Q → IfOk r (λ x. P x × Q x)
+if_ok_both P Q (Ok x) h k = (h, k)
+if_ok_both P Q (Err e) h k = h
 
 pub if_err_by : {T E : Type 0} {P Q : E → Type 0} (r : Result T E) → ((e : E) → P e → Q e) → IfErr r P → IfErr r Q
 if_err_by (Ok x) f h = h
@@ -66,8 +66,9 @@ some_file (Some s) bytes e = refl
 
 -- what a fault says of a run whose report was asked for, and of one whose explanation was
 pub of_report : (files : FilesValue) (r : Request) (c : Contents) (old new : Device) (by : RunFault) → SaysFault r c old new by → SaysFaultAs Report files r c old new by
-of_report files r c old new run.Write says = says
-of_report files r c old new run.Memory says = says
+of_report files r c old new run.Write says = (says.0, (says.1, says.2))
+of_report files r c old new run.Memory (inl nothing) = inl nothing
+of_report files r c old new run.Memory (inr cut) = inr (cut.0, (cut.1, cut.2))
 of_report files r c old new (run.Read input fault) says = says
 of_report files r c old new (run.Library fault) says = says
 of_report files r c old new (run.Hooks fault) says = says

@@ -2,7 +2,6 @@
 ghost use Rattle.std.specs.Prelude.{◌≡◌, ◌<◌, map, IfOk, IfErr, IsSome, OnOk, Some, option_map, string_bytes, vec_len};
 ghost use Rattle.gk_world.specs.Sandbox.{depth, new_sandbox};
 ghost use Rattle.gk_cli.specs.Arguments.{pair_value};
-ghost use Rattle.gk_cli.specs.declared.arguments.Mode.TheVariants.{Report, Explanation};
 ghost use Rattle.gk_cli.specs.Counted.{CountsCanRise, flushes_of, failures_of, one_more};
 ghost use Rattle.gk_cli.specs.Suite.{device_of};
 ghost use Rattle.gk_cli.specs.Source.{source_value};
@@ -188,64 +187,7 @@ pub struct Manner<'a> {
     mode: Mode,
 }
 
-// Runs the suite, and writes its report.
-fn report_run<W: Write>(
-    alloc: Global,
-    sandbox: &mut Sandbox,
-    options: &Options,
-    files: &RunFiles,
-    out: &mut Counted<W>,
-) -> Result<u8, RunFault>
-    requires room { CountsCanRise out.old }
-    requires outside { depth sandbox.old ≡ 0 }
-    ensures written { IfOk result (IsWrittenAs Report (files_value files.now)
-        (request_of_files options.now (files_value files.now)) sandbox.old.now
-        (device_of W.contents out.old) (device_of W.contents out.new)) }
-    ensures quiet { OnOk result (failures_of out.new ≡ failures_of out.old) }
-    ensures fault { IfErr result (SaysFaultAs Report (files_value files.now)
-        (request_of_files options.now (files_value files.now)) sandbox.old.now
-        (device_of W.contents out.old) (device_of W.contents out.new)) }
-{
-    let steps = bytes_of(&files.library);
-    let around = bytes_of(&files.hooks);
-    run_suite(
-        alloc,
-        sandbox,
-        options,
-        steps,
-        around,
-        files.sources.as_slice(),
-        out,
-    )
-}
-
-// Runs the suite, and writes its explanation.
-fn explain_run<W: Write>(
-    alloc: Global,
-    sandbox: &mut Sandbox,
-    options: &Options,
-    files: &RunFiles,
-    out: &mut Counted<W>,
-) -> Result<u8, RunFault>
-    requires room { CountsCanRise out.old }
-    requires outside { depth sandbox.old ≡ 0 }
-    ensures written { IfOk result (IsWrittenAs Explanation (files_value files.now)
-        (request_of_files options.now (files_value files.now)) sandbox.old.now
-        (device_of W.contents out.old) (device_of W.contents out.new)) }
-    ensures quiet { OnOk result (failures_of out.new ≡ failures_of out.old) }
-    ensures fault { IfErr result (SaysFaultAs Explanation (files_value files.now)
-        (request_of_files options.now (files_value files.now)) sandbox.old.now
-        (device_of W.contents out.old) (device_of W.contents out.new)) }
-{
-    let named = SuiteFiles {
-        library: files.library.as_ref(),
-        hooks: files.hooks.as_ref(),
-        sources: files.sources.as_slice(),
-    };
-    explain_suite(alloc, sandbox, options, named, out)
-}
-
-// Runs the suite, and writes what is asked for of it.
+// Runs the suite, and writes its report or its explanation.
 fn write_run<W: Write>(
     alloc: Global,
     sandbox: &mut Sandbox,
@@ -255,17 +197,29 @@ fn write_run<W: Write>(
 ) -> Result<u8, RunFault>
     requires room { CountsCanRise out.old }
     requires outside { depth sandbox.old ≡ 0 }
-    ensures written { IfOk result (IsWrittenAs manner.mode (files_value files.now)
-        (request_of_files manner.options.now (files_value files.now)) sandbox.old.now
-        (device_of W.contents out.old) (device_of W.contents out.new)) }
     ensures quiet { OnOk result (failures_of out.new ≡ failures_of out.old) }
-    ensures fault { IfErr result (SaysFaultAs manner.mode (files_value files.now)
-        (request_of_files manner.options.now (files_value files.now)) sandbox.old.now
+    ensures written { IfOk result (IsWrittenAs manner.entry.mode (files_value files.now)
+        (request_of_files manner.entry.options.now (files_value files.now)) sandbox.old.now
+        (device_of W.contents out.old) (device_of W.contents out.new)) }
+    ensures fault { IfErr result (SaysFaultAs manner.entry.mode (files_value files.now)
+        (request_of_files manner.entry.options.now (files_value files.now)) sandbox.old.now
         (device_of W.contents out.old) (device_of W.contents out.new)) }
 {
+    let sources = files.sources.as_slice();
     match manner.mode {
-        Mode::Report => report_run(alloc, sandbox, manner.options, files, out),
-        Mode::Explanation => explain_run(alloc, sandbox, manner.options, files, out),
+        Mode::Report => {
+            let steps = bytes_of(&files.library);
+            let around = bytes_of(&files.hooks);
+            run_suite(alloc, sandbox, manner.options, steps, around, sources, out)
+        }
+        Mode::Explanation => {
+            let named = SuiteFiles {
+                library: files.library.as_ref(),
+                hooks: files.hooks.as_ref(),
+                sources,
+            };
+            explain_suite(alloc, sandbox, manner.options, named, out)
+        }
     }
 }
 
@@ -282,13 +236,13 @@ fn run_sources<W: Write>(
     requires room { CountsCanRise out.old }
     requires outside { depth sandbox.old ≡ 0 }
     // What was written and the status are those of one run of these inputs.
-    ensures run { IfOk result (IsRunOfFiles manner (files_value files)
+    ensures run { IfOk result (IsRunOfFiles manner.entry (files_value files)
         sandbox.old.now (device_of W.contents out.old) (device_of W.contents out.new)) }
     // A status comes only where the writer did not fail, and was flushed once.
     ensures quiet { OnOk result (failures_of out.new ≡ failures_of out.old) }
     ensures flushed { OnOk result (flushes_of out.new ≡ one_more (flushes_of out.old)) }
     // A fault is that of the run, or the flush failed.
-    ensures fault { IfErr result (SaysRun manner (files_value files)
+    ensures fault { IfErr result (SaysRun manner.entry (files_value files)
         sandbox.old.now (device_of W.contents out.old) (device_of W.contents out.new)) }
     // Where standard output isn't at fault, it was not called, or memory was refused after a
     // prefix of what is written of the run.

@@ -73,17 +73,17 @@ fn explain_next<W: Write>(
     feature: Chosen,
     out: &mut Counted<W>,
 ) -> Result<(), RunFault>
-    requires room { CountsCanRise out.old }
     requires innermost { so_far.old.suite.section.layer ≡ depth sandbox.old }
     requires formed { IsFormed feature }
+    requires room { CountsCanRise out.old }
+    ensures kept { IsKept so_far.old.suite so_far.new.suite }
+    ensures same { IsSame sandbox.old sandbox.new }
     ensures room { OnOk result (CountsCanRise out.new) }
     ensures ok { OnOk result (ExplainsNext glue.now sandbox.old feature
         (device_of W.contents out.old) so_far.old
         (device_of W.contents out.new) so_far.new) }
     ensures err { IfErr result (EndsNextExplaining glue.now sandbox.old feature
         (device_of W.contents out.old) so_far.old (device_of W.contents out.new)) }
-    ensures kept { IsKept so_far.old.suite so_far.new.suite }
-    ensures same { IsSame sandbox.old sandbox.new }
 {
     let explainer = &mut so_far.explainer;
     explainer.begin_feature(feature.source.as_str());
@@ -114,9 +114,11 @@ fn explain_features<W: Write>(
     features: Vec<Chosen>,
     out: &mut Counted<W>,
 ) -> Result<(), RunFault>
-    requires room { CountsCanRise out.old }
     requires innermost { so_far.old.suite.section.layer ≡ depth sandbox.old }
     requires formed { AllByRecursion IsFormed features.items }
+    requires room { CountsCanRise out.old }
+    ensures kept { IsKept so_far.old.suite so_far.new.suite }
+    ensures same { IsSame sandbox.old sandbox.new }
     ensures room { OnOk result (CountsCanRise out.new) }
     ensures ok { OnOk result (ExplainsFeatures glue.now sandbox.old
         (map chosen_value features.items)
@@ -125,8 +127,6 @@ fn explain_features<W: Write>(
     ensures err { IfErr result (EndsExplainingFeatures glue.now sandbox.old
         (map chosen_value features.items)
         (device_of W.contents out.old) so_far.old (device_of W.contents out.new)) }
-    ensures kept { IsKept so_far.old.suite so_far.new.suite }
-    ensures same { IsSame sandbox.old sandbox.new }
 {
     for feature in features {
         explain_next(glue, sandbox, so_far, feature, out)?;
@@ -174,11 +174,13 @@ pub fn write_explanation<W: Write>(
     requires outside { depth sandbox.old ≡ 0 }
     requires formed { AllByRecursion IsFormed inputs.features.items }
     ensures ok { IfOk result (IsExplained
-        (run_of inputs.library inputs.hooks explaining.entry.stop) explaining.entry.hooks.now sandbox.old.now
+        (run_of inputs.library inputs.hooks explaining.entry.stop)
+        explaining.entry.hooks.now sandbox.old.now
         (map chosen_value inputs.features.items)
         (device_of W.contents out.old) (device_of W.contents out.new)) }
     ensures err { IfErr result (IsExplainedUpTo
-        (run_of inputs.library inputs.hooks explaining.entry.stop) explaining.entry.hooks.now sandbox.old.now
+        (run_of inputs.library inputs.hooks explaining.entry.stop)
+        explaining.entry.hooks.now sandbox.old.now
         (map chosen_value inputs.features.items)
         (device_of W.contents out.old) (device_of W.contents out.new)) }
     ensures same { IsSame sandbox.old sandbox.new }

@@ -12,86 +12,72 @@ use Rattle.gk_cli.proofs.SuiteLemmas.{nothing_in, and_left, kept_through, same_t
 use Rattle.gk_cli.proofs.ExplainedRunLemmas.{Explaining, explaining_first, explaining_next, explaining_last, explaining_stopped}
 use Rattle.gk_cli.proofs.explained_run.explain_features.Goals as goal
 
-pub loop-feature-init : goal.loop-feature-init
-loop-feature-init g c =
-    let here : into_iter_items c.into_iter-feature-iterator.result ≡ c.args.features.items = c.into_iter-feature-iterator.ensures.into_iter_gives.0 in
-    let run = run_of c.args.glue.now.library.now c.args.glue.now.hooks.now c.args.so_far.now.suite.stop in
-    let first = state_of c.args.sandbox.now.now in
-    let was_open = c.args.so_far.now.suite.is_open in
-    let all = map chosen_value c.args.features.items in
-    let device = device_of g.W.Write.contents c.args.out.now in
-    let report = c.args.so_far.now in
-    record {
-      held = subst (λ (left : List ChosenValue). Explaining run first was_open all device report left was_open device report) (sym (ap (map chosen_value) here)) (explaining_first run first was_open all device report);
-      same = record { contents = refl; saved = refl; marks = refl; recorded = refl };
-      kept = record { section = refl; stops = refl };
-      earlier = λ h. h;
-      room = c.requires.room;
-      formed = subst (AllByRecursion IsFormed) (sym here) c.requires.formed;
-      counted = let l = c.into_iter-feature-iterator.ensures.into_iter_gives.1 in let v = c.args.features.ok.0 in let f = ap length here in omega arith;
-    }
-
-pub explain_next-requires-clause-innermost : goal.explain_next-requires-clause-innermost
-explain_next-requires-clause-innermost g c = ap (λ s. s.layer) c.loop-feature.invariant.kept.section ∙ c.requires.innermost ∙ ap length (sym c.loop-feature.invariant.same.saved)
-
 pub explain_next-requires-clause-formed : goal.explain_next-requires-clause-formed
 explain_next-requires-clause-formed g c =
     let all : AllByRecursion IsFormed (c.in-Some.feature ∷ into_iter_items c.next.new.self) = subst (AllByRecursion IsFormed) c.in-Some.ensures.steps.0 c.loop-feature.invariant.formed in
     all.0
 
+pub explain_next-requires-clause-innermost : goal.explain_next-requires-clause-innermost
+explain_next-requires-clause-innermost g c = ap (λ s. s.layer) c.loop-feature.invariant.kept.section ∙ c.requires.innermost ∙ ap length (sym c.loop-feature.invariant.same.saved)
+
+pub loop-feature-init : goal.loop-feature-init
+loop-feature-init g c =
+    let here : into_iter_items c.into_iter-feature-iterator.result ≡ c.args.features.items = c.into_iter-feature-iterator.ensures.into_iter_gives.0 in
+    let run = run_of c.args.glue.now.library.now c.args.glue.now.hooks.now c.args.so_far.now.suite.stop in
+    let all = map chosen_value c.args.features.items in
+    let device = device_of g.W.Write.contents c.args.out.now in
+    record {
+      room = c.requires.room;
+      formed = subst (AllByRecursion IsFormed) (sym here) c.requires.formed;
+      counted = let l = c.into_iter-feature-iterator.ensures.into_iter_gives.1 in let v = c.args.features.ok.0 in let f = ap length here in omega arith;
+      earlier = λ h. h;
+      kept = record { section = refl; stops = refl };
+      same = record { contents = refl; saved = refl; marks = refl; recorded = refl };
+      held = subst (λ (left : List ChosenValue). Explaining run (state_of c.args.sandbox.now.now) c.args.so_far.now.suite.is_open all device c.args.so_far.now left c.args.so_far.now.suite.is_open device c.args.so_far.now) (sym (ap (map chosen_value) here))
+          (explaining_first run (state_of c.args.sandbox.now.now) c.args.so_far.now.suite.is_open all device c.args.so_far.now);
+    }
+
 pub loop-feature-preserved : goal.loop-feature-preserved
 loop-feature-preserved g c =
-    let run = run_of c.args.glue.now.library.now c.args.glue.now.hooks.now c.args.so_far.now.suite.stop in
+    let held = c.loop-feature.invariant in
+    let steps = c.in-Some.ensures.steps in
     let first = state_of c.args.sandbox.now.now in
-    let was_open = c.args.so_far.now.suite.is_open in
-    let all = map chosen_value c.args.features.items in
-    let s = c.in-Some.ensures.steps in
-    let f = ap length s.0 in
-    let this = chosen_value c.in-Some.feature in
-    let left = map chosen_value (into_iter_items c.next.new.self) in
-    let now = state_of c.loop-feature.sandbox.now in
-    let is_open = c.loop-feature.so_far.suite.is_open in
-    let stops = c.loop-feature.invariant.kept.stops in
-    let old = device_of g.W.Write.contents c.args.out.now in
     let there = device_of g.W.Write.contents c.loop-feature.out in
     let new = device_of g.W.Write.contents c.explain_next.new.out in
-    let before = subst (λ (ls : List ChosenValue). Explaining run first was_open all old c.args.so_far.now ls is_open there c.loop-feature.so_far) (ap (map chosen_value) s.0) c.loop-feature.invariant.held in
-    let one : IsExplainedNext run now is_open c.explain_next.new.so_far.suite.is_open this there c.loop-feature.so_far new c.explain_next.new.so_far =
-    subst (λ (x : Bool). IsExplainedNext (run_of c.args.glue.now.library.now c.args.glue.now.hooks.now x) now is_open c.explain_next.new.so_far.suite.is_open this there c.loop-feature.so_far new c.explain_next.new.so_far) stops c.in_ok-explain_next.ensures.ok in
-    let formed : AllByRecursion IsFormed (c.in-Some.feature ∷ into_iter_items c.next.new.self) = subst (AllByRecursion IsFormed) s.0 c.loop-feature.invariant.formed in
+    let so_far = c.explain_next.new.so_far in
+    let one : IsExplainedNext (run_of c.args.glue.now.library.now c.args.glue.now.hooks.now c.args.so_far.now.suite.stop) (state_of c.loop-feature.sandbox.now) c.loop-feature.so_far.suite.is_open so_far.suite.is_open (chosen_value c.in-Some.feature) there c.loop-feature.so_far new so_far =
+    subst (λ (stop : Bool). IsExplainedNext (run_of c.args.glue.now.library.now c.args.glue.now.hooks.now stop) (state_of c.loop-feature.sandbox.now) c.loop-feature.so_far.suite.is_open so_far.suite.is_open (chosen_value c.in-Some.feature) there c.loop-feature.so_far new so_far) held.kept.stops c.in_ok-explain_next.ensures.ok in
+    let formed = subst (AllByRecursion IsFormed) steps.0 held.formed in
     record {
-      held = explaining_next run first now was_open all old c.args.so_far.now this left is_open c.explain_next.new.so_far.suite.is_open there c.loop-feature.so_far new c.explain_next.new.so_far
-          (ap state_of c.loop-feature.invariant.same.contents) c.loop-feature.invariant.earlier one before;
-      same = same_through _ _ _ c.loop-feature.invariant.same c.explain_next.ensures.same;
-      kept = kept_through c.args.so_far.now.suite c.loop-feature.so_far.suite c.explain_next.new.so_far.suite c.loop-feature.invariant.kept c.explain_next.ensures.kept;
-      earlier = λ h. c.loop-feature.invariant.earlier (and_left is_open (stays_open_by c.args.so_far.now.suite.stop one.row.status) (sym one.opens ∙ h));
       room = c.in_ok-explain_next.ensures.room;
       formed = formed.1;
-      counted = omega arith;
+      counted = let all = ap length steps.0 in omega arith;
+      earlier = λ h. held.earlier (and_left c.loop-feature.so_far.suite.is_open (stays_open_by c.args.so_far.now.suite.stop one.row.status) (sym one.opens ∙ h));
+      kept = kept_through c.args.so_far.now.suite c.loop-feature.so_far.suite so_far.suite held.kept c.explain_next.ensures.kept;
+      same = same_through _ _ _ held.same c.explain_next.ensures.same;
+      held = explaining_next (run_of c.args.glue.now.library.now c.args.glue.now.hooks.now c.args.so_far.now.suite.stop) first (state_of c.loop-feature.sandbox.now) c.args.so_far.now.suite.is_open (map chosen_value c.args.features.items) (device_of g.W.Write.contents c.args.out.now) c.args.so_far.now
+          (chosen_value c.in-Some.feature) (map chosen_value (into_iter_items c.next.new.self)) c.loop-feature.so_far.suite.is_open so_far.suite.is_open there c.loop-feature.so_far new so_far
+          (ap state_of held.same.contents) held.earlier one (subst (λ (left : List ChosenValue). Explaining (run_of c.args.glue.now.library.now c.args.glue.now.hooks.now c.args.so_far.now.suite.stop) (state_of c.args.sandbox.now.now) c.args.so_far.now.suite.is_open (map chosen_value c.args.features.items) (device_of g.W.Write.contents c.args.out.now) c.args.so_far.now
+          left c.loop-feature.so_far.suite.is_open there c.loop-feature.so_far) (ap (map chosen_value) c.in-Some.ensures.steps.0) held.held);
     }
 
 pub returns-in_err-explain_next-clause-err : goal.returns-in_err-explain_next-clause-err
 returns-in_err-explain_next-clause-err g c =
+    let held = c.loop-feature.invariant in
     let run = run_of c.args.glue.now.library.now c.args.glue.now.hooks.now c.args.so_far.now.suite.stop in
-    let first = state_of c.args.sandbox.now.now in
     let was_open = c.args.so_far.now.suite.is_open in
-    let all = map chosen_value c.args.features.items in
-    let s = c.in-Some.ensures.steps in
-    let this = chosen_value c.in-Some.feature in
-    let left = map chosen_value (into_iter_items c.next.new.self) in
-    let now = state_of c.loop-feature.sandbox.now in
-    let is_open = c.loop-feature.so_far.suite.is_open in
-    let stops = c.loop-feature.invariant.kept.stops in
-    let old = device_of g.W.Write.contents c.args.out.now in
     let there = device_of g.W.Write.contents c.loop-feature.out in
     let new = device_of g.W.Write.contents c.explain_next.new.out in
-    let before = subst (λ (ls : List ChosenValue). Explaining run first was_open all old c.args.so_far.now ls is_open there c.loop-feature.so_far) (ap (map chosen_value) s.0) c.loop-feature.invariant.held in
-    let ended : EndsExplaining run now is_open this c.loop-feature.so_far.explainer there new c.in_err-explain_next.field-0.0 =
-    subst (λ (x : Bool). EndsExplaining (run_of c.args.glue.now.library.now c.args.glue.now.hooks.now x) now is_open this c.loop-feature.so_far.explainer there new c.in_err-explain_next.field-0.0) stops c.in_err-explain_next.ensures.err in
+    let ended : EndsExplaining run (state_of c.loop-feature.sandbox.now) c.loop-feature.so_far.suite.is_open (chosen_value c.in-Some.feature) c.loop-feature.so_far.explainer there new c.in_err-explain_next.field-0.0 =
+    subst (λ (stop : Bool). EndsExplaining (run_of c.args.glue.now.library.now c.args.glue.now.hooks.now stop) (state_of c.loop-feature.sandbox.now) c.loop-feature.so_far.suite.is_open (chosen_value c.in-Some.feature) c.loop-feature.so_far.explainer there new c.in_err-explain_next.field-0.0)
+        held.kept.stops c.in_err-explain_next.ensures.err in
     passed_on c.from_residual.result c.from_residual.ensures.1 (λ fault same.
-    subst (AreExplainedUpTo run first was_open all old c.args.so_far.now new) (sym same)
-    (explaining_stopped run first now was_open all old c.args.so_far.now this left is_open there c.loop-feature.so_far new c.in_err-explain_next.field-0.0 (ap state_of c.loop-feature.invariant.same.contents) c.loop-feature.invariant.earlier
-    ended before))
+    subst (AreExplainedUpTo run (state_of c.args.sandbox.now.now) was_open (map chosen_value c.args.features.items) (device_of g.W.Write.contents c.args.out.now) c.args.so_far.now new) (sym same)
+    (explaining_stopped run (state_of c.args.sandbox.now.now) (state_of c.loop-feature.sandbox.now) was_open (map chosen_value c.args.features.items) (device_of g.W.Write.contents c.args.out.now) c.args.so_far.now
+    (chosen_value c.in-Some.feature) (map chosen_value (into_iter_items c.next.new.self)) c.loop-feature.so_far.suite.is_open there c.loop-feature.so_far new c.in_err-explain_next.field-0.0
+    (ap state_of held.same.contents) held.earlier ended
+    (subst (λ (left : List ChosenValue). Explaining (run_of c.args.glue.now.library.now c.args.glue.now.hooks.now c.args.so_far.now.suite.stop) (state_of c.args.sandbox.now.now) c.args.so_far.now.suite.is_open (map chosen_value c.args.features.items) (device_of g.W.Write.contents c.args.out.now) c.args.so_far.now
+          left c.loop-feature.so_far.suite.is_open there c.loop-feature.so_far) (ap (map chosen_value) c.in-Some.ensures.steps.0) held.held)))
 
 pub returns-in_err-explain_next-clause-kept : goal.returns-in_err-explain_next-clause-kept
 returns-in_err-explain_next-clause-kept g c = kept_through c.args.so_far.now.suite c.loop-feature.so_far.suite c.explain_next.new.so_far.suite c.loop-feature.invariant.kept c.explain_next.ensures.kept

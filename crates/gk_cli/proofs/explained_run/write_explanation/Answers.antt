@@ -1,4 +1,4 @@
-use Rattle.std.proofs.Common.{Bool, map, refl, subst}
+use Rattle.std.proofs.Common.{Bool, map, refl, rules, subst}
 use Rattle.gk_world.specs.State.{state_of}
 use Rattle.gk_run.specs.Run.{run_of}
 use Rattle.gk_run.specs.Chosen.{chosen_value}
@@ -9,8 +9,8 @@ use Rattle.gk_cli.proofs.WrittenRunLemmas.{if_ok, if_err}
 use Rattle.gk_cli.proofs.ExplainedRunLemmas.{run_told, whole_explained, whole_stopped, part_explained}
 use Rattle.gk_cli.proofs.explained_run.write_explanation.Goals as goal
 
-pub returns-in-Ok-clause-ok : goal.returns-in-Ok-clause-ok
-returns-in-Ok-clause-ok g c =
+pub returns-in-Ok : goal.returns-in-Ok
+returns-in-Ok g c =
     let stop = c.args.explaining.stop in
     let run = run_of c.args.inputs.library c.args.inputs.hooks stop in
     let hooks = c.args.explaining.hooks.now in
@@ -27,29 +27,13 @@ returns-in-Ok-clause-ok g c =
     let told = run_told c.finished_runs_are_judged.ensures run hooks c.args.sandbox.now begun.new.sandbox there.sandbox begun.result there.so_far.suite c.new-explainer.result begun.new.observer there.so_far.explainer last features all.rows c.finish_watched-around.result all.text
         begun.ensures.started c.new-explainer.ensures.said begun.ensures.told all.results all.explained c.explain_features-written.ensures.kept c.explain_features-written.ensures.same
         (λ outside walked. c.finish_watched-around.ensures.around outside stop walked) (λ outside walked. c.finish_watched-around.ensures.told outside stop walked) in
-    if_ok c.write_end.result (λ status end. whole_explained run hooks c.args.sandbox.now.now begun.result.section.before features all.rows c.finish_watched-around.result all.text there.so_far.explainer last before written new status
-    there.so_far.summary (all.counted c.new.ensures) told.judged told.first told.finish all.written end) c.write_end.ensures.ok
-
-pub returns-in-Ok-clause-err : goal.returns-in-Ok-clause-err
-returns-in-Ok-clause-err g c =
-    let stop = c.args.explaining.stop in
-    let run = run_of c.args.inputs.library c.args.inputs.hooks stop in
-    let hooks = c.args.explaining.hooks.now in
-    let features = map chosen_value c.args.inputs.features.items in
-    let begun = c.start_watched-suite in
-    let there = c.explain_features-written.new in
-    let last = c.finish_watched-around.new.observer in
-    let so_far : ExplainedSoFar = record { suite = begun.result; explainer = begun.new.observer; summary = c.new.result } in
-    let before = device_of g.W.Write.contents c.args.out.now in
-    let written = device_of g.W.Write.contents there.out in
-    let new = device_of g.W.Write.contents c.write_end.new.out in
-    let all : AreExplainedNext run (state_of begun.new.sandbox.now) begun.result.is_open features before so_far written there.so_far =
-    subst (λ (s : Bool). AreExplainedNext (run_of c.args.inputs.library c.args.inputs.hooks s) (state_of begun.new.sandbox.now) begun.result.is_open features before so_far written there.so_far) begun.ensures.started.stops c.in-Ok.ensures.ok in
-    let told = run_told c.finished_runs_are_judged.ensures run hooks c.args.sandbox.now begun.new.sandbox there.sandbox begun.result there.so_far.suite c.new-explainer.result begun.new.observer there.so_far.explainer last features all.rows c.finish_watched-around.result all.text
-        begun.ensures.started c.new-explainer.ensures.said begun.ensures.told all.results all.explained c.explain_features-written.ensures.kept c.explain_features-written.ensures.same
-        (λ outside walked. c.finish_watched-around.ensures.around outside stop walked) (λ outside walked. c.finish_watched-around.ensures.told outside stop walked) in
-    if_err c.write_end.result (λ fault end. whole_stopped run hooks c.args.sandbox.now.now begun.result.section.before features all.rows c.finish_watched-around.result all.text there.so_far.explainer last before written new fault
-    there.so_far.summary (all.counted c.new.ensures) told.judged told.first told.finish all.written end) c.write_end.ensures.err
+    record {
+      ok = if_ok c.write_end.result (λ status end. whole_explained run hooks c.args.sandbox.now.now begun.result.section.before features all.rows c.finish_watched-around.result all.text there.so_far.explainer last before written new status
+          there.so_far.summary (all.counted c.new.ensures) told.judged told.first told.finish all.written end) c.write_end.ensures.ok;
+      err = if_err c.write_end.result (λ fault end. whole_stopped run hooks c.args.sandbox.now.now begun.result.section.before features all.rows c.finish_watched-around.result all.text there.so_far.explainer last before written new fault
+          there.so_far.summary (all.counted c.new.ensures) told.judged told.first told.finish all.written end) c.write_end.ensures.err;
+      same = search rules;
+    }
 
 pub returns-clause-err : goal.returns-clause-err
 returns-clause-err g c =
