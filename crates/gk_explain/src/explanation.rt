@@ -51,7 +51,6 @@ impl<'a> Explanation<'a> {
     ghost use Rattle.gk_run.specs.Acting.{CleanupValue};
     ghost use Rattle.gk_run.specs.Results.{case_row, rule_row, feature_row};
     ghost use Rattle.gk_run.specs.Watching.{of_step, of_cleanup};
-    ghost use Rattle.gk_explain.specs.Headings as headings;
     ghost use Rattle.gk_explain.specs.Headings.{failures_text};
     ghost use Rattle.gk_explain.specs.Explanation.{explanation_value, nothing_said, with_event, with_case, with_rule, with_source, with_feature, with_run, with_taken};
 
