@@ -27,8 +27,8 @@ explanation_value e = record {
   feature_lines = string_bytes e.feature_lines;
   rule_lines = string_bytes e.rule_lines;
   case_lines = string_bytes e.case_lines;
-  ready = string_bytes e.ready;
-  failures = string_bytes e.failures;
+  ready = string_bytes e.explained.ready;
+  failures = string_bytes e.explained.failures;
 }
 
 -- Nothing was told yet, and no feature was begun.

@@ -11,8 +11,7 @@ use gk_run::{CaseResult, FeatureResult, Level, Mark, Outcome, Place, RuleResult,
 use std::alloc::{AllocError, Global};
 use std::mem;
 
-/// The lines of the events so far of each section that is open, the explanations that are ready to be
-/// written, and the list of what failed.
+/// The lines of the events so far of each section that is open, and what is explained.
 #[derive(Debug, Drop)]
 pub struct Explanation<'a> {
     hooks: &'a str,
@@ -21,25 +20,28 @@ pub struct Explanation<'a> {
     feature_lines: String,
     rule_lines: String,
     case_lines: String,
+    explained: Explained,
+}
+
+/// The explanations that are ready to be written, and the list of what failed.
+#[derive(Debug, Drop)]
+struct Explained {
     ready: String,
     failures: String,
 }
 
-// Pushes the explanation of what failed, and its line in the list.
-fn push_end(
-    ready: &mut String,
-    failures: &mut String,
-    heading: &str,
-    status: Status,
-    lines: &str,
-) -> Result<(), AllocError>
-    ensures ready { Pushes ready.old
-        (headings.explanation_text heading.now status lines.now) result ready.new }
-    ensures failures { Pushes failures.old (heading.now ++ line_feed) result failures.new }
-{
-    push_explanation(ready, heading, status, lines)?;
-    failures.push_str(heading)?;
-    failures.push_str("\n")
+impl Explained {
+    // Adds the explanation of what failed, and its line in the list.
+    fn add(&mut self, heading: &str, status: Status, lines: &str) -> Result<(), AllocError>
+        ensures ready { Pushes self.old.ready
+            (headings.explanation_text heading.now status lines.now) result self.new.ready }
+        ensures failures { Pushes self.old.failures
+            (heading.now ++ line_feed) result self.new.failures }
+    {
+        push_explanation(&mut self.ready, heading, status, lines)?;
+        self.failures.push_str(heading)?;
+        self.failures.push_str("\n")
+    }
 }
 
 impl<'a> Explanation<'a> {
@@ -49,9 +51,8 @@ impl<'a> Explanation<'a> {
     ghost use Rattle.gk_run.specs.Acting.{CleanupValue};
     ghost use Rattle.gk_run.specs.Results.{case_row, rule_row, feature_row};
     ghost use Rattle.gk_run.specs.Watching.{of_step, of_cleanup};
-    ghost use Rattle.gk_explain.specs.Headings as headings;
     ghost use Rattle.gk_explain.specs.Headings.{failures_text};
-    ghost use Rattle.gk_explain.specs.Explanation.{explanation_value, nothing_said, with_end, with_event, with_case, with_rule, with_source, with_feature, with_run, with_taken};
+    ghost use Rattle.gk_explain.specs.Explanation.{explanation_value, nothing_said, with_event, with_case, with_rule, with_source, with_feature, with_run, with_taken};
 
     /// Nothing was told yet, and no feature was begun; the hooks file has this name. Takes no memory.
     pub fn new(alloc: Global, hooks: &'a str) -> Explanation<'a>
@@ -64,8 +65,10 @@ impl<'a> Explanation<'a> {
             feature_lines: String::new(alloc),
             rule_lines: String::new(alloc),
             case_lines: String::new(alloc),
-            ready: String::new(alloc),
-            failures: String::new(alloc),
+            explained: Explained {
+                ready: String::new(alloc),
+                failures: String::new(alloc),
+            },
         }
     }
 
@@ -109,52 +112,18 @@ impl<'a> Explanation<'a> {
         }
     }
 
-    // Adds the explanation of the scenario that is open, where it failed or was refused memory.
-    fn explain_case(&mut self, alloc: Global, case: &CaseResult) -> Result<(), AllocError>
-        ensures { let old = explanation_value self.old in OnOk result (explanation_value self.new
-            ≡ with_end (headings.case_heading old.names.source (case_row case.now))
-            case.now.status old.case_lines old) }
-    {
-        if !is_bad(case.status) {
-            return Ok(());
-        }
-        let heading = case_heading(alloc, self.source.as_str(), case)?;
-        push_end(
-            &mut self.ready,
-            &mut self.failures,
-            heading.as_str(),
-            case.status,
-            self.case_lines.as_str(),
-        )
-    }
-
     /// The scenario that is open has ended with this result. An error comes only where a growth was refused.
     pub fn end_case(&mut self, alloc: Global, case: &CaseResult) -> Result<(), AllocError>
         ensures { OnOk result (explanation_value self.new
             ≡ with_case (case_row case.now) (explanation_value self.old)) }
     {
-        self.explain_case(alloc, case)?;
+        if is_bad(case.status) {
+            let heading = case_heading(alloc, self.source.as_str(), case)?;
+            let lines = self.case_lines.as_str();
+            self.explained.add(heading.as_str(), case.status, lines)?;
+        }
         self.case_lines.clear();
         Ok(())
-    }
-
-    // Adds the explanation of the rule that is open, where its hooks or cleanups failed or were refused memory.
-    fn explain_rule(&mut self, alloc: Global, rule: &RuleResult) -> Result<(), AllocError>
-        ensures { let old = explanation_value self.old in OnOk result (explanation_value self.new
-            ≡ with_end (headings.rule_heading old.names.source (rule_row rule.now))
-            rule.now.around old.rule_lines old) }
-    {
-        if !is_bad(rule.around) {
-            return Ok(());
-        }
-        let heading = rule_heading(alloc, self.source.as_str(), rule)?;
-        push_end(
-            &mut self.ready,
-            &mut self.failures,
-            heading.as_str(),
-            rule.around,
-            self.rule_lines.as_str(),
-        )
     }
 
     /// The rule that is open has ended with this result. An error comes only where a growth was refused.
@@ -162,29 +131,13 @@ impl<'a> Explanation<'a> {
         ensures { OnOk result (explanation_value self.new
             ≡ with_rule (rule_row rule.now) (explanation_value self.old)) }
     {
-        self.explain_rule(alloc, rule)?;
+        if is_bad(rule.around) {
+            let heading = rule_heading(alloc, self.source.as_str(), rule)?;
+            let lines = self.rule_lines.as_str();
+            self.explained.add(heading.as_str(), rule.around, lines)?;
+        }
         self.rule_lines.clear();
         Ok(())
-    }
-
-    // Adds the explanation of the feature that is open, where its hooks or cleanups failed or were refused
-    // memory.
-    fn explain_feature(&mut self, alloc: Global, feature: &FeatureResult) -> Result<(), AllocError>
-        ensures { let old = explanation_value self.old in OnOk result (explanation_value self.new
-            ≡ with_end (headings.feature_heading old.names.source (feature_row feature.now))
-            feature.now.around old.feature_lines old) }
-    {
-        if !is_bad(feature.around) {
-            return Ok(());
-        }
-        let heading = feature_heading(alloc, self.source.as_str(), feature)?;
-        push_end(
-            &mut self.ready,
-            &mut self.failures,
-            heading.as_str(),
-            feature.around,
-            self.feature_lines.as_str(),
-        )
     }
 
     /// The feature that is open has ended with this result. An error comes only where a growth was refused.
@@ -192,26 +145,13 @@ impl<'a> Explanation<'a> {
         ensures { OnOk result (explanation_value self.new
             ≡ with_feature (feature_row feature.now) (explanation_value self.old)) }
     {
-        self.explain_feature(alloc, feature)?;
+        if is_bad(feature.around) {
+            let heading = feature_heading(alloc, self.source.as_str(), feature)?;
+            let lines = self.feature_lines.as_str();
+            self.explained.add(heading.as_str(), feature.around, lines)?;
+        }
         self.feature_lines.clear();
         Ok(())
-    }
-
-    // Adds the explanation of the run, where its hooks or cleanups failed or were refused memory.
-    fn explain_run(&mut self, around: Status) -> Result<(), AllocError>
-        ensures { let old = explanation_value self.old in OnOk result (explanation_value self.new
-            ≡ with_end headings.run_heading around old.run_lines old) }
-    {
-        if !is_bad(around) {
-            return Ok(());
-        }
-        push_end(
-            &mut self.ready,
-            &mut self.failures,
-            run_heading(),
-            around,
-            self.run_lines.as_str(),
-        )
     }
 
     /// The run has ended, its own hooks and cleanups so. An error comes only where a growth was refused.
@@ -219,7 +159,10 @@ impl<'a> Explanation<'a> {
         ensures { OnOk result (explanation_value self.new
             ≡ with_run around (explanation_value self.old)) }
     {
-        self.explain_run(around)?;
+        if is_bad(around) {
+            let lines = self.run_lines.as_str();
+            self.explained.add(run_heading(), around, lines)?;
+        }
         self.run_lines.clear();
         Ok(())
     }
@@ -229,7 +172,7 @@ impl<'a> Explanation<'a> {
         ensures taken { let old = explanation_value self.old in string_bytes result ≡ old.ready }
         ensures left { explanation_value self.new ≡ with_taken (explanation_value self.old) }
     {
-        mem::replace(&mut self.ready, String::new(alloc))
+        mem::replace(&mut self.explained.ready, String::new(alloc))
     }
 
     /// The list of what failed, with an empty line behind it where there is any. An error comes only where a
@@ -238,7 +181,8 @@ impl<'a> Explanation<'a> {
         ensures { let said = explanation_value self.entry in IfOk result (λ text.
             string_bytes text ≡ failures_text said.failures) }
     {
-        let Explanation { mut failures, .. } = self;
+        let Explanation { explained, .. } = self;
+        let Explained { mut failures, .. } = explained;
         if !failures.is_empty() {
             failures.push_str("\n")?;
         }
