@@ -1,5 +1,5 @@
 -- What an action works with, and what is wrong with the block that stands under its step. The table of actions in the guide says which action works with what.
-use Rattle.std.specs.Prelude.{codes, not, ℕ, Bool, true, false, ◌==◌, ◌||◌, ◌&&◌, List, [], ◌∷◌, ◌++◌, length, if◌then◌else◌}
+use Rattle.std.specs.Prelude.{codes, not, ℕ, Bool, true, false, ◌==◌, ◌&&◌, List, [], ◌∷◌, ◌++◌, length, if◌then◌else◌}
 use Rattle.std.specs.List.{list_all}
 use Rattle.std.specs.Str.{bytes_eq}
 use Rattle.gk_gherkin.specs.Feature.{BlockValue, Empty, Text, Table}

@@ -1,7 +1,8 @@
 -- The lines at which scenarios are, and those of `--line` at which none is.
-use Rattle.std.specs.Prelude.{not, ℕ, List, [], ◌∷◌, ◌++◌, map, filter, flat_map, if◌then◌else◌}
-use Rattle.gk_gherkin.specs.Feature.{RowValue, ExamplesValue, ScenarioValue, RuleValue, FeatureValue}
+use Rattle.std.specs.Prelude.{not, ℕ, List, [], ◌∷◌, map, filter, flat_map, if◌then◌else◌}
+use Rattle.gk_gherkin.specs.Feature.{RowValue, ExamplesValue, ScenarioValue, FeatureValue}
 use Rattle.gk_select.specs.Outline.{is_outline}
+use Rattle.gk_lint.specs.ScenarioNames.{scenarios_of}
 use Rattle.gk_lint.specs.LibraryUse.{is_among}
 
 -- The lines of the rows of Examples. (Cucumber's Gherkin reference: examples)
@@ -20,13 +21,9 @@ lines_of_scenario s = if is_outline s then lines_of_examples s.examples else s.l
 abbrev pub lines_of_scenarios : List ScenarioValue → List ℕ
 lines_of_scenarios scenarios = flat_map lines_of_scenario scenarios
 
--- The lines of the cases of rules.
-abbrev pub lines_of_rules : List RuleValue → List ℕ
-lines_of_rules rules = flat_map (λ (r : RuleValue). lines_of_scenarios r.scenarios) rules
-
--- The lines of the cases of a feature.
+-- The lines of the cases of a feature: those of its own scenarios, and then of those of its rules.
 abbrev pub lines_of_feature : FeatureValue → List ℕ
-lines_of_feature f = lines_of_scenarios f.scenarios ++ lines_of_rules f.rules
+lines_of_feature f = lines_of_scenarios (scenarios_of f)
 
 -- The lines of the cases of features.
 abbrev pub lines_of_features : List FeatureValue → List ℕ

@@ -1,5 +1,5 @@
 -- Hooks for tags that stand nowhere.
-use Rattle.std.specs.Prelude.{not, ℕ, Bool, List, [], ◌++◌, map, flat_map, Option, Some, None}
+use Rattle.std.specs.Prelude.{not, ℕ, Bool, List, [], ◌++◌, flat_map, Option, Some, None}
 use Rattle.gk_gherkin.specs.Feature.{ExamplesValue, ScenarioValue, RuleValue, FeatureValue}
 use Rattle.gk_gherkin.specs.Hooks.{HookValue}
 use Rattle.gk_lint.specs.declared.findings.Finding.{Finding}

@@ -69,7 +69,8 @@ pub fn has(numbers: &[usize], n: usize) -> bool
 // What is found of the entries at these lines. The places that are used rise.
 fn unused_at(alloc: Global, used: &[usize], lines: &[u32]) -> Result<Vec<Finding>, AllocError>
     requires { IsNonDecreasing used.now }
-    ensures { IfOk result (λ found. found.items ≡ spec.unused_from 0 (is_among used.now) lines.now) }
+    ensures { IfOk result (λ found. found.items
+        ≡ spec.unused_from 0 (is_among used.now) lines.now) }
 {
     let mut findings = Vec::new(alloc);
     for (place, line) in lines.iter().enumerate() {

@@ -1,13 +1,14 @@
 //! The lines at which scenarios are, and those of `--line` at which none is.
 ghost use Rattle.std.specs.Prelude.{◌≡◌, ◌++◌, not, map, filter, OnOk, IfOk};
 ghost use Rattle.std.specs.List.Sorted.{IsNonDecreasing};
-ghost use Rattle.gk_gherkin.specs.Feature.{row_value, examples_value, scenario_value, rule_value, feature_value};
+ghost use Rattle.gk_gherkin.specs.Feature.{row_value, examples_value, scenario_value, feature_value};
 ghost use Rattle.gk_lint.specs.LibraryUse.{is_among};
 ghost use Rattle.gk_lint.specs.ScenarioLines as spec;
 
 use crate::library_use::{has, rising};
+use crate::scenario_names::scenarios_of;
 use crate::vanishing::is_outline;
-use gk_gherkin::{Examples, Feature, Row, Rule, Scenario};
+use gk_gherkin::{Examples, Feature, Row, Scenario};
 use std::alloc::{AllocError, Global};
 
 fn push_rows(lines: &mut Vec<usize>, rows: &[Row]) -> Result<(), AllocError>
@@ -42,32 +43,22 @@ fn push_scenario(lines: &mut Vec<usize>, scenario: &Scenario) -> Result<(), Allo
     }
 }
 
-fn push_scenarios(lines: &mut Vec<usize>, scenarios: &[Scenario]) -> Result<(), AllocError>
-    ensures { OnOk result (lines.new.items
-        ≡ lines.old.items ++ spec.lines_of_scenarios (map scenario_value scenarios.now)) }
+fn push_scenarios(lines: &mut Vec<usize>, scenarios: &[&Scenario]) -> Result<(), AllocError>
+    ensures { OnOk result (lines.new.items ≡ lines.old.items
+        ++ spec.lines_of_scenarios (map (λ s. scenario_value s.now) scenarios.now)) }
 {
     for scenario in scenarios {
-        push_scenario(lines, scenario)?;
+        push_scenario(lines, *scenario)?;
     }
     Ok(())
 }
 
-fn push_rules(lines: &mut Vec<usize>, rules: &[Rule]) -> Result<(), AllocError>
-    ensures { OnOk result (lines.new.items
-        ≡ lines.old.items ++ spec.lines_of_rules (map rule_value rules.now)) }
-{
-    for rule in rules {
-        push_scenarios(lines, &rule.scenarios)?;
-    }
-    Ok(())
-}
-
-fn push_feature(lines: &mut Vec<usize>, feature: &Feature) -> Result<(), AllocError>
+fn push_feature(lines: &mut Vec<usize>, alloc: Global, feature: &Feature) -> Result<(), AllocError>
     ensures { OnOk result (lines.new.items
         ≡ lines.old.items ++ spec.lines_of_feature (feature_value feature.now)) }
 {
-    push_scenarios(lines, &feature.scenarios)?;
-    push_rules(lines, &feature.rules)
+    let scenarios = scenarios_of(alloc, feature)?;
+    push_scenarios(lines, &scenarios)
 }
 
 // The lines of the cases of features.
@@ -77,7 +68,7 @@ fn lines_of_features(alloc: Global, features: &[Feature]) -> Result<Vec<usize>, 
 {
     let mut lines = Vec::new(alloc);
     for feature in features {
-        push_feature(&mut lines, feature)?;
+        push_feature(&mut lines, alloc, feature)?;
     }
     Ok(lines)
 }

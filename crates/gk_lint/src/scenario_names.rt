@@ -34,8 +34,11 @@ fn push_rules<'a>(all: &mut Vec<&'a Scenario>, rules: &'a [Rule]) -> Result<(), 
     Ok(())
 }
 
-// All scenarios of a feature.
-fn scenarios_of<'a>(alloc: Global, feature: &'a Feature) -> Result<Vec<&'a Scenario>, AllocError>
+/// All scenarios of a feature: its own, and then those of its rules. An error comes only where a growth was refused.
+pub fn scenarios_of<'a>(
+    alloc: Global,
+    feature: &'a Feature,
+) -> Result<Vec<&'a Scenario>, AllocError>
     ensures { IfOk result (λ all. map (λ s. scenario_value s.now) all.items
         ≡ spec.scenarios_of (feature_value feature.now)) }
 {

@@ -49,20 +49,13 @@ fn push_scenarios<'a>(all: &mut Vec<&'a str>, scenarios: &'a [Scenario]) -> Resu
     Ok(())
 }
 
-fn push_rule<'a>(all: &mut Vec<&'a str>, rule: &'a Rule) -> Result<(), AllocError>
-    ensures { OnOk result (map (λ t. t.now) all.new.items ≡ map (λ t. t.now) all.old.items
-        ++ spec.tags_of_rule (rule_value rule.now)) }
-{
-    push_tags(all, &rule.tags)?;
-    push_scenarios(all, &rule.scenarios)
-}
-
 fn push_rules<'a>(all: &mut Vec<&'a str>, rules: &'a [Rule]) -> Result<(), AllocError>
     ensures { OnOk result (map (λ t. t.now) all.new.items ≡ map (λ t. t.now) all.old.items
         ++ spec.tags_of_rules (map rule_value rules.now)) }
 {
     for rule in rules {
-        push_rule(all, rule)?;
+        push_tags(all, &rule.tags)?;
+        push_scenarios(all, &rule.scenarios)?;
     }
     Ok(())
 }
