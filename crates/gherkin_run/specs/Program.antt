@@ -166,7 +166,7 @@ abbrev pub IsWrittenAs : Mode → FilesValue → Request → Contents → Device
 IsWrittenAs Report files request contents old new status = JudgedReport request contents old new status × OnlyReport request contents old new status
 IsWrittenAs Explanation files request contents old new status = Explained request (hooks_name files) contents old new status
 
--- What each fault of a run says: a prefix of what is written of it was where standard output failed or memory was refused, or nothing; else what is asked for doesn't read, and nothing was written.
+-- What each fault of a run says: at `Write` a prefix of what is written of it was, at `Memory` such a prefix or nothing; at any other fault nothing was, and what is asked for doesn't read.
 abbrev pub SaysFaultAs : Mode → FilesValue → Request → Contents → Device → Device → RunFault → Type 0
 SaysFaultAs mode files request contents old new run.Write = IsStoppedAs mode files request contents old new run.Write
 SaysFaultAs mode files request contents old new run.Memory = IsUntouched old new ⊎ IsStoppedAs mode files request contents old new run.Memory

@@ -1,4 +1,4 @@
-//! The program: reads the arguments and the files, runs the scenarios, and writes the report.
+//! The program: reads the arguments and the files, runs the scenarios, and writes the report or an explanation.
 #![tactic(auto)]
 
 ghost use Rattle.std.specs.Prelude.{◌≡◌};

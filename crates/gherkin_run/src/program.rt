@@ -1,4 +1,4 @@
-//! From the arguments to the report.
+//! From the arguments to what is printed.
 ghost use Rattle.std.specs.Prelude.{◌≡◌, ◌<◌, map, IfOk, IfErr, IsSome, OnOk, Some, option_map, string_bytes, vec_len};
 ghost use Rattle.gk_world.specs.Sandbox.{depth, new_sandbox};
 ghost use Rattle.gk_cli.specs.Arguments.{pair_value};
@@ -20,7 +20,7 @@ use std::io::Write;
 use std::rt::{Env, Files};
 use std::{env, io};
 
-/// What the arguments ask for: help, whose text is clap's own, or a run.
+/// What the arguments ask for: help or the version, whose text is clap's own, or a run.
 #[derive(Debug, Drop)]
 pub enum Asked {
     Help(clap::Error),

@@ -402,7 +402,7 @@ fn words_by<'a>(
 /// `--dry-run` and `--no-skipped`. Every other argument that begins with no `-` or is `-`
 /// alone, and every argument after the first `--`, is a feature file; there has to be one. Options and files
 /// stand in any order, and `--opt=value` is the same as `--opt value`. `--help` and `-h` ask for help, and
-/// answer `Usage` with the exit code 0, as do `--version` and `-V` for the version. A mistake is `Usage`, and comes before `Env`; `Memory` may come in
+/// answer `Usage` with the exit code 0; so do `--version` and `-V`, which ask for the version. A mistake is `Usage`, and comes before `Env`; `Memory` may come in
 /// place of any answer.
 pub fn read_words(alloc: Global, words: &[String]) -> Result<Words, WordsFault>
     ensures { SaysArguments (map string_bytes words.now) result }

@@ -159,9 +159,10 @@ fn write_end<W: Write>(
     Ok(summary.status(around))
 }
 
-/// Runs what was read, and writes its explanation: what happened in each scenario that failed or was refused
-/// memory, and in the hooks and cleanups of each section that were, when its feature has ended; and, when the
-/// run has, the list of these and the closing lines of the plain report. Answers the status of the run.
+/// Runs what was read, and writes its explanation: when a feature has ended, what happened in its scenarios, and
+/// in the hooks and cleanups of its rules and its own, that failed or were refused memory; and when the run has,
+/// the same of its own, the list of all these and the closing lines of the plain report. Answers the status of
+/// the run.
 /// `Memory` comes where a growth was refused outside of steps, hooks and cleanups; `Write` where the writer
 /// failed. Then the run is finished, its answer is given up, and nothing more is written.
 pub fn write_explanation<W: Write>(

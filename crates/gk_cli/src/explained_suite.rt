@@ -45,16 +45,16 @@ fn name_of(file: Option<&Source>) -> &str
     }
 }
 
-/// Runs what is asked for as `run_suite` does, and writes an explanation in place of the report: when a
-/// feature has ended, for each of its scenarios that failed or was refused memory, and for its and its rules'
-/// hooks and cleanups where they were, a heading with the place and the status, and a line for each event in
-/// order, with its place; and when the run has ended, the same of its own hooks and cleanups, the list of these
-/// headings, and the closing lines of the plain report. Scenarios that passed, that are skipped, or that aren't
-/// reached, are counted alone. `dry_run` and `style` of the options aren't looked at.
+/// Runs what is asked for as `run_suite` does, and writes an explanation in place of the report. When a feature
+/// has ended, each of its scenarios that failed or was refused memory has a heading with its place and status,
+/// and a line for each of its events in order; so have the hooks and cleanups of each of its rules, and its own,
+/// where they failed or were refused memory. When the run has ended, so have its own; then the headings stand
+/// there as a list, and the closing lines of the plain report. Scenarios that passed, that are skipped or that
+/// aren't reached are only counted. `dry_run` and `style` of the options aren't looked at.
 ///
-/// The answer is the status that `run_suite` would answer. `RunFault` says when each error comes; a prefix of the
-/// explanation was written then. Whatever is returned, files, variables, values and layers of the sandbox are
-/// as they were, and nothing is flushed. No layer of the sandbox is open, and the writer's counts of failures,
+/// The answer is the status of the results, as `run_suite` has it. `RunFault` says when each error comes: at
+/// `Write` and `Memory` a prefix was written, perhaps an empty one, at every other nothing. Whatever is returned,
+/// files, variables, values and layers of the sandbox are as they were, and nothing is flushed. No layer of the sandbox is open, and the writer's counts of failures,
 /// idle calls and flushes are below `u64::MAX - 1`, so that one more of each can be seen.
 pub fn explain_suite<W: Write>(
     alloc: Global,

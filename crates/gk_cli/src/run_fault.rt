@@ -31,11 +31,12 @@ pub enum RunFault {
         input: Option<usize>,
         fault: SelectFault,
     },
-    /// The writer failed in this call, or took no byte of a piece. A prefix of the report was written.
+    /// The writer failed in this call, or took no byte of a piece. A prefix of the report, or of what is said in an
+    /// explanation, was written.
     #[error("cannot write")]
     Write,
-    /// A growth of memory was refused outside the steps of scenarios, hooks and cleanups. A prefix of the
-    /// report was written; nothing, where the inputs were still being read.
+    /// A growth of memory was refused outside the steps of scenarios, hooks and cleanups. A prefix of
+    /// what is written of the run was; nothing, where the inputs were still being read.
     #[error("out of memory")]
     Memory,
 }

@@ -15,9 +15,8 @@ use gk_steps::Found;
 use gk_world::Sandbox;
 use std::alloc::{AllocError, Global};
 
-/// Explains a run that it is told as its observer: each scenario that failed or was refused memory, and the
-/// hooks and cleanups of each rule, each feature and of the run that did, by a line for each of its events, in
-/// order. It keeps no event. Once a growth is refused to it, it is cut, and adds nothing any more.
+/// Explains a run that it is told as its observer: each scenario, and the hooks and cleanups of each rule, each
+/// feature and the run, where they failed or were refused memory, by a line for each event, in order. It keeps no event. Once a growth is refused to it, it is cut, and adds nothing any more.
 #[derive(Debug, Drop)]
 pub struct Explainer<'a> {
     alloc: Global,
