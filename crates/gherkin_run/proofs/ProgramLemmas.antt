@@ -1,6 +1,7 @@
 -- A run whose output is flushed, the program's faults for those of the run, and variables one after another.
 use Rattle.std.proofs.Common.{◌≡◌, ◌∙◌, ◌+◌, ◌<◌, ◌≤◌, ◌++◌, ap, sym, subst, refl, inl, inr, arith, suc, ℕ, List, [], ◌∷◌, length, map, take, drop, get_or, Option, Some, None, Result, Ok, Err, add-one}
-use Rattle.std.specs.Prelude.{IfErr, IfOk, IsSome, IsSomeAnd, String, is_some, option_map, string_bytes}
+use Rattle.std.specs.Borrow.{Bor}
+use Rattle.std.specs.Prelude.{option_copied, IfErr, IfOk, IsSome, IsSomeAnd, String, is_some, option_map, string_bytes}
 use Rattle.std.specs.declared.alloc.Global.{Global}
 use Rattle.std.specs.List.{All, Any}
 use Rattle.std.specs.Io.KnownBytes.{Appends}
@@ -21,7 +22,7 @@ use Rattle.gk_cli.specs.Source.{SourceValue, source_value}
 use Rattle.gk_cli.specs.declared.source.Source.{Source}
 use Rattle.gk_cli.specs.GrowingReport.{StopsBy}
 use Rattle.gk_cli.specs.Suite.{Device, IsUntouched, SaysFault}
-use Rattle.gk_cli.specs.ExplainedSuite.{SaysExplanationFault}
+use Rattle.gk_cli.specs.ExplainedSuite.{SaysExplanationFault, file_value}
 use Rattle.gk_cli.specs.declared.arguments.Mode.{Mode}
 use Rattle.gk_cli.specs.declared.arguments.Mode.TheVariants.{Report, Explanation}
 use Rattle.gk_cli.specs.declared.arguments.Options.{Options}
@@ -42,6 +43,14 @@ if_ok_both P Q (Err e) h k = h
 pub if_err_by : {T E : Type 0} {P Q : E → Type 0} (r : Result T E) → ((e : E) → P e → Q e) → IfErr r P → IfErr r Q
 if_err_by (Ok x) f h = h
 if_err_by (Err e) f h = f e h
+
+-- a file that is borrowed says what it says
+pub same_file : (file : Option (Bor Source)) (own : Option Source) → option_copied file ≡ own → file_value file ≡ option_map source_value own
+same_file file own same = go file ∙ ap (option_map source_value) same
+  where
+    go : (file : Option (Bor Source)) → file_value file ≡ option_map source_value (option_copied file)
+    go None = refl
+    go (Some x) = refl
 
 -- a device that isn't called
 pub untouched : (d : Device) → IsUntouched d d
