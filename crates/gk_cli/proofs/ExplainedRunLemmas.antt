@@ -8,7 +8,7 @@ use Rattle.gk_run.specs.declared.ending.Ending.TheVariants as endings
 use Rattle.gk_run.specs.declared.open_run.state.Suite.{Suite}
 use Rattle.gk_run.specs.declared.results.Status.{Status}
 use Rattle.gk_run.specs.declared.section.Level.TheVariants as levels
-use Rattle.gk_run.specs.Results.{FeatureRow, Results}
+use Rattle.gk_run.specs.Results.{FeatureRow}
 use Rattle.gk_run.specs.Run.{Run}
 use Rattle.gk_run.specs.Chosen.{ChosenValue}
 use Rattle.gk_run.specs.Cases.{stays_open}
@@ -18,7 +18,7 @@ use Rattle.gk_run.specs.Ending.{has_passed}
 use Rattle.gk_run.specs.Features.{IsFeatureResult}
 use Rattle.gk_run.specs.Judged.{Judged, BeginsJudged}
 use Rattle.gk_run.specs.OpenRun.{AreFeatures, IsStarted, IsKept, FinishedRunsAreJudged}
-use Rattle.gk_run.specs.OpenSection.{section_state, IsBegun, IsSectionEnd}
+use Rattle.gk_run.specs.OpenSection.{IsBegun, IsSectionEnd}
 use Rattle.gk_run.specs.declared.open_section.OpenSection.{OpenSection}
 use Rattle.gk_run.specs.Running.{IsSame}
 use Rattle.gk_run.specs.SectionHooks.{begun as begun_by}
@@ -34,7 +34,7 @@ use Rattle.gk_cli.specs.declared.run_fault.RunFault.{RunFault}
 use Rattle.gk_cli.specs.declared.run_fault.RunFault.TheVariants.{Memory}
 use Rattle.gk_cli.specs.Suite.{Device}
 use Rattle.gk_cli.specs.GrowingReport.{results_with, IsWritten, IsStopped}
-use Rattle.gk_cli.specs.ExplainedRun.{last_text, IsFeatureExplained, AreExplained, AreFirstExplained, IsExplanation, IsExplained, IsExplainedUpTo, IsExplainedNext, EndsExplaining, AreExplainedNext, AreExplainedUpTo, IsReadyStopped, IsEndWritten, IsEndStopped}
+use Rattle.gk_cli.specs.ExplainedRun.{last_text, IsFeatureExplained, AreExplained, AreFirstExplained, IsExplained, IsExplainedUpTo, IsExplainedNext, EndsExplaining, AreExplainedNext, AreExplainedUpTo, IsReadyStopped, IsEndWritten, IsEndStopped}
 use Rattle.gk_cli.proofs.GrowingReportLemmas.{written_none, written_more, stopped_after, stopped_here}
 use Rattle.gk_cli.proofs.WrittenRunLemmas.{RowsSoFar, rows_first, rows_next, rows_last}
 use Rattle.gk_cli.proofs.SuiteLemmas.{judged_by, begun_still}

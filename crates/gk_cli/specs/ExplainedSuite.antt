@@ -1,5 +1,5 @@
 -- What a whole run may return and write that is explained.
-use Rattle.std.specs.Prelude.{◌≡◌, ◌⊎◌, ℕ, false, List, [], map, unwrap_or, Option, option_map}
+use Rattle.std.specs.Prelude.{◌⊎◌, ℕ, false, List, [], map, unwrap_or, Option, option_map}
 use denote.Ref.{Bor}
 use Rattle.gk_world.specs.State.{Contents}
 use Rattle.gk_run.specs.Run.{Run}

@@ -17,9 +17,7 @@ use crate::run_fault::RunFault;
 use crate::written_run::Glue;
 use gk_explain::Explainer;
 use gk_report::{Format, Style, Summary, tail};
-use gk_run::{
-    Chosen, NoRoom, Status, Suite, finished_runs_are_judged, unfinished_runs_are_judged,
-};
+use gk_run::{Chosen, NoRoom, Status, Suite, finished_runs_are_judged, unfinished_runs_are_judged};
 use gk_world::Sandbox;
 use std::alloc::Global;
 use std::io::Write;

@@ -49,12 +49,12 @@ returns-in-Explanation-clause-written g c =
 
 pub returns-in-Explanation-clause-fault : goal.returns-in-Explanation-clause-fault
 returns-in-Explanation-clause-fault g c =
-    let files = files_value c.args.files.now in
-    let options = c.args.manner.options.now in
-    let old = device_of (λ w. g.W.Write.contents w) c.args.out.now in
-    let new = device_of (λ w. g.W.Write.contents w) c.explain_suite.new.out in
     let library = same_file c.as_ref.result c.args.files.now.library c.as_ref.ensures.value in
     let hooks = same_file c.as_ref-in-Explanation.result c.args.files.now.hooks c.as_ref-in-Explanation.ensures.value in
+    let old = device_of (λ w. g.W.Write.contents w) c.args.out.now in
+    let new = device_of (λ w. g.W.Write.contents w) c.explain_suite.new.out in
+    let options = c.args.manner.options.now in
+    let files = files_value c.args.files.now in
     let is : Option SourceValue → Option SourceValue → List Source → Type 0 =
     λ l h s. IfErr c.explain_suite.result (SaysExplanationFault (request_of options (bytes_of l) (bytes_of h) (map source_value s)) (name_of h) c.args.sandbox.now.now old new) in
     let says : is files.library files.hooks c.args.files.now.sources.items =

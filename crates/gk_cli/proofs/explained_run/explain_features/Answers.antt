@@ -70,14 +70,14 @@ returns-in_err-explain_next-clause-err g c =
     let new = device_of g.W.Write.contents c.explain_next.new.out in
     let ended : EndsExplaining run (state_of c.loop-feature.sandbox.now) c.loop-feature.so_far.suite.is_open (chosen_value c.in-Some.feature) c.loop-feature.so_far.explainer there new c.in_err-explain_next.field-0.0 =
     subst (λ (stop : Bool). EndsExplaining (run_of c.args.glue.now.library.now c.args.glue.now.hooks.now stop) (state_of c.loop-feature.sandbox.now) c.loop-feature.so_far.suite.is_open (chosen_value c.in-Some.feature) c.loop-feature.so_far.explainer there new c.in_err-explain_next.field-0.0)
-        held.kept.stops c.in_err-explain_next.ensures.err in
+    held.kept.stops c.in_err-explain_next.ensures.err in
     passed_on c.from_residual.result c.from_residual.ensures.1 (λ fault same.
     subst (AreExplainedUpTo run (state_of c.args.sandbox.now.now) was_open (map chosen_value c.args.features.items) (device_of g.W.Write.contents c.args.out.now) c.args.so_far.now new) (sym same)
     (explaining_stopped run (state_of c.args.sandbox.now.now) (state_of c.loop-feature.sandbox.now) was_open (map chosen_value c.args.features.items) (device_of g.W.Write.contents c.args.out.now) c.args.so_far.now
     (chosen_value c.in-Some.feature) (map chosen_value (into_iter_items c.next.new.self)) c.loop-feature.so_far.suite.is_open there c.loop-feature.so_far new c.in_err-explain_next.field-0.0
     (ap state_of held.same.contents) held.earlier ended
     (subst (λ (left : List ChosenValue). Explaining (run_of c.args.glue.now.library.now c.args.glue.now.hooks.now c.args.so_far.now.suite.stop) (state_of c.args.sandbox.now.now) c.args.so_far.now.suite.is_open (map chosen_value c.args.features.items) (device_of g.W.Write.contents c.args.out.now) c.args.so_far.now
-          left c.loop-feature.so_far.suite.is_open there c.loop-feature.so_far) (ap (map chosen_value) c.in-Some.ensures.steps.0) held.held)))
+    left c.loop-feature.so_far.suite.is_open there c.loop-feature.so_far) (ap (map chosen_value) c.in-Some.ensures.steps.0) held.held)))
 
 pub returns-in_err-explain_next-clause-kept : goal.returns-in_err-explain_next-clause-kept
 returns-in_err-explain_next-clause-kept g c = kept_through c.args.so_far.now.suite c.loop-feature.so_far.suite c.explain_next.new.so_far.suite c.loop-feature.invariant.kept c.explain_next.ensures.kept

@@ -25,8 +25,8 @@ returns-in-Ok g c =
     let all : AreExplainedNext run (state_of begun.new.sandbox.now) begun.result.is_open features before so_far written there.so_far =
     subst (λ (s : Bool). AreExplainedNext (run_of c.args.inputs.library c.args.inputs.hooks s) (state_of begun.new.sandbox.now) begun.result.is_open features before so_far written there.so_far) begun.ensures.started.stops c.in-Ok.ensures.ok in
     let told = run_told c.finished_runs_are_judged.ensures run hooks c.args.sandbox.now begun.new.sandbox there.sandbox begun.result there.so_far.suite c.new-explainer.result begun.new.observer there.so_far.explainer last features all.rows c.finish_watched-around.result all.text
-        begun.ensures.started c.new-explainer.ensures.said begun.ensures.told all.results all.explained c.explain_features-written.ensures.kept c.explain_features-written.ensures.same
-        (λ outside walked. c.finish_watched-around.ensures.around outside stop walked) (λ outside walked. c.finish_watched-around.ensures.told outside stop walked) in
+    begun.ensures.started c.new-explainer.ensures.said begun.ensures.told all.results all.explained c.explain_features-written.ensures.kept c.explain_features-written.ensures.same
+    (λ outside walked. c.finish_watched-around.ensures.around outside stop walked) (λ outside walked. c.finish_watched-around.ensures.told outside stop walked) in
     record {
       ok = if_ok c.write_end.result (λ status end. whole_explained run hooks c.args.sandbox.now.now begun.result.section.before features all.rows c.finish_watched-around.result all.text there.so_far.explainer last before written new status
           there.so_far.summary (all.counted c.new.ensures) told.judged told.first told.finish all.written end) c.write_end.ensures.ok;

@@ -1,4 +1,4 @@
-use Rattle.std.proofs.Common.{◌≡◌, ◌∙◌, ℕ, List, inl, inr, refl, subst}
+use Rattle.std.proofs.Common.{◌≡◌, ◌∙◌, inl, inr, refl, subst}
 use Rattle.gk_explain.specs.Explainer.{said}
 use Rattle.gk_cli.specs.Suite.{device_of}
 use Rattle.gk_cli.specs.GrowingReport.{IsWritten, IsStopped}
