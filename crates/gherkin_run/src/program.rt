@@ -11,8 +11,8 @@ ghost use Rattle.gherkin_run.specs.Program.{SaysAsked, SaysError, IsHelpFault, I
 use crate::fault::Fault;
 use crate::files::{Machine, RunFiles, read_run_files};
 use gk_cli::{
-    Counted, Mode, Options, RunFault, Source, SuiteFiles, Words, WordsFault, explain_suite, read_words,
-    run_suite, write_whole,
+    Counted, Mode, Options, RunFault, Source, SuiteFiles, Words, WordsFault, explain_suite,
+    read_words, run_suite, write_whole,
 };
 use gk_world::{Sandbox, WorldFault};
 use std::alloc::Global;
