@@ -145,7 +145,7 @@ fails_midway() (
 
 # The options that the help lists, one a line: each spelling, and the value.
 options_of_help() {
-    "$program" --help | sed -nE 's/^ +((-[a-z], )?--[a-z-]+( <[^>]+>)?)( .*)?$/\1/p' | tr -d '<>' | LC_ALL=C sort
+    "$program" --help | sed -nE 's/^ +((-[a-zA-Z], )?--[a-z-]+( <[^>]+>)?)( .*)?$/\1/p' | tr -d '<>' | LC_ALL=C sort
 }
 
 options_of_man() {
