@@ -158,11 +158,11 @@ spellings() {
 }
 
 spellings_of_zsh() {
-    grep -oE -- "('|\*|,|\{)-(-[a-z-]+|h)" "$home/share/_gherkin_run" | grep -oE -- '-(-[a-z-]+|h)$' | LC_ALL=C sort
+    grep -oE -- "('|\*|,|\{)-(-[a-z-]+|[hV])" "$home/share/_gherkin_run" | grep -oE -- '-(-[a-z-]+|[hV])$' | LC_ALL=C sort
 }
 
 spellings_of_fish() {
-    sed -nE 's/^complete -c gherkin_run( -s ([a-z]))?( -l ([a-z-]+)).*$/-\2 --\4/p' "$home/share/gherkin_run.fish" |
+    sed -nE 's/^complete -c gherkin_run( -s ([a-zA-Z]))?( -l ([a-z-]+)).*$/-\2 --\4/p' "$home/share/gherkin_run.fish" |
         tr ' ' '\n' | grep -vx -- - | LC_ALL=C sort
 }
 
