@@ -2,8 +2,10 @@
 # Builds crates/gk_c, and keeps the LLVM module that its static library is made of: web/build/capture_module.sh OUT
 #
 # OUT is the module, as bitcode. The toolchain hands the module of a proved crate to its own clang, and keeps none. So a folder
-# of links stands in for the toolchain, in which clang is a script that copies what it is handed and then calls the real
-# one. The toolchain itself isn't changed, and crates/gk_c/out/libgk_c.a is the same as `rt lib` leaves there.
+# of links stands in for that toolchain, in which clang is a script that copies what it is handed and then calls the real
+# one. crates/gk_c/out/libgk_c.a is the same as `rt lib` leaves there.
+# gk_c itself is proved here once more. The crates that it stands on are taken as they were built for the program that tools/keep.sh
+# kept; where there is none of these sources, `rt lib` builds them first.
 set -eu
 
 out=$(readlink -f -- "$1")
@@ -11,28 +13,37 @@ cd "$(dirname -- "$(readlink -f -- "$0")")/../.."
 kit=$(dirname -- "$(dirname -- "$(readlink -f -- "$(command -v rt)")")")
 room=$(mktemp -d)
 trap 'rm -rf "$room"' EXIT
-mkdir -p "$room/kit/bin" "$room/kit/toolchain/bin"
-for it in "$kit"/*; do
-    case $it in */bin | */toolchain) ;; *) ln -s "$it" "$room/kit/" ;; esac
+mkdir -p "$room/toolchain/bin" crates/gk_c/out
+for it in "$kit"/toolchain/*; do
+    case $it in */bin) ;; *) ln -s "$it" "$room/toolchain/" ;; esac
 done
-for it in "$kit"/bin/*; do
-    # These find the toolchain by their own place.
-    case $it in */rt | *.py) cp "$it" "$room/kit/bin/" ;; *) ln -s "$it" "$room/kit/bin/" ;; esac
-done
-ln -s "$kit/toolchain/lib" "$room/kit/toolchain/"
 for it in "$kit"/toolchain/bin/*; do
-    case $it in */clang) ;; *) ln -s "$it" "$room/kit/toolchain/bin/" ;; esac
+    case $it in */clang) ;; *) ln -s "$it" "$room/toolchain/bin/" ;; esac
 done
-cat > "$room/kit/toolchain/bin/clang" <<END
+cat > "$room/toolchain/bin/clang" <<END
 #!/bin/sh
 for word in "\$@"; do
     case \$word in *.bc) cp "\$word" "$out" ;; esac
 done
 exec "$kit/toolchain/bin/clang" "\$@"
 END
-chmod +x "$room/kit/toolchain/bin/clang"
+chmod +x "$room/toolchain/bin/clang"
+
+if [ "$(tools/sources.sh)" != "$(cat out/gherkin_run.sources 2> /dev/null)" ] ||
+    ! sha256sum --status -c out/gherkin_run.libraries 2> /dev/null; then
+    (cd crates/gk_c && rt lib)
+fi
 rm -f crates/gk_c/out/libgk_c.a "$out"
-(cd crates/gk_c && "$room/kit/bin/rt" lib)
+set -- --extern "std=$kit/rlibs/std.rlib" -L "dependency=$kit/rlibs"
+for library in crates/*/out/rlib; do
+    set -- "$@" -L "dependency=$PWD/$library"
+done
+for name in $(sed -n 's/^gk_c staticlib: //p' crates.txt); do
+    set -- "$@" --extern "$name=$PWD/crates/$name/out/rlib/$name.rlib"
+done
+(cd crates/gk_c && "$kit/bin/rattle" build --crate-name gk_c src/lib.rt --crate-type staticlib "$@" \
+    --antt-project "$kit/rattle/logic/antt-project.json" --logic-built "$kit/logic_built" --links gk_c= \
+    --jobs "$(nproc)" --toolchain "$room/toolchain" --backend llvm -o out/libgk_c.a)
 if ! [ -s "$out" ]; then
     echo "capture_module.sh: the toolchain handed no module to its clang" >&2
     exit 1
