@@ -35,6 +35,13 @@ RUNS = (
     (["--dry-run", "a.feature", "b.feature"], TWO_FILES),
     (driver.LONG_RUN, driver.long_files()),
 )
+# Runs whose explanation is written.
+EXPLAINED = (
+    (["a.feature", "b.feature"], TWO_FILES),
+    (["a.feature"], {"a.feature": ""}),
+    (["--hooks", "h.hooks", "a.feature", "b.feature"], {"h.hooks": HOOKS, **TWO_FILES}),
+    (["--tags", "@a", "a.feature", "b.feature", "c.feature"], CHOSEN_FILES),
+)
 BYTES_TRIED = 4096  # of a report that is longer only the pieces are
 # Errors of a call; 0 is none, where the call takes no byte.
 PIECE_ERRORS = (0, errno.EIO, errno.EINTR)
@@ -95,10 +102,28 @@ class Case:
                            WRITE_PIECE=1, WRITE_FAILS=len(everything) + 1, WRITE_ERROR=errno.EIO)
 
 
+class ExplainedCase(Case):
+    """A run with --explain. Its pieces are those of the features that have something to explain, and what it ends with."""
+
+    def beginnings(self):
+        """What was written before each piece, each time more of the explanation."""
+        everything, found = self.ample[1], []
+        while True:
+            environment = driver.limited(self.room, WRITE_FAILS=len(found) + 1, WRITE_ERROR=errno.EIO)
+            before = driver.start(self.program, self.arguments, self.folder, environment)[1]
+            if before == everything:
+                return found
+            if not everything.startswith(before) or found and len(before) <= len(found[-1]):
+                raise ValueError(f"{self.arguments}: before piece {len(found) + 1} was written {before}")
+            found.append(before)
+
+
 def main():
     program, room = sys.argv[1], sys.argv[2]
     runs = [(style + arguments, files) for style in STYLES for arguments, files in RUNS]
     cases = [Case(program, room, *run, number) for number, run in enumerate(runs)]
+    cases += [ExplainedCase(program, room, ["--explain", *arguments], files, f"explained{number}")
+              for number, (arguments, files) in enumerate(EXPLAINED)]
     tests = driver.Tests()
     for troubles in driver.on_all_processors(lambda case: list(case.troubles()), cases):
         tests.add_all(troubles)

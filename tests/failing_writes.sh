@@ -1,7 +1,7 @@
 #!/bin/sh
 # Runs the program with a standard output that fails: tests/failing_writes.sh [PROGRAM]
 #
-# Some reports in each format, to an output that takes one byte a call, and to one that fails, is
+# Some reports in each format, and some explanations, to an output that takes one byte a call, and to one that fails, is
 # interrupted or takes nothing at call 1, 2, 3, .. Where every byte is taken in the end, the run has
 # to end as always. Else it has to end with status 3 and 'gherkin_run: cannot write', with exactly
 # those bytes of the report written that were taken before: so no call comes after one that failed,

@@ -5,11 +5,13 @@ Called by tests/refused_memory.sh, which says how a run may end.
 """
 
 import os
+import re
 import sys
 
 import driver
 from reports import Ample, Report, Style, style_of
 
+OUT_OF_MEMORY = b"gherkin_run: out of memory\n"
 # One feature, twice.
 ONE = "Feature: one\n  Scenario: first\n    Given it passes\n"
 TWO_FILES = {"a.feature": ONE, "b.feature": ONE}
@@ -425,6 +427,10 @@ for _options in ([], ["--format", "json"], ["--format", "progress"], ["--no-skip
 for _options in ([], ["--format", "json"], ["--format", "progress"]):
     RUNS[" ".join(["a part of several pieces,", *_options])] = ([*_options, *driver.LONG_RUN], driver.long_files())
 
+# The runs that are explained, too.
+EXPLAINED = ["two files and all options", "each action", "hooks of all kinds", "a scenario that skips itself",
+             "a run that doesn't begin", "a cleanup after a refused table", "a run that stops", "rules whose hooks fail,"]
+
 # The end of a layer brings back a file that was removed in it, though the next growth is refused.
 REMOVED_IN_A_SCENARIO = "a file that a scenario removes"
 REMOVED_BEFORE_A_FEATURE = "a file that a hook before a feature removes"
@@ -554,7 +560,11 @@ class Refusals:
     def __init__(self, program, room, name, arguments, folder):
         self.program, self.room, self.name = program, room, name
         self.arguments, self.folder = arguments, folder
-        self.ample = Ample(arguments, self.start(arguments), self.whole())
+        self.ample = self.made()
+
+    def made(self):
+        """What the run does with ample memory."""
+        return Ample(self.arguments, self.start(self.arguments), self.whole())
 
     def start(self, arguments, environment=None):
         """Runs the program: its status, and what was written."""
@@ -595,6 +605,43 @@ class Refusals:
                 if ending[0] == "unmet":
                     return
             number += 64
+
+
+class AmpleExplanation:
+    """What a run with --explain does with ample memory, and how a run with a refused growth ends beside it."""
+
+    # Its pieces aren't worked out.
+    report = None
+
+    def __init__(self, ended):
+        self.ended = ended
+
+    def is_read_well(self):
+        """Whether the run ends with the closing lines of a report."""
+        _, printed, complained = self.ended
+        return complained == b"" and re.search(rb"(?m)^\d+ steps? passed, ", printed) is not None
+
+    def ending(self, ended):
+        """How a run ends: as one of ENDINGS but the last, or nothing where it ends otherwise.
+
+        A run that is marked explains the one section, or the one scenario, in which an event is marked."""
+        status, printed, complained = ended
+        if ended == self.ended:
+            return "unharmed"
+        if status != 4:
+            return None
+        if complained == OUT_OF_MEMORY:
+            return "stopped" if self.ended[1].startswith(printed) else None
+        events = re.findall(rb"(?m)^  \S.* \.\.\. memory$", printed)
+        closing = printed.rpartition(b"\n\n")[2]
+        return "marked" if complained == b"" and len(events) == 1 and b" memory" in closing else None
+
+
+class ExplainedRefusals(Refusals):
+    """The runs of one case with --explain."""
+
+    def made(self):
+        return AmpleExplanation(self.start(self.arguments))
 
 
 ENDINGS = ("stopped", "marked", "unharmed", "unmet")
@@ -656,6 +703,10 @@ def cases(program, room):
         folder = os.path.join(room, name.replace(" ", "_"))
         driver.write(folder, files)
         yield Refusals(program, room, name, arguments, folder)
+    for name in EXPLAINED:
+        arguments, files = RUNS[name]
+        folder = os.path.join(room, name.replace(" ", "_"))
+        yield ExplainedRefusals(program, room, f"{name}, explained", ["--explain", *arguments], folder)
 
 
 def main():
