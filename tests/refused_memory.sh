@@ -17,9 +17,10 @@
 # written. A run that meets no refusal has to do as with ample memory. Of three scenarios that do the
 # same some run has to mark the third step of the second, and nothing else; of two rules some run has
 # to mark the hooks before the first, and some those after it; and where a file was removed and then a
-# growth was refused, some run has to find it again after the layer. PROGRAM is the built program;
-# without it, the one that ./run runs. A C compiler, cc, is needed. Closes with one line 'N
-# passed, M failed'; a run is one test.
+# growth was refused, some run has to find it again after the layer. Some of them are run with --explain, too:
+# then the beginning of the explanation is written, or one event of it is memory, or it is as with ample
+# memory. PROGRAM is the built program; without it, the one that ./run runs. A C compiler, cc, is needed. Closes with one
+# line 'N passed, M failed'; a run is one test.
 set -eu
 
 . "$(dirname -- "$(readlink -f -- "$0")")/setup.sh"
