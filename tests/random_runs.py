@@ -455,7 +455,7 @@ class Suite:
         parts = text.removesuffix(listed + closing_lines(whole)).split("\n\n")[:-1]
         for part, (heading, steps) in zip(parts, wanted, strict=True):
             first, *events = part.split("\n")
-            others = [it for it in events if it.startswith(("  h.hooks:", "  cleanup"))]
+            others = [it for it in events if it.startswith(("  h.hooks:", "  cleanup", "      "))]
             if first != f"{heading} ... failed" or [it for it in events if it not in others] != steps:
                 yield f"--explain {options}: {part}, and not {heading}, {steps}"
 

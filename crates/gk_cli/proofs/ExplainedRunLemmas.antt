@@ -165,7 +165,7 @@ passed_state w endings.Memory now cleanups walked passed = absurd cc
 
 -- The beginning of a run and its features were told.
 pub first_explained : (run : Run) (hooks : List ℕ) (old started : SandboxValue) (suite : Suite) (first begun : Explainer) (features : List ChosenValue) (rows : List FeatureRow) (text : List ℕ) (told : Explainer) →
-    IsStarted run old started suite → said first ≡ nothing_said hooks → IsStartTold Hears run (state_of old.now) suite.section.before first begun →
+    IsStarted run old started suite → said first ≡ nothing_said run.library hooks → IsStartTold Hears run (state_of old.now) suite.section.before first begun →
     AreExplained run (state_of started.now) suite.is_open features rows text begun told → AreFirstExplained run hooks (state_of old.now) suite.section.before features rows text told
 first_explained run hooks old started suite first begun features rows text told start silent opening explained = record {
   first = first;
@@ -228,7 +228,7 @@ pub record IsRunTold (run : Run) (hooks : List ℕ) (contents : Contents) (befor
   pub finish : IsFinishTold Hears run (state_of contents) before around told last
 
 pub run_told : FinishedRunsAreJudged → (run : Run) (hooks : List ℕ) (old started later : SandboxValue) (suite left : Suite) (first begun told last : Explainer) (features : List ChosenValue) (rows : List FeatureRow) (around : Status) (parts : List ℕ) →
-    IsStarted run old started suite → said first ≡ nothing_said hooks → IsStartTold Hears run (state_of old.now) suite.section.before first begun →
+    IsStarted run old started suite → said first ≡ nothing_said run.library hooks → IsStartTold Hears run (state_of old.now) suite.section.before first begun →
     AreFeatures run (state_of started.now) suite.is_open features rows → AreExplained run (state_of started.now) suite.is_open features rows parts begun told → IsKept suite left → IsSame started later →
     ((outside : State) → IsBegun run levels.Run [] outside left.section later → IsSectionEnd run levels.Run [] outside around (has_passed left.section.before)) →
     ((outside : State) → IsBegun run levels.Run [] outside left.section later → IsFinishTold Hears run outside left.section.before around told last) →
@@ -241,7 +241,7 @@ run_told law run hooks old started later suite left first begun told last featur
 
 -- Not all features of a run were told and written.
 pub part_explained : (run : Run) (hooks : List ℕ) (old started : SandboxValue) (suite : Suite) (first begun : Explainer) (features : List ChosenValue) (before : Device) (so_far : ExplainedSoFar) (new : Device) (fault : RunFault) →
-    IsStarted run old started suite → said first ≡ nothing_said hooks → IsStartTold Hears run (state_of old.now) suite.section.before first begun → so_far.explainer ≡ begun →
+    IsStarted run old started suite → said first ≡ nothing_said run.library hooks → IsStartTold Hears run (state_of old.now) suite.section.before first begun → so_far.explainer ≡ begun →
     ((done others : List ChosenValue) (rows : List FeatureRow) → AreFeatures run (state_of started.now) suite.is_open done rows → BeginsJudged run old.now (done ++ others) rows) →
     AreExplainedUpTo run (state_of started.now) suite.is_open features before so_far new fault → IsExplainedUpTo run hooks old.now features before new fault
 part_explained run hooks old started suite first begun features before so_far new fault start silent opening same begins up_to =

@@ -61,10 +61,10 @@ AreExplained run now is_open (f ∷ fs) (row ∷ rows) text old new =
     (this later : List ℕ) × (next : Explainer) × (text ≡ this ++ later)
     × IsFeatureExplained run now is_open f row this old next × AreExplained run now (is_open && stays_open run row.status) fs rows later next new
 
--- The beginning of a run and its first features were told to an explainer of a hooks file of this name, and this is what it had ready of them. The features are told from the run's state where its before hook passed.
+-- The beginning of a run and its first features were told to an explainer of the run's library and of a hooks file of this name, and this is what it had ready of them. The features are told from the run's state where its before hook passed.
 pub record AreFirstExplained (run : Run) (hooks : List ℕ) (outside : State) (before : Ending) (features : List ChosenValue) (rows : List FeatureRow) (text : List ℕ) (new : Explainer) : Type 0 where
   pub first : Explainer
-  pub silent : said first ≡ nothing_said hooks
+  pub silent : said first ≡ nothing_said run.library hooks
   pub begun : Explainer
   pub start : IsStartTold Hears run outside before first begun
   pub state : State

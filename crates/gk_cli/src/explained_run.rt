@@ -198,7 +198,7 @@ pub fn write_explanation<W: Write>(
         hooks: name,
         stop,
     } = explaining;
-    let mut explainer = Explainer::new(alloc, name);
+    let mut explainer = Explainer::new(alloc, &library, name);
     let suite = Suite::start_watched(alloc, sandbox, &library, &hooks, stop, &mut explainer);
     let mut so_far = ExplainedSoFar {
         suite,

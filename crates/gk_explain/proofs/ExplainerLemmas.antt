@@ -21,8 +21,7 @@ use Rattle.gk_run.specs.SectionHooks.{after_lists, before_list, begun, walk_each
 use Rattle.gk_run.specs.Walk.{one_step, walk}
 use Rattle.gk_run.specs.Watching.{Told, of_step, of_cleanup, ToldEvents, in_order, refused, cut_told, told_walk, told_steps, told_each, told_in_turn, told_happened, told_case, before_of, after_of}
 use Rattle.gk_explain.specs.declared.explainer.Explainer.{Explainer}
-use Rattle.gk_explain.specs.EventLines.{event_line}
-use Rattle.gk_explain.specs.Explanation.{ExplanationValue, level_of, with_line, with_case, with_case_of}
+use Rattle.gk_explain.specs.Explanation.{ExplanationValue, level_of, lines_of, with_lines, with_case, with_case_of}
 use Rattle.gk_explain.specs.Explainer.{is_cut, said, Hears, CasesAreExplained, lines_of_case}
 
 -- Events are all of one level.
@@ -101,23 +100,23 @@ at_order : (level : Level) (t : ToldEvents) → AreAt level t → AllAt level (i
 at_order level t a = at_both _ t.before _ a.0 (at_both _ t.steps _ a.1 (at_both _ t.after _ a.2 a.3))
 
 -- Lines more of the scenario.
-abbrev with_lines : List ℕ → ExplanationValue → ExplanationValue
-with_lines lines e = record e { case_lines = e.case_lines ++ lines }
+abbrev with_case_lines : List ℕ → ExplanationValue → ExplanationValue
+with_case_lines lines e = record e { case_lines = e.case_lines ++ lines }
 
 -- An explainer that isn't cut has the lines of all events of a scenario that it was told.
 hears_all : (ts : List Told) (old new : Explainer) → AllAt levels.Scenario ts → FoldsTo Hears old ts new → is_cut new ≡ false →
-    (is_cut old ≡ false) × (said new ≡ with_lines (flat_map (event_line (said old).names) ts) (said old))
+    (is_cut old ≡ false) × (said new ≡ with_case_lines (flat_map (lines_of (said old)) ts) (said old))
 hears_all [] old new a h uncut =
-    let same : said new ≡ with_lines [] (said new) = ap (λ (lines : List ℕ). record (said new) { case_lines = lines }) (sym (append-nil (said new).case_lines)) in
-    subst (λ (e : Explainer). (is_cut e ≡ false) × (said new ≡ with_lines [] (said e))) (sym h) (uncut, same)
+    let same : said new ≡ with_case_lines [] (said new) = ap (λ (lines : List ℕ). record (said new) { case_lines = lines }) (sym (append-nil (said new).case_lines)) in
+    subst (λ (e : Explainer). (is_cut e ≡ false) × (said new ≡ with_case_lines [] (said e))) (sym h) (uncut, same)
 hears_all (t ∷ ts) old new a h uncut =
     let rest = hears_all ts h.0 new a.1 h.2 uncut in
     let first = h.1 rest.0 in
-    let line = event_line (said old).names t in
-    let next : said h.0 ≡ with_lines line (said old) = first.1 ∙ ap (λ (level : Level). with_line level line (said old)) a.0 in (
+    let lines = lines_of (said old) t in
+    let next : said h.0 ≡ with_case_lines lines (said old) = first.1 ∙ ap (λ (level : Level). with_lines level lines (said old)) a.0 in (
       first.0,
-      rest.1 ∙ ap (λ (e : ExplanationValue). with_lines (flat_map (event_line e.names) ts) e) next
-          ∙ ap (λ (lines : List ℕ). record (said old) { case_lines = lines }) (append_assoc (said old).case_lines line (flat_map (event_line (said old).names) ts)),
+      rest.1 ∙ ap (λ (e : ExplanationValue). with_case_lines (flat_map (lines_of e) ts) e) next
+          ∙ ap (λ (more : List ℕ). record (said old) { case_lines = more }) (append_assoc (said old).case_lines lines (flat_map (lines_of (said old)) ts)),
     )
 
 pub explained_by_its_events : CasesAreExplained

@@ -1,3 +1,5 @@
+pub mod ShownLemmas
+pub mod DifferencesLemmas
 pub mod ExplanationLemmas
 pub mod ExplainerLemmas
 pub mod WorkedExplanations

@@ -16,6 +16,8 @@ use Rattle.gk_run.specs.Results.{CaseRow, FeatureRow}
 use Rattle.gk_run.specs.Watching.{Told, of_step, of_cleanup}
 use Rattle.gk_report.specs.ReportTexts.{status_text, reason_text, one_line}
 use Rattle.gk_report.specs.PlainReport.{status_line}
+use Rattle.gk_steps.specs.Finding.{found}
+use Rattle.gk_explain.specs.Details.{event_details}
 use Rattle.gk_explain.specs.EventLines.{event_line, place_text}
 use Rattle.gk_explain.specs.Headings.{case_heading, rule_heading, feature_heading, run_heading, explanation_text}
 use Rattle.gk_explain.specs.Explanation.{ExplanationValue, nothing_said, with_event, with_case, with_rule, with_source, with_feature, with_run}
@@ -34,7 +36,7 @@ feature around = record { source = codes "f"; name = codes "n"; line = 1; status
 
 -- A feature of the file `f` begins, with hooks of the file `h`.
 abbrev begun : ExplanationValue
-begun = with_source (codes "f") (nothing_said (codes "h"))
+begun = with_source (codes "f") (nothing_said [] (codes "h"))
 
 -- Events, one after another.
 abbrev after_events : List Told → ExplanationValue → ExplanationValue
@@ -54,12 +56,12 @@ of_scenario s cleanup =
 -- Where it failed it is explained.
 failed_is_explained : (s : State) (cleanup : CleanupValue) → (with_case (scenario statuses.Failed) (of_scenario s cleanup)).ready
     ≡ codes "f:6: Scenario: s ... failed\n  h:2: before: Given a ... passed\n  f:7: When b\\nc ... passed\n  f:8: Then d ... failed: differs\n  f:10: And e ... skipped\n  h:4: after: When g ... undefined\n  cleanup ... memory\n\n"
-unfolding digits status_text reason_text one_line status_line event_line place_text case_heading explanation_text
+unfolding found event_details digits status_text reason_text one_line status_line event_line place_text case_heading explanation_text
 failed_is_explained s cleanup = refl
 
 -- Where it passed nothing is said of it.
 passed_is_not : (s : State) (cleanup : CleanupValue) → with_case (scenario statuses.Passed) (of_scenario s cleanup) ≡ begun
-unfolding digits status_text reason_text one_line status_line event_line place_text case_heading explanation_text
+unfolding found event_details digits status_text reason_text one_line status_line event_line place_text case_heading explanation_text
 passed_is_not s cleanup = refl
 
 -- Hooks and cleanups of a rule, a feature and a run, with one event in each, of which the rule's passed.
@@ -75,9 +77,9 @@ ended s rule = with_run statuses.Failed (with_feature (feature statuses.Memory) 
 
 sections_are_explained : (s : State) → (ended s statuses.Passed).ready
     ≡ codes "f:1: Feature: n (hooks and cleanups) ... memory\n  h:2: before: Given b ... passed\n\n(hooks and cleanups) ... failed\n  h:1: before: Given a ... passed\n\n"
-unfolding digits status_text reason_text one_line status_line event_line place_text rule_heading feature_heading run_heading explanation_text
+unfolding found event_details digits status_text reason_text one_line status_line event_line place_text rule_heading feature_heading run_heading explanation_text
 sections_are_explained s = refl
 
 sections_are_listed : (s : State) → (ended s statuses.Failed).failures ≡ codes "f:5: Rule: (hooks and cleanups)\nf:1: Feature: n (hooks and cleanups)\n(hooks and cleanups)\n"
-unfolding digits status_text reason_text one_line status_line event_line place_text rule_heading feature_heading run_heading explanation_text
+unfolding found event_details digits status_text reason_text one_line status_line event_line place_text rule_heading feature_heading run_heading explanation_text
 sections_are_listed s = refl

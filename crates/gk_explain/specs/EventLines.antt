@@ -1,4 +1,4 @@
--- The line of an event of a run.
+-- The lines of an event of a run.
 use Rattle.std.specs.Prelude.{ℕ, List, [], ◌++◌, codes}
 use Rattle.std.specs.Fmt.{decimal}
 use Rattle.gk_run.specs.declared.results.Mark.{Mark}
@@ -7,9 +7,11 @@ use Rattle.gk_run.specs.declared.section.Part.{Part}
 use Rattle.gk_run.specs.declared.section.Part.TheVariants as parts
 use Rattle.gk_run.specs.Ending.{status_of_mark, reason_of_mark}
 use Rattle.gk_run.specs.Watching.{Told, of_step, of_cleanup}
+use Rattle.gk_steps.specs.Finding.{LibraryValue}
 use Rattle.gk_report.specs.ReportTexts.{one_line}
 use Rattle.gk_report.specs.PlainReport.{status_line, step_verdict}
 use Rattle.gk_explain.specs.declared.event_lines.Names.{Names}
+use Rattle.gk_explain.specs.Details.{event_details}
 
 -- The names of the hooks file and of the feature file that steps stand in.
 pub record NamesValue : Type 0 where
@@ -45,3 +47,7 @@ unfoldable pub event_line : NamesValue → Told → List ℕ
 event_line names (of_step place step mark s) =
     status_line (codes "  " ++ place_text (file_of names place.part) step.line ++ part_text place.part ++ step.keyword ++ codes " " ++ one_line step.text) (mark_text mark)
 event_line names (of_cleanup level cleanup outcome s) = status_line (codes "  cleanup") (mark_text (Acted outcome))
+
+-- The lines of an event: its own, and below it what its reason means.
+abbrev pub event_lines : LibraryValue → NamesValue → Told → List ℕ
+event_lines library names told = event_line names told ++ event_details library told

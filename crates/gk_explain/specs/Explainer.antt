@@ -8,8 +8,7 @@ use Rattle.gk_run.specs.Running.{reached_row}
 use Rattle.gk_run.specs.Section.{Cut}
 use Rattle.gk_run.specs.Watching.{Told, Ended, in_order, told_happened, told_case, IsCaseTold}
 use Rattle.gk_explain.specs.declared.explainer.Explainer.{Explainer}
-use Rattle.gk_explain.specs.EventLines.{event_line}
-use Rattle.gk_explain.specs.Explanation.{ExplanationValue, explanation_value, with_event, with_ended, with_case_of}
+use Rattle.gk_explain.specs.Explanation.{ExplanationValue, explanation_value, lines_of, with_event, with_ended, with_case_of}
 
 -- A growth was refused to an explainer.
 abbrev pub is_cut : Explainer → Bool
@@ -33,7 +32,7 @@ Ends old ended new = Becomes old (with_ended ended) new
 
 -- The lines of the events of a case, these cut at one, in order.
 abbrev pub lines_of_case : Explainer → Run → State → CaseValue → Cut → State → List ℕ
-lines_of_case e run section c cut refusing = flat_map (event_line (said e).names) (in_order (told_happened refusing cut (told_case run section c)))
+lines_of_case e run section c cut refusing = flat_map (lines_of (said e)) (in_order (told_happened refusing cut (told_case run section c)))
 
 -- A case that was told is explained: an explainer that had no lines of a scenario, and isn't cut, says what it said, and the explanation of this case, by the lines of all its events, where its result failed or was refused memory.
 abbrev pub CasesAreExplained : Type 0

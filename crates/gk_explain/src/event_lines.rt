@@ -1,18 +1,22 @@
-//! The line of an event of a run.
+//! The lines of an event of a run.
 ghost use Rattle.std.specs.Prelude.{◌≡◌, ◌++◌, codes};
 ghost use Rattle.gk_gherkin.specs.Feature.{step_value};
+ghost use Rattle.gk_steps.specs.Finding.{library_value};
 ghost use Rattle.gk_world.specs.State.{State};
 ghost use Rattle.gk_run.specs.declared.section.Level.{Level};
 ghost use Rattle.gk_run.specs.Acting.{CleanupValue};
 ghost use Rattle.gk_run.specs.Watching.{of_step, of_cleanup};
 ghost use Rattle.gk_report.specs.ReportTexts.{line_feed, Pushes};
+ghost use Rattle.gk_explain.specs.Details.{step_told, cleanup_told};
 ghost use Rattle.gk_explain.specs.EventLines as spec;
-ghost use Rattle.gk_explain.specs.EventLines.{NamesValue, names_value, mark_text, event_line};
+ghost use Rattle.gk_explain.specs.EventLines.{NamesValue, names_value, mark_text, event_line, event_lines};
 
+use crate::details::{CleanupEvent, StepEvent, push_cleanup_details, push_step_details};
 use gk_gherkin::Step;
 use gk_report::{push_ending, push_one_line};
 use gk_run::{Mark, Outcome, Part, Place, reason_of, status_of};
-use std::alloc::AllocError;
+use gk_steps::Library;
+use std::alloc::{AllocError, Global};
 
 /// The names of the hooks file and of the feature file that steps stand in.
 #[derive(Clone, Copy, Debug)]
@@ -61,9 +65,9 @@ fn push_mark(out: &mut String, mark: Mark) -> Result<(), AllocError>
     push_ending(out, status_of(mark), reason_of(mark))
 }
 
-/// Pushes the line of a step, and of what became of it. An error comes only where a growth was refused.
+// Pushes the line of a step, and of what became of it.
 #[tactic(auto, unfolding(crate::specs::EventLines::event_line, gk_report::specs::PlainReport::status_line))]
-pub fn push_step_line(
+fn push_step_line(
     out: &mut String,
     names: Names<'_>,
     place: Place,
@@ -82,12 +86,43 @@ pub fn push_step_line(
     push_mark(out, mark)
 }
 
-/// Pushes the line of a cleanup, and of its outcome. An error comes only where a growth was refused.
+// Pushes the line of a cleanup, and of its outcome.
 #[tactic(auto, unfolding(crate::specs::EventLines::event_line, gk_report::specs::PlainReport::status_line))]
-pub fn push_cleanup_line(out: &mut String, outcome: Outcome) -> Result<(), AllocError>
+fn push_cleanup_line(out: &mut String, outcome: Outcome) -> Result<(), AllocError>
     ensures { (names : NamesValue) (level : Level) (cleanup : CleanupValue) (s : State) →
         Pushes out.old (event_line names (of_cleanup level cleanup outcome s)) result out.new }
 {
     out.push_str("  cleanup")?;
     push_mark(out, Mark::Acted(outcome))
+}
+
+/// Pushes the line of a step, and below it what its reason means where its action failed. An error comes only where
+/// a growth was refused.
+pub fn push_step(
+    alloc: Global,
+    out: &mut String,
+    library: &Library,
+    names: Names<'_>,
+    event: &StepEvent<'_>,
+) -> Result<(), AllocError>
+    ensures { Pushes out.old (event_lines (library_value library.now) (names_value names.entry)
+        (step_told event.now)) result out.new }
+{
+    push_step_line(out, names, event.place, event.step, event.mark)?;
+    push_step_details(alloc, out, library, event)
+}
+
+/// Pushes the line of a cleanup, and below it what its reason means where it failed. An error comes only where a
+/// growth was refused.
+pub fn push_cleanup(
+    alloc: Global,
+    out: &mut String,
+    library: &Library,
+    event: &CleanupEvent<'_>,
+) -> Result<(), AllocError>
+    ensures { (names : NamesValue) → Pushes out.old
+        (event_lines (library_value library.now) names (cleanup_told event.now)) result out.new }
+{
+    push_cleanup_line(out, event.outcome)?;
+    push_cleanup_details(alloc, out, library, event)
 }

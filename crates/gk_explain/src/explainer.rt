@@ -1,22 +1,25 @@
 //! An observer that explains a run.
 ghost use Rattle.std.specs.Prelude.{◌≡◌, true, false, IfOk, OnOk, OnErr, string_bytes};
+ghost use Rattle.gk_steps.specs.Finding.{library_value};
 ghost use Rattle.gk_run.specs.Results.{feature_row};
 ghost use Rattle.gk_explain.specs.Headings.{failures_text};
 ghost use Rattle.gk_explain.specs.Explanation.{nothing_said, with_source, with_feature, with_run, with_taken};
 ghost use Rattle.gk_explain.specs.Explainer as spec;
 ghost use Rattle.gk_explain.specs.Explainer.{said, Becomes, Hears, Ends, CasesAreExplained};
 
+use crate::details::{CleanupEvent, StepEvent};
 use crate::explanation::Explanation;
 use gk_gherkin::{Block, Step};
 use gk_run::{
     CaseResult, FeatureResult, Level, Mark, Observer, Outcome, Place, RuleResult, Status,
 };
-use gk_steps::Found;
+use gk_steps::{Found, Library};
 use gk_world::Sandbox;
 use std::alloc::{AllocError, Global};
 
 /// Explains a run that it is told as its observer: each scenario, and the hooks and cleanups of each rule, each
-/// feature and the run, where they failed or were refused memory, by a line for each event, in order. It keeps no event. Once a growth is refused to it, it is cut, and adds nothing any more.
+/// feature and the run, where they failed or were refused memory, by a line for each event, in order, and below the
+/// line of one that failed by what its reason means there. It keeps no event. Once a growth is refused to it, it is cut, and adds nothing any more.
 #[derive(Debug, Drop)]
 pub struct Explainer<'a> {
     alloc: Global,
@@ -25,15 +28,16 @@ pub struct Explainer<'a> {
 }
 
 impl<'a> Explainer<'a> {
-    /// An explainer that was told nothing. `hooks` is the name by which it calls the hooks file. Takes no
-    /// memory.
-    pub fn new(alloc: Global, hooks: &'a str) -> Explainer<'a>
+    /// An explainer that was told nothing. `library` is the one in which the run finds its steps, and `hooks` the
+    /// name by which it calls the hooks file. Takes no memory.
+    pub fn new(alloc: Global, library: &'a Library, hooks: &'a str) -> Explainer<'a>
         ensures uncut { spec.is_cut result ≡ false }
-        ensures said { said result ≡ nothing_said hooks.entry.now }
+        ensures said { said result
+            ≡ nothing_said (library_value library.entry.now) hooks.entry.now }
     {
         Explainer {
             alloc,
-            explanation: Explanation::new(alloc, hooks),
+            explanation: Explanation::new(alloc, library, hooks),
             cut: false,
         }
     }
@@ -125,26 +129,39 @@ impl Observer for Explainer<'_> {
 
     ghost ends = { Ends };
 
-    fn step(&mut self, place: Place, step: &Step, mark: Mark, _sandbox: &Sandbox) {
+    fn step(&mut self, place: Place, step: &Step, mark: Mark, sandbox: &Sandbox) {
         if self.cut {
             return;
         }
-        let added = self.explanation.add_step(place, step, mark);
+        let event = StepEvent {
+            place,
+            step,
+            mark,
+            sandbox,
+        };
+        let added = self.explanation.add_step(self.alloc, &event);
         self.cut_after(added);
     }
 
     fn cleanup(
         &mut self,
         level: Level,
-        _found: &Found,
-        _block: &Block,
+        found: &Found,
+        block: &Block,
         outcome: Outcome,
-        _sandbox: &Sandbox,
+        sandbox: &Sandbox,
     ) {
         if self.cut {
             return;
         }
-        let added = self.explanation.add_cleanup(level, outcome);
+        let event = CleanupEvent {
+            level,
+            found,
+            block,
+            outcome,
+            sandbox,
+        };
+        let added = self.explanation.add_cleanup(self.alloc, &event);
         self.cut_after(added);
     }
 
@@ -166,7 +183,7 @@ impl Observer for Explainer<'_> {
 }
 
 /// A case that was told is explained where it failed or was refused memory, by the lines of all its events in
-/// order; and nothing is said of another.
+/// order, with what is said below those that failed; and nothing is said of another.
 pub fn cases_are_explained()
     ensures { CasesAreExplained }
 {}

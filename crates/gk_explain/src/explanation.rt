@@ -1,19 +1,21 @@
-//! What is kept of a run to explain it: no event, only its line.
+//! What is kept of a run to explain it: no event, only its lines.
 ghost use Rattle.std.specs.Prelude.{◌≡◌, ◌++◌, true, IfOk, OnOk, string_bytes};
 ghost use Rattle.gk_run.specs.Cases as cases;
 ghost use Rattle.gk_report.specs.ReportTexts.{line_feed, Pushes};
 ghost use Rattle.gk_explain.specs.Headings as headings;
 
-use crate::event_lines::{Names, push_cleanup_line, push_step_line};
+use crate::details::{CleanupEvent, StepEvent};
+use crate::event_lines::{Names, push_cleanup, push_step};
 use crate::headings::{case_heading, feature_heading, push_explanation, rule_heading, run_heading};
-use gk_gherkin::Step;
-use gk_run::{CaseResult, FeatureResult, Level, Mark, Outcome, Place, RuleResult, Status, is_bad};
+use gk_run::{CaseResult, FeatureResult, Level, RuleResult, Status, is_bad};
+use gk_steps::Library;
 use std::alloc::{AllocError, Global};
 use std::mem;
 
 /// The lines of the events so far of each section that is open, and what is explained.
 #[derive(Debug, Drop)]
 pub struct Explanation<'a> {
+    library: &'a Library,
     hooks: &'a str,
     source: String,
     run_lines: String,
@@ -46,19 +48,20 @@ impl Explained {
 
 impl<'a> Explanation<'a> {
     ghost use Rattle.std.specs.Prelude.{◌≡◌, IfOk, OnOk, string_bytes};
-    ghost use Rattle.gk_gherkin.specs.Feature.{step_value};
-    ghost use Rattle.gk_world.specs.State.{State};
-    ghost use Rattle.gk_run.specs.Acting.{CleanupValue};
+    ghost use Rattle.gk_steps.specs.Finding.{library_value};
     ghost use Rattle.gk_run.specs.Results.{case_row, rule_row, feature_row};
-    ghost use Rattle.gk_run.specs.Watching.{of_step, of_cleanup};
+    ghost use Rattle.gk_explain.specs.Details.{step_told, cleanup_told};
     ghost use Rattle.gk_explain.specs.Headings.{failures_text};
     ghost use Rattle.gk_explain.specs.Explanation.{explanation_value, nothing_said, with_event, with_case, with_rule, with_source, with_feature, with_run, with_taken};
 
-    /// Nothing was told yet, and no feature was begun; the hooks file has this name. Takes no memory.
-    pub fn new(alloc: Global, hooks: &'a str) -> Explanation<'a>
-        ensures { explanation_value result ≡ nothing_said hooks.entry.now }
+    /// Nothing was told yet, and no feature was begun; the run finds its steps in this library, and the hooks file
+    /// has this name. Takes no memory.
+    pub fn new(alloc: Global, library: &'a Library, hooks: &'a str) -> Explanation<'a>
+        ensures { explanation_value result
+            ≡ nothing_said (library_value library.entry.now) hooks.entry.now }
     {
         Explanation {
+            library,
             hooks,
             source: String::new(alloc),
             run_lines: String::new(alloc),
@@ -81,34 +84,35 @@ impl<'a> Explanation<'a> {
         self.source.push_str(source)
     }
 
-    /// Adds the line of a step. An error comes only where a growth was refused.
-    pub fn add_step(&mut self, place: Place, step: &Step, mark: Mark) -> Result<(), AllocError>
-        ensures { (s : State) → OnOk result (explanation_value self.new
-            ≡ with_event (of_step place (step_value step.now) mark s)
-            (explanation_value self.old)) }
+    /// Adds the lines of a step. An error comes only where a growth was refused.
+    pub fn add_step(&mut self, alloc: Global, event: &StepEvent<'_>) -> Result<(), AllocError>
+        ensures { OnOk result (explanation_value self.new
+            ≡ with_event (step_told event.now) (explanation_value self.old)) }
     {
+        let library = self.library;
         let names = Names {
             hooks: self.hooks,
             source: self.source.as_str(),
         };
-        match place.level {
-            Level::Run => push_step_line(&mut self.run_lines, names, place, step, mark),
-            Level::Feature => push_step_line(&mut self.feature_lines, names, place, step, mark),
-            Level::Rule => push_step_line(&mut self.rule_lines, names, place, step, mark),
-            Level::Scenario => push_step_line(&mut self.case_lines, names, place, step, mark),
+        match event.place.level {
+            Level::Run => push_step(alloc, &mut self.run_lines, library, names, event),
+            Level::Feature => push_step(alloc, &mut self.feature_lines, library, names, event),
+            Level::Rule => push_step(alloc, &mut self.rule_lines, library, names, event),
+            Level::Scenario => push_step(alloc, &mut self.case_lines, library, names, event),
         }
     }
 
-    /// Adds the line of a cleanup of a section of a level. An error comes only where a growth was refused.
-    pub fn add_cleanup(&mut self, level: Level, outcome: Outcome) -> Result<(), AllocError>
-        ensures { (cleanup : CleanupValue) (s : State) → OnOk result (explanation_value self.new
-            ≡ with_event (of_cleanup level cleanup outcome s) (explanation_value self.old)) }
+    /// Adds the lines of a cleanup of a section of a level. An error comes only where a growth was refused.
+    pub fn add_cleanup(&mut self, alloc: Global, event: &CleanupEvent<'_>) -> Result<(), AllocError>
+        ensures { OnOk result (explanation_value self.new
+            ≡ with_event (cleanup_told event.now) (explanation_value self.old)) }
     {
-        match level {
-            Level::Run => push_cleanup_line(&mut self.run_lines, outcome),
-            Level::Feature => push_cleanup_line(&mut self.feature_lines, outcome),
-            Level::Rule => push_cleanup_line(&mut self.rule_lines, outcome),
-            Level::Scenario => push_cleanup_line(&mut self.case_lines, outcome),
+        let library = self.library;
+        match event.level {
+            Level::Run => push_cleanup(alloc, &mut self.run_lines, library, event),
+            Level::Feature => push_cleanup(alloc, &mut self.feature_lines, library, event),
+            Level::Rule => push_cleanup(alloc, &mut self.rule_lines, library, event),
+            Level::Scenario => push_cleanup(alloc, &mut self.case_lines, library, event),
         }
     }
 

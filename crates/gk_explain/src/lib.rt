@@ -3,9 +3,12 @@
 //! comment names no source, what it says is this project's profile.
 #![tactic(auto)]
 
+mod details;
+mod differences;
 mod event_lines;
 mod explainer;
 mod explanation;
 mod headings;
+mod shown;
 
 pub use explainer::{Explainer, cases_are_explained};

@@ -25,8 +25,14 @@ const EXPLAINED: &str = "lamps.feature:4: Scenario: A lamp is put out ... failed
   lamps.hooks:2: before: Given a file named \"lamp\" containing \"on\" ... passed
   lamps.feature:5: When the file \"lamp\" is extended with \"!\" ... passed
   lamps.feature:6: Then the file \"lamp\" should be \"off\" ... failed: differs
+      expected \"off\"
+      found    \"on!\"
+      first difference: line 1, column 2
   lamps.feature:7: And so on ... undefined
   lamps.hooks:4: after: Then the file \"lamp\" should be \"on\" ... failed: differs
+      expected \"on\"
+      found    \"on!\"
+      first difference: line 1, column 3
 
 lamps.feature:4: Scenario: A lamp is put out
 
@@ -53,7 +59,7 @@ fn explained(
     cases: Vec<Case>,
 ) -> Result<String, AllocError> {
     let mut sandbox = Sandbox::new(alloc);
-    let mut explainer = Explainer::new(alloc, "lamps.hooks");
+    let mut explainer = Explainer::new(alloc, library, "lamps.hooks");
     explainer.begin_feature("lamps.feature");
     for case in cases {
         let result = run_case_watched(alloc, &mut sandbox, library, hooks, case, &mut explainer);

@@ -1,0 +1,31 @@
+use Rattle.std.proofs.Common.{◌∙◌, sym}
+use Rattle.std.proofs.lemmas.Str.{IsUtf8-past_char}
+use Rattle.gk_explain.proofs.DifferencesLemmas.{no_chars, none_found, same_here, other_here, closer}
+use Rattle.gk_explain.proofs.differences.first_difference.Goals as goal
+
+pub returns-in_default : goal.returns-in_default
+returns-in_default c =
+    let held = c.loop-c.invariant in
+    let none = no_chars _ c.in_default.ensures.steps.0.0 in
+    sym (none_found c.loop-c.position _) ∙ rw none at held.4
+
+pub returns-then-other-c : goal.returns-then-other-c
+returns-then-other-c c =
+    let held = c.loop-c.invariant in
+    other_here c.loop-c.position _ c.in-Some.c c.in-Some-next.other _ _ _ _ held.0 held.1 c.in-Some.ensures.steps.0 c.in-Some-next.ensures.steps.0 c.if-other-c.true held.4
+
+pub loop-c-preserved : goal.loop-c-preserved
+loop-c-preserved c =
+    let held = c.loop-c.invariant in
+    let near = closer c.loop-c.position c.in-Some.c _ _ _ held.2 held.3 c.in-Some.ensures.steps.0 in (
+      IsUtf8-past_char _ _ c.in-Some.c held.0 c.in-Some.ensures.steps.0,
+      IsUtf8-past_char _ _ c.in-Some-next.other held.1 c.in-Some-next.ensures.steps.0,
+      rw c.after-position.ensures near.0,
+      rw c.after-position.ensures near.1,
+      rw c.after-position.ensures (same_here c.loop-c.position _ c.in-Some.c c.in-Some-next.other _ _ _ _ held.0 held.1 c.in-Some.ensures.steps.0 c.in-Some-next.ensures.steps.0 c.if-other-c.false held.4),
+    )
+
+pub returns : goal.returns
+returns c =
+    let none = no_chars _ c.in-None.ensures.steps.0.0 in
+    rw none at c.loop-c.invariant.4

@@ -1,0 +1,124 @@
+-- What is said below an event that failed: what its reason means there.
+use Rattle.std.specs.Prelude.{ℕ, ℤ, pos, cond, ◌||◌, List, [], ◌∷◌, ◌++◌, length, flat_map, Option, Some, None, unwrap_or, codes, option_copied}
+use Rattle.std.specs.Fmt.{decimal, signed_decimal}
+use Rattle.gk_gherkin.specs.Feature.{BlockValue, Empty, Text, Table, block_value, step_value}
+use Rattle.gk_steps.specs.declared.action.Action.{Action}
+use Rattle.gk_steps.specs.declared.action.Action.TheVariants as actions
+use Rattle.gk_steps.specs.Finding.{LibraryValue, FoundValue, found_value, action_of, found}
+use Rattle.gk_world.specs.State.{State, see, state_of}
+use Rattle.gk_world.specs.Refusals.{is_bad_name, is_too_long}
+use Rattle.gk_run.specs.declared.results.Mark.{Mark}
+use Rattle.gk_run.specs.declared.results.Mark.TheVariants.{Acted}
+use Rattle.gk_run.specs.declared.results.Outcome.{Outcome}
+use Rattle.gk_run.specs.declared.results.Outcome.TheVariants.{Failed}
+use Rattle.gk_run.specs.declared.results.Reason.{Reason}
+use Rattle.gk_run.specs.declared.results.Reason.TheVariants as reasons
+use Rattle.gk_run.specs.Acting.{Given, given, CleanupValue}
+use Rattle.gk_run.specs.Watching.{Told, of_step, of_cleanup}
+use Rattle.gk_report.specs.ReportTexts.{line_feed}
+use Rattle.gk_explain.specs.declared.details.CleanupEvent.{CleanupEvent}
+use Rattle.gk_explain.specs.declared.details.Given as declared
+use Rattle.gk_explain.specs.declared.details.Kind.{Kind}
+use Rattle.gk_explain.specs.declared.details.Kind.TheVariants as kinds
+use Rattle.gk_explain.specs.declared.details.StepEvent.{StepEvent}
+use Rattle.gk_explain.specs.declared.differences.Position.{Position}
+use Rattle.gk_explain.specs.Differences.{first_difference}
+use Rattle.gk_explain.specs.Shown.{shown, marked_text}
+
+-- What an action works on.
+abbrev pub kind_of : Action → Kind
+kind_of actions.WriteFile = kinds.File
+kind_of actions.AppendFile = kinds.File
+kind_of actions.RemoveFile = kinds.File
+kind_of actions.RenameFile = kinds.File
+kind_of actions.WriteFiles = kinds.File
+kind_of actions.FileExists = kinds.File
+kind_of actions.FileAbsent = kinds.File
+kind_of actions.FileIs = kinds.File
+kind_of actions.FileContains = kinds.File
+kind_of actions.SetEnv = kinds.Variable
+kind_of actions.RemoveEnv = kinds.Variable
+kind_of actions.EnvIs = kinds.Variable
+kind_of actions.EnvAbsent = kinds.Variable
+kind_of _ = kinds.Value
+
+-- The text of a file or a variable, or the value that is seen, under a name.
+abbrev pub held : Kind → State → List ℕ → Option (List ℕ)
+held kinds.File s name = s.files name
+held kinds.Variable s name = s.env name
+held kinds.Value s name = see s name
+
+-- What an action finds under the name that it is given.
+abbrev pub found_text : Action → Given → State → List ℕ
+found_text action g s = unwrap_or (held (kind_of action) s g.name) []
+
+-- A text that is expected.
+abbrev pub expected_text : List ℕ → List ℕ
+expected_text text = marked_text (codes "expected") text
+
+-- A text that was found.
+abbrev pub found_below : List ℕ → List ℕ
+found_below text = marked_text (codes "found   ") text
+
+-- The line that says where two texts differ first.
+abbrev pub difference_line : Position → List ℕ
+difference_line p = codes "      first difference: line " ++ (decimal p.line ++ (codes ", column " ++ (decimal p.column ++ line_feed)))
+
+-- A number that is expected.
+abbrev pub expected_number : ℤ → List ℕ
+expected_number n = codes "      expected " ++ (signed_decimal n ++ line_feed)
+
+-- Two texts, of which one was expected and the other found, and where they differ first.
+unfoldable pub compared : List ℕ → List ℕ → List ℕ
+compared expected there = expected_text expected ++ (found_below there ++ difference_line (first_difference expected there))
+
+-- A text that was expected in another, and the other.
+unfoldable pub lacking : List ℕ → List ℕ → List ℕ
+lacking expected there = expected_text expected ++ (found_below there ++ codes "      the expected text stands nowhere in the found text\n")
+
+-- A number that was expected, and the text of the value that was found.
+unfoldable pub unequal : ℤ → List ℕ → List ℕ
+unequal expected there = expected_number expected ++ found_below there
+
+-- What an action expected that found something else.
+abbrev pub difference : Action → Given → List ℕ → List ℕ
+difference actions.FileContains g there = lacking (unwrap_or g.text []) there
+difference actions.NumberIs g there = unequal g.number there
+difference action g there = compared (unwrap_or g.text []) there
+
+-- What a reason means for an action at a state.
+abbrev pub details : Action → Given → Reason → State → List ℕ
+details action g reasons.Differs s = difference action g (found_text action g s)
+details action g _ s = []
+
+-- What an outcome means for what was found, with a step's block.
+abbrev pub outcome_details : LibraryValue → FoundValue → BlockValue → Outcome → State → List ℕ
+outcome_details library f block (Failed why) s = details (action_of library f) (given library f block) why s
+outcome_details library f block outcome s = []
+
+-- The same of what a look-up found.
+abbrev pub details_if_found : LibraryValue → Option FoundValue → BlockValue → Outcome → State → List ℕ
+details_if_found library None block outcome s = []
+details_if_found library (Some f) block outcome s = outcome_details library f block outcome s
+
+-- What a step's mark means.
+abbrev pub mark_details : LibraryValue → Option FoundValue → BlockValue → Mark → State → List ℕ
+mark_details library looked_up block (Acted outcome) s = details_if_found library looked_up block outcome s
+mark_details library looked_up block mark s = []
+
+-- What is said below an event: of a step the library finds the action, of a cleanup it was found before. The state is the one that the event left; a check, and a change that is refused, leave what they found.
+unfoldable pub event_details : LibraryValue → Told → List ℕ
+event_details library (of_step place step mark s) = mark_details library (found library step.step_type step.text) step.block mark s
+event_details library (of_cleanup level cleanup outcome s) = outcome_details library cleanup.found cleanup.block outcome s
+
+-- What a `Given` says beside its action.
+abbrev pub given_value : declared.Given → Given
+given_value g = record { name = g.name.now; to = g.to.now; step = g.step.now; number = g.number; text = option_copied g.text; block = block_value g.block.now }
+
+-- What a `StepEvent` says.
+abbrev pub step_told : StepEvent → Told
+step_told e = of_step e.place (step_value e.step.now) e.mark (state_of e.sandbox.now.now)
+
+-- What a `CleanupEvent` says.
+abbrev pub cleanup_told : CleanupEvent → Told
+cleanup_told e = of_cleanup e.level (record { found = found_value e.found.now; block = block_value e.block.now }) e.outcome (state_of e.sandbox.now.now)

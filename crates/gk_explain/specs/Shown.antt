@@ -1,0 +1,49 @@
+-- Texts as they are shown below an event.
+use Rattle.std.specs.Prelude.{ℕ, ◌-◌, Bool, false, cond, not, ◌&&◌, ◌||◌, ◌==◌, nat_lt, List, [], ◌∷◌, ◌++◌, length, take, drop, flat_map, codes, chars, encode_utf8}
+use Rattle.std.specs.Fmt.{decimal, digits}
+use Rattle.std.specs.List.{slice_split}
+
+-- Whether a number stands from one to before another.
+abbrev pub is_within : ℕ → ℕ → ℕ → Bool
+is_within first end c = not (nat_lt c first) && nat_lt c end
+
+-- Whether a character is seen as nothing, or as a blank that it isn't: control characters, blanks that don't break or have a width of their own, soft hyphens, and marks of no width.
+abbrev pub is_invisible : ℕ → Bool
+is_invisible c = nat_lt c 32 || (is_within 127 161 c || ((c == 173) || (is_within 8192 8208 c || (is_within 8232 8240 c || (is_within 8287 8304 c || ((c == 12288) || (c == 65279)))))))
+
+-- A character as it is shown: a tab, a carriage return and a backslash by a letter, what is invisible by its number, all else as itself.
+abbrev pub shown_char : ℕ → List ℕ
+shown_char c =
+    cond (c == 9) (codes "\\t")
+    (cond (c == 13) (codes "\\r")
+    (cond (c == 92) (codes "\\\\")
+    (cond (is_invisible c) (codes "\\u{" ++ digits 16 false c ++ codes "}") (encode_utf8 c))))
+
+-- A text as it is shown, character by character.
+abbrev pub shown : List ℕ → List ℕ
+shown text = flat_map shown_char (chars text)
+
+-- The lines of a text: what stands between its line feeds. A text that ends with a line feed has an empty last line.
+abbrev pub text_lines : List ℕ → List (List ℕ)
+text_lines text = slice_split (λ b. b == 10) text
+
+-- A line of a text after a mark, between quotes, so that blanks at its end are seen.
+unfoldable pub marked_line : List ℕ → List ℕ → List ℕ
+marked_line mark line = codes "      " ++ (mark ++ (codes " \"" ++ (shown line ++ codes "\"\n")))
+
+-- Lines of a text, each after the same mark.
+abbrev pub marked_lines : List ℕ → List (List ℕ) → List ℕ
+marked_lines mark lines = flat_map (marked_line mark) lines
+
+-- What stands in place of lines that are left out.
+abbrev pub left_out : ℕ → List ℕ
+left_out count = codes "      ... " ++ (decimal count ++ codes " more lines ...\n")
+
+-- Lines in at most twenty rows: all of up to twenty lines; of more the first ten, how many are left out, and the last nine.
+abbrev pub few_lines : List ℕ → List (List ℕ) → List ℕ
+few_lines mark lines =
+    cond (nat_lt 20 (length lines)) (marked_lines mark (take 10 lines) ++ (left_out (length lines - 19) ++ marked_lines mark (drop (length lines - 9) lines))) (marked_lines mark lines)
+
+-- A text after a mark, in at most twenty rows.
+unfoldable pub marked_text : List ℕ → List ℕ → List ℕ
+marked_text mark text = few_lines mark (text_lines text)

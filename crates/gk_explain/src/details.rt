@@ -1,0 +1,275 @@
+//! What is said below an event that failed.
+ghost use Rattle.std.specs.Prelude.{◌≡◌, option_copied};
+ghost use Rattle.gk_gherkin.specs.Feature.{block_value};
+ghost use Rattle.gk_steps.specs.Finding.{library_value, found_value, action_of};
+ghost use Rattle.gk_world.specs.State.{state_of};
+ghost use Rattle.gk_run.specs.Acting as acting;
+ghost use Rattle.gk_report.specs.ReportTexts.{Pushes};
+ghost use Rattle.gk_explain.specs.Details as spec;
+ghost use Rattle.gk_explain.specs.Details.{given_value};
+
+use crate::differences::{Position, first_difference};
+use crate::shown::push_text;
+use gk_gherkin::{Block, Step};
+use gk_run::{Level, Mark, Outcome, Place, Reason};
+use gk_steps::{Action, Found, Library};
+use gk_world::Sandbox;
+use std::alloc::{AllocError, Global};
+
+/// What an action works on.
+#[derive(Clone, Copy, Debug, PartialEq, Eq)]
+pub enum Kind {
+    /// A file.
+    File,
+    /// A variable.
+    Variable,
+    /// A value, seen or of the innermost layer.
+    Value,
+}
+
+/// An action, and what it works with.
+#[derive(Clone, Copy)]
+pub struct Given<'a> {
+    pub action: Action,
+    /// The field `name`.
+    pub name: &'a str,
+    /// The field `to`.
+    pub to: &'a str,
+    /// The field `step`.
+    pub step: &'a str,
+    /// The field `n`.
+    pub number: i64,
+    /// The field `text`, else the step's doc string.
+    pub text: Option<&'a str>,
+    /// What stands under the step.
+    pub block: &'a Block,
+}
+
+fn kind_of(action: Action) -> Kind
+    ensures { result ≡ spec.kind_of action }
+{
+    match action {
+        Action::WriteFile
+        | Action::AppendFile
+        | Action::RemoveFile
+        | Action::RenameFile
+        | Action::WriteFiles
+        | Action::FileExists
+        | Action::FileAbsent
+        | Action::FileIs
+        | Action::FileContains => Kind::File,
+        Action::SetEnv | Action::RemoveEnv | Action::EnvIs | Action::EnvAbsent => Kind::Variable,
+        _ => Kind::Value,
+    }
+}
+
+// The text of a file or a variable, or the value that is seen, under a name.
+fn held<'a>(kind: Kind, sandbox: &'a Sandbox, name: &str) -> Option<&'a str>
+    ensures { option_copied result ≡ spec.held kind (state_of sandbox.now.now) name.now }
+{
+    match kind {
+        Kind::File => sandbox.file(name),
+        Kind::Variable => sandbox.env(name),
+        Kind::Value => sandbox.value(name),
+    }
+}
+
+// What an action finds under the name that it is given.
+fn found_text<'a>(given: &Given<'_>, sandbox: &'a Sandbox) -> &'a str
+    ensures { result.now ≡ spec.found_text given.now.action (given_value given.now)
+        (state_of sandbox.now.now) }
+{
+    held(kind_of(given.action), sandbox, given.name).unwrap_or("")
+}
+
+// The text of a doc string.
+fn doc_string(block: &Block) -> Option<&str>
+    ensures { option_copied result ≡ acting.doc_string (block_value block.now) }
+{
+    match block {
+        Block::Text(text) => Some(text.as_str()),
+        _ => None,
+    }
+}
+
+// What the action of what was found works with.
+fn given_to<'a>(library: &Library, found: &'a Found, block: &'a Block) -> Given<'a>
+    ensures action { result.action
+        ≡ action_of (library_value library.now) (found_value found.now) }
+    ensures given { given_value result
+        ≡ acting.given (library_value library.now) (found_value found.now) (block_value block.now) }
+{
+    let used = library.used_fields(found);
+    Given {
+        action: library.action(found),
+        name: used.name.unwrap_or(""),
+        to: used.to.unwrap_or(""),
+        step: used.step.unwrap_or(""),
+        number: used.number.unwrap_or(0),
+        text: used.text.or(doc_string(block)),
+        block,
+    }
+}
+
+// Pushes the line that says where two texts differ first.
+fn push_position(out: &mut String, first: Position) -> Result<(), AllocError>
+    ensures { Pushes out.old (spec.difference_line first) result out.new }
+{
+    let Position { line, column } = first;
+    write!(
+        out,
+        "      first difference: line {line}, column {column}\n"
+    )?;
+    Ok(())
+}
+
+// Pushes a number that is expected.
+fn push_expected(out: &mut String, number: i64) -> Result<(), AllocError>
+    ensures { Pushes out.old (spec.expected_number number) result out.new }
+{
+    write!(out, "      expected {number}\n")?;
+    Ok(())
+}
+
+// Pushes two texts, of which one was expected and the other found, and where they differ first.
+#[tactic(auto, unfolding(crate::specs::Details::compared))]
+fn push_compared(
+    alloc: Global,
+    out: &mut String,
+    expected: &str,
+    found: &str,
+) -> Result<(), AllocError>
+    ensures { Pushes out.old (spec.compared expected.now found.now) result out.new }
+{
+    push_text(alloc, out, "expected", expected)?;
+    push_text(alloc, out, "found   ", found)?;
+    push_position(out, first_difference(expected, found))
+}
+
+// Pushes a text that was expected in another, and the other.
+#[tactic(auto, unfolding(crate::specs::Details::lacking))]
+fn push_lacking(
+    alloc: Global,
+    out: &mut String,
+    expected: &str,
+    found: &str,
+) -> Result<(), AllocError>
+    ensures { Pushes out.old (spec.lacking expected.now found.now) result out.new }
+{
+    push_text(alloc, out, "expected", expected)?;
+    push_text(alloc, out, "found   ", found)?;
+    out.push_str("      the expected text stands nowhere in the found text\n")
+}
+
+// Pushes a number that was expected, and the text of the value that was found.
+#[tactic(auto, unfolding(crate::specs::Details::unequal))]
+fn push_unequal(
+    alloc: Global,
+    out: &mut String,
+    expected: i64,
+    found: &str,
+) -> Result<(), AllocError>
+    ensures { Pushes out.old (spec.unequal expected found.now) result out.new }
+{
+    push_expected(out, expected)?;
+    push_text(alloc, out, "found   ", found)
+}
+
+// Pushes what an action expected that found something else.
+fn push_difference(
+    alloc: Global,
+    out: &mut String,
+    given: &Given<'_>,
+    found: &str,
+) -> Result<(), AllocError>
+    ensures { Pushes out.old
+        (spec.difference given.now.action (given_value given.now) found.now) result out.new }
+{
+    match given.action {
+        Action::FileContains => push_lacking(alloc, out, given.text.unwrap_or(""), found),
+        Action::NumberIs => push_unequal(alloc, out, given.number, found),
+        _ => push_compared(alloc, out, given.text.unwrap_or(""), found),
+    }
+}
+
+// Pushes what a reason means for an action that left this sandbox.
+fn push_details(
+    alloc: Global,
+    out: &mut String,
+    given: &Given<'_>,
+    reason: Reason,
+    sandbox: &Sandbox,
+) -> Result<(), AllocError>
+    ensures { Pushes out.old (spec.details given.now.action (given_value given.now) reason
+        (state_of sandbox.now.now)) result out.new }
+{
+    match reason {
+        Reason::Differs => push_difference(alloc, out, given, found_text(given, sandbox)),
+        _ => Ok(()),
+    }
+}
+
+/// What happened to a step: where it stands, what became of it, and the sandbox that it left.
+#[derive(Clone, Copy)]
+pub struct StepEvent<'a> {
+    pub place: Place,
+    pub step: &'a Step,
+    pub mark: Mark,
+    pub sandbox: &'a Sandbox,
+}
+
+/// What happened to a cleanup of a section of a level: its outcome, and the sandbox that it left.
+#[derive(Clone, Copy)]
+pub struct CleanupEvent<'a> {
+    pub level: Level,
+    pub found: &'a Found,
+    pub block: &'a Block,
+    pub outcome: Outcome,
+    pub sandbox: &'a Sandbox,
+}
+
+/// Pushes what is said below the line of a step: nothing, unless its action failed. Only then is the step looked
+/// up. An error comes only where a growth was refused.
+#[tactic(auto, unfolding(crate::specs::Details::event_details))]
+pub fn push_step_details(
+    alloc: Global,
+    out: &mut String,
+    library: &Library,
+    event: &StepEvent<'_>,
+) -> Result<(), AllocError>
+    ensures { Pushes out.old (spec.event_details (library_value library.now)
+        (spec.step_told event.now)) result out.new }
+{
+    let Mark::Acted(Outcome::Failed(reason)) = event.mark else {
+        return Ok(());
+    };
+    let step = event.step;
+    match library.find(alloc, step.step_type, step.text.as_str())? {
+        Some(found) => {
+            let given = given_to(library, &found, &step.block);
+            push_details(alloc, out, &given, reason, event.sandbox)
+        }
+        None => Ok(()),
+    }
+}
+
+/// Pushes what is said below the line of a cleanup: nothing, unless it failed. An error comes only where a growth
+/// was refused.
+#[tactic(auto, unfolding(crate::specs::Details::event_details))]
+pub fn push_cleanup_details(
+    alloc: Global,
+    out: &mut String,
+    library: &Library,
+    event: &CleanupEvent<'_>,
+) -> Result<(), AllocError>
+    ensures { Pushes out.old (spec.event_details (library_value library.now)
+        (spec.cleanup_told event.now)) result out.new }
+{
+    match event.outcome {
+        Outcome::Failed(reason) => {
+            let given = given_to(library, event.found, event.block);
+            push_details(alloc, out, &given, reason, event.sandbox)
+        }
+        _ => Ok(()),
+    }
+}

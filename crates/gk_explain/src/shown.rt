@@ -1,0 +1,129 @@
+//! Texts as they are shown below an event.
+ghost use Rattle.std.specs.Prelude.{◌≡◌, ◌++◌, false, map, codes, IfOk};
+ghost use Rattle.std.specs.Fmt.{digits};
+ghost use Rattle.gk_report.specs.ReportTexts.{Pushes};
+ghost use Rattle.gk_explain.specs.Shown as spec;
+
+use std::alloc::{AllocError, Global};
+
+fn is_within(first: u32, end: u32, code: u32) -> bool
+    ensures { result ≡ spec.is_within first end code }
+{
+    code >= first && code < end
+}
+
+// Whether a character is seen as nothing, or as a blank that it isn't.
+fn is_invisible(code: u32) -> bool
+    ensures { result ≡ spec.is_invisible code }
+{
+    code < 32
+        || is_within(127, 161, code)
+        || code == 173
+        || is_within(8192, 8208, code)
+        || is_within(8232, 8240, code)
+        || is_within(8287, 8304, code)
+        || code == 12288
+        || code == 65279
+}
+
+// Pushes the number of a character, in hexadecimal.
+fn push_number(out: &mut String, code: u32) -> Result<(), AllocError>
+    ensures { Pushes out.old (codes "\\u{" ++ digits 16 false code ++ codes "}") result out.new }
+{
+    out.push_str("\\u{")?;
+    write!(out, "{code:x}")?;
+    out.push_str("}")
+}
+
+// Pushes a character as it is shown.
+fn push_char(out: &mut String, c: char) -> Result<(), AllocError>
+    ensures { Pushes out.old (spec.shown_char c) result out.new }
+{
+    match c {
+        '\t' => out.push_str("\\t"),
+        '\r' => out.push_str("\\r"),
+        '\\' => out.push_str("\\\\"),
+        _ => {
+            if is_invisible(c as u32) {
+                push_number(out, c as u32)
+            } else {
+                out.push(c)
+            }
+        }
+    }
+}
+
+/// Pushes a text as it is shown: what can't be seen stands there as an escape. An error comes only where a growth
+/// was refused.
+pub fn push_shown(out: &mut String, text: &str) -> Result<(), AllocError>
+    ensures { Pushes out.old (spec.shown text.now) result out.new }
+{
+    for c in text.chars() {
+        push_char(out, c)?;
+    }
+    Ok(())
+}
+
+// The lines of a text.
+fn lines_of(alloc: Global, text: &str) -> Result<Vec<&str>, AllocError>
+    ensures { IfOk result (λ lines. map (λ line. line.now) lines.items ≡ spec.text_lines text.now) }
+{
+    text.split('\n').collect(alloc)
+}
+
+// Pushes a line of a text after a mark.
+#[tactic(auto, unfolding(crate::specs::Shown::marked_line))]
+fn push_line(out: &mut String, mark: &str, line: &str) -> Result<(), AllocError>
+    ensures { Pushes out.old (spec.marked_line mark.now line.now) result out.new }
+{
+    out.push_str("      ")?;
+    out.push_str(mark)?;
+    out.push_str(" \"")?;
+    push_shown(out, line)?;
+    out.push_str("\"\n")
+}
+
+// Pushes lines of a text, each after the same mark.
+fn push_lines(out: &mut String, mark: &str, lines: &[&str]) -> Result<(), AllocError>
+    ensures { Pushes out.old
+        (spec.marked_lines mark.now (map (λ line. line.now) lines.now)) result out.new }
+{
+    for line in lines {
+        push_line(out, mark, line)?;
+    }
+    Ok(())
+}
+
+// Pushes what stands in place of lines that are left out.
+fn push_left_out(out: &mut String, count: usize) -> Result<(), AllocError>
+    ensures { Pushes out.old (spec.left_out count) result out.new }
+{
+    write!(out, "      ... {count} more lines ...\n")?;
+    Ok(())
+}
+
+// Pushes lines of a text in at most twenty rows.
+fn push_few_lines(out: &mut String, mark: &str, lines: &[&str]) -> Result<(), AllocError>
+    ensures { Pushes out.old
+        (spec.few_lines mark.now (map (λ line. line.now) lines.now)) result out.new }
+{
+    let count = lines.len();
+    if count <= 20 {
+        return push_lines(out, mark, lines);
+    }
+    let (first, _) = lines.split_at(10);
+    let (_, last) = lines.split_at(count - 9);
+    push_lines(out, mark, first)?;
+    push_left_out(out, count - 19)?;
+    push_lines(out, mark, last)
+}
+
+/// Pushes the lines of a text, each after a mark and between quotes, in at most twenty rows: of more than twenty
+/// lines those in the middle are left out. An error comes only where a growth was refused.
+#[tactic(auto, unfolding(crate::specs::Shown::marked_text))]
+pub fn push_text(alloc: Global, out: &mut String, mark: &str, text: &str) -> Result<(), AllocError>
+    ensures { Pushes out.old (spec.marked_text mark.now text.now) result out.new }
+{
+    let lines = lines_of(alloc, text)?;
+    push_few_lines(out, mark, &lines)
+}
