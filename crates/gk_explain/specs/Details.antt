@@ -61,11 +61,11 @@ abbrev pub found_below : List ℕ → List ℕ
 found_below text = marked_text (codes "found   ") text
 
 -- The line that says where two texts differ first.
-abbrev pub difference_line : Position → List ℕ
+unfoldable pub difference_line : Position → List ℕ
 difference_line p = codes "      first difference: line " ++ (decimal p.line ++ (codes ", column " ++ (decimal p.column ++ line_feed)))
 
 -- A number that is expected.
-abbrev pub expected_number : ℤ → List ℕ
+unfoldable pub expected_number : ℤ → List ℕ
 expected_number n = codes "      expected " ++ (signed_decimal n ++ line_feed)
 
 -- Two texts, of which one was expected and the other found, and where they differ first.
@@ -86,9 +86,41 @@ difference actions.FileContains g there = lacking (unwrap_or g.text []) there
 difference actions.NumberIs g there = unequal g.number there
 difference action g there = compared (unwrap_or g.text []) there
 
+-- The word for what an action works on.
+abbrev pub kind_word : Kind → List ℕ
+kind_word kinds.File = codes "file"
+kind_word kinds.Variable = codes "variable"
+kind_word kinds.Value = codes "value"
+
+-- The line that says that nothing is there under a name.
+unfoldable pub absent_line : Kind → List ℕ → List ℕ
+absent_line kind name = codes "      there is no " ++ (kind_word kind ++ (codes " \"" ++ (shown name ++ codes "\"\n")))
+
+-- What stands in an action's way: what is there under its name, or, where a file is renamed, under the new one.
+abbrev pub present_text : Action → Given → State → List ℕ
+present_text actions.RenameFile g s = unwrap_or (s.files g.to) []
+present_text action g s = found_text action g s
+
+-- A number that is to be added.
+unfoldable pub added_number : ℤ → List ℕ
+added_number n = codes "      to be added: " ++ (signed_decimal n ++ line_feed)
+
+-- The text of a value, and the number that can't be added to it.
+unfoldable pub sum_out_of_range : List ℕ → ℤ → List ℕ
+sum_out_of_range there n = found_below there ++ added_number n
+
+-- The text of a value that is set in an outer layer alone.
+unfoldable pub in_outer_layer : List ℕ → List ℕ
+in_outer_layer there = found_below there ++ codes "      it is set in an outer layer alone\n"
+
 -- What a reason means for an action at a state.
 abbrev pub details : Action → Given → Reason → State → List ℕ
 details action g reasons.Differs s = difference action g (found_text action g s)
+details action g reasons.Absent s = absent_line (kind_of action) g.name
+details action g reasons.Present s = found_below (present_text action g s)
+details action g reasons.NotNumber s = found_below (found_text action g s)
+details action g reasons.OutOfRange s = sum_out_of_range (found_text action g s) g.number
+details action g reasons.OtherLayer s = in_outer_layer (found_text action g s)
 details action g _ s = []
 
 -- What an outcome means for what was found, with a step's block.

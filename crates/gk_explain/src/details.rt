@@ -9,7 +9,7 @@ ghost use Rattle.gk_explain.specs.Details as spec;
 ghost use Rattle.gk_explain.specs.Details.{given_value};
 
 use crate::differences::{Position, first_difference};
-use crate::shown::push_text;
+use crate::shown::{push_shown, push_text};
 use gk_gherkin::{Block, Step};
 use gk_run::{Level, Mark, Outcome, Place, Reason};
 use gk_steps::{Action, Found, Library};
@@ -112,6 +112,7 @@ fn given_to<'a>(library: &Library, found: &'a Found, block: &'a Block) -> Given<
 }
 
 // Pushes the line that says where two texts differ first.
+#[tactic(auto, unfolding(crate::specs::Details::difference_line))]
 fn push_position(out: &mut String, first: Position) -> Result<(), AllocError>
     ensures { Pushes out.old (spec.difference_line first) result out.new }
 {
@@ -192,6 +193,65 @@ fn push_difference(
     }
 }
 
+fn kind_word(kind: Kind) -> &'static str
+    ensures { result.now ≡ spec.kind_word kind }
+{
+    match kind {
+        Kind::File => "file",
+        Kind::Variable => "variable",
+        Kind::Value => "value",
+    }
+}
+
+// Pushes the line that says that nothing is there under a name.
+#[tactic(auto, unfolding(crate::specs::Details::absent_line))]
+fn push_absent(out: &mut String, kind: Kind, name: &str) -> Result<(), AllocError>
+    ensures { Pushes out.old (spec.absent_line kind name.now) result out.new }
+{
+    out.push_str("      there is no ")?;
+    out.push_str(kind_word(kind))?;
+    out.push_str(" \"")?;
+    push_shown(out, name)?;
+    out.push_str("\"\n")
+}
+
+// What stands in an action's way.
+fn present_text<'a>(given: &Given<'_>, sandbox: &'a Sandbox) -> &'a str
+    ensures { result.now ≡ spec.present_text given.now.action (given_value given.now)
+        (state_of sandbox.now.now) }
+{
+    match given.action {
+        Action::RenameFile => sandbox.file(given.to).unwrap_or(""),
+        _ => found_text(given, sandbox),
+    }
+}
+
+// Pushes a number that is to be added.
+fn push_added(out: &mut String, number: i64) -> Result<(), AllocError>
+    ensures { Pushes out.old (spec.added_number number) result out.new }
+{
+    write!(out, "      to be added: {number}\n")?;
+    Ok(())
+}
+
+// Pushes the text of a value, and the number that can't be added to it.
+#[tactic(auto, unfolding(crate::specs::Details::sum_out_of_range))]
+fn push_sum(alloc: Global, out: &mut String, found: &str, number: i64) -> Result<(), AllocError>
+    ensures { Pushes out.old (spec.sum_out_of_range found.now number) result out.new }
+{
+    push_text(alloc, out, "found   ", found)?;
+    push_added(out, number)
+}
+
+// Pushes the text of a value that is set in an outer layer alone.
+#[tactic(auto, unfolding(crate::specs::Details::in_outer_layer))]
+fn push_in_outer_layer(alloc: Global, out: &mut String, found: &str) -> Result<(), AllocError>
+    ensures { Pushes out.old (spec.in_outer_layer found.now) result out.new }
+{
+    push_text(alloc, out, "found   ", found)?;
+    out.push_str("      it is set in an outer layer alone\n")
+}
+
 // Pushes what a reason means for an action that left this sandbox.
 fn push_details(
     alloc: Global,
@@ -203,8 +263,14 @@ fn push_details(
     ensures { Pushes out.old (spec.details given.now.action (given_value given.now) reason
         (state_of sandbox.now.now)) result out.new }
 {
+    let found = found_text(given, sandbox);
     match reason {
-        Reason::Differs => push_difference(alloc, out, given, found_text(given, sandbox)),
+        Reason::Differs => push_difference(alloc, out, given, found),
+        Reason::Absent => push_absent(out, kind_of(given.action), given.name),
+        Reason::Present => push_text(alloc, out, "found   ", present_text(given, sandbox)),
+        Reason::NotNumber => push_text(alloc, out, "found   ", found),
+        Reason::OutOfRange => push_sum(alloc, out, found, given.number),
+        Reason::OtherLayer => push_in_outer_layer(alloc, out, found),
         _ => Ok(()),
     }
 }
