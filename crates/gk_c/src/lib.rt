@@ -20,7 +20,7 @@ use called_run::answer_call;
 use std::alloc::Global;
 
 /// Runs the feature files that are handed over, in a world that is new: the variables are put into it, the hooks
-/// run around the run, its features and its scenarios, and the steps are those of the library, or of the default
+/// run around the run, its features, rules and scenarios, and the steps are those of the library, or of the default
 /// library where none is given. The text is the report, or, where there is none, one line without a line feed that
 /// says why. As much of it as there is room for is written over the beginning of `room`, and the rest of `room`
 /// stays as it was; `Answer::length` says how long the whole text is, so a second call with as much room gives all

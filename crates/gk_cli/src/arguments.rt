@@ -26,7 +26,7 @@ const LINE_HELP: &str =
 
 const LIBRARY_HELP: &str = "Take the steps from FILE in place of the default library";
 
-const HOOKS_HELP: &str = "Run the hooks in FILE around the run, its features and its scenarios";
+const HOOKS_HELP: &str = "Run the hooks in FILE around the run, its features, rules and scenarios";
 
 const ENV_HELP: &str = "Set a variable before the run; of equal names the last counts";
 

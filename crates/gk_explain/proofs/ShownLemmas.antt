@@ -1,5 +1,5 @@
 -- What is left of a text to be shown.
-use Rattle.std.proofs.Common.{◌≡◌, ◌∙◌, ◌-◌, ℕ, true, nat_lt, List, [], ◌∷◌, ◌++◌, length, take, drop, map, flat_map, chars, IsUtf8, encode_utf8, ap, ap₂, sym, append_assoc}
+use Rattle.std.proofs.Common.{◌≡◌, ◌∙◌, ◌-◌, ℕ, true, nat_lt, List, [], ◌∷◌, ◌++◌, length, take, drop, map, flat_map, IsUtf8, encode_utf8, ap, ap₂, sym, append_assoc}
 use Rattle.std.proofs.lemmas.List.{take-map, drop-map, length-map}
 use Rattle.std.proofs.lemmas.Str.{chars-nil, chars_past_char}
 use Rattle.gk_explain.specs.Shown.{shown, shown_char, marked_lines, left_out, few_lines}

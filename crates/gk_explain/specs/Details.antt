@@ -1,19 +1,18 @@
 -- What is said below an event that failed: what its reason means there.
-use Rattle.std.specs.Prelude.{ℕ, ℤ, pos, cond, ◌||◌, List, [], ◌∷◌, ◌++◌, length, flat_map, Option, Some, None, unwrap_or, codes, option_copied}
+use Rattle.std.specs.Prelude.{ℕ, ℤ, List, [], ◌++◌, Option, Some, None, unwrap_or, codes, option_copied}
 use Rattle.std.specs.Fmt.{decimal, signed_decimal}
-use Rattle.gk_gherkin.specs.Feature.{BlockValue, Empty, Text, Table, block_value, step_value}
+use Rattle.gk_gherkin.specs.Feature.{BlockValue, block_value, step_value}
 use Rattle.gk_steps.specs.declared.action.Action.{Action}
 use Rattle.gk_steps.specs.declared.action.Action.TheVariants as actions
 use Rattle.gk_steps.specs.Finding.{LibraryValue, FoundValue, found_value, action_of, found}
 use Rattle.gk_world.specs.State.{State, see, state_of}
-use Rattle.gk_world.specs.Refusals.{is_bad_name, is_too_long}
 use Rattle.gk_run.specs.declared.results.Mark.{Mark}
 use Rattle.gk_run.specs.declared.results.Mark.TheVariants.{Acted}
 use Rattle.gk_run.specs.declared.results.Outcome.{Outcome}
 use Rattle.gk_run.specs.declared.results.Outcome.TheVariants.{Failed}
 use Rattle.gk_run.specs.declared.results.Reason.{Reason}
 use Rattle.gk_run.specs.declared.results.Reason.TheVariants as reasons
-use Rattle.gk_run.specs.Acting.{Given, given, CleanupValue}
+use Rattle.gk_run.specs.Acting.{Given, given}
 use Rattle.gk_run.specs.Watching.{Told, of_step, of_cleanup}
 use Rattle.gk_report.specs.ReportTexts.{line_feed}
 use Rattle.gk_explain.specs.declared.details.CleanupEvent.{CleanupEvent}

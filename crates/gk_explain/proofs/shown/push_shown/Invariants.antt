@@ -1,4 +1,4 @@
-use Rattle.std.proofs.Common.{◌≡◌, ◌++◌, IsUtf8, string_bytes, flat_map}
+use Rattle.std.proofs.Common.{◌≡◌, ◌++◌, IsUtf8, string_bytes}
 use Rattle.std.specs.Str.Iter.{chars_rest}
 use Rattle.gk_explain.specs.Shown.{shown}
 use Rattle.gk_explain.proofs.shown.push_shown.Given as goal
