@@ -36,8 +36,7 @@ refuses_unknown() {
 holds "the files of web/ have other sums than web/made.sha256 says; ./release renews them" has_its_sums
 python3 "$web/build/make_page.py" "$web/gherkin_run.wasm" > "$room/try.html"
 holds "web/try.html isn't what its parts make; ./release renews it" cmp "$room/try.html" "$web/try.html"
-# Wanted are 350,000 bytes; docs/DECISIONS.md says what it has more.
-holds "web/gherkin_run.wasm has more than 370,000 bytes" [ "$(wc -c < "$web/gherkin_run.wasm")" -le 370000 ]
+holds "web/gherkin_run.wasm has more than 350,000 bytes" [ "$(wc -c < "$web/gherkin_run.wasm")" -le 350000 ]
 holds "retarget.py takes a call that it doesn't know" refuses_unknown
 if [ -z "$module" ]; then
     echo "web/gherkin_run.wasm isn't made anew: no module of the library is given"

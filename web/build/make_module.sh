@@ -11,7 +11,7 @@ clang=$kit/toolchain/bin/clang
 room=$(mktemp -d)
 trap 'rm -rf "$room"' EXIT
 # Neither vectors nor memory.copy, of which wasm-opt 108 can't make a module with a 32-bit memory.
-to="--target=wasm64-unknown-unknown -mcpu=mvp -msign-ext -mmutable-globals --no-default-config -ffunction-sections -fdata-sections -O3"
+to="--target=wasm64-unknown-unknown -mcpu=mvp -msign-ext -mmutable-globals --no-default-config -ffunction-sections -fdata-sections -O2"
 from="--target=x86_64-unknown-linux-gnu --no-default-config"
 $clang $from -x ir "$1" -S -emit-llvm -Xclang -disable-llvm-passes -o "$room/library.ll"
 python3 "$here/retarget.py" "$room/library.ll" "$room/library64.ll"

@@ -67,13 +67,17 @@ difference_line p = codes "      first difference: line " ++ (decimal p.line ++ 
 unfoldable pub expected_number : ℤ → List ℕ
 expected_number n = codes "      expected " ++ (signed_decimal n ++ line_feed)
 
--- Two texts, of which one was expected and the other found, and where they differ first.
+-- Two texts, of which one was expected and the other found.
+unfoldable pub both : List ℕ → List ℕ → List ℕ
+both expected there = expected_text expected ++ found_below there
+
+-- Both, and where they differ first.
 unfoldable pub compared : List ℕ → List ℕ → List ℕ
-compared expected there = expected_text expected ++ (found_below there ++ difference_line (first_difference expected there))
+compared expected there = both expected there ++ difference_line (first_difference expected there)
 
 -- A text that was expected in another, and the other.
 unfoldable pub lacking : List ℕ → List ℕ → List ℕ
-lacking expected there = expected_text expected ++ (found_below there ++ codes "      the expected text stands nowhere in the found text\n")
+lacking expected there = both expected there ++ codes "      the expected text stands nowhere in the found text\n"
 
 -- A number that was expected, and the text of the value that was found.
 unfoldable pub unequal : ℤ → List ℕ → List ℕ

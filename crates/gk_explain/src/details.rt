@@ -132,7 +132,16 @@ fn push_expected(out: &mut String, number: i64) -> Result<(), AllocError>
     Ok(())
 }
 
-// Pushes two texts, of which one was expected and the other found, and where they differ first.
+// Pushes two texts, of which one was expected and the other found.
+#[tactic(auto, unfolding(crate::specs::Details::both))]
+fn push_both(alloc: Global, out: &mut String, expected: &str, found: &str) -> Result<(), AllocError>
+    ensures { Pushes out.old (spec.both expected.now found.now) result out.new }
+{
+    push_text(alloc, out, "expected", expected)?;
+    push_text(alloc, out, "found   ", found)
+}
+
+// Pushes both, and where they differ first.
 #[tactic(auto, unfolding(crate::specs::Details::compared))]
 fn push_compared(
     alloc: Global,
@@ -142,8 +151,7 @@ fn push_compared(
 ) -> Result<(), AllocError>
     ensures { Pushes out.old (spec.compared expected.now found.now) result out.new }
 {
-    push_text(alloc, out, "expected", expected)?;
-    push_text(alloc, out, "found   ", found)?;
+    push_both(alloc, out, expected, found)?;
     push_position(out, first_difference(expected, found))
 }
 
@@ -157,8 +165,7 @@ fn push_lacking(
 ) -> Result<(), AllocError>
     ensures { Pushes out.old (spec.lacking expected.now found.now) result out.new }
 {
-    push_text(alloc, out, "expected", expected)?;
-    push_text(alloc, out, "found   ", found)?;
+    push_both(alloc, out, expected, found)?;
     out.push_str("      the expected text stands nowhere in the found text\n")
 }
 
