@@ -17,7 +17,7 @@ cp crates/gherkin_run/out/gherkin_run "$room/gherkin_run"
 (cd "$room" && sha256sum gherkin_run > gherkin_run.sha256)
 rt version > "$room/gherkin_run.kit"
 # What each crate was built as, which web/build/capture_module.sh builds the library over.
-sha256sum crates/*/out/rlib/*.rlib/format > "$room/gherkin_run.libraries"
+find crates -path '*/out/rlib/*.rlib/format' -exec sha256sum {} + > "$room/gherkin_run.libraries"
 echo "$1" > "$room/gherkin_run.sources"
 # The sum of the sources comes last, so what it stands for is there.
 rm -f out/gherkin_run.sources
