@@ -112,7 +112,6 @@ def values():
     yield "" if report.data == json.loads(report.text) and not report.passed else "other data than the text's"
     yield "" if gherkin_run.run(PAINT).data is None else "data of a plain report"
     yield "" if gherkin_run.run([]).passed else "no feature, and not passed"
-    yield "" if gherkin_run.version() else "no version"
     for line in (0, -1, 1 << 32, (1 << 32) + 1):
         yield raises(ValueError, features=PAINT, lines=[line])
     yield raises(ValueError, features=PAINT, format="xml")
@@ -120,6 +119,14 @@ def values():
     many = gherkin_run.Source("many", "Feature: many\n" + "Scenario: a long name\nGiven it passes\n" * 9000)
     text = gherkin_run.run(many).text
     yield "" if text.count("a long name") == 9000 and text.endswith("0 undefined\n") else "a long report is cut"
+
+
+def same_version(program):
+    """The version of the library is the one that the program says, before the toolchain that it names."""
+    status, stdout, stderr = driver.start(program, ["--version"])
+    said = stdout.decode().strip()
+    wanted = f"gherkin_run {gherkin_run.version()}, proved with "
+    yield "" if (status, stderr) == (0, b"") and said.startswith(wanted) else f"the library's version is none of {said}"
 
 
 def threads():
@@ -193,7 +200,7 @@ def main():
     tests = driver.Tests(20)
     if said:
         tests.add(said if "isn't" in said else "")
-    parts = [example_runs(program), changed_runs(program, room), faults(), values(), threads(), refused(room)]
+    parts = [example_runs(program), changed_runs(program, room), faults(), values(), same_version(program), threads(), refused(room)]
     if importlib.util.find_spec("pytest"):
         parts.append(collected(room))
     else:

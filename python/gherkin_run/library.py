@@ -8,7 +8,7 @@ import os
 from typing import NamedTuple, Optional, Sequence, Tuple
 
 NO_INPUT, LIBRARY, HOOKS, SOURCE = range(4)
-# Most reports have at most so many bytes, and so many for each of the sources.
+# Most reports fit a room of so many bytes, and of so many for each byte of the sources.
 FIRST_ROOM = 1 << 16
 ROOM_FOR_EACH = 8
 
