@@ -563,6 +563,49 @@ Given these files:
 
 
 @large_run
+def texts_beyond_the_limit_explained():
+    """How many bytes a text has that is too long, of a file, of one that is extended, and of a row of a table."""
+    text = "x" * TEXT_LIMIT
+    feature = f'''Feature: f
+Scenario: of a file
+Given a file named "f" with:
+"""
+{text}x
+"""
+Scenario: with more at its end
+Given a file named "f" with:
+"""
+{text}
+"""
+When the file "f" is extended with "xyz"
+Scenario: in a table
+Given these files:
+| name | text |
+| f | |
+| g | {text}xy |
+'''
+    explained = '''a.feature:2: Scenario: of a file ... failed
+  a.feature:3: Given a file named "f" with: ... failed: text too long
+      the text has 1048577 bytes; at most 1048576 are allowed
+
+a.feature:7: Scenario: with more at its end ... failed
+  a.feature:8: Given a file named "f" with: ... passed
+  a.feature:12: When the file "f" is extended with "xyz" ... failed: text too long
+      the text has 1048579 bytes; at most 1048576 are allowed
+
+a.feature:13: Scenario: in a table ... failed
+  a.feature:14: Given these files: ... failed: text too long
+      the text has 1048578 bytes; at most 1048576 are allowed
+
+a.feature:2: Scenario: of a file
+a.feature:7: Scenario: with more at its end
+a.feature:13: Scenario: in a table
+
+'''
+    return Run({"a.feature": feature}, 1, explained + closing((0, 1), (0, 3), (1, 3)), arguments=["--explain", "a.feature"])
+
+
+@large_run
 def longest_variable_and_value():
     text = "x" * TEXT_LIMIT
     steps = [*rows([f'Given the variable "V" is set to "{text}"',

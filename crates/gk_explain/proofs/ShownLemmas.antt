@@ -1,17 +1,17 @@
 -- What is left of a text to be shown.
-use Rattle.std.proofs.Common.{◌≡◌, ◌∙◌, ◌-◌, ℕ, true, nat_lt, List, [], ◌∷◌, ◌++◌, length, take, drop, map, flat_map, IsUtf8, encode_utf8, ap, ap₂, sym, append_assoc}
+use Rattle.std.proofs.Common.{◌≡◌, ◌∙◌, ◌-◌, ℕ, true, nat_lt, List, [], ◌∷◌, ◌++◌, length, take, drop, map, flat_map, chars, IsUtf8, encode_utf8, ap, ap₂, sym, append_assoc}
 use Rattle.std.proofs.lemmas.List.{take-map, drop-map, length-map}
 use Rattle.std.proofs.lemmas.Str.{chars-nil, chars_past_char}
-use Rattle.gk_explain.specs.Shown.{shown, shown_char, marked_lines, left_out, few_lines}
+use Rattle.gk_explain.specs.Shown.{marked_lines, left_out, few_lines}
 
 -- Of a text without bytes nothing is shown.
-pub shown_none : (text : List ℕ) → length text ≡ 0 → shown text ≡ []
-shown_none [] none = ap (flat_map shown_char) chars-nil
-shown_none (b ∷ bs) none = absurd cc
+pub shown_none : (show : ℕ → List ℕ) (text : List ℕ) → length text ≡ 0 → flat_map show (chars text) ≡ []
+shown_none show [] none = ap (flat_map show) chars-nil
+shown_none show (b ∷ bs) none = absurd cc
 
 -- Of a text that begins with a character that is shown first.
-pub shown_first : (text rest : List ℕ) (c : ℕ) → IsUtf8 text → text ≡ encode_utf8 c ++ rest → shown text ≡ shown_char c ++ shown rest
-shown_first text rest c utf8 begins = ap (flat_map shown_char) (chars_past_char text rest c utf8 begins)
+pub shown_first : (show : ℕ → List ℕ) (text rest : List ℕ) (c : ℕ) → IsUtf8 text → text ≡ encode_utf8 c ++ rest → flat_map show (chars text) ≡ show c ++ flat_map show (chars rest)
+shown_first show text rest c utf8 begins = ap (flat_map show) (chars_past_char text rest c utf8 begins)
 
 -- The rows of more than twenty lines.
 pub many_lines : {A : Type 0} (f : A → List ℕ) (mark before : List ℕ) (lines first last : List A) → nat_lt 20 (length lines) ≡ true → first ≡ take 10 lines → last ≡ drop (length lines - 9) lines →

@@ -1,8 +1,8 @@
 -- Worked explanations, by computation.
-use Rattle.std.specs.Prelude.{◌≡◌, ℕ, List, [], ◌∷◌, codes, refl}
+use Rattle.std.specs.Prelude.{◌≡◌, ℕ, true, false, List, [], ◌∷◌, None, codes, refl}
 use Rattle.std.specs.Fmt.{digits}
 use Rattle.gk_gherkin.specs.declared.feature.StepType.TheVariants as types
-use Rattle.gk_gherkin.specs.Feature.{StepValue, Empty}
+use Rattle.gk_gherkin.specs.Feature.{StepValue, Empty, Table}
 use Rattle.gk_world.specs.State.{State}
 use Rattle.gk_run.specs.declared.results.Mark.TheVariants as marks
 use Rattle.gk_run.specs.declared.results.Outcome.TheVariants as outcomes
@@ -16,8 +16,13 @@ use Rattle.gk_run.specs.Results.{CaseRow, FeatureRow}
 use Rattle.gk_run.specs.Watching.{Told, of_step, of_cleanup}
 use Rattle.gk_report.specs.ReportTexts.{status_text, reason_text, one_line}
 use Rattle.gk_report.specs.PlainReport.{status_line}
-use Rattle.gk_steps.specs.Finding.{found}
+use Rattle.gk_steps.specs.declared.action.Action.TheVariants as actions
+use Rattle.gk_steps.specs.declared.pattern.FieldKind.TheVariants as kinds
+use Rattle.gk_steps.specs.Pattern.{Literal, FieldPiece}
+use Rattle.gk_steps.specs.Finding.{EntryValue, found}
 use Rattle.gk_explain.specs.Details.{event_details}
+use Rattle.gk_explain.specs.Nearest.{agreement, is_near}
+use Rattle.gk_explain.specs.Tables.{refused_file}
 use Rattle.gk_explain.specs.EventLines.{event_line, place_text}
 use Rattle.gk_explain.specs.Headings.{case_heading, rule_heading, feature_heading, run_heading, explanation_text}
 use Rattle.gk_explain.specs.Explanation.{ExplanationValue, nothing_said, with_event, with_case, with_rule, with_source, with_feature, with_run}
@@ -83,3 +88,22 @@ sections_are_explained s = refl
 sections_are_listed : (s : State) → (ended s statuses.Failed).failures ≡ codes "f:5: Rule: (hooks and cleanups)\nf:1: Feature: n (hooks and cleanups)\n(hooks and cleanups)\n"
 unfolding found event_details digits status_text reason_text one_line status_line event_line place_text rule_heading feature_heading run_heading explanation_text
 sections_are_listed s = refl
+
+-- An entry for steps of each type, with a field between two literals.
+abbrev entry : EntryValue
+entry = record { step_type = None; pattern = Literal (codes "the mill ") ∷ FieldPiece (codes "n") kinds.Decimal ∷ Literal (codes " stops") ∷ []; action = actions.Pass }
+
+-- It agrees with a text up to the first byte that differs after the field.
+agrees_past_a_field : agreement entry.pattern (codes "the mill 12 stop it") ≡ 14
+agrees_past_a_field = refl
+
+-- More than the first word and a blank make it near.
+near_by_more_than_a_word : is_near entry (codes "the mine") ≡ true
+near_by_more_than_a_word = refl
+
+not_near_by_a_word : is_near entry (codes "the kiln") ≡ false
+not_near_by_a_word = refl
+
+-- A row whose name has no byte is the first that can't be written, and the header isn't looked at.
+row_without_name : refused_file (Table ((codes "" ∷ codes "text" ∷ []) ∷ (codes "a" ∷ codes "b" ∷ []) ∷ (codes "" ∷ codes "c" ∷ []) ∷ [])) ≡ ([], codes "c")
+row_without_name = refl

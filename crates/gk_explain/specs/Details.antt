@@ -1,13 +1,14 @@
 -- What is said below an event that failed: what its reason means there.
-use Rattle.std.specs.Prelude.{ℕ, ℤ, List, [], ◌++◌, Option, Some, None, unwrap_or, codes, option_copied}
+use Rattle.std.specs.Prelude.{ℕ, ℤ, List, [], ◌++◌, Option, Some, None, unwrap_or, codes, option_copied, length}
 use Rattle.std.specs.Fmt.{decimal, signed_decimal}
-use Rattle.gk_gherkin.specs.Feature.{BlockValue, block_value, step_value}
+use Rattle.gk_gherkin.specs.Feature.{BlockValue, StepValue, block_value, step_value}
 use Rattle.gk_steps.specs.declared.action.Action.{Action}
 use Rattle.gk_steps.specs.declared.action.Action.TheVariants as actions
 use Rattle.gk_steps.specs.Finding.{LibraryValue, FoundValue, found_value, action_of, found}
 use Rattle.gk_world.specs.State.{State, see, state_of}
+use Rattle.gk_world.specs.Refusals.{joined}
 use Rattle.gk_run.specs.declared.results.Mark.{Mark}
-use Rattle.gk_run.specs.declared.results.Mark.TheVariants.{Acted}
+use Rattle.gk_run.specs.declared.results.Mark.TheVariants.{Acted, Undefined}
 use Rattle.gk_run.specs.declared.results.Outcome.{Outcome}
 use Rattle.gk_run.specs.declared.results.Outcome.TheVariants.{Failed}
 use Rattle.gk_run.specs.declared.results.Reason.{Reason}
@@ -22,7 +23,9 @@ use Rattle.gk_explain.specs.declared.details.Kind.TheVariants as kinds
 use Rattle.gk_explain.specs.declared.details.StepEvent.{StepEvent}
 use Rattle.gk_explain.specs.declared.differences.Position.{Position}
 use Rattle.gk_explain.specs.Differences.{first_difference}
+use Rattle.gk_explain.specs.Nearest.{nearest_told}
 use Rattle.gk_explain.specs.Shown.{shown, marked_text}
+use Rattle.gk_explain.specs.Tables.{other_table, refused_file}
 
 -- What an action works on.
 abbrev pub kind_of : Action → Kind
@@ -116,6 +119,26 @@ sum_out_of_range there n = found_below there ++ added_number n
 unfoldable pub in_outer_layer : List ℕ → List ℕ
 in_outer_layer there = found_below there ++ codes "      it is set in an outer layer alone\n"
 
+-- The name that an action gives to what it changes: of a file that is renamed the new one, of a table of files the one at which it ends.
+abbrev pub given_name : Action → Given → List ℕ
+given_name actions.RenameFile g = g.to
+given_name actions.WriteFiles g = (refused_file g.block).0
+given_name action g = g.name
+
+-- The line that says how many bytes a bad name has.
+unfoldable pub name_length : ℕ → List ℕ
+name_length count = codes "      the name has " ++ (decimal count ++ codes " bytes; 1 to 255 are allowed\n")
+
+-- The text that an action gives to what it changes: of a file that is extended the whole text, of a table of files the one at which it ends.
+abbrev pub new_text : Action → Given → State → List ℕ
+new_text actions.AppendFile g s = joined s.files g.name (unwrap_or g.text [])
+new_text actions.WriteFiles g s = (refused_file g.block).1
+new_text action g s = unwrap_or g.text []
+
+-- The line that says how many bytes a text has that is too long.
+unfoldable pub text_length : ℕ → List ℕ
+text_length count = codes "      the text has " ++ (decimal count ++ codes " bytes; at most 1048576 are allowed\n")
+
 -- What a reason means for an action at a state.
 abbrev pub details : Action → Given → Reason → State → List ℕ
 details action g reasons.Differs s = difference action g (found_text action g s)
@@ -124,6 +147,9 @@ details action g reasons.Present s = found_below (present_text action g s)
 details action g reasons.NotNumber s = found_below (found_text action g s)
 details action g reasons.OutOfRange s = sum_out_of_range (found_text action g s) g.number
 details action g reasons.OtherLayer s = in_outer_layer (found_text action g s)
+details action g reasons.BadTable s = other_table g.block
+details action g reasons.BadName s = name_length (length (given_name action g))
+details action g reasons.TextTooLong s = text_length (length (new_text action g s))
 details action g _ s = []
 
 -- What an outcome means for what was found, with a step's block.
@@ -136,14 +162,15 @@ abbrev pub details_if_found : LibraryValue → Option FoundValue → BlockValue 
 details_if_found library None block outcome s = []
 details_if_found library (Some f) block outcome s = outcome_details library f block outcome s
 
--- What a step's mark means.
-abbrev pub mark_details : LibraryValue → Option FoundValue → BlockValue → Mark → State → List ℕ
-mark_details library looked_up block (Acted outcome) s = details_if_found library looked_up block outcome s
-mark_details library looked_up block mark s = []
+-- What a step's mark means: of an undefined step the nearest entry is named.
+abbrev pub mark_details : LibraryValue → StepValue → Mark → State → List ℕ
+mark_details library step (Acted outcome) s = details_if_found library (found library step.step_type step.text) step.block outcome s
+mark_details library step Undefined s = nearest_told library step.text
+mark_details library step mark s = []
 
 -- What is said below an event: of a step the library finds the action, of a cleanup it was found before. The state is the one that the event left; a check, and a change that is refused, leave what they found.
 unfoldable pub event_details : LibraryValue → Told → List ℕ
-event_details library (of_step place step mark s) = mark_details library (found library step.step_type step.text) step.block mark s
+event_details library (of_step place step mark s) = mark_details library step mark s
 event_details library (of_cleanup level cleanup outcome s) = outcome_details library cleanup.found cleanup.block outcome s
 
 -- What a `Given` says beside its action.

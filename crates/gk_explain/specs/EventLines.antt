@@ -48,6 +48,6 @@ event_line names (of_step place step mark s) =
     status_line (codes "  " ++ place_text (file_of names place.part) step.line ++ part_text place.part ++ step.keyword ++ codes " " ++ one_line step.text) (mark_text mark)
 event_line names (of_cleanup level cleanup outcome s) = status_line (codes "  cleanup") (mark_text (Acted outcome))
 
--- The lines of an event: its own, and below it what its reason means.
+-- The lines of an event: its own, and what is said below it.
 abbrev pub event_lines : LibraryValue → NamesValue → Told → List ℕ
 event_lines library names told = event_line names told ++ event_details library told

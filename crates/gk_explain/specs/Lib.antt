@@ -1,6 +1,8 @@
 -- What an explanation says, in reading order. A definition whose comment names no source is this project's profile, or a word that the others use.
 pub mod Shown
 pub mod Differences
+pub mod Tables
+pub mod Nearest
 pub mod Details
 pub mod EventLines
 pub mod Headings

@@ -1,15 +1,18 @@
 //! What is said below an event that failed.
-ghost use Rattle.std.specs.Prelude.{◌≡◌, option_copied};
+ghost use Rattle.std.specs.Prelude.{◌≡◌, ◌++◌, length, option_copied, string_bytes};
 ghost use Rattle.gk_gherkin.specs.Feature.{block_value};
-ghost use Rattle.gk_steps.specs.Finding.{library_value, found_value, action_of};
+ghost use Rattle.gk_steps.specs.Finding.{library_value, found_value, action_of, found};
 ghost use Rattle.gk_world.specs.State.{state_of};
 ghost use Rattle.gk_run.specs.Acting as acting;
+ghost use Rattle.gk_run.specs.declared.results.Outcome.TheVariants.{Failed};
 ghost use Rattle.gk_report.specs.ReportTexts.{Pushes};
 ghost use Rattle.gk_explain.specs.Details as spec;
 ghost use Rattle.gk_explain.specs.Details.{given_value};
 
 use crate::differences::{Position, first_difference};
+use crate::nearest::push_nearest;
 use crate::shown::{push_shown, push_text};
+use crate::tables::{push_table, refused_file};
 use gk_gherkin::{Block, Step};
 use gk_run::{Level, Mark, Outcome, Place, Reason};
 use gk_steps::{Action, Found, Library};
@@ -259,6 +262,61 @@ fn push_in_outer_layer(alloc: Global, out: &mut String, found: &str) -> Result<(
     out.push_str("      it is set in an outer layer alone\n")
 }
 
+// The name that an action gives to what it changes.
+fn given_name<'a>(given: &Given<'a>) -> &'a str
+    ensures { result.now ≡ spec.given_name given.now.action (given_value given.now) }
+{
+    match given.action {
+        Action::RenameFile => given.to,
+        Action::WriteFiles => refused_file(given.block).name,
+        _ => given.name,
+    }
+}
+
+// Pushes how many bytes a bad name has.
+#[tactic(auto, unfolding(crate::specs::Details::name_length))]
+fn push_name_length(out: &mut String, count: usize) -> Result<(), AllocError>
+    ensures { Pushes out.old (spec.name_length count) result out.new }
+{
+    write!(
+        out,
+        "      the name has {count} bytes; 1 to 255 are allowed\n"
+    )?;
+    Ok(())
+}
+
+// How many bytes a text has with more at its end.
+fn joined_len(text: &str, more: &str) -> u128
+    ensures { result ≡ length (text.now ++ more.now) }
+{
+    text.len() as u128 + more.len() as u128
+}
+
+// How many bytes the text has that an action gives to what it changes.
+fn new_text_len(given: &Given<'_>, sandbox: &Sandbox) -> u128
+    ensures { result ≡ length (spec.new_text given.now.action (given_value given.now)
+        (state_of sandbox.now.now)) }
+{
+    let text = given.text.unwrap_or("");
+    match given.action {
+        Action::AppendFile => joined_len(sandbox.file(given.name).unwrap_or(""), text),
+        Action::WriteFiles => joined_len("", refused_file(given.block).text),
+        _ => joined_len("", text),
+    }
+}
+
+// Pushes how many bytes a text has that is too long.
+#[tactic(auto, unfolding(crate::specs::Details::text_length))]
+fn push_text_length(out: &mut String, count: u128) -> Result<(), AllocError>
+    ensures { Pushes out.old (spec.text_length count) result out.new }
+{
+    write!(
+        out,
+        "      the text has {count} bytes; at most 1048576 are allowed\n"
+    )?;
+    Ok(())
+}
+
 // Pushes what a reason means for an action that left this sandbox.
 fn push_details(
     alloc: Global,
@@ -278,6 +336,9 @@ fn push_details(
         Reason::NotNumber => push_text(alloc, out, "found   ", found),
         Reason::OutOfRange => push_sum(alloc, out, found, given.number),
         Reason::OtherLayer => push_in_outer_layer(alloc, out, found),
+        Reason::BadTable => push_table(out, given.block),
+        Reason::BadName => push_name_length(out, given_name(given).len()),
+        Reason::TextTooLong => push_text_length(out, new_text_len(given, sandbox)),
         _ => Ok(()),
     }
 }
@@ -301,8 +362,31 @@ pub struct CleanupEvent<'a> {
     pub sandbox: &'a Sandbox,
 }
 
-/// Pushes what is said below the line of a step: nothing, unless its action failed. Only then is the step looked
-/// up. An error comes only where a growth was refused.
+// Pushes what a reason means for a step. The library finds its action.
+fn push_reason(
+    alloc: Global,
+    out: &mut String,
+    library: &Library,
+    event: &StepEvent<'_>,
+    reason: Reason,
+) -> Result<(), AllocError>
+    ensures { Pushes out.old (spec.details_if_found (library_value library.now)
+        (found (library_value library.now) event.now.step.now.step_type
+        (string_bytes event.now.step.now.text)) (block_value event.now.step.now.block)
+        (Failed reason) (state_of event.now.sandbox.now.now)) result out.new }
+{
+    let step = event.step;
+    match library.find(alloc, step.step_type, step.text.as_str())? {
+        Some(found) => {
+            let given = given_to(library, &found, &step.block);
+            push_details(alloc, out, &given, reason, event.sandbox)
+        }
+        None => Ok(()),
+    }
+}
+
+/// Pushes what is said below the line of a step: what the reason means where its action failed, and the nearest entry
+/// where it is undefined. An error comes only where a growth was refused.
 #[tactic(auto, unfolding(crate::specs::Details::event_details))]
 pub fn push_step_details(
     alloc: Global,
@@ -313,16 +397,11 @@ pub fn push_step_details(
     ensures { Pushes out.old (spec.event_details (library_value library.now)
         (spec.step_told event.now)) result out.new }
 {
-    let Mark::Acted(Outcome::Failed(reason)) = event.mark else {
-        return Ok(());
-    };
-    let step = event.step;
-    match library.find(alloc, step.step_type, step.text.as_str())? {
-        Some(found) => {
-            let given = given_to(library, &found, &step.block);
-            push_details(alloc, out, &given, reason, event.sandbox)
-        }
-        None => Ok(()),
+    let text = event.step.text.as_str();
+    match event.mark {
+        Mark::Acted(Outcome::Failed(reason)) => push_reason(alloc, out, library, event, reason),
+        Mark::Undefined => push_nearest(out, library, text),
+        _ => Ok(()),
     }
 }
 

@@ -96,8 +96,8 @@ fn push_cleanup_line(out: &mut String, outcome: Outcome) -> Result<(), AllocErro
     push_mark(out, Mark::Acted(outcome))
 }
 
-/// Pushes the line of a step, and below it what its reason means where its action failed. An error comes only where
-/// a growth was refused.
+/// Pushes the line of a step, and below it what its reason means where its action failed, or the nearest entry where
+/// it is undefined. An error comes only where a growth was refused.
 pub fn push_step(
     alloc: Global,
     out: &mut String,

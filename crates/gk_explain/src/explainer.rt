@@ -19,7 +19,8 @@ use std::alloc::{AllocError, Global};
 
 /// Explains a run that it is told as its observer: each scenario, and the hooks and cleanups of each rule, each
 /// feature and the run, where they failed or were refused memory, by a line for each event, in order, and below the
-/// line of one that failed by what its reason means there. It keeps no event. Once a growth is refused to it, it is cut, and adds nothing any more.
+/// line of one that failed by what its reason means there, and of a step that is undefined by the nearest entry of the
+/// library. It keeps no event. Once a growth is refused to it, it is cut, and adds nothing any more.
 #[derive(Debug, Drop)]
 pub struct Explainer<'a> {
     alloc: Global,

@@ -9,6 +9,9 @@ mod event_lines;
 mod explainer;
 mod explanation;
 mod headings;
+mod nearest;
 mod shown;
+mod tables;
 
+pub use event_lines::push_place;
 pub use explainer::{Explainer, cases_are_explained};

@@ -35,8 +35,8 @@ fn push_number(out: &mut String, code: u32) -> Result<(), AllocError>
     out.push_str("}")
 }
 
-// Pushes a character as it is shown.
-fn push_char(out: &mut String, c: char) -> Result<(), AllocError>
+/// Pushes a character as it is shown. An error comes only where a growth was refused.
+pub fn push_char(out: &mut String, c: char) -> Result<(), AllocError>
     ensures { Pushes out.old (spec.shown_char c) result out.new }
 {
     match c {

@@ -1,5 +1,6 @@
 use Rattle.std.proofs.Common.{sym, ◌∙◌, append_assoc, append-nil}
 use Rattle.std.proofs.lemmas.Str.{IsUtf8-past_char}
+use Rattle.gk_explain.specs.Shown.{shown_char}
 use Rattle.gk_explain.proofs.ShownLemmas.{shown_none, shown_first}
 use Rattle.gk_explain.proofs.shown.push_shown.Goals as goal
 
@@ -7,8 +8,8 @@ pub loop-c-preserved : goal.loop-c-preserved
 loop-c-preserved c =
     let held = c.loop-c.invariant in
     let parts = c.in-Some.ensures.steps.0 in
-    let first = shown_first _ _ c.in-Some.c held.0 parts in
+    let first = shown_first shown_char _ _ c.in-Some.c held.0 parts in
     (IsUtf8-past_char _ _ c.in-Some.c held.0 parts, rw (c.in_ok-push_char.ensures, append_assoc) (rw first at held.1))
 
 pub returns : goal.returns
-returns c = sym (append-nil _) ∙ rw (shown_none _ c.in-None.ensures.steps.0.0) at c.loop-c.invariant.1
+returns c = sym (append-nil _) ∙ rw (shown_none shown_char _ c.in-None.ensures.steps.0.0) at c.loop-c.invariant.1

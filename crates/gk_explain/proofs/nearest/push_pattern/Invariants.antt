@@ -1,0 +1,7 @@
+use Rattle.std.proofs.Common.{◌≡◌, ◌++◌, drop, string_bytes}
+use Rattle.gk_steps.specs.Pattern.{pieces_said}
+use Rattle.gk_explain.specs.Nearest.{pattern_shown}
+use Rattle.gk_explain.proofs.nearest.push_pattern.Given as goal
+
+abbrev pub invariant-loop-piece : goal.invariant-loop-piece
+invariant-loop-piece l = string_bytes l.out ++ pattern_shown (pieces_said (drop l.piece-index l.pattern)) ≡ string_bytes l.initial.out ++ pattern_shown (pieces_said l.pattern)

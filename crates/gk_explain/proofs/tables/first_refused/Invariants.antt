@@ -1,0 +1,7 @@
+use Rattle.std.proofs.Common.{◌≡◌, map, drop}
+use Rattle.gk_gherkin.specs.Feature.{texts}
+use Rattle.gk_explain.specs.Tables.{first_refused}
+use Rattle.gk_explain.proofs.tables.first_refused.Given as goal
+
+abbrev pub invariant-loop-row : goal.invariant-loop-row
+invariant-loop-row l = first_refused (map (λ row. texts row.items) (drop l.row-index l.rows)) ≡ first_refused (map (λ row. texts row.items) l.rows)

@@ -1,0 +1,122 @@
+//! What is wrong with a table of files, and with its rows.
+ghost use Rattle.std.specs.Prelude.{◌≡◌, map};
+ghost use Rattle.gk_gherkin.specs.Feature.{texts, block_value};
+ghost use Rattle.gk_run.specs.Acting as acting;
+ghost use Rattle.gk_report.specs.ReportTexts.{Pushes};
+ghost use Rattle.gk_explain.specs.Tables as spec;
+ghost use Rattle.gk_explain.specs.Tables.{file_value};
+
+use crate::shown::push_shown;
+use gk_gherkin::Block;
+use gk_world::{LONGEST_TEXT, is_bad_name};
+use std::alloc::AllocError;
+
+/// The file that a row of a table gives.
+#[derive(Clone, Copy)]
+pub struct RowFile<'a> {
+    pub name: &'a str,
+    pub text: &'a str,
+}
+
+// Pushes a cell between quotes.
+fn push_cell(out: &mut String, cell: &str) -> Result<(), AllocError>
+    ensures { Pushes out.old (spec.quoted cell.now) result out.new }
+{
+    out.push_str(" \"")?;
+    push_shown(out, cell)?;
+    out.push_str("\"")
+}
+
+// Pushes the cells of a row, each between quotes.
+fn push_cells(out: &mut String, cells: &[String]) -> Result<(), AllocError>
+    ensures { Pushes out.old (spec.quoted_cells (texts cells.now)) result out.new }
+{
+    for cell in cells {
+        push_cell(out, cell.as_str())?;
+    }
+    Ok(())
+}
+
+// Pushes the header that was found.
+#[tactic(auto, unfolding(crate::specs::Tables::header_line))]
+fn push_header(out: &mut String, cells: &[String]) -> Result<(), AllocError>
+    ensures { Pushes out.old (spec.header_line (texts cells.now)) result out.new }
+{
+    out.push_str("      found    the header")?;
+    push_cells(out, cells)?;
+    out.push_str("\n")?;
+    Ok(())
+}
+
+// Pushes the header of rows, which is their first.
+fn push_first(out: &mut String, rows: &[Vec<String>]) -> Result<(), AllocError>
+    ensures { Pushes out.old (spec.found_header (map (λ row. texts row.items) rows.now))
+        result out.new }
+{
+    match rows.split_first() {
+        Some((header, _)) => push_header(out, header),
+        None => out.push_str("      found    no row\n"),
+    }
+}
+
+/// Pushes which table is expected of files, and the header of the one that was found. An error comes only where a
+/// growth was refused.
+pub fn push_table(out: &mut String, block: &Block) -> Result<(), AllocError>
+    ensures { Pushes out.old (spec.other_table (block_value block.now)) result out.new }
+{
+    match block {
+        Block::Table(rows) => {
+            out.push_str("      expected the header \"name\" \"text\", and rows of two cells\n")?;
+            push_first(out, rows)
+        }
+        _ => Ok(()),
+    }
+}
+
+// The file that a row of a table gives.
+fn file_of(row: &[String]) -> RowFile<'_>
+    ensures { file_value result ≡ acting.row_file (texts row.now) }
+{
+    match row {
+        [name, text] => RowFile {
+            name: name.as_str(),
+            text: text.as_str(),
+        },
+        _ => RowFile { name: "", text: "" },
+    }
+}
+
+// Whether a file can't be written, for its name or for its text.
+fn is_refused(file: RowFile<'_>) -> bool
+    ensures { result ≡ spec.is_refused (file_value file.entry) }
+{
+    is_bad_name(file.name) || file.text.len() > LONGEST_TEXT
+}
+
+// The first of the files of rows that can't be written.
+fn first_refused(rows: &[Vec<String>]) -> RowFile<'_>
+    ensures { file_value result
+        ≡ spec.first_refused (map (λ row. texts row.items) rows.now) }
+{
+    for row in rows {
+        let file = file_of(row);
+        if is_refused(file) {
+            return file;
+        }
+    }
+    RowFile { name: "", text: "" }
+}
+
+/// The file at which writing the rows of a table ends: the first that can't be written. Of a table without such a row,
+/// and of another block, it has no name and no text. Takes no memory.
+pub fn refused_file(block: &Block) -> RowFile<'_>
+    ensures { file_value result ≡ spec.refused_file (block_value block.now) }
+{
+    match block {
+        Block::Table(rows) => match rows.split_first() {
+            Some((_, files)) => first_refused(files),
+            None => RowFile { name: "", text: "" },
+        },
+        _ => RowFile { name: "", text: "" },
+    }
+}
