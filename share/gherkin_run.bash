@@ -27,7 +27,7 @@ _gherkin_run() {
     if [[ $word == -* ]]; then
         compopt +o default
         mapfile -t COMPREPLY < <(compgen -W '--tags --line --library --hooks --env --dry-run --stop --format
-            --no-skipped --explain --help -h --version -V' -- "$word")
+            --no-skipped --explain --lint --help -h --version -V' -- "$word")
     fi
 }
 

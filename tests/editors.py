@@ -31,6 +31,8 @@ SUITE = {
     "h.hooks": "after_scenario:\n  Then the file \"f\" should not exist\nbefore_rule:\n  Given it fails\nafter_all:\n  Given no such step\n",
     "bad.feature": "Feature: F\nFeature: G\n",
     "bad.hooks": "before_everything:\n",
+    "in a folder/lost.feature": "Feature: L\n  scenario: Small\n  Scenario: Twice\n  Scenario: Twice\n    Given no such step\n",
+    "two.steps": "step it passes => pass\nstep it fails => fail\n",
 }
 EXPLAINED = ["--explain", "--hooks", "h.hooks", "a.feature", "in a folder/b c.feature"]
 # The arguments of a run, and the places that an editor finds in what it prints.
@@ -40,6 +42,10 @@ RUNS = [
     (["--explain", "--tags", "@none", "a.feature"], []),
     (["bad.feature"], [("bad.feature", 2)]),
     (["--hooks", "bad.hooks", "a.feature"], [("bad.hooks", 1)]),
+    (["--lint", "--library", "two.steps", "--line", "1", "in a folder/lost.feature", "in a folder/b c.feature"],
+     [("two.steps", 2)] + [("in a folder/lost.feature", line) for line in (2, 3, 4, 5)]),
+    (["--lint", "bad.feature"], [("bad.feature", 2)]),
+    (["--lint", "in a folder/b c.feature"], []),
 ]
 
 
@@ -49,29 +55,30 @@ def printed(program, arguments, folder):
                           check=False).stdout.decode()
 
 
-def matchers(name):
-    """The regular expressions of a file of problem matchers."""
+def matchers(name, arguments):
+    """The regular expressions of a file of problem matchers; of a file of tasks, those of the task for these arguments."""
     with open(os.path.join(EDITORS, name), encoding="utf-8") as file:
         document = json.load(file)
-    found = document.get("problemMatcher") or document["tasks"][0]["problemMatcher"]
+    found = document.get("problemMatcher") or document["tasks"]["--lint" in arguments]["problemMatcher"]
     for matcher in found:
         pattern = matcher["pattern"]
         yield pattern[0] if isinstance(pattern, list) else pattern
 
 
-def matched(name, text):
+def matched(name, text, arguments):
     """The places that the problem matchers of a file find in a text, in order: each line is for the first that fits."""
     places = []
     for line in text.splitlines():
-        fits = [(it, re.search(it["regexp"], line)) for it in matchers(name)]
+        fits = [(it, re.search(it["regexp"], line)) for it in matchers(name, arguments)]
         places += [(fit[it["file"]], int(fit[it["line"]])) for it, fit in fits if fit][:1]
     return places
 
 
-def in_vim(text, folder):
+def in_vim(text, arguments, folder):
     """The places in vim's quickfix list."""
     driver.write(folder, {"printed": text})
-    script = ["set nocompatible", f"source {EDITORS}/gherkin_run.vim", "cgetfile printed",
+    compiler = "gherkin_lint.vim" if "--lint" in arguments else "gherkin_run.vim"
+    script = ["set nocompatible", f"source {EDITORS}/{compiler}", "cgetfile printed",
               "call writefile(map(filter(getqflist(), 'v:val.valid'), 'json_encode([bufname(v:val.bufnr), v:val.lnum])'), 'places')",
               "qall!"]
     driver.write(folder, {"script.vim": "\n".join(script) + "\n"})
@@ -86,15 +93,16 @@ def main():
     os.makedirs(os.path.join(folder, "in a folder"))
     driver.write(folder, SUITE)
     passed, failed = 0, []
-    editors = {name: lambda text, name=name: matched(name, text) for name in ("tasks.json", "problem_matcher.json")}
+    editors = {name: lambda text, arguments, name=name: matched(name, text, arguments)
+               for name in ("tasks.json", "problem_matcher.json")}
     if shutil.which("vim"):
-        editors["gherkin_run.vim"] = lambda text: in_vim(text, folder)
+        editors["vim"] = lambda text, arguments: in_vim(text, arguments, folder)
     else:
-        print("no vim here: gherkin_run.vim isn't tried")
+        print("no vim here: its two files aren't tried")
     for arguments, wanted in RUNS:
         text = printed(program, arguments, folder)
         for name, places in editors.items():
-            found = places(text)
+            found = places(text, arguments)
             if found == wanted:
                 passed += 1
             else:

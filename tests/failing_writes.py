@@ -42,6 +42,12 @@ EXPLAINED = (
     (["--hooks", "h.hooks", "a.feature", "b.feature"], {"h.hooks": HOOKS, **TWO_FILES}),
     (["--tags", "@a", "a.feature", "b.feature", "c.feature"], CHOSEN_FILES),
 )
+# Runs in whose place what is found is written.
+LINTED = (
+    (["--hooks", "h.hooks", "a.feature", "b.feature"], {"h.hooks": HOOKS.replace("it fails", "it fials"), **TWO_FILES}),
+    (["--line", "1", "a.feature"], {"a.feature": ""}),
+    (["b.feature"], TWO_FILES),
+)
 BYTES_TRIED = 4096  # of a report that is longer only the pieces are
 # Errors of a call; 0 is none, where the call takes no byte.
 PIECE_ERRORS = (0, errno.EIO, errno.EINTR)
@@ -102,11 +108,12 @@ class Case:
                            WRITE_PIECE=1, WRITE_FAILS=len(everything) + 1, WRITE_ERROR=errno.EIO)
 
 
-class ExplainedCase(Case):
-    """A run with --explain. Its pieces are those of the features that have something to explain, and what it ends with."""
+class UnknownCase(Case):
+    """A run with --explain, whose pieces are those of the features that have something to explain, and what it ends with; or one with
+    --lint, which has one piece or none."""
 
     def beginnings(self):
-        """What was written before each piece, each time more of the explanation."""
+        """What was written before each piece, each time more of the text."""
         everything, found = self.ample[1], []
         while True:
             environment = driver.limited(self.room, WRITE_FAILS=len(found) + 1, WRITE_ERROR=errno.EIO)
@@ -122,8 +129,10 @@ def main():
     program, room = sys.argv[1], sys.argv[2]
     runs = [(style + arguments, files) for style in STYLES for arguments, files in RUNS]
     cases = [Case(program, room, *run, number) for number, run in enumerate(runs)]
-    cases += [ExplainedCase(program, room, ["--explain", *arguments], files, f"explained{number}")
+    cases += [UnknownCase(program, room, ["--explain", *arguments], files, f"explained{number}")
               for number, (arguments, files) in enumerate(EXPLAINED)]
+    cases += [UnknownCase(program, room, ["--lint", *arguments], files, f"linted{number}")
+              for number, (arguments, files) in enumerate(LINTED)]
     tests = driver.Tests()
     for troubles in driver.on_all_processors(lambda case: list(case.troubles()), cases):
         tests.add_all(troubles)

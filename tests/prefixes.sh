@@ -4,7 +4,7 @@
 # The files are an outline with two examples, hooks that write down in which order they ran, and the
 # built-in library. Each prefix either reads, and gives exactly the report that is worked out of its
 # whole lines, or is refused by the fault, and at the line, that a table names, in all three
-# formats. PROGRAM is the built program; without it, the one that ./run runs. Closes with one line
+# formats, and with --explain and --lint. PROGRAM is the built program; without it, the one that ./run runs. Closes with one line
 # 'N passed, M failed'; a run is one test.
 set -eu
 

@@ -18,6 +18,7 @@ from reports import AROUND, Feature, Report, Rule, Scenario, Style, verdict
 TAGS = ["@a", "@b", "@c"]
 TEXTS = ["x", "x", "yy", "1", "-7", "9223372036854775807"]
 FILES = ["f", "g"]
+VARIABLE = ["--env", "v=x"]
 VALUES = ["v", "w"]
 
 # Steps of the built-in library, and below of one that each suite with an odd seed has.
@@ -291,7 +292,7 @@ class Suite:
             self.write("l.steps", LIBRARY)
             self.options += ["--library", "l.steps"]
         if self.chance.random() < 0.3:
-            self.options += ["--env", "v=x"]
+            self.options += VARIABLE
         self.others, self.hooks = list(self.options), maker.hooks()  # the options but for the hooks, and these
         if self.hooks:
             self.write("h.hooks", text_of_hooks(self.hooks))
@@ -311,6 +312,8 @@ class Suite:
         """What a run prints, and its status. It has the hooks of the suite, or those of a file."""
         self.runs += 1
         own = self.options if hooks is None else [*self.others, "--hooks", hooks]
+        if "--lint" in options:
+            own = [it for it in own if it not in VARIABLE]
         arguments = [*own, *options, *(files or self.features)]
         status, printed, err = driver.start(self.program, arguments, self.folder)
         if err or status not in (0, 1):
@@ -340,6 +343,7 @@ class Suite:
             yield from self.stopped(chosen)
             yield from self.explained(chosen, self.choices)
             yield from self.explained(self.json(["--stop"]), ["--stop"])
+            yield from self.linted()
             yield from self.rules_as_features()
         except ValueError as trouble:
             yield str(trouble)
@@ -458,6 +462,16 @@ class Suite:
             others = [it for it in events if it.startswith(("  h.hooks:", "  cleanup", "      "))]
             if first != f"{heading} ... failed" or [it for it in events if it not in others] != steps:
                 yield f"--explain {options}: {part}, and not {heading}, {steps}"
+
+    def linted(self):
+        """Of the steps that a dry run has, those are found undefined before a run that the dry run calls so."""
+        steps = [(f"{feature['source']}:{step['line']}:", step["status"]) for feature in self.json(["--dry-run"])["features"]
+                 for scenario in feature["scenarios"] for step in scenario["steps"]]
+        printed, _ = self.run(["--lint"])
+        found = {line.removesuffix(" undefined step") for line in printed.decode().splitlines() if line.endswith(" undefined step")}
+        wanted = {place for place, status in steps if status == "undefined"}
+        if found & {place for place, _ in steps} != wanted:
+            yield f"--lint finds {found} undefined, and a dry run {wanted}"
 
     def rules_as_features(self):
         """The rules of a feature have the rows of features, where the feature is the run: each hook moved out by one

@@ -431,6 +431,9 @@ for _options in ([], ["--format", "json"], ["--format", "progress"]):
 EXPLAINED = ["two files and all options", "each action", "hooks of all kinds", "a scenario that skips itself",
              "a run that doesn't begin", "a cleanup after a refused table", "a run that stops", "rules whose hooks fail,"]
 
+# The stored runs of what is found before a run.
+LINTED = ["each_finding", "several_files"]
+
 # The end of a layer brings back a file that was removed in it, though the next growth is refused.
 REMOVED_IN_A_SCENARIO = "a file that a scenario removes"
 REMOVED_BEFORE_A_FEATURE = "a file that a hook before a feature removes"
@@ -644,6 +647,34 @@ class ExplainedRefusals(Refusals):
         return AmpleExplanation(self.start(self.arguments))
 
 
+class AmpleFindings:
+    """What a run with --lint does with ample memory, and how a run with a refused growth ends beside it."""
+
+    # It is no report.
+    report = None
+
+    def __init__(self, ended):
+        self.ended = ended
+
+    def is_read_well(self):
+        """Whether something is found."""
+        status, printed, complained = self.ended
+        return (status, complained) == (1, b"") and printed != b""
+
+    def ending(self, ended):
+        """How a run ends: as one of ENDINGS, or nothing. What is found is written as one piece, or not at all."""
+        if ended == self.ended:
+            return "unharmed"
+        return "stopped" if ended == (4, b"", OUT_OF_MEMORY) else None
+
+
+class LintedRefusals(Refusals):
+    """The runs of one case with --lint."""
+
+    def made(self):
+        return AmpleFindings(self.start(self.arguments))
+
+
 ENDINGS = ("stopped", "marked", "unharmed", "unmet")
 
 
@@ -707,6 +738,10 @@ def cases(program, room):
         arguments, files = RUNS[name]
         folder = os.path.join(room, name.replace(" ", "_"))
         yield ExplainedRefusals(program, room, f"{name}, explained", ["--explain", *arguments], folder)
+    for name in LINTED:
+        folder = os.path.join(driver.HOME, "tests", "runs", "lint", name)
+        arguments = driver.read(os.path.join(folder, "arguments")).decode().splitlines()
+        yield LintedRefusals(program, room, f"{name}, linted", arguments, folder)
 
 
 def main():

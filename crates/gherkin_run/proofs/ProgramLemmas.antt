@@ -23,14 +23,15 @@ use Rattle.gk_cli.specs.declared.source.Source.{Source}
 use Rattle.gk_cli.specs.GrowingReport.{StopsBy}
 use Rattle.gk_cli.specs.Suite.{Device, IsUntouched, SaysFault}
 use Rattle.gk_cli.specs.ExplainedSuite.{SaysExplanationFault, file_value}
+use Rattle.gk_cli.specs.LintedSuite.{SaysLintFault}
 use Rattle.gk_cli.specs.declared.arguments.Mode.{Mode}
-use Rattle.gk_cli.specs.declared.arguments.Mode.TheVariants.{Report, Explanation}
+use Rattle.gk_cli.specs.declared.arguments.Mode.TheVariants.{Report, Explanation, Findings}
 use Rattle.gk_cli.specs.declared.arguments.Options.{Options}
 use Rattle.gk_cli.specs.declared.arguments.Words.{Words}
 use Rattle.gk_cli.specs.declared.run_fault.RunFault.{RunFault}
 use Rattle.gk_cli.specs.declared.run_fault.RunFault.TheVariants as run
 use Rattle.gherkin_run.specs.Files.{FilesValue, IsFaultOfFiles, IsFileFault, files_value, name_of}
-use Rattle.gherkin_run.specs.Program.{AreGiven, AreTaken, IsFaultOfGiven, IsFaultOfRun, IsFaultOfVariable, IsFlushedRun, IsGiven, IsNamed, IsRefused, IsRun, IsWithin, SaysCallsOfRun, SaysFaultAs, IsStoppedAs, hooks_name, SaysProgram, SaysSuite, SaysVariables, contents_given, bytes_given, request_of_files, variables_given, with_variables}
+use Rattle.gherkin_run.specs.Program.{AreGiven, AreTaken, IsFaultOfGiven, IsFaultOfRun, IsFaultOfVariable, IsFlushedRun, IsGiven, IsNamed, IsRefused, IsRun, IsWithin, SaysCallsOfRun, SaysFaultAs, IsStoppedAs, hooks_name, library_name, SaysProgram, SaysSuite, SaysVariables, contents_given, bytes_given, request_of_files, variables_given, with_variables}
 use Rattle.gherkin_run.specs.declared.files.RunFiles.{RunFiles}
 use Rattle.gherkin_run.specs.declared.fault.Fault.{Fault}
 use Rattle.gherkin_run.specs.declared.fault.Fault.TheVariants.{NotUtf8, Usage, Env, CannotRead, TooLong, Library, Hooks, Read, TooMany, BadTags, Write, Memory}
@@ -44,6 +45,10 @@ pub if_err_by : {T E : Type 0} {P Q : E → Type 0} (r : Result T E) → ((e : E
 if_err_by (Ok x) f h = h
 if_err_by (Err e) f h = f e h
 
+-- files with these parts
+abbrev FilesAre : Option SourceValue → Option SourceValue → List SourceValue → FilesValue → Type 0
+FilesAre library hooks sources files = let parts : FilesValue = record { library = library; hooks = hooks; sources = sources } in parts ≡ files
+
 -- a file that is borrowed says what it says
 pub same_file : (file : Option (Bor Source)) (own : Option Source) → option_copied file ≡ own → file_value file ≡ option_map source_value own
 same_file file own same = go file ∙ ap (option_map source_value) same
@@ -51,6 +56,14 @@ same_file file own same = go file ∙ ap (option_map source_value) same
     go : (file : Option (Bor Source)) → file_value file ≡ option_map source_value (option_copied file)
     go None = refl
     go (Some x) = refl
+
+-- the files that are passed on are those of the run
+pub same_files : (library hooks : Option (Bor Source)) (sources : List Source) (files : RunFiles) → option_copied library ≡ files.library → option_copied hooks ≡ files.hooks → sources ≡ files.sources.items
+    → FilesAre (file_value library) (file_value hooks) (map source_value sources) (files_value files)
+same_files library hooks sources files l h s = alike (same_file library files.library l) (same_file hooks files.hooks h) (ap (map source_value) s)
+  where
+    alike : {a a' b b' : Option SourceValue} {c c' : List SourceValue} → a ≡ a' → b ≡ b' → c ≡ c' → FilesAre a b c (record { library = a'; hooks = b'; sources = c' })
+    alike e f g = cc
 
 -- a device that isn't called
 pub untouched : (d : Device) → IsUntouched d d
@@ -73,7 +86,7 @@ some_file : (file : Option SourceValue) (bytes : List ℕ) → bytes_given file 
 some_file None bytes e = absurd cc
 some_file (Some s) bytes e = refl
 
--- what a fault says of a run whose report was asked for, and of one whose explanation was
+-- what a fault says of a run whose report was asked for, of one whose explanation was, and of what is found before one
 pub of_report : (files : FilesValue) (r : Request) (c : Contents) (old new : Device) (by : RunFault) → SaysFault r c old new by → SaysFaultAs Report files r c old new by
 of_report files r c old new run.Write says = (says.0, (says.1, says.2))
 of_report files r c old new run.Memory (inl nothing) = inl nothing
@@ -91,6 +104,14 @@ of_explanation files r c old new (run.Library fault) says = says
 of_explanation files r c old new (run.Hooks fault) says = says
 of_explanation files r c old new (run.Select input fault) says = says
 
+pub of_findings : (files : FilesValue) (r : Request) (c : Contents) (old new : Device) (by : RunFault) → SaysLintFault r (library_name files) (hooks_name files) old new by → SaysFaultAs Findings files r c old new by
+of_findings files r c old new run.Write says = says
+of_findings files r c old new run.Memory says = inl says
+of_findings files r c old new (run.Read input fault) says = says
+of_findings files r c old new (run.Library fault) says = says
+of_findings files r c old new (run.Hooks fault) says = says
+of_findings files r c old new (run.Select input fault) says = says
+
 -- why a run was stopped
 stopped_by : (mode : Mode) (files : FilesValue) (r : Request) (c : Contents) (old new : Device) (by : RunFault) → IsStoppedAs mode files r c old new by → StopsBy old new by
 stopped_by Report files r c old new by stopped = stopped.1
@@ -98,6 +119,8 @@ stopped_by Explanation files r c old new by stopped = elim stopped.2 [
   | inl part ↦ part.stopped.why
   | inr short ↦ short.stopped.why
 ]
+stopped_by Findings files r c old new run.Write stopped = stopped.2.why
+stopped_by Findings files r c old new _ stopped = absurd stopped
 
 pub within : (mode : Mode) (options : Options) (files : FilesValue) (c : Contents) (old new : Device) (by : RunFault)
     → SaysFaultAs mode files (request_of_files options files) c old new by → IsWithin files by

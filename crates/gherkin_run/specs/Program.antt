@@ -14,14 +14,16 @@ use Rattle.gk_select.specs.declared.select_fault.SelectFault.TheVariants as sele
 use Rattle.gk_cli.specs.Arguments.{PairValue, SaysArguments, faults_in, pair_value}
 use Rattle.gk_cli.specs.Counted.{one_more}
 use Rattle.gk_cli.specs.Inputs.{Request, request_of}
-use Rattle.gk_cli.specs.Source.{SourceValue}
+use Rattle.gk_cli.specs.Source.{SourceValue, source_value}
 use Rattle.gk_cli.specs.declared.arguments.Options.{Options}
 use Rattle.gk_cli.specs.GrowingReport.{StopsBy}
 use Rattle.gk_cli.specs.RunFault.{IsUnread}
 use Rattle.gk_cli.specs.Suite.{CutShort, Device, IsUntouched, JudgedReport, OnlyReport}
-use Rattle.gk_cli.specs.ExplainedSuite.{Explained, ExplainedInPart, name_of}
+use Rattle.gk_cli.specs.ExplainedSuite.{Explained, ExplainedInPart, file_value, name_of}
+use Rattle.gk_cli.specs.LintedSuite.{Linted, LintedInPart}
+use Rattle.gk_cli.specs.declared.explained_suite.SuiteFiles.{SuiteFiles}
 use Rattle.gk_cli.specs.declared.arguments.Mode.{Mode}
-use Rattle.gk_cli.specs.declared.arguments.Mode.TheVariants.{Report, Explanation}
+use Rattle.gk_cli.specs.declared.arguments.Mode.TheVariants.{Report, Explanation, Findings}
 use Rattle.gk_cli.specs.declared.arguments.Words.{Words}
 use Rattle.gk_cli.specs.declared.arguments.WordsFault.TheVariants as words
 use Rattle.gk_cli.specs.declared.run_fault.RunFault.{RunFault}
@@ -64,14 +66,20 @@ abbrev pub SaysCalls : Device → Device → Fault → Type 0
 SaysCalls old new Write = (old.failures < new.failures) × (new.idle ≤ old.idle + 1)
 SaysCalls old new _ = IsUntouched old new
 
+-- The name of the library file; no name where there is none.
+abbrev pub library_name : FilesValue → List ℕ
+library_name files = name_of files.library
+
 -- The name of the hooks file; no name where there is none.
 abbrev pub hooks_name : FilesValue → List ℕ
 hooks_name files = name_of files.hooks
 
--- What was written where this fault ended a run: a prefix of its report, or of what is said of it in an explanation. Standard output failed, and moved a byte in each other call; or it didn't fail, and moved one in each.
+-- What was written where this fault ended a run: a prefix of its report, or of what is said of it in an explanation, or of what is found before it. Standard output failed, and moved a byte in each other call; or it didn't fail, and moved one in each.
 abbrev pub IsStoppedAs : Mode → FilesValue → Request → Contents → Device → Device → RunFault → Type 0
 IsStoppedAs Report files request contents old new by = CutShort request contents old new × StopsBy old new by
 IsStoppedAs Explanation files request contents old new by = ExplainedInPart request (hooks_name files) contents old new by
+IsStoppedAs Findings files request contents old new run.Write = LintedInPart request (library_name files) (hooks_name files) old new run.Write
+IsStoppedAs Findings files request contents old new by = ⊥
 
 -- A prefix of what is written of some run was, and then memory was refused.
 abbrev pub IsCutShortForSome : Device → Device → Type 0
@@ -161,10 +169,11 @@ pub record IsFlushed (old new : Device) : Type 0 where
   pub idle : new.idle ≡ old.idle
   pub flushes : new.flushes ≡ one_more old.flushes
 
--- What is written of a run was, and its status is returned: the report of a judged list, which at each status other than 4 is the one that plain maps give; or the explanation of a run with judged results.
+-- What is written of a run was, and its status is returned: the report of a judged list, which at each status other than 4 is the one that plain maps give; or the explanation of a run with judged results; or all that is found before a run.
 abbrev pub IsWrittenAs : Mode → FilesValue → Request → Contents → Device → Device → ℕ → Type 0
 IsWrittenAs Report files request contents old new status = JudgedReport request contents old new status × OnlyReport request contents old new status
 IsWrittenAs Explanation files request contents old new status = Explained request (hooks_name files) contents old new status
+IsWrittenAs Findings files request contents old new status = Linted request (library_name files) (hooks_name files) old new status
 
 -- What each fault of a run says: at `Write` a prefix of what is written of it was, at `Memory` such a prefix or nothing; at any other fault nothing was, and what is asked for doesn't read.
 abbrev pub SaysFaultAs : Mode → FilesValue → Request → Contents → Device → Device → RunFault → Type 0
@@ -206,6 +215,10 @@ variables_given w = map pair_value w.env.items
 -- The contents that a run begins with: the variables alone.
 abbrev pub contents_given : Words → Contents
 contents_given w = with_variables nothing_yet (variables_given w)
+
+-- The files of a run, as they are passed on.
+abbrev pub suite_value : SuiteFiles → FilesValue
+suite_value files = record { library = file_value files.library; hooks = file_value files.hooks; sources = map source_value files.sources.now }
 
 -- What a run of these files is asked for.
 abbrev pub request_of_files : Options → FilesValue → Request

@@ -1,4 +1,5 @@
-//! The program: reads the arguments and the files, runs the scenarios, and writes the report or an explanation.
+//! The program: reads the arguments and the files, runs the scenarios, and writes the report or an explanation; or
+//! runs nothing, and writes what it finds in the files.
 #![tactic(auto)]
 
 ghost use Rattle.std.specs.Prelude.{◌≡◌};

@@ -6,13 +6,13 @@ ghost use Rattle.gk_cli.specs.Counted.{CountsCanRise, flushes_of, failures_of, o
 ghost use Rattle.gk_cli.specs.Suite.{device_of};
 ghost use Rattle.gk_cli.specs.Source.{source_value};
 ghost use Rattle.gherkin_run.specs.Files.{files_value};
-ghost use Rattle.gherkin_run.specs.Program.{SaysAsked, SaysError, IsHelpFault, IsArgumentsFault, IsFaultOfVariable, SaysVariables, IsWithin, IsNamed, IsFaultOfRun, bytes_given, request_of_files, IsRunOfFiles, IsWrittenAs, SaysFaultAs, SaysRun, SaysCalls, SaysCallsOfRun, SaysProgram, IsRun, IsShown, IsHelp, IsDoneFor, IsFaultFor, IsDoneForSome, IsFaultForSome};
+ghost use Rattle.gherkin_run.specs.Program.{SaysAsked, SaysError, IsHelpFault, IsArgumentsFault, IsFaultOfVariable, SaysVariables, IsWithin, IsNamed, IsFaultOfRun, bytes_given, request_of_files, suite_value, IsRunOfFiles, IsWrittenAs, SaysFaultAs, SaysRun, SaysCalls, SaysCallsOfRun, SaysProgram, IsRun, IsShown, IsHelp, IsDoneFor, IsFaultFor, IsDoneForSome, IsFaultForSome};
 
 use crate::fault::Fault;
 use crate::files::{Machine, RunFiles, read_run_files};
 use gk_cli::{
     Counted, Mode, Options, RunFault, Source, SuiteFiles, Words, WordsFault, explain_suite,
-    read_words, run_suite, write_whole,
+    lint_suite, read_words, run_suite, write_whole,
 };
 use gk_world::{Sandbox, WorldFault};
 use std::alloc::Global;
@@ -180,14 +180,25 @@ fn bytes_of(file: &Option<Source>) -> Option<&[u8]>
     }
 }
 
-/// How a run goes, and what is written of it.
+// The files of a run, borrowed.
+fn named_files(files: &RunFiles) -> SuiteFiles<'_>
+    ensures { suite_value result ≡ files_value files.now }
+{
+    SuiteFiles {
+        library: files.library.as_ref(),
+        hooks: files.hooks.as_ref(),
+        sources: files.sources.as_slice(),
+    }
+}
+
+/// How a run goes, and what is written of it or in place of it.
 #[derive(Clone, Copy)]
 pub struct Manner<'a> {
     options: &'a Options,
     mode: Mode,
 }
 
-// Runs the suite, and writes its report or its explanation.
+// Runs the suite, and writes its report or its explanation; or runs nothing, and writes what is found in it.
 fn write_run<W: Write>(
     alloc: Global,
     sandbox: &mut Sandbox,
@@ -205,25 +216,20 @@ fn write_run<W: Write>(
         (request_of_files manner.entry.options.now (files_value files.now)) sandbox.old.now
         (device_of W.contents out.old) (device_of W.contents out.new)) }
 {
-    let sources = files.sources.as_slice();
+    let options = manner.options;
     match manner.mode {
         Mode::Report => {
             let steps = bytes_of(&files.library);
             let around = bytes_of(&files.hooks);
-            run_suite(alloc, sandbox, manner.options, steps, around, sources, out)
+            let sources = files.sources.as_slice();
+            run_suite(alloc, sandbox, options, steps, around, sources, out)
         }
-        Mode::Explanation => {
-            let named = SuiteFiles {
-                library: files.library.as_ref(),
-                hooks: files.hooks.as_ref(),
-                sources,
-            };
-            explain_suite(alloc, sandbox, manner.options, named, out)
-        }
+        Mode::Explanation => explain_suite(alloc, sandbox, options, named_files(files), out),
+        Mode::Findings => lint_suite(alloc, options, named_files(files), out),
     }
 }
 
-/// Runs the suite, and flushes what is written of it. A fault names the file that it comes from. `Write` comes
+/// Does what `write_run` does, and flushes what is written. A fault names the file that it comes from. `Write` comes
 /// where a write or the flush failed; then a prefix of that, or all of it, was written. At `Memory` nothing or a
 /// prefix of it was written. At any other fault nothing was.
 fn run_sources<W: Write>(
@@ -235,7 +241,7 @@ fn run_sources<W: Write>(
 ) -> Result<u8, Fault>
     requires room { CountsCanRise out.old }
     requires outside { depth sandbox.old ≡ 0 }
-    // What was written and the status are those of one run of these inputs.
+    // What was written and the status are those of one run of these inputs, or of what is found in them.
     ensures run { IfOk result (IsRunOfFiles manner.entry (files_value files)
         sandbox.old.now (device_of W.contents out.old) (device_of W.contents out.new)) }
     // A status comes only where the writer did not fail, and was flushed once.
@@ -258,7 +264,8 @@ fn run_sources<W: Write>(
     }
 }
 
-// What `run_words` does, in a sandbox that is new: puts the variables, reads the files, runs the suite.
+// What `run_words` does, in a sandbox that is new: puts the variables, reads the files, runs the suite or looks
+// what is found in it.
 fn run_in<R: Files + AllocGlobal, W: Write>(
     rt: &R,
     sandbox: &mut Sandbox,
@@ -293,7 +300,7 @@ fn run_in<R: Files + AllocGlobal, W: Write>(
 }
 
 /// Runs what is asked for: puts the variables into an empty sandbox, reads the library file, the hooks file and
-/// the files, and runs the suite. The first fault in this order ends it.
+/// the files, and runs the suite, or looks what is found in it. The first fault in this order ends it.
 fn run_words<R: Files + AllocGlobal, W: Write>(
     rt: &R,
     words: Words,
@@ -301,7 +308,7 @@ fn run_words<R: Files + AllocGlobal, W: Write>(
 ) -> Result<u8, Fault>
     requires room { CountsCanRise out.old }
     // The files were read under their names, in order, and what was written and the status are
-    // those of one run of them.
+    // those of one run of them, or of what is found in them.
     ensures run { IfOk result
         (IsRun words (device_of W.contents out.old) (device_of W.contents out.new)) }
     ensures quiet { OnOk result (failures_of out.new ≡ failures_of out.old) }

@@ -13,7 +13,7 @@ use Rattle.std.proofs.lemmas.List.Elements.{All-nil, All-map, All-push}
 use Rattle.std.proofs.lemmas.Bool.Decides.{nat_tests}
 use Rattle.std.proofs.lemmas.Grind.{common_steps}
 use Rattle.std.proofs.lemmas.Slice.Eq.{bytes_eq-Decides}
-use Rattle.clap.specs.Words.{Accepts, AddsArg, App, BuildsOrBreaks, BuildsTo, HasKind, HasMatchesOf, IsAmong, IsParsed, IsParsedFrom, IsPlainArg, IsUnsignedIn, Kinds, ReadsOne, Row, Rule, Text, app_of, args_of, fault_of, first_of, first_value, found_of, groups_of, has_subcommand, is_broken, is_present, is_simple, is_simple_and_free, kind_of, matched_of, matches_of, new_app, raw_values, rows_of, rule_of, with_rule}
+use Rattle.clap.specs.Words.{Accepts, AddsArg, App, BuildsOrBreaks, BuildsTo, HasKind, HasMatchesOf, IsAmong, IsParsed, IsParsedFrom, IsPlainArg, IsUnsignedIn, Kinds, ReadsOne, Row, Rule, Text, app_of, args_of, fault_of, first_value, found_of, groups_of, has_subcommand, is_broken, is_present, is_simple, is_simple_and_free, kind_of, matched_of, matches_of, new_app, raw_values, rows_of, rule_of, with_rule}
 use Rattle.clap.specs.Facts.{Entry, EntryPasses, IsFilledEntry, PassesArg, ValuesPass, least_values, parser_of_value, unwrap_or_range}
 use Rattle.clap.specs.Walk.{action_of, is_append, is_empty, is_simple_arg, row_of}
 use Rattle.clap.specs.Kinds.{or_else}
@@ -36,7 +36,7 @@ use Rattle.clap.specs.declared.error.kind.ErrorKind.{ErrorKind}
 use Rattle.clap.specs.declared.error.kind.ErrorKind.TheVariants.{ArgumentConflict, InvalidValue}
 use Rattle.gk_report.specs.declared.report.Format.{Format}
 use Rattle.gk_report.specs.declared.report.Format.TheVariants.{Plain, Progress, Json}
-use Rattle.gk_cli.specs.Arguments.{HasRule, IsAskedBy, IsCommand, IsFaultBy, IsLineNumber, PairValue, SaysArguments, SaysMatches, SaysVariable, SaysVariables, command, split_at_equals, faults_in, files_rule, format_asked, format_name, found_in, has_equals, is_format, line_number, values_of, is_clash, with_version}
+use Rattle.gk_cli.specs.Arguments.{HasRule, IsAskedBy, IsCommand, IsFaultBy, IsLineNumber, PairValue, SaysArguments, SaysMatches, SaysVariable, SaysVariables, command, split_at_equals, faults_in, files_rule, format_asked, format_name, found_in, has_equals, is_format, line_number, values_of, is_clash, is_given, with_version}
 use Rattle.gk_cli.specs.declared.arguments.Words.{Words}
 use Rattle.gk_cli.specs.declared.arguments.WordsFault.{WordsFault}
 use Rattle.gk_cli.specs.declared.arguments.WordsFault.TheVariants.{Usage, Env, Memory}
@@ -283,13 +283,9 @@ pub format_read : (f : Found) (o : Option (Bor Text)) (d r : Bor Text) → r ≡
 format_read f o d r e plain got =
     name_read o d r e ∙ ap₂ unwrap_or (got ∙ first_value-rows f (codes "format")) plain
 
--- an explanation beside what there is none of, by what is known of each
-pub beside : (a b d e r s t u : Bool) → a ≡ r → b ≡ s → d ≡ t → e ≡ u → (a && (b || (d || e))) ≡ (r && (s || (t || u)))
-beside a b d e r s t u p q m n =
-    ap (λ x. x && (b || (d || e))) p ∙ ap (λ x. r && (x || (d || e))) q ∙ ap (λ x. r && (s || (x || e))) m ∙ ap (λ x. r && (s || (t || x))) n
-
-pub some_read : (f : Found) (o : Option (Bor Text)) (b : Bool) → b ≡ is_some o → option_map (λ s. s.now) o ≡ first_value f (codes "format") → b ≡ is_some (first_of (codes "format") (rows_of f))
-some_read f o b is got = is ∙ go o ∙ ap is_some (got ∙ first_value-rows f (codes "format"))
+-- a text that is there, and its place in the matches
+pub some_read : (f : Found) (name : Text) (o : Option (Bor Text)) (b : Bool) → b ≡ is_some o → option_map (λ s. s.now) o ≡ first_value f name → b ≡ is_given name (rows_of f)
+some_read f name o b is got = is ∙ go o ∙ ap is_some (got ∙ first_value-rows f name)
   where
     go : (o : Option (Bor Text)) → is_some o ≡ is_some (option_map (λ s. s.now) o)
     go None = refl
@@ -530,7 +526,7 @@ pub says_unknown : (arguments : List Text) (old : Command) (m : ArgMatches) (e :
 says_unknown arguments old m e is matches kinds apart unknown kind =
     subst (IsAmong (kind_of e)) (sym (faults arguments old m is matches kinds false false apart unknown)) (inl kind)
 
--- what a parse that succeeds says of an explanation beside what there is none of
+-- what a parse that succeeds says of findings or an explanation beside what there is none of
 pub says_clash : (arguments : List Text) (old : Command) (m : ArgMatches) (e : Error) → IsCommand command old
     → HasMatchesOf (app_of old) arguments m
     → (is_simple_and_free (app_of old) ≡ true → fault_of (app_of old) arguments ≡ [])

@@ -8,6 +8,8 @@ pub mod WrittenRunLemmas
 pub mod SuiteLemmas
 pub mod ExplainedRunLemmas
 pub mod ExplainedSuiteLemmas
+pub mod LintedSourcesLemmas
+pub mod LintedSuiteLemmas
 pub mod WorkedRun
 pub mod WorkedHooksRun
 pub mod WorkedLongRun

@@ -4,7 +4,7 @@ use Rattle.clap.specs.Words.{Text, first_of}
 use Rattle.clap.specs.declared.error.kind.ErrorKind.TheVariants as kind
 use Rattle.clap.proofs.OnLiterals.{clap_on_literals}
 use Rattle.gk_cli.specs.Arguments.{split_at_equals, faults_in, format_asked, found_in, is_set, line_number, mode_asked, values_of}
-use Rattle.gk_cli.specs.declared.arguments.Mode.TheVariants.{Explanation}
+use Rattle.gk_cli.specs.declared.arguments.Mode.TheVariants.{Explanation, Findings}
 
 abbrev program : Text
 program = codes "gherkin_run"
@@ -198,3 +198,40 @@ explained_plainly = refl
 explained_without_skipped : faults_in (program ∷ codes "--explain" ∷ codes "--no-skipped" ∷ codes "a" ∷ []) ≡ kind.ArgumentConflict ∷ []
 unfolding clap_on_literals
 explained_without_skipped = refl
+
+-- findings, and what there is none of
+linting : mode_asked (found_in (program ∷ codes "a" ∷ codes "--lint" ∷ codes "--tags" ∷ codes "t" ∷ codes "--line=3" ∷ [])) ≡ Findings
+unfolding clap_on_literals
+linting = refl
+
+linting_is_taken : faults_in (program ∷ codes "--library=l" ∷ codes "--hooks=h" ∷ codes "--lint" ∷ codes "a" ∷ []) ≡ []
+unfolding clap_on_literals
+linting_is_taken = refl
+
+linted_and_explained : faults_in (program ∷ codes "--lint" ∷ codes "--explain" ∷ codes "a" ∷ []) ≡ kind.ArgumentConflict ∷ []
+unfolding clap_on_literals
+linted_and_explained = refl
+
+linted_plainly : faults_in (program ∷ codes "--lint" ∷ codes "--format=plain" ∷ codes "a" ∷ []) ≡ kind.ArgumentConflict ∷ []
+unfolding clap_on_literals
+linted_plainly = refl
+
+linted_dry_run : faults_in (program ∷ codes "--dry-run" ∷ codes "--lint" ∷ codes "a" ∷ []) ≡ kind.ArgumentConflict ∷ []
+unfolding clap_on_literals
+linted_dry_run = refl
+
+linted_without_skipped : faults_in (program ∷ codes "--lint" ∷ codes "--no-skipped" ∷ codes "a" ∷ []) ≡ kind.ArgumentConflict ∷ []
+unfolding clap_on_literals
+linted_without_skipped = refl
+
+linted_to_the_first : faults_in (program ∷ codes "--stop" ∷ codes "a" ∷ codes "--lint" ∷ []) ≡ kind.ArgumentConflict ∷ []
+unfolding clap_on_literals
+linted_to_the_first = refl
+
+linted_with_a_variable : faults_in (program ∷ codes "--lint" ∷ codes "--env" ∷ codes "A=" ∷ codes "a" ∷ []) ≡ kind.ArgumentConflict ∷ []
+unfolding clap_on_literals
+linted_with_a_variable = refl
+
+two_lints : faults_in (program ∷ codes "--lint" ∷ codes "a" ∷ codes "--lint" ∷ []) ≡ kind.ArgumentConflict ∷ []
+unfolding clap_on_literals
+two_lints = refl

@@ -20,7 +20,7 @@ use Rattle.clap.specs.declared.error.kind.ErrorKind.TheVariants.{ArgumentConflic
 use Rattle.gk_report.specs.declared.report.Format.{Format}
 use Rattle.gk_report.specs.declared.report.Format.TheVariants.{Plain, Progress, Json}
 use Rattle.gk_cli.specs.declared.arguments.Mode.{Mode}
-use Rattle.gk_cli.specs.declared.arguments.Mode.TheVariants.{Report, Explanation}
+use Rattle.gk_cli.specs.declared.arguments.Mode.TheVariants.{Report, Explanation, Findings}
 use Rattle.gk_cli.specs.declared.arguments.Options.{Options}
 use Rattle.gk_cli.specs.declared.arguments.Words.{Words}
 use Rattle.gk_cli.specs.declared.arguments.WordsFault.{WordsFault}
@@ -72,7 +72,8 @@ flag_rule name = record (new_rule name) { long = Some name; action = Some SetTru
 abbrev pub rules : List Rule
 rules =
     files_rule ∷ tags_rule ∷ line_rule ∷ library_rule ∷ hooks_rule ∷ env_rule
-    ∷ flag_rule (codes "dry-run") ∷ flag_rule (codes "stop") ∷ format_rule ∷ flag_rule (codes "no-skipped") ∷ flag_rule (codes "explain") ∷ []
+    ∷ flag_rule (codes "dry-run") ∷ flag_rule (codes "stop") ∷ format_rule ∷ flag_rule (codes "no-skipped") ∷ flag_rule (codes "explain")
+    ∷ flag_rule (codes "lint") ∷ []
 
 -- An app that has a version.
 abbrev pub with_version : App → App
@@ -104,15 +105,31 @@ format_asked rows = unwrap_or (first_of (codes "format") rows) (codes "plain")
 abbrev pub is_set : Text → List Row → Bool
 is_set name rows = option_map_or (λ text. bytes_eq text (codes "true")) (one_of name rows) false
 
--- What is asked to be written of a run: the report, or an explanation in place of it.
+-- What is asked to be written: the report of a run, or in place of it an explanation, or what is found before a run.
 abbrev pub mode_asked : List Row → Mode
-mode_asked rows = if is_set (codes "explain") rows then Explanation else Report
+mode_asked rows = if is_set (codes "explain") rows then Explanation else (if is_set (codes "lint") rows then Findings else Report)
+
+-- Whether an option stands among the arguments with a value.
+abbrev pub is_given : Text → List Row → Bool
+is_given name rows = is_some (first_of name rows)
+
+-- Whether a dry run, a format or leaving out what was skipped is asked for.
+abbrev pub shapes_report : List Row → Bool
+shapes_report rows = is_set (codes "dry-run") rows || (is_set (codes "no-skipped") rows || is_given (codes "format") rows)
 
 -- Whether an explanation is asked for beside a dry run, a format or leaving out what was skipped: there is none of these.
-abbrev pub is_clash : List Row → Bool
-is_clash rows = is_set (codes "explain") rows && (is_set (codes "dry-run") rows || (is_set (codes "no-skipped") rows || is_some (first_of (codes "format") rows)))
+abbrev pub explanation_clashes : List Row → Bool
+explanation_clashes rows = is_set (codes "explain") rows && shapes_report rows
 
--- The faults in what clap found: an explanation that is asked for beside what there is none of; else a format of an unknown name.
+-- Whether findings are asked for beside an explanation, stopping, a variable, a dry run, a format or leaving out what was skipped: nothing runs, so there is none of these.
+abbrev pub lint_clashes : List Row → Bool
+lint_clashes rows = is_set (codes "lint") rows && (is_set (codes "explain") rows || (is_set (codes "stop") rows || (is_given (codes "env") rows || shapes_report rows)))
+
+-- Whether findings or an explanation are asked for beside what there is none of.
+abbrev pub is_clash : List Row → Bool
+is_clash rows = lint_clashes rows || explanation_clashes rows
+
+-- The faults in what clap found: findings or an explanation that are asked for beside what there is none of; else a format of an unknown name.
 abbrev pub faults_found : List Row → Kinds
 faults_found rows = if is_clash rows then (ArgumentConflict ∷ []) else (if is_format (format_asked rows) then [] else (InvalidValue ∷ []))
 

@@ -9,3 +9,6 @@ pub mod GrowingReport
 pub mod WrittenRun
 pub mod ExplainedRun
 pub mod ExplainedSuite
+pub mod FindingLines
+pub mod LintedSources
+pub mod LintedSuite

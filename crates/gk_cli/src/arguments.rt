@@ -1,10 +1,10 @@
 //! The arguments of the command line.
-ghost use Rattle.std.specs.Prelude.{◌≡◌, ◌&&◌, ◌||◌, map, Some, IfOk, codes, option_map, string_bytes};
+ghost use Rattle.std.specs.Prelude.{◌≡◌, map, Some, IfOk, codes, is_some, option_map, string_bytes};
 ghost use Rattle.std.specs.List.{All};
 ghost use Rattle.clap.specs.Words.{found_of, kind_of, new_rule, rows_of};
 ghost use Rattle.clap.specs.declared.error.kind.ErrorKind.TheVariants.{ArgumentConflict, InvalidValue};
 ghost use Rattle.gk_cli.specs.Arguments as spec;
-ghost use Rattle.gk_cli.specs.Arguments.{mode_asked, files_rule, line_rule, flag_rule, command, HasRule, IsCommand, values_of, is_set, IsLineNumber, line_number, format_name, format_asked, SaysFormat, SaysVariable, SaysVariables, AreAsked, SaysMatches, SaysArguments};
+ghost use Rattle.gk_cli.specs.Arguments.{is_clash, mode_asked, files_rule, line_rule, flag_rule, command, HasRule, IsCommand, values_of, is_set, IsLineNumber, line_number, format_name, format_asked, SaysFormat, SaysVariable, SaysVariables, AreAsked, SaysMatches, SaysArguments};
 
 use clap::builder::ValueParser;
 use clap::error::ErrorKind;
@@ -40,8 +40,14 @@ const NO_SKIPPED_HELP: &str = "Leave skipped features and scenarios out of the r
 
 const EXPLAIN_HELP: &str = "In place of the report, say what happened in each scenario that failed";
 
-const CLASH: &str =
+const LINT_HELP: &str =
+    "In place of a run, list what of the files vanishes, can't work or isn't used";
+
+const EXPLANATION_CLASH: &str =
     "the argument '--explain' cannot be used with '--dry-run', '--format' or '--no-skipped'";
+
+const LINT_CLASH: &str =
+    "the argument '--lint' cannot be used with '--explain', '--format', '--dry-run', '--no-skipped', '--stop' or '--env'";
 
 const VERSION: &str = "unreleased, proved with rattle-kit-13f";
 
@@ -64,7 +70,7 @@ pub struct Options {
     pub style: Style,
 }
 
-/// What is written of a run.
+/// What is written: the report or an explanation of a run, or what is found in its files, and then nothing runs.
 #[derive(Clone, Copy, Debug, PartialEq, Eq)]
 pub enum Mode {
     /// The report.
@@ -72,6 +78,8 @@ pub enum Mode {
     /// What happened in each scenario, and in the hooks and cleanups of each section, that failed or was
     /// refused memory.
     Explanation,
+    /// What is found before a run, which isn't run.
+    Findings,
 }
 
 /// What the arguments of the command line ask for.
@@ -209,7 +217,8 @@ fn command_of<'a>(alloc: Global) -> Result<Command<'a>, AllocError>
         .next_help_heading("Report")
         .arg(value_arg(alloc, "format", "F", FORMAT_HELP, ArgAction::Set))?
         .arg(flag_arg(alloc, "no-skipped", NO_SKIPPED_HELP))?
-        .arg(flag_arg(alloc, "explain", EXPLAIN_HELP))
+        .arg(flag_arg(alloc, "explain", EXPLAIN_HELP))?
+        .arg(flag_arg(alloc, "lint", LINT_HELP))
 }
 
 fn copied(alloc: Global, texts: &[&str]) -> Result<Vec<String>, AllocError>
@@ -301,41 +310,75 @@ fn unknown_format(
     command.error(ErrorKind::InvalidValue, message.as_str())
 }
 
-// What is asked to be written of a run.
+// What is asked to be written.
 fn mode_of(matches: &ArgMatches) -> Mode
     ensures { result ≡ mode_asked (rows_of (found_of matches.now)) }
 {
     if flag(matches, "explain") {
         Mode::Explanation
+    } else if flag(matches, "lint") {
+        Mode::Findings
     } else {
         Mode::Report
     }
 }
 
-// Whether an explanation is asked for beside one of these.
-fn is_beside(explain: bool, dry_run: bool, no_skipped: bool, formatted: bool) -> bool
-    ensures { result ≡ (explain && (dry_run || (no_skipped || formatted))) }
+// Whether an option stands among the arguments with a value.
+fn is_given(matches: &ArgMatches, name: &str) -> bool
+    ensures { result ≡ spec.is_given name.now (rows_of (found_of matches.now)) }
 {
-    explain && (dry_run || (no_skipped || formatted))
+    matches.get_str(name).is_some()
+}
+
+// Whether a dry run, a format or leaving out what was skipped is asked for.
+fn shapes_report(matches: &ArgMatches) -> bool
+    ensures { result ≡ spec.shapes_report (rows_of (found_of matches.now)) }
+{
+    let dry_run = flag(matches, "dry-run");
+    let no_skipped = flag(matches, "no-skipped");
+    let formatted = is_given(matches, "format");
+    dry_run || (no_skipped || formatted)
 }
 
 // Whether an explanation is asked for beside what there is none of.
-fn is_clash(matches: &ArgMatches) -> bool
-    ensures { result ≡ spec.is_clash (rows_of (found_of matches.now)) }
+fn explanation_clashes(matches: &ArgMatches) -> bool
+    ensures { result ≡ spec.explanation_clashes (rows_of (found_of matches.now)) }
 {
-    is_beside(
-        flag(matches, "explain"),
-        flag(matches, "dry-run"),
-        flag(matches, "no-skipped"),
-        matches.get_str("format").is_some(),
-    )
+    let explain = flag(matches, "explain");
+    let shaped = shapes_report(matches);
+    explain && shaped
 }
 
-// The mistake of such an explanation, in clap's words.
-fn clash(command: &mut Command) -> Result<clap::Error, AllocError>
+// Whether findings are asked for beside what only a run has.
+fn lint_clashes(matches: &ArgMatches) -> bool
+    ensures { result ≡ spec.lint_clashes (rows_of (found_of matches.now)) }
+{
+    let lint = flag(matches, "lint");
+    let explain = flag(matches, "explain");
+    let stop = flag(matches, "stop");
+    let env = is_given(matches, "env");
+    let shaped = shapes_report(matches);
+    lint && (explain || (stop || (env || shaped)))
+}
+
+// What to say where an explanation or findings are asked for beside what there is none of.
+fn clash_message(matches: &ArgMatches) -> Option<&'static str>
+    ensures { is_some result ≡ is_clash (rows_of (found_of matches.now)) }
+{
+    if lint_clashes(matches) {
+        Some(LINT_CLASH)
+    } else if explanation_clashes(matches) {
+        Some(EXPLANATION_CLASH)
+    } else {
+        None
+    }
+}
+
+// The mistake of such arguments, in clap's words.
+fn clash(command: &mut Command, message: &str) -> Result<clap::Error, AllocError>
     ensures { IfOk result (λ error. kind_of error ≡ ArgumentConflict) }
 {
-    command.error(ErrorKind::ArgumentConflict, CLASH)
+    command.error(ErrorKind::ArgumentConflict, message)
 }
 
 fn options_of(alloc: Global, matches: &ArgMatches, format: Format) -> Result<Options, AllocError>
@@ -385,8 +428,8 @@ fn words_by<'a>(
     ensures { SaysArguments (map string_bytes words.now) result }
 {
     let matches = reader.try_get_matches_from_mut(words)?;
-    if is_clash(&matches) {
-        return Err(WordsFault::Usage(clash(reader)?));
+    if let Some(message) = clash_message(&matches) {
+        return Err(WordsFault::Usage(clash(reader, message)?));
     }
     let name = matches.get_str("format").unwrap_or("plain");
     match format_of(name) {
@@ -398,12 +441,13 @@ fn words_by<'a>(
 /// Reads the arguments of the command line, of which the first is the program's name. `--tags T`,
 /// `--line N` (1 to 4,294,967,295) and `--env NAME=VALUE` may stand several times. `--library FILE`,
 /// `--hooks FILE`, `--format F` (`plain`, `progress` or `json`; `plain` if it is left out), `--dry-run`,
-/// `--stop`, `--no-skipped` and `--explain` stand once at most; `--explain` stands beside none of `--format`,
-/// `--dry-run` and `--no-skipped`. Every other argument that begins with no `-` or is `-`
-/// alone, and every argument after the first `--`, is a feature file; there has to be one. Options and files
-/// stand in any order, and `--opt=value` is the same as `--opt value`. `--help` and `-h` ask for help, and
-/// answer `Usage` with the exit code 0; so do `--version` and `-V`, which ask for the version. A mistake is `Usage`, and comes before `Env`; `Memory` may come in
-/// place of any answer.
+/// `--stop`, `--no-skipped`, `--explain` and `--lint` stand once at most. `--explain` stands beside none of
+/// `--format`, `--dry-run` and `--no-skipped`, and `--lint` beside none of these, `--explain`, `--stop` and
+/// `--env`. Every other argument that begins with no `-` or is `-` alone, and every argument after the first
+/// `--`, is a feature file; there has to be one. Options and files stand in any order, and `--opt=value` is the
+/// same as `--opt value`. `--help` and `-h` ask for help, and answer `Usage` with the exit code 0; so do
+/// `--version` and `-V`, which ask for the version. A mistake is `Usage`, and comes before `Env`; `Memory` may
+/// come in place of any answer.
 pub fn read_words(alloc: Global, words: &[String]) -> Result<Words, WordsFault>
     ensures { SaysArguments (map string_bytes words.now) result }
 {

@@ -27,7 +27,8 @@ pub struct SuiteFiles<'a> {
     pub sources: &'a [Source],
 }
 
-fn bytes_of(file: Option<&Source>) -> Option<&[u8]>
+/// The bytes of a file that may be there. Takes no memory.
+pub fn bytes_of(file: Option<&Source>) -> Option<&[u8]>
     ensures { option_map (λ bytes. bytes.now) result ≡ spec.bytes_of (file_value file.entry) }
 {
     match file {
@@ -36,7 +37,8 @@ fn bytes_of(file: Option<&Source>) -> Option<&[u8]>
     }
 }
 
-fn name_of(file: Option<&Source>) -> &str
+/// The name of a file that may be there; no name where there is none. Takes no memory.
+pub fn name_of(file: Option<&Source>) -> &str
     ensures { result.now ≡ spec.name_of (file_value file.entry) }
 {
     match file {

@@ -5,6 +5,7 @@ ghost use Rattle.gk_report.specs.Report.{is_empty, part, report};
 ghost use Rattle.gk_cli.specs.Suite.{device_of};
 ghost use Rattle.gk_cli.specs.GrowingReport.{IsWritten, IsStopped};
 ghost use Rattle.gk_cli.specs.Counted.{CountsCanRise};
+ghost use Rattle.gk_cli.specs.declared.run_fault.RunFault.TheVariants as faults;
 
 use crate::counted::{Counted, write_whole};
 use crate::run_fault::RunFault;
@@ -22,6 +23,7 @@ pub fn write_piece<W: Write>(out: &mut Counted<W>, text: &str) -> Result<(), Run
         (IsWritten (device_of W.contents out.old) (device_of W.contents out.new) text.now) }
     ensures err { IfErr result
         (IsStopped (device_of W.contents out.old) (device_of W.contents out.new) text.now) }
+    ensures only { IfErr result (λ e. e ≡ faults.Write) }
 {
     match write_whole(out, text.as_bytes()) {
         Ok(()) => Ok(()),

@@ -212,7 +212,8 @@ fn chosen_of(
     })
 }
 
-fn read_fault_at(input: usize, fault: ReadFault) -> RunFault
+/// The fault of the source at a place, from that of its file. Takes no memory.
+pub fn read_fault_at(input: usize, fault: ReadFault) -> RunFault
     ensures { result ≡ faults.read_fault_at input fault }
 {
     match fault {
@@ -221,7 +222,8 @@ fn read_fault_at(input: usize, fault: ReadFault) -> RunFault
     }
 }
 
-fn select_fault_at(input: usize, fault: SelectFault) -> RunFault
+/// The fault of the source at a place, from that of its cases. Takes no memory.
+pub fn select_fault_at(input: usize, fault: SelectFault) -> RunFault
     ensures { result ≡ faults.select_fault_at input fault }
 {
     match fault {

@@ -1,13 +1,16 @@
 //! A whole run. Options, a step library, hooks and sources come in; the report is written, or an explanation
-//! in place of it, and the status goes out. The arguments of the command line, and readers and writers whose calls are counted, stand here too.
+//! in place of it, and the status goes out. So does what is found in these before any run. The arguments of the command line, and readers and writers whose calls are counted, stand here too.
 #![tactic(auto)]
 
 mod arguments;
 mod counted;
 mod explained_run;
 mod explained_suite;
+mod finding_lines;
 mod growing_report;
 mod inputs;
+mod linted_sources;
+mod linted_suite;
 mod run_fault;
 mod source;
 mod suite;
@@ -16,6 +19,7 @@ mod written_run;
 pub use arguments::{Mode, Options, Words, WordsFault, read_words};
 pub use counted::{Counted, NotWritten, write_whole};
 pub use explained_suite::{SuiteFiles, explain_suite};
+pub use linted_suite::lint_suite;
 pub use run_fault::RunFault;
 pub use source::{Source, SourceFault, read_source};
 pub use suite::run_suite;

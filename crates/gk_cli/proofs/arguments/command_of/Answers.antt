@@ -23,4 +23,5 @@ returns c =
     let report = texts_apart _ c.in_ok-arg-8.field-0 c.next_help_heading-3.result _ stop c.next_help_heading-3.ensures refl refl refl refl refl in
     let format = adds _ format_rule c.next_help_heading-3.result c.in_ok-arg-9.field-0 c.value_arg-5.result report c.value_arg-5.ensures c.in_ok-arg-9.ensures in
     let no_skipped = adds _ (flag_rule (codes "no-skipped")) c.in_ok-arg-9.field-0 c.in_ok-arg-10.field-0 c.flag_arg-3.result format c.flag_arg-3.ensures c.in_ok-arg-10.ensures in
-    IfOk-weaker c.arg-11.result _ _ (λ r added. adds _ (flag_rule (codes "explain")) c.in_ok-arg-10.field-0 r c.flag_arg-4.result no_skipped c.flag_arg-4.ensures added) c.arg-11.ensures
+    let explain = adds _ (flag_rule (codes "explain")) c.in_ok-arg-10.field-0 c.in_ok-arg-11.field-0 c.flag_arg-4.result no_skipped c.flag_arg-4.ensures c.in_ok-arg-11.ensures in
+    IfOk-weaker c.arg-12.result _ _ (λ r added. adds _ (flag_rule (codes "lint")) c.in_ok-arg-11.field-0 r c.flag_arg-5.result explain c.flag_arg-5.ensures added) c.arg-12.ensures

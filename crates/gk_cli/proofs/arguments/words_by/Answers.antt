@@ -9,11 +9,11 @@ returns-in_err-matches c =
     says_fault (map string_bytes c.args.words.now) c.args.reader.now c.in_err-matches.field-0.0 c.from_residual.result
     c.requires c.in_err-matches.ensures.kinds (search rules)
 
-pub returns-then-is_clash : goal.returns-then-is_clash
-returns-then-is_clash c =
+pub returns-in-Some : goal.returns-in-Some
+returns-in-Some c =
     let ensures = c.in_ok-matches.ensures in
     says_clash (map string_bytes c.args.words.now) c.args.reader.now c.in_ok-matches.matches c.in_ok-clash.field-0
-    c.requires ensures.ok.2 ensures.kinds (sym c.is_clash.ensures ∙ c.if-is_clash.true) c.in_ok-clash.ensures
+    c.requires ensures.ok.2 ensures.kinds (sym c.in-Some.ensures) c.in_ok-clash.ensures
 
 pub words_of-requires-clause-lines : goal.words_of-requires-clause-lines
 words_of-requires-clause-lines c =
@@ -22,18 +22,18 @@ words_of-requires-clause-lines c =
 
 pub words_of-requires-clause-format : goal.words_of-requires-clause-format
 words_of-requires-clause-format c =
-    c.in-Some.ensures ∙ format_read (found_of c.in_ok-matches.matches) c.get_str.result _ c.unwrap_or-name.result c.unwrap_or-name.ensures refl c.get_str.ensures
+    c.in-Some-format_of.ensures ∙ format_read (found_of c.in_ok-matches.matches) c.get_str.result _ c.unwrap_or-name.result c.unwrap_or-name.ensures refl c.get_str.ensures
 
-pub returns-in-Some : goal.returns-in-Some
-returns-in-Some c =
+pub returns-in-Some-format_of : goal.returns-in-Some-format_of
+returns-in-Some-format_of c =
     let ensures = c.in_ok-matches.ensures in
     let format = format_read (found_of c.in_ok-matches.matches) c.get_str.result _ c.unwrap_or-name.result c.unwrap_or-name.ensures refl c.get_str.ensures in
-    says_found (map string_bytes c.args.words.now) c.args.reader.now c.try_get_matches_from_mut.new.self c.in_ok-matches.matches c.in-Some.format c.words_of.result
-    c.requires ensures.fails ensures.after ensures.ok.0 ensures.ok.1 ensures.ok.2 ensures.kinds (sym c.is_clash.ensures ∙ c.if-is_clash.false) (c.in-Some.ensures ∙ format) c.words_of.ensures
+    says_found (map string_bytes c.args.words.now) c.args.reader.now c.try_get_matches_from_mut.new.self c.in_ok-matches.matches c.in-Some-format_of.format c.words_of.result
+    c.requires ensures.fails ensures.after ensures.ok.0 ensures.ok.1 ensures.ok.2 ensures.kinds (sym c.in_default.ensures) (c.in-Some-format_of.ensures ∙ format) c.words_of.ensures
 
 pub returns : goal.returns
 returns c =
     let ensures = c.in_ok-matches.ensures in
     let format = format_read (found_of c.in_ok-matches.matches) c.get_str.result _ c.unwrap_or-name.result c.unwrap_or-name.ensures refl c.get_str.ensures in
     says_unknown (map string_bytes c.args.words.now) c.args.reader.now c.in_ok-matches.matches c.in_ok-unknown_format-in-None.field-0
-    c.requires ensures.ok.2 ensures.kinds (sym c.is_clash.ensures ∙ c.if-is_clash.false) (ap is_format (sym format) ∙ c.in-None.ensures) c.in_ok-unknown_format-in-None.ensures
+    c.requires ensures.ok.2 ensures.kinds (sym c.in_default.ensures) (ap is_format (sym format) ∙ c.in-None.ensures) c.in_ok-unknown_format-in-None.ensures

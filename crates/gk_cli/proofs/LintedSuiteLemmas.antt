@@ -1,0 +1,19 @@
+-- The text of a lint, and what its writer's fault says.
+use Rattle.std.proofs.Common.{◌≡◌, ℕ, List, [], ◌++◌, ap, sym, subst, ◌∙◌, append_assoc}
+use Rattle.gk_cli.specs.declared.run_fault.RunFault.{RunFault}
+use Rattle.gk_cli.specs.declared.run_fault.RunFault.TheVariants.{Write}
+use Rattle.gk_cli.specs.Inputs.{Request}
+use Rattle.gk_cli.specs.GrowingReport.{IsStopped}
+use Rattle.gk_cli.specs.LintedSuite.{IsLinted, SaysLintFault}
+use Rattle.gk_cli.specs.Suite.{Device}
+
+-- A text cut short is what the one fault of a writer says.
+pub part_of_lint : (r : Request) (library hooks : List ℕ) (old new : Device) (text : List ℕ) (fault : RunFault) → fault ≡ Write → IsLinted r library hooks text → IsStopped old new text fault → SaysLintFault r library hooks old new fault
+part_of_lint r library hooks old new text fault named linted stopped = subst (SaysLintFault r library hooks old new) (sym named) (text, linted, subst (IsStopped old new text) named stopped)
+
+-- A text that grew by four parts.
+pub four_parts : (t u v w x a b c d : List ℕ) → t ≡ [] → u ≡ t ++ a → v ≡ u ++ b → w ≡ v ++ c → x ≡ w ++ d → x ≡ a ++ (b ++ (c ++ d))
+four_parts t u v w x a b c d none first second third fourth =
+    fourth
+    ∙ ap (λ l. l ++ d) (third ∙ ap (λ l. l ++ c) (second ∙ ap (λ l. l ++ b) (first ∙ ap (λ l. l ++ a) none)))
+    ∙ append_assoc (a ++ b) c d ∙ append_assoc a b (c ++ d)

@@ -1,0 +1,22 @@
+-- The lines in which findings are written.
+use Rattle.std.specs.Prelude.{ℕ, List, ◌++◌, codes, flat_map}
+use Rattle.std.specs.Fmt.{decimal}
+use Rattle.gk_explain.specs.EventLines.{place_text}
+use Rattle.gk_lint.specs.declared.findings.Finding.{Finding}
+use Rattle.gk_lint.specs.Findings.{finding_text}
+
+-- The line of a finding in a file of this name.
+abbrev pub finding_line : List ℕ → Finding → List ℕ
+finding_line name f = place_text name f.line ++ (finding_text f.kind ++ codes "\n")
+
+-- The lines of findings in a file of this name, one after the other.
+abbrev pub finding_lines : List ℕ → List Finding → List ℕ
+finding_lines name findings = flat_map (finding_line name) findings
+
+-- What is written of a `--line` at which nothing is.
+abbrev pub idle_line : ℕ → List ℕ
+idle_line n = codes "--line " ++ (decimal n ++ codes ": no scenario and no row is at this line\n")
+
+-- What is written of such numbers, one after the other.
+abbrev pub idle_lines : List ℕ → List ℕ
+idle_lines numbers = flat_map idle_line numbers

@@ -1,0 +1,80 @@
+-- What is found of sources.
+use Rattle.std.specs.Prelude.{◌≡◌, ℕ, Bool, List, [], ◌∷◌, ◌++◌, map, flat_map, Option, Some, None, option_to_list, string_bytes}
+use Rattle.gk_gherkin.specs.Lines.{Lines, lines_of, IsText}
+use Rattle.gk_gherkin.specs.Feature.{FeatureValue, feature_value}
+use Rattle.gk_gherkin.specs.Grammar.{Reads}
+use Rattle.gk_select.specs.Case.{CaseValue}
+use Rattle.gk_select.specs.Expansion.{IsExpandable}
+use Rattle.gk_steps.specs.Finding.{LibraryValue}
+use Rattle.gk_lint.specs.declared.findings.Finding.{Finding}
+use Rattle.gk_lint.specs.Findings.{AreInOrder}
+use Rattle.gk_lint.specs.FeatureFile.{file_findings}
+use Rattle.gk_lint.specs.WrittenSteps.{of_feature, found_in, used_in}
+use Rattle.gk_cli.specs.declared.linted_sources.LintSoFar.{LintSoFar}
+use Rattle.gk_cli.specs.declared.run_fault.RunFault.{RunFault}
+use Rattle.gk_cli.specs.Source.{SourceValue}
+use Rattle.gk_cli.specs.Inputs.{IsWithinLimit}
+use Rattle.gk_cli.specs.RunFault.{SaysSources}
+use Rattle.gk_cli.specs.FindingLines.{finding_lines}
+
+-- The features of what sources read as.
+abbrev pub features_in : List (Option FeatureValue) → List FeatureValue
+features_in readings = flat_map option_to_list readings
+
+-- What is found of the steps of a feature, if there is one.
+abbrev pub step_findings : LibraryValue → Option FeatureValue → List Finding
+step_findings library None = []
+step_findings library (Some f) = found_in library (of_feature f)
+
+-- The places of the entries that the steps of features find.
+abbrev pub used_by : LibraryValue → List FeatureValue → List ℕ
+used_by library features = flat_map (λ (f : FeatureValue). used_in library (of_feature f)) features
+
+-- What is found of a source that reads so and has these lines: of its file, and of its steps.
+abbrev pub source_findings : LibraryValue → Option FeatureValue → Lines → List Finding
+source_findings library reading lines = file_findings reading lines ++ step_findings library reading
+
+-- These bytes are a text whose lines have this reading, within the limit of steps.
+pub record IsReadAs (bytes : List ℕ) (reading : Option FeatureValue) : Type 0 where
+  pub text : IsText bytes
+  pub reads : Reads (lines_of bytes) reading
+  pub limit : IsWithinLimit reading
+
+-- A source reads so, and this is what is written of it: all that is found, in the order of lines.
+pub record IsLintedAs (library : LibraryValue) (source : SourceValue) (reading : Option FeatureValue) (text : List ℕ) : Type 0 where
+  pub read : IsReadAs source.bytes reading
+  pub ordered : List Finding
+  pub in_order : AreInOrder (source_findings library reading (lines_of source.bytes)) ordered
+  pub whole : text ≡ finding_lines source.name ordered
+
+-- Sources read so, one each, and this is what is written of them, one after the other.
+abbrev pub AreLinted : LibraryValue → List SourceValue → List (Option FeatureValue) → List ℕ → Type 0
+AreLinted library [] readings text = (readings ≡ []) × (text ≡ [])
+AreLinted library (s ∷ ss) readings text =
+    (reading : Option FeatureValue) × (others : List (Option FeatureValue)) × (this later : List ℕ)
+    × IsLintedAs library s reading this × AreLinted library ss others later × (readings ≡ reading ∷ others) × (text ≡ this ++ later)
+
+-- Proof machinery, from here on: what a `LintSoFar` has of these sources.
+pub record IsLintOf (library : LibraryValue) (sources : List SourceValue) (l : LintSoFar) : Type 0 where
+  pub readings : List (Option FeatureValue)
+  pub linted : AreLinted library sources readings (string_bytes l.text)
+  pub features : map feature_value l.features.items ≡ features_in readings
+  pub used : l.used.items ≡ used_by library (features_in readings)
+
+-- A source was linted after others.
+pub record IsLintedOnto (library : LibraryValue) (source : SourceValue) (old new : LintSoFar) : Type 0 where
+  pub reading : Option FeatureValue
+  pub this : List ℕ
+  pub linted : IsLintedAs library source reading this
+  pub text : string_bytes new.text ≡ string_bytes old.text ++ this
+  pub features : map feature_value new.features.items ≡ map feature_value old.features.items ++ option_to_list reading
+  pub used : new.used.items ≡ old.used.items ++ used_by library (option_to_list reading)
+
+-- Whichever cases are chosen, this is the fault of the sources.
+abbrev pub SaysOfSources : List SourceValue → RunFault → Type 0
+SaysOfSources sources fault = (chooses : CaseValue → Bool) → SaysSources chooses sources fault
+
+-- The feature of a source, if there is one, can be expanded.
+abbrev pub AreExpandable : Option FeatureValue → Type 0
+AreExpandable None = Unit {0}
+AreExpandable (Some f) = IsExpandable f

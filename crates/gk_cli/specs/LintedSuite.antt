@@ -1,0 +1,95 @@
+-- What a whole lint may return and write.
+use Rattle.std.specs.Prelude.{◌≡◌, ℕ, List, [], ◌∷◌, ◌++◌, map, Option, Some, None, string_bytes}
+use Rattle.gk_gherkin.specs.Feature.{FeatureValue, feature_value}
+use Rattle.gk_gherkin.specs.Hooks.{HookValue, hooks_value}
+use Rattle.gk_gherkin.specs.Lines.{lines_of, IsText}
+use Rattle.gk_select.specs.TagGrammar.{Expression}
+use Rattle.gk_steps.specs.Finding.{LibraryValue, library_value}
+use Rattle.gk_lint.specs.declared.findings.Finding.{Finding}
+use Rattle.gk_lint.specs.Findings.{AreInOrder}
+use Rattle.gk_lint.specs.LibraryUse.{unused_entries}
+use Rattle.gk_lint.specs.ScenarioLines.{without_scenario}
+use Rattle.gk_lint.specs.TagUse.{hooks_of_no_tag}
+use Rattle.gk_lint.specs.WrittenSteps.{of_hooks, found_in, used_in}
+use Rattle.gk_cli.specs.declared.explained_suite.SuiteFiles.{SuiteFiles}
+use Rattle.gk_cli.specs.declared.inputs.ReadInputs.{ReadInputs}
+use Rattle.gk_cli.specs.declared.linted_sources.LintSoFar.{LintSoFar}
+use Rattle.gk_cli.specs.declared.run_fault.RunFault.{RunFault}
+use Rattle.gk_cli.specs.declared.run_fault.RunFault.TheVariants.{Write, Memory}
+use Rattle.gk_cli.specs.ExplainedSuite.{file_value, name_of}
+use Rattle.gk_cli.specs.FindingLines.{finding_lines, idle_lines}
+use Rattle.gk_cli.specs.GrowingReport.{IsWritten, IsStopped}
+use Rattle.gk_cli.specs.Inputs.{Request, AreRules, IsLibrary, AreHooks}
+use Rattle.gk_cli.specs.LintedSources.{features_in, used_by, AreLinted}
+use Rattle.gk_cli.specs.RunFault.{IsUnread}
+use Rattle.gk_cli.specs.Suite.{Device, IsUntouched}
+
+-- The name of the library file; no name where there is none.
+abbrev pub library_name : SuiteFiles → List ℕ
+library_name files = name_of (file_value files.library)
+
+-- What is found of a library file, by the places of the entries that are used: its other entries. Where none is given, nothing is.
+abbrev pub library_findings : Option (List ℕ) → List ℕ → List Finding
+library_findings None used = []
+library_findings (Some bytes) used = unused_entries used (lines_of bytes)
+
+-- What a lint has read: the entries of the library, the hooks and the features; and what is written of the sources.
+pub record LintRead : Type 0 where
+  pub entries : LibraryValue
+  pub hooks : List HookValue
+  pub features : List FeatureValue
+  pub of_sources : List ℕ
+
+-- The places of the entries that hooks and features use.
+abbrev pub all_used : LintRead → List ℕ
+all_used read = used_in read.entries (of_hooks read.hooks) ++ used_by read.entries read.features
+
+-- What is found of the hooks: hooks for tags that stand nowhere in the features, and what is found of the hooks' steps.
+abbrev pub hook_findings : LintRead → List Finding
+hook_findings read = hooks_of_no_tag read.features read.hooks ++ found_in read.entries (of_hooks read.hooks)
+
+-- What is written of what was read, with these names of the library file and of the hooks file: what is found of the library, of the hooks and of the sources, and the lines of `--line` at which nothing is.
+abbrev pub IsTextOf : Request → List ℕ → List ℕ → LintRead → List ℕ → Type 0
+IsTextOf r library hooks read text =
+    (ordered : List Finding) × AreInOrder (hook_findings read) ordered
+    × (text ≡ finding_lines library (library_findings r.library (all_used read)) ++ (finding_lines hooks ordered ++ (read.of_sources ++ idle_lines (without_scenario read.features r.lines))))
+
+-- What is asked for reads, and this is all that is found of it, each file's findings in the order of lines.
+pub record IsLinted (r : Request) (library_file hooks_file text : List ℕ) : Type 0 where
+  pub rules : List Expression
+  pub tags : AreRules r.tags rules
+  pub read : LintRead
+  pub library : IsLibrary r.library read.entries
+  pub hooks : AreHooks r.hooks read.hooks
+  pub readings : List (Option FeatureValue)
+  pub features : read.features ≡ features_in readings
+  pub sources : AreLinted read.entries r.sources readings read.of_sources
+  pub whole : IsTextOf r library_file hooks_file read text
+
+-- The status of a lint that writes this text: 0 where nothing was found, and else 1.
+abbrev pub lint_status : List ℕ → ℕ
+lint_status [] = 0
+lint_status (byte ∷ more) = 1
+
+-- What is asked for reads, all that is found of it was written, and the status says whether anything was.
+abbrev pub Linted : Request → List ℕ → List ℕ → Device → Device → ℕ → Type 0
+Linted r library hooks old new answer = (text : List ℕ) × IsLinted r library hooks text × IsWritten old new text × (answer ≡ lint_status text)
+
+-- What is asked for reads, and a prefix of what is found of it was written.
+abbrev pub LintedInPart : Request → List ℕ → List ℕ → Device → Device → RunFault → Type 0
+LintedInPart r library hooks old new fault = (text : List ℕ) × IsLinted r library hooks text × IsStopped old new text fault
+
+-- What each fault says: where the writer failed, a prefix was written; where memory was refused, nothing was. Else what is asked for doesn't read, and nothing was written.
+abbrev pub SaysLintFault : Request → List ℕ → List ℕ → Device → Device → RunFault → Type 0
+SaysLintFault r library hooks old new Write = LintedInPart r library hooks old new Write
+SaysLintFault r library hooks old new Memory = IsUntouched old new
+SaysLintFault r library hooks old new fault = IsUnread r fault × IsUntouched old new
+
+-- Proof machinery: bytes that may be there are a text.
+abbrev pub AreTexts : Option (List ℕ) → Type 0
+AreTexts None = Unit {0}
+AreTexts (Some bytes) = IsText bytes
+
+-- What was read with these inputs, and what was found of the sources.
+abbrev pub read_of : ReadInputs → LintSoFar → LintRead
+read_of inputs so_far = record { entries = library_value inputs.library; hooks = hooks_value inputs.hooks; features = map feature_value so_far.features.items; of_sources = string_bytes so_far.text }

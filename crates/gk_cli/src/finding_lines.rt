@@ -1,0 +1,60 @@
+//! The lines in which findings are written.
+ghost use Rattle.gk_report.specs.ReportTexts.{Pushes};
+ghost use Rattle.gk_cli.specs.FindingLines as spec;
+
+use gk_explain::push_place;
+use gk_lint::Finding;
+use std::alloc::{AllocError, Global};
+
+// Pushes the line of a finding in a file of this name.
+fn push_finding(
+    out: &mut String,
+    alloc: Global,
+    name: &str,
+    finding: &Finding,
+) -> Result<(), AllocError>
+    ensures { Pushes out.old (spec.finding_line name.now finding.now) result out.new }
+{
+    push_place(out, name, finding.line)?;
+    let text = finding.kind.text(alloc)?;
+    out.push_str(text.as_str())?;
+    out.push_str("\n")
+}
+
+/// Pushes the lines of findings in a file of this name, one after the other. An error comes only where a growth was
+/// refused.
+pub fn push_findings(
+    out: &mut String,
+    alloc: Global,
+    name: &str,
+    findings: &[Finding],
+) -> Result<(), AllocError>
+    ensures { Pushes out.old (spec.finding_lines name.now findings.now) result out.new }
+{
+    for finding in findings {
+        push_finding(out, alloc, name, finding)?;
+    }
+    Ok(())
+}
+
+// Pushes what is written of a `--line` at which nothing is.
+fn push_idle_line(out: &mut String, line: u32) -> Result<(), AllocError>
+    ensures { Pushes out.old (spec.idle_line line) result out.new }
+{
+    write!(
+        out,
+        "--line {line}: no scenario and no row is at this line\n"
+    )?;
+    Ok(())
+}
+
+/// Pushes a line for each of some numbers of `--line` at which nothing is. An error comes only where a growth was
+/// refused.
+pub fn push_idle_lines(out: &mut String, lines: &[u32]) -> Result<(), AllocError>
+    ensures { Pushes out.old (spec.idle_lines lines.now) result out.new }
+{
+    for line in lines {
+        push_idle_line(out, *line)?;
+    }
+    Ok(())
+}

@@ -1,0 +1,204 @@
+//! What is found of sources, each read in turn.
+ghost use Rattle.std.specs.Prelude.{◌≡◌, ◌≤◌, ◌++◌, map, length, option_map, option_to_list, IfOk, IfErr, OnOk, Some};
+ghost use Rattle.std.specs.Str.Lines.{lines};
+ghost use Rattle.gk_gherkin.specs.Lines.{IsText, without_mark, numbered_from};
+ghost use Rattle.gk_gherkin.specs.Feature.{feature_value};
+ghost use Rattle.gk_steps.specs.Finding.{library_value};
+ghost use Rattle.gk_select.specs.Expansion.{IsExpandable};
+ghost use Rattle.gk_lint.specs.Findings.{AreInOrder};
+ghost use Rattle.gk_cli.specs.Source.{source_value};
+ghost use Rattle.gk_cli.specs.Inputs.{IsWithinLimit};
+ghost use Rattle.gk_cli.specs.RunFault.{SaysSourceAt, SaysExpansion};
+ghost use Rattle.gk_cli.specs.LintedSources as spec;
+ghost use Rattle.gk_cli.specs.LintedSources.{IsReadAs, IsLintOf, IsLintedOnto, SaysOfSources, used_by};
+
+use crate::finding_lines::push_findings;
+use crate::inputs::{read_fault_at, select_fault_at};
+use crate::run_fault::RunFault;
+use crate::source::Source;
+use gk_gherkin::{Feature, LIMIT, read_feature, text_of};
+use gk_lint::{Finding, StepFindings, in_order, lint_feature, lint_steps};
+use gk_select::{SelectFault, expand, read_features_are_expandable};
+use gk_steps::Library;
+use std::alloc::{AllocError, Global};
+
+/// What was found of the sources so far: the text of it, the places of the entries that their steps use, and the
+/// features.
+#[derive(Drop)]
+pub struct LintSoFar {
+    pub text: String,
+    pub used: Vec<usize>,
+    pub features: Vec<Feature>,
+}
+
+/// The text of some bytes that are one, without the byte-order mark that it may begin with. Takes no memory.
+pub fn known_text(bytes: &[u8]) -> &str
+    requires { IsText bytes.now }
+    ensures text { result.now ≡ without_mark bytes.now }
+    ensures within { length result.now ≤ LIMIT }
+{
+    match text_of(bytes) {
+        Ok(text) => text,
+        Err(_) => "",
+    }
+}
+
+// Whether the cases of a feature have no more steps than the limit.
+fn check_limit(alloc: Global, feature: &Feature) -> Result<(), SelectFault>
+    requires { IsExpandable (feature_value feature.now) }
+    ensures limit { OnOk result (IsWithinLimit (Some (feature_value feature.now))) }
+    ensures fault { IfErr result (λ e. SaysExpansion (feature_value feature.now) e) }
+{
+    let _cases = expand(alloc, feature)?;
+    Ok(())
+}
+
+// Reads the source at a place.
+fn read_one(alloc: Global, input: usize, source: &Source) -> Result<Option<Feature>, RunFault>
+    ensures read { IfOk result (λ feature. IsReadAs source.now.bytes.items
+        (option_map feature_value feature)) }
+    ensures fault { IfErr result (λ e. SaysSourceAt input source.now.bytes.items e) }
+{
+    let feature = match read_feature(alloc, source.bytes.as_slice()) {
+        Ok(Some(feature)) => feature,
+        Ok(None) => return Ok(None),
+        Err(fault) => return Err(read_fault_at(input, fault)),
+    };
+    // No code runs here: the law says that what was read can be expanded.
+    read_features_are_expandable();
+    match check_limit(alloc, &feature) {
+        Ok(()) => Ok(Some(feature)),
+        Err(fault) => Err(select_fault_at(input, fault)),
+    }
+}
+
+// What is found of the steps of a feature, if there is one.
+fn step_findings(
+    alloc: Global,
+    library: &Library,
+    feature: &Option<Feature>,
+) -> Result<StepFindings, AllocError>
+    requires { spec.AreExpandable (option_map feature_value feature.now) }
+    ensures found { IfOk result (λ r. AreInOrder (spec.step_findings
+        (library_value library.now) (option_map feature_value feature.now)) r.findings.items) }
+    ensures used { IfOk result (λ r. r.used.items ≡ used_by
+        (library_value library.now) (option_to_list (option_map feature_value feature.now))) }
+{
+    match feature {
+        Some(feature) => lint_steps(alloc, library, feature),
+        None => Ok(StepFindings {
+            findings: Vec::new(alloc),
+            used: Vec::new(alloc),
+        }),
+    }
+}
+
+/// What is found of steps, with other findings of their file, in the order of lines. An error comes only where a growth
+/// was refused.
+pub fn with_findings(
+    findings: Vec<Finding>,
+    of_steps: StepFindings,
+) -> Result<StepFindings, AllocError>
+    ensures found { IfOk result (λ r. AreInOrder
+        (findings.items ++ of_steps.findings.items) r.findings.items) }
+    ensures used { IfOk result (λ r. r.used.items ≡ of_steps.used.items) }
+{
+    let mut findings = findings;
+    let mut of_steps = of_steps;
+    findings.append(&mut of_steps.findings)?;
+    Ok(StepFindings {
+        findings: in_order(findings)?,
+        used: of_steps.used,
+    })
+}
+
+// What is found of a file of this text that reads as this feature, or none, in the order of lines.
+fn all_findings(
+    alloc: Global,
+    library: &Library,
+    feature: &Option<Feature>,
+    text: &str,
+) -> Result<StepFindings, AllocError>
+    requires expandable { spec.AreExpandable (option_map feature_value feature.now) }
+    requires within { length text.now ≤ LIMIT }
+    ensures found { IfOk result (λ r. AreInOrder (spec.source_findings
+        (library_value library.now) (option_map feature_value feature.now)
+        (numbered_from 1 (lines text.now))) r.findings.items) }
+    ensures used { IfOk result (λ r. r.used.items ≡ used_by
+        (library_value library.now) (option_to_list (option_map feature_value feature.now))) }
+{
+    let findings = lint_feature(alloc, feature, text)?;
+    let of_steps = step_findings(alloc, library, feature)?;
+    with_findings(findings, of_steps)
+}
+
+// Adds what is found of a source that reads as this feature, or none.
+fn add_source(
+    so_far: &mut LintSoFar,
+    alloc: Global,
+    library: &Library,
+    source: &Source,
+    feature: Option<Feature>,
+) -> Result<(), AllocError>
+    requires { IsReadAs source.now.bytes.items (option_map feature_value feature) }
+    ensures { OnOk result (IsLintedOnto (library_value library.now)
+        (source_value source.now) so_far.old so_far.new) }
+{
+    // No code runs here: the law says that what was read can be expanded.
+    read_features_are_expandable();
+    let text = known_text(source.bytes.as_slice());
+    let mut found = all_findings(alloc, library, &feature, text)?;
+    push_findings(
+        &mut so_far.text,
+        alloc,
+        source.name.as_str(),
+        found.findings.as_slice(),
+    )?;
+    so_far.used.append(&mut found.used)?;
+    if let Some(feature) = feature {
+        so_far.features.push(feature)?;
+    }
+    Ok(())
+}
+
+// Reads the source at a place, and adds what is found of it.
+fn lint_source(
+    alloc: Global,
+    library: &Library,
+    input: usize,
+    source: &Source,
+    so_far: &mut LintSoFar,
+) -> Result<(), RunFault>
+    ensures ok { OnOk result (IsLintedOnto (library_value library.now)
+        (source_value source.now) so_far.old so_far.new) }
+    ensures fault { IfErr result (λ e. SaysSourceAt input source.now.bytes.items e) }
+{
+    match read_one(alloc, input, source) {
+        Ok(feature) => Ok(add_source(so_far, alloc, library, source, feature)?),
+        Err(fault) => Err(fault),
+    }
+}
+
+/// Reads each source in turn, and finds what is to be said of it: of its file and of its steps, which are looked up
+/// in a library. An error names the first source that doesn't read, as that of a run does.
+pub fn lint_sources(
+    alloc: Global,
+    library: &Library,
+    sources: &[Source],
+) -> Result<LintSoFar, RunFault>
+    ensures linted { IfOk result (λ l. IsLintOf (library_value library.now)
+        (map source_value sources.now) l) }
+    ensures fault { IfErr result (λ e. SaysOfSources (map source_value sources.now) e) }
+{
+    let mut so_far = LintSoFar {
+        text: String::new(alloc),
+        used: Vec::new(alloc),
+        features: Vec::new(alloc),
+    };
+    for (input, source) in sources.iter().enumerate() {
+        if let Err(fault) = lint_source(alloc, library, input, source, &mut so_far) {
+            return Err(fault);
+        }
+    }
+    Ok(so_far)
+}

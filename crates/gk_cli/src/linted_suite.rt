@@ -1,0 +1,174 @@
+//! What is found before a run, in all that it is asked for.
+ghost use Rattle.std.specs.Prelude.{◌≡◌, ◌++◌, map, string_bytes, IfOk, IfErr, OnOk};
+ghost use Rattle.gk_gherkin.specs.Feature.{feature_value};
+ghost use Rattle.gk_gherkin.specs.Hooks.{hooks_value};
+ghost use Rattle.gk_report.specs.ReportTexts.{Pushes};
+ghost use Rattle.gk_steps.specs.Finding.{library_value};
+ghost use Rattle.gk_lint.specs.Findings.{AreInOrder};
+ghost use Rattle.gk_cli.specs.Counted.{CountsCanRise, HasNotFailed, IsUnflushed, IsNeverIdle};
+ghost use Rattle.gk_cli.specs.ExplainedSuite as explained;
+ghost use Rattle.gk_cli.specs.ExplainedSuite.{file_value, request_of_files, hooks_name};
+ghost use Rattle.gk_cli.specs.FindingLines.{finding_lines};
+ghost use Rattle.gk_cli.specs.RunFault.{IsUnread};
+ghost use Rattle.gk_cli.specs.Suite.{device_of};
+ghost use Rattle.gk_lint.specs.TagUse.{hooks_of_no_tag};
+ghost use Rattle.gk_lint.specs.WrittenSteps.{of_hooks, found_in, used_in};
+ghost use Rattle.gk_cli.specs.LintedSources.{used_by};
+ghost use Rattle.gk_cli.specs.LintedSuite.{library_name, library_findings, lint_status, AreTexts, IsTextOf, read_of, IsLinted, Linted, SaysLintFault};
+
+use crate::arguments::Options;
+use crate::counted::Counted;
+use crate::explained_suite::{SuiteFiles, bytes_of, name_of};
+use crate::finding_lines::{push_findings, push_idle_lines};
+use crate::growing_report::write_piece;
+use crate::inputs::{ReadInputs, read_inputs};
+use crate::linted_sources::{LintSoFar, known_text, lint_sources, with_findings};
+use crate::run_fault::RunFault;
+use crate::source::Source;
+use gk_gherkin::Feature;
+use gk_lint::{StepFindings, lines_without_scenario, lint_hook_tags, lint_hooks, lint_library};
+use std::alloc::{AllocError, Global};
+use std::io::Write;
+
+// Pushes what is found of a library file, if there is one, by the places of the entries that are used.
+fn push_library_findings(
+    out: &mut String,
+    alloc: Global,
+    library: Option<&Source>,
+    used: &[usize],
+) -> Result<(), AllocError>
+    requires { AreTexts (explained.bytes_of (file_value library)) }
+    ensures { let file = file_value library.entry in Pushes out.old (finding_lines
+        (explained.name_of file)
+        (library_findings (explained.bytes_of file) used.now)) result out.new }
+{
+    match library {
+        Some(source) => {
+            let text = known_text(source.bytes.as_slice());
+            let findings = lint_library(alloc, text, used)?;
+            push_findings(out, alloc, source.name.as_str(), findings.as_slice())
+        }
+        None => Ok(()),
+    }
+}
+
+// What is found of hooks beside these features, in the order of lines, and the places of the entries that their steps
+// use.
+fn findings_of_hooks(
+    alloc: Global,
+    inputs: &ReadInputs,
+    features: &[Feature],
+) -> Result<StepFindings, AllocError>
+    ensures found { IfOk result (λ r. AreInOrder
+        (hooks_of_no_tag (map feature_value features.now) (hooks_value inputs.now.hooks)
+        ++ found_in (library_value inputs.now.library) (of_hooks (hooks_value inputs.now.hooks)))
+        r.findings.items) }
+    ensures used { IfOk result (λ r. r.used.items ≡ used_in (library_value inputs.now.library)
+        (of_hooks (hooks_value inputs.now.hooks))) }
+{
+    let idle = lint_hook_tags(alloc, &inputs.hooks, features)?;
+    let of_steps = lint_hooks(alloc, &inputs.library, &inputs.hooks)?;
+    with_findings(idle, of_steps)
+}
+
+// The text of all that is found.
+fn whole_text(
+    alloc: Global,
+    options: &Options,
+    files: SuiteFiles<'_>,
+    inputs: &ReadInputs,
+    so_far: LintSoFar,
+) -> Result<String, AllocError>
+    requires texts { AreTexts (explained.bytes_of (file_value files.library)) }
+    requires used { so_far.used.items ≡ used_by (library_value inputs.now.library)
+        (map feature_value so_far.features.items) }
+    ensures { IfOk result (λ text. IsTextOf (request_of_files options.now files.entry)
+        (library_name files.entry) (hooks_name files.entry)
+        (read_of inputs.now so_far) (string_bytes text)) }
+{
+    let LintSoFar {
+        text: of_sources,
+        used,
+        features,
+    } = so_far;
+    let mut of_hooks = findings_of_hooks(alloc, inputs, features.as_slice())?;
+    let mut used = used;
+    of_hooks.used.append(&mut used)?;
+    let mut text = String::new(alloc);
+    push_library_findings(&mut text, alloc, files.library, of_hooks.used.as_slice())?;
+    let hooks = name_of(files.hooks);
+    push_findings(&mut text, alloc, hooks, of_hooks.findings.as_slice())?;
+    text.push_str(of_sources.as_str())?;
+    let idle = lines_without_scenario(alloc, options.lines.as_slice(), features.as_slice())?;
+    push_idle_lines(&mut text, idle.as_slice())?;
+    Ok(text)
+}
+
+// Reads what is asked for, and answers the text of all that is found in it.
+fn read_and_lint(
+    alloc: Global,
+    options: &Options,
+    files: SuiteFiles<'_>,
+) -> Result<String, RunFault>
+    ensures linted { IfOk result (λ text. IsLinted (request_of_files options.now files.entry)
+        (library_name files.entry) (hooks_name files.entry) (string_bytes text)) }
+    ensures fault { IfErr result (λ e. IsUnread (request_of_files options.now files.entry) e) }
+{
+    let library = bytes_of(files.library);
+    let hooks = bytes_of(files.hooks);
+    // The sources are read one after another below, so that only their features are kept.
+    let inputs = match read_inputs(alloc, options, library, hooks, &[]) {
+        Ok(inputs) => inputs,
+        Err(fault) => return Err(fault),
+    };
+    match lint_sources(alloc, &inputs.library, files.sources) {
+        Ok(so_far) => Ok(whole_text(alloc, options, files, &inputs, so_far)?),
+        Err(fault) => Err(fault),
+    }
+}
+
+// The status of a lint that writes this text.
+fn status_of(text: &str) -> u8
+    ensures { result ≡ lint_status text.now }
+{
+    if text.is_empty() { 0 } else { 1 }
+}
+
+/// Reads what is asked for as `run_suite` does, runs nothing, and writes what is found in it: a line
+/// `NAME:LINE: TEXT` for each finding, of the library file first, then of the hooks file, then of each source in
+/// turn, each in the order of its lines; and then a line for each `--line` at which no scenario and no row is. Found
+/// is what of a file vanishes in silence, what can't work, and what isn't used. Of the options `tags` are read, and
+/// `lines` looked for; the others aren't looked at.
+///
+/// The answer is 0 where nothing was found, and else 1. `RunFault` says when each error comes: at `Write` a
+/// prefix was written, perhaps an empty one, at every other nothing. Nothing is flushed. The writer's
+/// counts of failures, idle calls and flushes are below `u64::MAX - 1`, so that one more of each can be seen.
+pub fn lint_suite<W: Write>(
+    alloc: Global,
+    options: &Options,
+    files: SuiteFiles<'_>,
+    out: &mut Counted<W>,
+) -> Result<u8, RunFault>
+    requires { CountsCanRise out.old }
+    // All that is found was written, and nothing else; the status says whether anything was found.
+    ensures linted { IfOk result (Linted (request_of_files options.now files.entry)
+        (library_name files.entry) (hooks_name files.entry)
+        (device_of W.contents out.old) (device_of W.contents out.new)) }
+    // Which fault it is, and what was written.
+    ensures fault { IfErr result (SaysLintFault (request_of_files options.now files.entry)
+        (library_name files.entry) (hooks_name files.entry)
+        (device_of W.contents out.old) (device_of W.contents out.new)) }
+    // A status comes only where the writer didn't fail.
+    ensures quiet { OnOk result (HasNotFailed out.old out.new) }
+    // Each call of the writer moved at least one byte.
+    ensures busy { OnOk result (IsNeverIdle out.old out.new) }
+    ensures unflushed { IsUnflushed out.old out.new }
+{
+    match read_and_lint(alloc, options, files) {
+        Ok(text) => match write_piece(out, text.as_str()) {
+            Ok(()) => Ok(status_of(text.as_str())),
+            Err(fault) => Err(fault),
+        },
+        Err(fault) => Err(fault),
+    }
+}

@@ -1,0 +1,16 @@
+" The program's findings as Vim's compiler: put this file into ~/.vim/compiler/, and say
+"     :compiler gherkin_lint
+"     :make login.feature
+" Each fault and each line that is found is then a line of the quickfix list.
+if exists('current_compiler')
+  finish
+endif
+let current_compiler = 'gherkin_lint'
+
+if exists(':CompilerSet') != 2
+  command -nargs=* CompilerSet setlocal <args>
+endif
+
+CompilerSet makeprg=gherkin_run\ --lint
+" A fault; then what is found; a --line at which nothing is says nothing of a place.
+CompilerSet errorformat=gherkin_run:\ %f:%l:\ %m,%f:%l:\ %m,%-G%.%#

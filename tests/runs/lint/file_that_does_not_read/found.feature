@@ -1,0 +1,6 @@
+Feature: Tagged
+  @a
+  Scenario: One
+    Given it passes
+  @b
+  Scenario: Two

@@ -1,0 +1,4 @@
+
+@a
+Feature: None
+  Rule: Empty

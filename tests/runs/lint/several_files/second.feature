@@ -1,0 +1,3 @@
+Feature: Second
+  Scenario: One
+    Given it pases
