@@ -31,10 +31,9 @@ pub enum Fault {
     TooMany { name: String },
     /// A text of `--tags` is no rule of tags.
     BadTags,
-    /// Standard output took no more. A prefix of the report or of the help was written, or all of it where the
-    /// flush failed.
+    /// Standard output took no more. A prefix of what is printed was written, or all of it where the flush failed.
     Write,
-    /// A growth of memory was refused. Nothing or a prefix of the report was written.
+    /// A growth of memory was refused. Nothing or a prefix of what is printed was written.
     Memory,
 }
 

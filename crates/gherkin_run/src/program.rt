@@ -264,7 +264,7 @@ fn run_sources<W: Write>(
     }
 }
 
-// What `run_words` does, in a sandbox that is new: puts the variables, reads the files, runs the suite or looks
+// What `run_words` does, in a sandbox that is new: puts the variables, reads the files, runs the suite or lists
 // what is found in it.
 fn run_in<R: Files + AllocGlobal, W: Write>(
     rt: &R,
@@ -300,7 +300,7 @@ fn run_in<R: Files + AllocGlobal, W: Write>(
 }
 
 /// Runs what is asked for: puts the variables into an empty sandbox, reads the library file, the hooks file and
-/// the files, and runs the suite, or looks what is found in it. The first fault in this order ends it.
+/// the files, and runs the suite, or lists what is found in it. The first fault in this order ends it.
 fn run_words<R: Files + AllocGlobal, W: Write>(
     rt: &R,
     words: Words,

@@ -13,9 +13,9 @@ finding_line name f = place_text name f.line ++ (finding_text f.kind ++ codes "\
 abbrev pub finding_lines : List ℕ → List Finding → List ℕ
 finding_lines name findings = flat_map (finding_line name) findings
 
--- What is written of a `--line` at which nothing is.
+-- What is written of a `--line` that chooses nothing.
 abbrev pub idle_line : ℕ → List ℕ
-idle_line n = codes "--line " ++ (decimal n ++ codes ": no scenario and no row is at this line\n")
+idle_line n = codes "--line " ++ (decimal n ++ codes ": chooses no scenario\n")
 
 -- What is written of such numbers, one after the other.
 abbrev pub idle_lines : List ℕ → List ℕ

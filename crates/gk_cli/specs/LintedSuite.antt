@@ -48,7 +48,7 @@ all_used read = used_in read.entries (of_hooks read.hooks) ++ used_by read.entri
 abbrev pub hook_findings : LintRead → List Finding
 hook_findings read = hooks_of_no_tag read.features read.hooks ++ found_in read.entries (of_hooks read.hooks)
 
--- What is written of what was read, with these names of the library file and of the hooks file: what is found of the library, of the hooks and of the sources, and the lines of `--line` at which nothing is.
+-- What is written of what was read, with these names of the library file and of the hooks file: what is found of the library, of the hooks and of the sources, and the lines of `--line` that choose nothing.
 abbrev pub IsTextOf : Request → List ℕ → List ℕ → LintRead → List ℕ → Type 0
 IsTextOf r library hooks read text =
     (ordered : List Finding) × AreInOrder (hook_findings read) ordered

@@ -78,7 +78,7 @@ pub enum Mode {
     /// What happened in each scenario, and in the hooks and cleanups of each section, that failed or was
     /// refused memory.
     Explanation,
-    /// What is found before a run, which isn't run.
+    /// What is found in the files; nothing runs.
     Findings,
 }
 

@@ -22,7 +22,7 @@ fn push_finding(
 }
 
 /// Pushes the lines of findings in a file of this name, one after the other. An error comes only where a growth was
-/// refused.
+/// refused; a part of it may have been pushed then.
 pub fn push_findings(
     out: &mut String,
     alloc: Global,
@@ -37,19 +37,16 @@ pub fn push_findings(
     Ok(())
 }
 
-// Pushes what is written of a `--line` at which nothing is.
+// Pushes what is written of a `--line` that chooses nothing.
 fn push_idle_line(out: &mut String, line: u32) -> Result<(), AllocError>
     ensures { Pushes out.old (spec.idle_line line) result out.new }
 {
-    write!(
-        out,
-        "--line {line}: no scenario and no row is at this line\n"
-    )?;
+    write!(out, "--line {line}: chooses no scenario\n")?;
     Ok(())
 }
 
-/// Pushes a line for each of some numbers of `--line` at which nothing is. An error comes only where a growth was
-/// refused.
+/// Pushes a line for each of some numbers of `--line` that choose nothing. An error comes only where a growth was
+/// refused; a part of it may have been pushed then.
 pub fn push_idle_lines(out: &mut String, lines: &[u32]) -> Result<(), AllocError>
     ensures { Pushes out.old (spec.idle_lines lines.now) result out.new }
 {

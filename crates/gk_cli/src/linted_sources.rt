@@ -31,7 +31,7 @@ pub struct LintSoFar {
     pub features: Vec<Feature>,
 }
 
-/// The text of some bytes that are one, without the byte-order mark that it may begin with. Takes no memory.
+/// The text that some bytes are, without the byte-order mark that it may begin with. Takes no memory.
 pub fn known_text(bytes: &[u8]) -> &str
     requires { IsText bytes.now }
     ensures text { result.now ≡ without_mark bytes.now }
@@ -180,7 +180,8 @@ fn lint_source(
 }
 
 /// Reads each source in turn, and finds what is to be said of it: of its file and of its steps, which are looked up
-/// in a library. An error names the first source that doesn't read, as that of a run does.
+/// in a library. An error names the first source that doesn't read, as that of a run does; `Memory` comes only where a
+/// growth was refused.
 pub fn lint_sources(
     alloc: Global,
     library: &Library,

@@ -136,9 +136,9 @@ fn status_of(text: &str) -> u8
 
 /// Reads what is asked for as `run_suite` does, runs nothing, and writes what is found in it: a line
 /// `NAME:LINE: TEXT` for each finding, of the library file first, then of the hooks file, then of each source in
-/// turn, each in the order of its lines; and then a line for each `--line` at which no scenario and no row is. Found
-/// is what of a file vanishes in silence, what can't work, and what isn't used. Of the options `tags` are read, and
-/// `lines` looked for; the others aren't looked at.
+/// turn, each in the order of its lines; and then a line for each `--line` that chooses no scenario. It finds what of
+/// a file vanishes in silence, steps that can't work for want of an entry, a text or a table, what isn't used, and
+/// scenarios that share a name. Of the options `tags` are read, and `lines` looked for; the others aren't looked at.
 ///
 /// The answer is 0 where nothing was found, and else 1. `RunFault` says when each error comes: at `Write` a
 /// prefix was written, perhaps an empty one, at every other nothing. Nothing is flushed. The writer's

@@ -31,12 +31,13 @@ pub enum RunFault {
         input: Option<usize>,
         fault: SelectFault,
     },
-    /// The writer failed in this call, or took no byte of a piece. A prefix of the report, or of what is said in an
-    /// explanation, was written.
+    /// The writer failed in this call, or took no byte of a piece. A prefix of the report, of what is said in an
+    /// explanation, or of what is found before a run, was written.
     #[error("cannot write")]
     Write,
     /// A growth of memory was refused outside the steps of scenarios, hooks and cleanups. A prefix of
-    /// what is written of the run was; nothing, where the inputs were still being read.
+    /// what is written of the run was; nothing, where the inputs were still being read. Of what is found before a run
+    /// nothing was.
     #[error("out of memory")]
     Memory,
 }
