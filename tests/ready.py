@@ -157,7 +157,7 @@ def a_changed_source_is_built(clone):
     status, out, err = clone.run(with_rt=True)
     lines = err.decode().splitlines()
     proved = [line for line in lines if " proved: " in line]
-    return (status, out) == (0, b"built here\n") and len(proved) == 9 and "run gherkin_run" in clone.called()
+    return (status, out) == (0, b"built here\n") and len(proved) == 10 and "run gherkin_run" in clone.called()
 
 
 def what_was_built_runs_at_once(clone):
