@@ -1,12 +1,8 @@
-//! Tests of the libraries' public functions with ample memory: at the limits that no clause can forbid to give up at,
-//! and over readers and writers that fail, which the program can't be given. What the built program shows, the stored
-//! runs of `tests/` compare. The tests stand apart since a crate with tests is proved twice.
+//! Tests of the public functions of the libraries below a run, with ample memory: at the limits that no clause can forbid to
+//! give up at. What the built program shows, the stored runs of `tests/` compare. The tests stand apart since a crate
+//! with tests is proved twice; those of what stands above a run are in `gk_suite_tests`.
 #![tactic(auto)]
 
-#[cfg(test)]
-mod counted_tests;
-#[cfg(test)]
-mod explain_tests;
 #[cfg(test)]
 mod gherkin_tests;
 #[cfg(test)]
@@ -15,8 +11,6 @@ mod library_tests;
 mod lint_tests;
 #[cfg(test)]
 mod select_tests;
-#[cfg(test)]
-mod source_tests;
 #[cfg(test)]
 mod steps_tests;
 #[cfg(test)]
