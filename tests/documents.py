@@ -47,7 +47,7 @@ def repository_files():
 FILES = repository_files()
 CRATES = [line.split(":")[0].split()[0] for line in read("crates.txt").splitlines() if line.strip()]
 # The crates of tests, whose texts are no faults of the program.
-TESTS = ("crates/gk_tests/", "crates/gk_suite_tests/")
+TESTS = ("crates/gk_tests/", "crates/gk_cli_tests/")
 DOCUMENTS = [it for it in FILES if it.endswith(".md")]
 PAGES = [it for it in DOCUMENTS if "/" not in it or it.startswith("docs/")]
 

@@ -1,6 +1,0 @@
-use Rattle.std.proofs.Common.{◌≡◌, []}
-use Rattle.gk_tests.proofs.explain_tests.explained.Given as goal
-
--- no layer is open
-abbrev pub invariant-loop-case : goal.invariant-loop-case
-invariant-loop-case l = l.sandbox.saved ≡ []
