@@ -1,6 +1,6 @@
 //! Tests of the public functions of the libraries below a run, with ample memory: at the limits that no clause can forbid to
 //! give up at. What the built program shows, the stored runs of `tests/` compare. The tests stand apart since a crate
-//! with tests is proved twice; those of `gk_cli` are in `gk_cli_tests`, and what is above a run besides the stored runs try alone.
+//! with tests is proved twice; those of `gk_cli` are in `gk_cli_tests`, and the stored runs alone try the rest.
 #![tactic(auto)]
 
 #[cfg(test)]
