@@ -7,6 +7,10 @@
 # script then prints none and ends with status 3. It needs jq.
 set -eu
 
+[ $# -ge 1 ] || {
+    echo "usage: examples/add_reports.sh REPORT.." >&2
+    exit 2
+}
 sum=$(jq --arg count "$#" --slurp --compact-output --sort-keys '
     def worst: if any(. == "memory") then "memory" elif any(. == "failed") then "failed" else "passed" end;
     def plus($more): reduce ($more | paths(numbers)) as $place (.; setpath($place; getpath($place) + ($more | getpath($place))));

@@ -60,7 +60,9 @@ it_is_all_there() (
         cmp share/fish/vendor_completions.d/gherkin_run.fish "$home/share/gherkin_run.fish" &&
         cmp share/doc/gherkin_run/LICENSE-MIT "$home/LICENSE-MIT" &&
         cmp share/doc/gherkin_run/LICENSE-APACHE "$home/LICENSE-APACHE" &&
-        diff -r -x __pycache__ share/doc/gherkin_run/examples "$home/examples"
+        diff -r -x __pycache__ share/doc/gherkin_run/examples "$home/examples" &&
+        diff -r share/doc/gherkin_run/docs/guide "$home/docs/guide" &&
+        cmp share/doc/gherkin_run/docs/FAULTS.md "$home/docs/FAULTS.md"
 )
 
 an_example_runs() (
@@ -151,6 +153,26 @@ options_of_help() {
 options_of_man() {
     sed -nE '/^\.SH OPTIONS/,/^\.SH EXIT/{/^\\fB\\-/{s/\\f[BIR]//g;s/\\-/-/g;p}}' "$home/share/gherkin_run.1" | LC_ALL=C sort
 }
+
+# The texts of the man page's steps, and those of the built-in library.
+steps_of_man() {
+    sed -nE '/^\.SH STEPS/,/^\.fi/p' "$home/share/gherkin_run.1" | sed '1,/^\.nf/d;/^\.fi/d'
+}
+
+steps_of_library() {
+    sed 's/^step //;s/ => .*//' "$home/examples/default.steps"
+}
+
+# Whether each file that the man page names below PREFIX is installed.
+man_names_files() (
+    "$home/install" "$room/place"
+    sed -nE 's|^\.IR? PREFIX/([^ ]*[^ .]).*$|\1|p' "$home/share/gherkin_run.1" > "$room/named"
+    [ "$(wc -l < "$room/named")" -ge 5 ] || exit 1
+    while read -r name; do
+        [ -e "$room/place/$name" ] || exit 1
+    done < "$room/named"
+    "$home/install" --remove "$room/place"
+)
 
 # The spellings alone.
 spellings() {
@@ -291,6 +313,9 @@ b"
 holds "removing where nothing is installed is refused" refuses "there is no installation" --remove "$room/place"
 
 holds "the man page lists the options of the help" lists_as options_of_man options_of_help
+holds "the man page lists the steps of the built-in library" lists_as steps_of_man steps_of_library
+clear
+holds "the files that the man page names are installed" man_names_files
 holds "the completions for zsh list the options of the help" lists_as spellings_of_zsh spellings
 holds "the completions for fish list the options of the help" lists_as spellings_of_fish spellings
 holds "the completions for zsh and fish say which options take a value" values_are_named

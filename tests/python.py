@@ -29,6 +29,20 @@ SUITE = {
     "own.steps": "step it passes => pass\nstep it fails => fail\nstep own step => pass\nstep the scenario is skipped => skip_scenario\n",
     "pytest.ini": "[pytest]\ngherkin_library = own.steps\n",
 }
+# The id by which pytest calls the first row's test.
+ROW_ID = "good.feature::row 1 -- @1.1 (line 8)"
+# Arguments that are wrong, and those of files that can't be read.
+REFUSED = [
+    *(["--line", line, PAINT] for line in ("0", "-1", "4294967296", "x", "1_0", " 1", "")), ["--line"], [], ["--stop"], ["--"],
+    *([*option, PAINT, *option] for option in (["--library", "x"], ["--hooks", "x"], ["--format", "json"], ["--dry-run"], ["--stop"], ["--no-skipped"])),
+    ["--format", "xml", PAINT], ["--env", "A", PAINT], ["--env", "=x", PAINT], ["--tags", "", PAINT], ["--tags", "-@a", PAINT], ["--unknown", PAINT],
+    ["none.feature"], ["-"], [PAINT, "--", "--stop"], ["--library", "none.steps", PAINT],
+]
+# Options and files in any order.
+ORDERS = [
+    [PAINT, "--tags", "@slow", PAINT, "--format", "progress"], ["--stop", PAINT, "--no-skipped", PAINT], [PAINT, "--line", "007", "--", PAINT],
+    ["--tags=~@slow", PAINT, "--env", "A=1", PAINT, "--env=A=2"],
+]
 
 
 def called(**options):
@@ -51,6 +65,26 @@ def example_runs(program):
     for arguments in driver.examples():
         wanted = driver.start(program, arguments)
         yield driver.trouble(arguments[-1], driver.start(sys.executable, ["-m", "gherkin_run", *arguments]), wanted)
+
+
+def command_lines(program):
+    """Arguments by `python3 -m gherkin_run` and by the program: the status is the same, and what standard output has."""
+    for words in [*REFUSED, *ORDERS]:
+        wanted = driver.start(program, words)
+        status, stdout, stderr = driver.start(sys.executable, ["-m", "gherkin_run", *words])
+        same = (status, stdout, bool(stderr)) == (wanted[0], wanted[1], bool(wanted[2])) and b"Traceback" not in stderr
+        yield "" if same else f"{words} ends with {status}, and not {wanted[0]}: {stderr.decode()}"
+
+
+def failing_outputs(program):
+    """An output that takes nothing, or is closed: the status and the line on standard error are the program's."""
+    module = [sys.executable, "-m", "gherkin_run"]
+    for words in ([PAINT], ["--help"]):
+        for output in ("/dev/full", "&-"):
+            ended_so = [subprocess.run(["sh", "-c", f'exec "$@" >{output}', "sh", *it, *words], stdin=subprocess.DEVNULL, capture_output=True,
+                                       timeout=driver.PATIENCE, check=False) for it in (module, [program])]
+            made, wanted = [(it.returncode, it.stderr) for it in ended_so]
+            yield "" if made == wanted == (3, b"gherkin_run: cannot write\n") else f"{words} with the output {output}: {made}, and not {wanted}"
 
 
 def changed_runs(program, room):
@@ -183,10 +217,12 @@ def collected(room):
 
     status, text = pytest()
     for line in ["bad.feature::fails (line 2) FAILED", "bad.feature::skips (line 4) SKIPPED", "good.feature::one (line 2) PASSED",
-                 "good.feature::row 1 -- @1::1 (line 8) PASSED", "good.feature::row 2 -- @1::2 (line 9) PASSED",
+                 f"{ROW_ID} PASSED", "good.feature::row 2 -- @1.2 (line 9) PASSED", "___ bad.feature: fails (line 2) ___",
                  "    Given it fails ... failed: fail step", "1 failed, 3 passed, 1 skipped"]:
         yield "" if line in text else f"pytest doesn't say {line!r}:\n{text}"
     yield "" if status == 1 else f"pytest ends with {status}"
+    status, text = pytest(ROW_ID)
+    yield "" if status == 0 and "1 passed" in text else f"pytest doesn't run the test of a row by its id:\n{text}"
     driver.write(folder, {"other.feature": "Feature: a\nFeature: b\n"})
     status, text = pytest("other.feature")
     yield "" if status == 2 and "other.feature:2: unexpected line" in text else f"pytest doesn't show the fault:\n{text}"
@@ -200,7 +236,7 @@ def main():
     tests = driver.Tests(20)
     if said:
         tests.add(said if "isn't" in said else "")
-    parts = [example_runs(program), changed_runs(program, room), faults(), values(), same_version(program), threads(), refused(room)]
+    parts = [example_runs(program), command_lines(program), failing_outputs(program), changed_runs(program, room), faults(), values(), same_version(program), threads(), refused(room)]
     if importlib.util.find_spec("pytest"):
         parts.append(collected(room))
     else:

@@ -159,7 +159,7 @@ def makers_troubles(program, room):
 def page_troubles(program, room):
     """The commands of the page, one block after another, in one folder."""
     folder = folder_of(program, room, "page")
-    readers, again, long, spread = blocks()
+    readers, again_command, long, spread = blocks()
     plain, whole = one_run(program, folder), one_run(program, folder, "--format", "json")
 
     ended = shell(folder, readers)
@@ -170,7 +170,9 @@ def page_troubles(program, room):
     for maker, name in (("summary", "summary.md"), ("junit", "junit.xml"), ("failed", "failed.txt")):
         yield MAKERS[maker](report, driver.read(os.path.join(folder, name)))
 
-    yield from again_troubles(folder, again)
+    yield from again_troubles(folder, again_command)
+    yield from run_troubles(folder)
+    yield from usage_troubles(folder)
     yield from sum_troubles(folder, "long.sh", long, whole)
     yield from sum_troubles(folder, "long.sh in small parts", long.replace("examples/recipes/long.sh", "PART=2 examples/recipes/long.sh"), whole)
     killed = "PART=2 examples/recipes/long.sh ./killed"
@@ -195,14 +197,44 @@ def again_troubles(folder, command):
     status, printed, fault = shell(folder, command)
     headings = re.findall(rb"^  \S.* \.\.\. (failed|passed)$", printed, re.MULTILINE)
     yield unless("again.sh after a repair: other verdicts", sorted(headings) == [b"failed"] * 3 + [b"passed"], printed.decode("utf-8", "replace"))
-    driver.write(folder, SUITE)
-    status, printed, fault = shell(folder, "./run --hooks suite.hooks --format json features/rules.feature > ruled.json; "
-                                           "examples/recipes/again.sh ruled.json ./run --hooks suite.hooks")
+    driver.write(folder, {**SUITE, "rules.hooks": SUITE["suite.hooks"].partition("after_all")[0]})
+    status, printed, fault = again(folder, "--hooks rules.hooks", "features/rules.feature")
     headings = re.findall(rb"^  (\S.*) \.\.\. \w+$", printed, re.MULTILINE)
     wanted = [b"Scenario: one", b"Scenario: two", b"Scenario: three", b"(rule, line 6: hooks and cleanups)", b"Scenario: four",
               b"(rule, line 12: hooks and cleanups)"]
     skipped = re.findall(rb"^  \S.* \.\.\. skipped$", printed, re.MULTILINE)
     yield unless("again.sh of rules", status == 1 and headings == wanted and skipped == [b"  Scenario: one ... skipped"], printed.decode(), fault.decode())
+
+
+def run_troubles(folder):
+    """Where hooks or cleanups of the run failed, or nothing can be run again, again.sh ends with 1; --stop leaves what it didn't reach."""
+    good = "Feature: good\n  Scenario: one\n    Given it passes\n"
+    driver.write(folder, {"one.feature": good, "two.feature": good, "before.hooks": "before_all:\n  Given it fails\n",
+                          "after.hooks": "after_all:\n  Given it fails\n", "cleanup.hooks": "before_all:\n  Given at cleanup it fails\n",
+                          "bad.feature": "Feature: bad\n  Scenario: one\n    Given it fails\n", "empty.feature": "# nothing\n"})
+    for hooks, verdict in (("before.hooks", b"untested"), ("after.hooks", b"passed"), ("cleanup.hooks", b"passed")):
+        status, printed, fault = again(folder, f"--hooks {hooks}", "one.feature two.feature")
+        scenarios = re.findall(rb"^  Scenario: one \.\.\. (\w+)$", printed, re.MULTILINE)
+        yield unless(f"again.sh after {hooks}", status == 1 and scenarios == [verdict] * 2, printed.decode(), fault.decode())
+    status, printed, fault = again(folder, "--hooks before.hooks", "empty.feature")
+    yield unless("again.sh with nothing to run", (status, printed) == (1, b""), fault.decode())
+    status, printed, fault = again(folder, "--stop", "bad.feature one.feature")
+    yield unless("again.sh after --stop", status == 1 and printed.count(b"Feature: ") == 1, printed.decode(), fault.decode())
+    status, printed, fault = again(folder, "", "one.feature")
+    yield unless("again.sh of what passed", (status, printed, fault) == (0, b"", b""), printed.decode(), fault.decode())
+
+
+def again(folder, options, files):
+    """What again.sh says of a run with these options."""
+    return shell(folder, f"./run {options} --format json {files} > ended.json; examples/recipes/again.sh ended.json ./run {options}")
+
+
+def usage_troubles(folder):
+    """Without arguments each script prints its usage alone, and ends with 2."""
+    for script in ("recipes/again.sh", "recipes/check.sh", "recipes/long.sh", "add_reports.sh"):
+        status, printed, fault = shell(folder, f"examples/{script}")
+        said = fault.decode()
+        yield unless(f"{script} without arguments", (status, printed, said.count("\n")) == (2, b"", 1) and said.startswith(f"usage: examples/{script} "), said)
 
 
 def sum_troubles(folder, name, command, whole):

@@ -3,21 +3,28 @@
 #
 # REPORT is the JSON report of the run in which it failed. Each file of it with something that failed is run by itself,
 # with the options and the lines of those scenarios, and of all those of a rule whose hooks and cleanups failed; whole where
-# the feature's own did. Ends with the greatest status. It needs jq.
+# the feature's own did. Where those of the run did, each file of the report is run whole. Ends with the greatest status,
+# or with the report's, where there is nothing in it to run. It needs jq.
 set -eu
 
+[ $# -ge 2 ] || {
+    echo "usage: examples/recipes/again.sh REPORT PROGRAM [OPTION].." >&2
+    exit 2
+}
 report=$1
 shift
 runs=$(jq --raw-output '
     def is_bad: . == "failed" or . == "memory";
-    .features[]
+    (.run != "passed") as $all
+    | .features[]
     | (.rules // []) as $rules
     | [range($rules | length) | select($rules[.].around | is_bad) | [$rules[.].line, $rules[. + 1].line // infinite]] as $parts
     | [.scenarios[] | select((.status | is_bad) or (.line as $line | any($parts[]; .[0] < $line and $line < .[1]))) | .line] as $lines
-    | if .around | is_bad then ["--", .source]
+    | if $all or (.around | is_bad) then ["--", .source]
       elif $lines == [] then empty
       else [$lines[] | "--line", tostring] + ["--", .source] end
     | "again \"$@\" " + @sh' "$report") || exit 3
+[ -n "$runs" ] || exit "$(jq .status "$report")"
 worst=0
 
 again() {

@@ -5,6 +5,10 @@
 # counts.
 set -eu
 
+[ $# -ge 2 ] || {
+    echo "usage: examples/recipes/check.sh PROGRAM [OPTION].. FILE.." >&2
+    exit 2
+}
 room=$(mktemp -d)
 trap 'rm -rf "$room"' EXIT
 trap 'exit 1' HUP INT TERM

@@ -6,6 +6,10 @@
 # script ends as that part did, and prints no report; where a part is killed it ends with 3. It needs jq.
 set -eu
 
+[ $# -ge 1 ] || {
+    echo "usage: examples/recipes/long.sh PROGRAM [OPTION].. < NAMES" >&2
+    exit 2
+}
 here=$(dirname -- "$(readlink -f -- "$0")")
 room=$(mktemp -d)
 trap 'rm -rf "$room"' EXIT

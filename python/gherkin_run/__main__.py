@@ -3,12 +3,41 @@
 from __future__ import annotations
 
 import argparse
+import re
 import sys
-from typing import List, Optional, Tuple
+from typing import Any, List, Optional, Tuple
 
 from gherkin_run.runs import FORMATS, Fault, run
 
-MEMORY, READING = 4, 3
+# The statuses at which a file can't be read or the report can't be written, and at which memory ran out.
+INPUT_OR_OUTPUT, MEMORY = 3, 4
+
+
+def _ended(text: str, status: int) -> int:
+    """Writes a text to standard output. Returns this status, or the one of an output that fails."""
+    try:
+        with open(1, "wb", closefd=False) as output:
+            output.write(text.encode("utf-8"))
+    except OSError:
+        print("gherkin_run: cannot write", file=sys.stderr)
+        return INPUT_OR_OUTPUT
+    return status
+
+
+class _Parser(argparse.ArgumentParser):
+    """A parser whose help may fail to be written."""
+
+    def print_help(self, file: Any = None) -> None:
+        self.exit(_ended(self.format_help(), 0))
+
+
+class _Once(argparse.Action):
+    """An option that may be given once. Where it isn't given there is no value of it."""
+
+    def __call__(self, parser: argparse.ArgumentParser, namespace: argparse.Namespace, values: Any, option_string: Optional[str] = None) -> None:
+        if hasattr(namespace, self.dest):
+            raise argparse.ArgumentError(self, "can't be given twice")
+        setattr(namespace, self.dest, True if self.nargs == 0 else values)
 
 
 def _variable(text: str) -> Tuple[str, str]:
@@ -18,38 +47,51 @@ def _variable(text: str) -> Tuple[str, str]:
     return name, value
 
 
+def _line(text: str) -> int:
+    if not re.fullmatch(r"\+?[0-9]+", text):
+        raise argparse.ArgumentTypeError(f"{text} isn't the number of a line")
+    return int(text)
+
+
 def _options() -> argparse.ArgumentParser:
-    options = argparse.ArgumentParser(prog="gherkin_run", description="Runs Gherkin feature files.", allow_abbrev=False)
-    options.add_argument("features", nargs="+", metavar="FILE")
-    options.add_argument("--library", metavar="FILE")
-    options.add_argument("--hooks", metavar="FILE")
-    options.add_argument("--format", choices=FORMATS, default="plain")
-    options.add_argument("--tags", action="append", default=[], metavar="TEXT")
-    options.add_argument("--line", dest="lines", action="append", default=[], type=int, metavar="N")
+    options = _Parser(prog="gherkin_run", usage="%(prog)s [OPTION].. FILE..", description="Runs Gherkin feature files.", allow_abbrev=False,
+                      argument_default=argparse.SUPPRESS)
+    options.add_argument("features", nargs="*", default=[], metavar="FILE")
+    options.add_argument("--library", action=_Once, metavar="FILE")
+    options.add_argument("--hooks", action=_Once, metavar="FILE")
+    options.add_argument("--format", action=_Once, choices=FORMATS)
+    options.add_argument("--tags", action="append", metavar="TEXT")
+    options.add_argument("--line", dest="lines", action="append", type=_line, metavar="N")
     options.add_argument("--env", action="append", default=[], type=_variable, metavar="NAME=TEXT")
-    options.add_argument("--dry-run", action="store_true")
-    options.add_argument("--stop", action="store_true")
-    options.add_argument("--no-skipped", action="store_true")
+    options.add_argument("--dry-run", action=_Once, nargs=0)
+    options.add_argument("--stop", action=_Once, nargs=0)
+    options.add_argument("--no-skipped", action=_Once, nargs=0)
     return options
 
 
 def main(words: Optional[List[str]] = None) -> int:
-    """Runs what the words of a command line ask for, and returns the status."""
-    asked = vars(_options().parse_args(words))
+    """Runs what the words of a command line ask for, and returns the status. Where they can't be read it exits with 2."""
+    words = sys.argv[1:] if words is None else words
+    options, cut = _options(), words.index("--") if "--" in words else len(words)
+    asked = vars(options.parse_intermixed_args(words[:cut]))
+    asked["features"] = asked["features"] + words[cut + 1:]
     asked["env"] = dict(asked["env"])
+    if not asked["features"]:
+        options.error("no FILE is named")
     try:
         report = run(**asked)
     except Fault as fault:
         print(f"gherkin_run: {fault}", file=sys.stderr)
         return fault.status
+    except ValueError as error:
+        options.error(str(error))
     except OSError as error:
         print(f"gherkin_run: {error.filename}: cannot read", file=sys.stderr)
-        return READING
+        return INPUT_OR_OUTPUT
     except MemoryError:
         print("gherkin_run: out of memory", file=sys.stderr)
         return MEMORY
-    sys.stdout.buffer.write(report.text.encode("utf-8"))
-    return report.status
+    return _ended(report.text, report.status)
 
 
 if __name__ == "__main__":

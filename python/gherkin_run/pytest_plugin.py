@@ -80,4 +80,5 @@ class Scenario(pytest.Item):
         return super().repr_failure(excinfo, style)
 
     def reportinfo(self) -> Any:
-        return self.path, self.line - 1, self.name
+        # pytest writes :: for the periods of a text at which the test's id ends, so this one has the file's name before it.
+        return self.path, self.line - 1, f"{self.path.name}: {self.name}"

@@ -1,0 +1,3 @@
+Feature: Blanks
+  Scenario: None
+    Given it passes

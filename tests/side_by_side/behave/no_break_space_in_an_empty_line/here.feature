@@ -1,0 +1,5 @@
+Feature: Blanks
+  Scenario: An empty line
+    Given it passes
+
+    And it passes

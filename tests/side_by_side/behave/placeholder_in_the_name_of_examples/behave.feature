@@ -1,0 +1,6 @@
+Feature: Outlines
+  Scenario Outline: A lamp
+    Given it passes
+    Examples: in the <room>
+      | room |
+      | hall |

@@ -1,0 +1,3 @@
+Feature: Outlines
+  Scenario Outline: Without examples
+    Given it fails

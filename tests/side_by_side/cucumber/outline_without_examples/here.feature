@@ -1,0 +1,3 @@
+Feature: Outlines
+  Scenario: Without examples
+    Given it fails

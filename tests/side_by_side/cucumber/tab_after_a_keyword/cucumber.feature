@@ -1,0 +1,3 @@
+Feature: Keywords
+  Scenario: A tab after the keyword
+    Given	it fails

@@ -1,0 +1,3 @@
+Feature: Keywords
+  Scenario: In a comment
+    # Given it fails

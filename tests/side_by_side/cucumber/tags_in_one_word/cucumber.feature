@@ -1,0 +1,4 @@
+Feature: Tags
+  @a@b
+  Scenario: Two tags in one word
+    Given it passes
