@@ -1,7 +1,7 @@
 -- What a call hands over, and what it asks for.
-use Rattle.std.specs.Prelude.{◌≡◌, ◌⊎◌, ◌==◌, IsUtf8, ℕ, Bool, true, false, List, map, nat_eq, if◌then◌else◌, Option, Some, None, Result, Ok, Err, option_map, string_bytes, Vec, String}
+use Rattle.std.specs.Prelude.{◌≡◌, ◌⊎◌, ◌==◌, IsUtf8, ℕ, Bool, true, false, List, map, nat_eq, if◌then◌else◌, Option, Some, None, Result, Ok, Err, option_map, string_bytes, IsSome, Vec, String}
 use denote.Ref.{Bor}
-use Rattle.std.specs.List.{Any, list_any}
+use Rattle.std.specs.List.{All, Any, list_any}
 use Rattle.std.specs.declared.alloc.Global.{Global}
 use Rattle.gk_report.specs.declared.report.Format.{Format}
 use Rattle.gk_report.specs.declared.report.Format.TheVariants.{Plain, Progress, Json}
@@ -105,6 +105,22 @@ HasBadName (Some file) = IsNoText file.name
 abbrev pub HasNoText : CallValue → Type 0
 HasNoText call = Any IsNoText call.tags ⊎ (HasBadName call.library ⊎ (HasBadName call.hooks ⊎ Any (λ s. IsNoText s.name) call.sources))
 
+-- The name of a file that may be given is UTF-8.
+abbrev pub HasName : Option SourceValue → Type 0
+HasName None = Unit {0}
+HasName (Some file) = IsUtf8 file.name
+
+-- The texts of tags and the names of files are UTF-8.
+pub record AreTexts (call : CallValue) : Type 0 where
+  pub tags : All IsUtf8 call.tags
+  pub library : HasName call.library
+  pub hooks : HasName call.hooks
+  pub sources : All (λ s. IsUtf8 s.name) call.sources
+
+-- The number of a call's format is that of one.
+abbrev pub HasFormat : CallValue → Type 0
+HasFormat call = IsSome (format_by call.format)
+
 -- Proof machinery, from here on: what a `GivenFile` says.
 abbrev pub given_value : GivenFile → SourceValue
 given_value file = record { name = file.name.now; bytes = file.bytes.now }
@@ -115,65 +131,56 @@ request_read read = request_of read.options (bytes_by (option_map given_value re
 
 -- A text is the bytes, or these aren't UTF-8.
 abbrev pub SaysText : List ℕ → Result (Bor (List ℕ)) CallFault → Type 0
-SaysText bytes (Ok text) = text.now ≡ bytes
+SaysText bytes (Ok text) = (text.now ≡ bytes) × IsUtf8 bytes
 SaysText bytes (Err NotUtf8) = IsNoText bytes
 SaysText bytes (Err fault) = ⊥
 
 -- A copy is the bytes, or these aren't UTF-8, or memory was refused.
 abbrev pub SaysCopy : List ℕ → Result (String Global) CallFault → Type 0
-SaysCopy bytes (Ok text) = string_bytes text ≡ bytes
+SaysCopy bytes (Ok text) = (string_bytes text ≡ bytes) × IsUtf8 bytes
 SaysCopy bytes (Err NotUtf8) = IsNoText bytes
 SaysCopy bytes (Err (Run Memory)) = Unit {0}
 SaysCopy bytes (Err fault) = ⊥
 
 -- Copies of texts, or one of them isn't UTF-8.
 abbrev pub SaysTexts : List (List ℕ) → Result (Vec (String Global) Global) CallFault → Type 0
-SaysTexts texts (Ok copies) = map string_bytes copies.items ≡ texts
+SaysTexts texts (Ok copies) = (map string_bytes copies.items ≡ texts) × All IsUtf8 texts
 SaysTexts texts (Err NotUtf8) = Any IsNoText texts
 SaysTexts texts (Err (Run Memory)) = Unit {0}
 SaysTexts texts (Err fault) = ⊥
 
 -- A copy of a file, or its name isn't UTF-8.
 abbrev pub SaysSource : SourceValue → Result Source CallFault → Type 0
-SaysSource file (Ok source) = source_value source ≡ file
+SaysSource file (Ok source) = (source_value source ≡ file) × IsUtf8 file.name
 SaysSource file (Err NotUtf8) = IsNoText file.name
 SaysSource file (Err (Run Memory)) = Unit {0}
 SaysSource file (Err fault) = ⊥
 
 -- Copies of files, or the name of one of them isn't UTF-8.
 abbrev pub SaysSources : List SourceValue → Result (Vec Source Global) CallFault → Type 0
-SaysSources files (Ok sources) = map source_value sources.items ≡ files
+SaysSources files (Ok sources) = (map source_value sources.items ≡ files) × All (λ s. IsUtf8 s.name) files
 SaysSources files (Err NotUtf8) = Any (λ s. IsNoText s.name) files
 SaysSources files (Err (Run Memory)) = Unit {0}
 SaysSources files (Err fault) = ⊥
 
 -- The file that may be given, or its name isn't UTF-8.
 abbrev pub SaysGiven : Option SourceValue → Result (Option GivenFile) CallFault → Type 0
-SaysGiven file (Ok read) = option_map given_value read ≡ file
+SaysGiven file (Ok read) = (option_map given_value read ≡ file) × HasName file
 SaysGiven file (Err NotUtf8) = HasBadName file
 SaysGiven file (Err fault) = ⊥
-
--- A copy of the lines, or line 0 is among them.
-abbrev pub SaysLines : List ℕ → Result (Vec ℕ Global) CallFault → Type 0
-SaysLines lines (Ok copy) = (has_line_zero lines ≡ false) × (copy.items ≡ lines)
-SaysLines lines (Err LineZero) = has_line_zero lines ≡ true
-SaysLines lines (Err (Run Memory)) = Unit {0}
-SaysLines lines (Err fault) = ⊥
 
 -- The options are those of the call.
 pub record AreOptions (call : CallValue) (format : Format) (options : Options) : Type 0 where
   pub tags : map string_bytes options.tags.items ≡ call.tags
   pub lines : options.lines.items ≡ call.lines
-  pub from_one : has_line_zero call.lines ≡ false
   pub dry_run : options.dry_run ≡ call.dry_run
   pub stop : options.stop ≡ call.stop
   pub style : options.style ≡ record { format = format; no_skipped = call.no_skipped }
 
 -- The options of a call, or why there are none.
 abbrev pub SaysOptions : CallValue → Format → Result Options CallFault → Type 0
-SaysOptions call format (Ok options) = AreOptions call format options
+SaysOptions call format (Ok options) = AreOptions call format options × All IsUtf8 call.tags
 SaysOptions call format (Err NotUtf8) = Any IsNoText call.tags
-SaysOptions call format (Err LineZero) = has_line_zero call.lines ≡ true
 SaysOptions call format (Err (Run Memory)) = Unit {0}
 SaysOptions call format (Err fault) = ⊥
 
@@ -183,20 +190,20 @@ pub record IsReadIn (call : CallValue) (format : Format) (read : ReadCall) : Typ
   pub library : option_map given_value read.library ≡ call.library
   pub hooks : option_map given_value read.hooks ≡ call.hooks
   pub sources : map source_value read.sources.items ≡ call.sources
+  pub texts : AreTexts call
 
 -- What a call asks for in a format, or why it can't be read.
 abbrev pub SaysReadIn : CallValue → Format → Result ReadCall CallFault → Type 0
 SaysReadIn call format (Ok read) = IsReadIn call format read
 SaysReadIn call format (Err NotUtf8) = HasNoText call
-SaysReadIn call format (Err LineZero) = has_line_zero call.lines ≡ true
 SaysReadIn call format (Err (Run Memory)) = Unit {0}
 SaysReadIn call format (Err fault) = ⊥
 
--- The same, where the call's number is that of a format.
+-- The same, where the call's number is that of a format, and no line is 0.
 abbrev pub SaysRead : CallValue → Result ReadCall CallFault → Type 0
-SaysRead call (Ok read) = (format : Format) × (format_by call.format ≡ Some format) × IsReadIn call format read
+SaysRead call (Ok read) = (format : Format) × (format_by call.format ≡ Some format) × (has_line_zero call.lines ≡ false) × IsReadIn call format read
 SaysRead call (Err UnknownFormat) = format_by call.format ≡ None
-SaysRead call (Err NotUtf8) = HasNoText call
-SaysRead call (Err LineZero) = has_line_zero call.lines ≡ true
+SaysRead call (Err LineZero) = HasFormat call × (has_line_zero call.lines ≡ true)
+SaysRead call (Err NotUtf8) = HasFormat call × (has_line_zero call.lines ≡ false) × HasNoText call
 SaysRead call (Err (Run Memory)) = Unit {0}
 SaysRead call (Err fault) = ⊥

@@ -1,6 +1,6 @@
 -- What a call is answered.
-use Rattle.std.specs.Prelude.{◌≡◌, ◌≢◌, ◌⊎◌, ℕ, true, false, List, [], ◌∷◌, Some, None, Result, Ok, Err, IsSome}
-use Rattle.std.specs.List.{All, Any}
+use Rattle.std.specs.Prelude.{◌≡◌, ◌≢◌, ◌⊎◌, ◌++◌, IsUtf8, ℕ, true, false, List, [], ◌∷◌, Some, None, Result, Ok, Err, IsSome}
+use Rattle.std.specs.List.{All}
 use Rattle.gk_world.specs.State.{Contents, nothing_yet}
 use Rattle.gk_world.specs.Refusals.{put_refusal}
 use Rattle.gk_world.specs.Sandbox.{SandboxValue, with_env}
@@ -15,7 +15,7 @@ use Rattle.gk_cli.specs.RunFault.{IsUnread}
 use Rattle.gk_cli.specs.declared.run_fault.RunFault.TheVariants.{Memory}
 use Rattle.gk_cli.specs.Suite.{AreJudged, run_with}
 use Rattle.gk_c.specs.Answer.{IsReport, IsNoReport}
-use Rattle.gk_c.specs.Call.{CallValue, HasNoText, IsNoText, format_by, has_line_zero, request_by, request_read}
+use Rattle.gk_c.specs.Call.{AreTexts, CallValue, HasFormat, HasNoText, IsNoText, format_by, has_line_zero, request_by, request_read}
 use Rattle.gk_c.specs.CallFault.{line_of_call, line_of_read, place_of_call, status_of_call}
 use Rattle.gk_c.specs.declared.answer.Answer.{Answer}
 use Rattle.gk_c.specs.declared.call.ReadCall.{ReadCall}
@@ -31,17 +31,30 @@ with_variables c (v ∷ vs) = with_variables (with_env c v.name v.text) vs
 abbrev pub contents_by : List PairValue → Contents
 contents_by variables = with_variables nothing_yet variables
 
--- A variable that no sandbox takes: a bad name, or a text too long.
-abbrev pub IsRefused : PairValue → Type 0
-IsRefused v = IsSome (put_refusal v.name v.text)
-
--- A sandbox takes every one of these variables.
-abbrev pub AreTaken : List PairValue → Type 0
-AreTaken variables = All (λ v. put_refusal v.name v.text ≡ None) variables
-
 -- The name or the text of a variable isn't UTF-8.
 abbrev pub IsNoVariable : PairValue → Type 0
 IsNoVariable v = IsNoText v.name ⊎ IsNoText v.text
+
+-- A variable of two texts that no sandbox takes: it has a bad name, or a text too long.
+abbrev pub IsRefused : PairValue → Type 0
+IsRefused v = IsUtf8 v.name × IsUtf8 v.text × IsSome (put_refusal v.name v.text)
+
+-- A variable of two texts that a sandbox takes.
+abbrev pub IsTaken : PairValue → Type 0
+IsTaken v = IsUtf8 v.name × IsUtf8 v.text × (put_refusal v.name v.text ≡ None)
+
+-- A sandbox takes every one of these variables.
+abbrev pub AreTaken : List PairValue → Type 0
+AreTaken variables = All IsTaken variables
+
+-- The first of these variables that isn't taken is bad in this way.
+pub record HasFirstBad (IsBad : PairValue → Type 0) (variables : List PairValue) : Type 0 where
+  pub before : List PairValue
+  pub variable : PairValue
+  pub after : List PairValue
+  pub whole : variables ≡ before ++ variable ∷ after
+  pub taken : AreTaken before
+  pub bad : IsBad variable
 
 -- The text is the report of a judged list of results, and the status is that list's.
 pub record IsJudgedText (r : Request) (contents : Contents) (text : List ℕ) (answer : ℕ) : Type 0 where
@@ -71,16 +84,21 @@ pub record IsReportAnswer (call : CallValue) (old new : List ℕ) (answer : Answ
   pub format : Format
   pub known : format_by call.format ≡ Some format
   pub from_one : has_line_zero call.lines ≡ false
+  pub texts : AreTexts call
   pub run : IsRunReport call.variables (request_by call format) old new answer
 
--- What each fault says of the call; refused memory says nothing of it.
+-- A call whose format is known, without line 0.
+abbrev pub IsCountable : CallValue → Type 0
+IsCountable call = HasFormat call × (has_line_zero call.lines ≡ false)
+
+-- What each fault says of the call, the first in this order: an unknown format, line 0, a text of tags or a name that isn't UTF-8, the first variable that isn't taken, and what of the run doesn't read. Refused memory says nothing of it.
 abbrev pub SaysCallFault : CallValue → CallFault → Type 0
 SaysCallFault call UnknownFormat = format_by call.format ≡ None
-SaysCallFault call NotUtf8 = HasNoText call ⊎ Any IsNoVariable call.variables
-SaysCallFault call LineZero = has_line_zero call.lines ≡ true
-SaysCallFault call BadVariable = Any IsRefused call.variables
+SaysCallFault call LineZero = HasFormat call × (has_line_zero call.lines ≡ true)
+SaysCallFault call NotUtf8 = IsCountable call × (HasNoText call ⊎ AreTexts call × HasFirstBad IsNoVariable call.variables)
+SaysCallFault call BadVariable = IsCountable call × AreTexts call × HasFirstBad IsRefused call.variables
 SaysCallFault call (Run Memory) = Unit {0}
-SaysCallFault call (Run fault) = (format : Format) × (format_by call.format ≡ Some format) × IsUnread (request_by call format) fault
+SaysCallFault call (Run fault) = IsCountable call × AreTexts call × AreTaken call.variables × (format : Format) × (format_by call.format ≡ Some format) × IsUnread (request_by call format) fault
 
 -- A fault is answered: one that holds of the call, with its line, its status and its place.
 pub record IsFaultAnswer (call : CallValue) (old new : List ℕ) (answer : Answer) : Type 0 where
@@ -94,7 +112,7 @@ IsAnswer call old new answer = IsReportAnswer call old new answer ⊎ IsFaultAns
 
 -- Proof machinery, from here on: a variable is in the sandbox, or why not.
 abbrev pub SaysPutOne : PairValue → SandboxValue → SandboxValue → Result (Unit {0}) CallFault → Type 0
-SaysPutOne v old new (Ok u) = (new.now ≡ with_env old.now v.name v.text) × (new.saved ≡ old.saved) × (put_refusal v.name v.text ≡ None)
+SaysPutOne v old new (Ok u) = (new.now ≡ with_env old.now v.name v.text) × (new.saved ≡ old.saved) × IsTaken v
 SaysPutOne v old new (Err NotUtf8) = IsNoVariable v
 SaysPutOne v old new (Err BadVariable) = IsRefused v
 SaysPutOne v old new (Err (Run Memory)) = Unit {0}
@@ -103,16 +121,17 @@ SaysPutOne v old new (Err fault) = ⊥
 -- The variables are in the sandbox, and its layers are as before; or one of them can't be.
 abbrev pub SaysPut : List PairValue → SandboxValue → SandboxValue → Result (Unit {0}) CallFault → Type 0
 SaysPut variables old new (Ok u) = (new.now ≡ with_variables old.now variables) × (new.saved ≡ old.saved) × AreTaken variables
-SaysPut variables old new (Err NotUtf8) = Any IsNoVariable variables
-SaysPut variables old new (Err BadVariable) = Any IsRefused variables
+SaysPut variables old new (Err NotUtf8) = HasFirstBad IsNoVariable variables
+SaysPut variables old new (Err BadVariable) = HasFirstBad IsRefused variables
 SaysPut variables old new (Err (Run Memory)) = Unit {0}
 SaysPut variables old new (Err fault) = ⊥
 
 -- Why a run of what was read has no report.
 abbrev pub SaysRunFault : List PairValue → Request → CallFault → Type 0
-SaysRunFault variables r NotUtf8 = Any IsNoVariable variables
-SaysRunFault variables r BadVariable = Any IsRefused variables
-SaysRunFault variables r (Run fault) = IsUnread r fault
+SaysRunFault variables r NotUtf8 = HasFirstBad IsNoVariable variables
+SaysRunFault variables r BadVariable = HasFirstBad IsRefused variables
+SaysRunFault variables r (Run Memory) = Unit {0}
+SaysRunFault variables r (Run fault) = AreTaken variables × IsUnread r fault
 SaysRunFault variables r fault = ⊥
 
 -- This fault is answered, or refused memory in its place.

@@ -1,6 +1,6 @@
 //! What a call hands over, and reading it.
 ghost use Rattle.std.specs.Prelude.{◌≡◌, map};
-ghost use Rattle.gk_c.specs.Call.{call_value, format_by, given, source_named, text_value, SaysCopy, SaysGiven, SaysLines, SaysOptions, SaysRead, SaysReadIn, SaysSource, SaysSources, SaysText, SaysTexts};
+ghost use Rattle.gk_c.specs.Call.{call_value, format_by, given, source_named, text_value, SaysCopy, SaysGiven, SaysOptions, SaysRead, SaysReadIn, SaysSource, SaysSources, SaysText, SaysTexts};
 
 use crate::call_fault::CallFault;
 use gk_cli::{Options, Source};
@@ -145,22 +145,12 @@ fn given_from<'a>(is_given: bool, file: &Named<'a>) -> Result<Option<GivenFile<'
     }
 }
 
-// Lines begin at 1, so a line 0 is a mistake.
-fn lines_from(alloc: Global, lines: &[u32]) -> Result<Vec<u32>, CallFault>
-    ensures { SaysLines lines.now result }
-{
-    if lines.contains(&0) {
-        return Err(CallFault::LineZero);
-    }
-    Ok(Vec::from_slice(alloc, lines)?)
-}
-
 fn options_from(alloc: Global, call: &Call, format: Format) -> Result<Options, CallFault>
     ensures { SaysOptions (call_value call.now) format result }
 {
     Ok(Options {
         tags: texts_from(alloc, call.tags)?,
-        lines: lines_from(alloc, call.lines)?,
+        lines: Vec::from_slice(alloc, call.lines)?,
         dry_run: call.dry_run,
         stop: call.stop,
         style: Style {
@@ -181,14 +171,19 @@ fn read_in<'a>(alloc: Global, call: &Call<'a>, format: Format) -> Result<ReadCal
     })
 }
 
-/// What a call asks for, but for its variables. A number of no format is `UnknownFormat`, and comes before the others. A
-/// name or a text of `--tags` that isn't UTF-8 is `NotUtf8`, a line 0 is `LineZero`. Refused memory may come in place
-/// of any answer.
+/// What a call asks for, but for its variables. A number of no format is `UnknownFormat`, else a line 0 is `LineZero`,
+/// since lines begin at 1, else a name or a text of `--tags` that isn't UTF-8 is `NotUtf8`. Refused memory may come in
+/// place of any other answer.
 pub fn read_call<'a>(alloc: Global, call: &Call<'a>) -> Result<ReadCall<'a>, CallFault>
     ensures { SaysRead (call_value call.now) result }
 {
     match format_of_number(call.format) {
-        Some(format) => read_in(alloc, call, format),
+        Some(format) => {
+            if call.lines.contains(&0) {
+                return Err(CallFault::LineZero);
+            }
+            read_in(alloc, call, format)
+        }
         None => Err(CallFault::UnknownFormat),
     }
 }
