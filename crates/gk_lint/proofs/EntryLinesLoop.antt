@@ -7,7 +7,7 @@ use Rattle.gk_lint.specs.LibraryUse.{entry_line, entry_lines}
 
 -- all: the texts of the lines; i: how many are read; n: the next line's number
 module _ (all : List (List ℕ)) (i n : ℕ) (text : List ℕ) (within : i < length all) (is : text ≡ get_or all i text) where
-  next : numbered_from n (drop i all) ≡ line_at n text ∷ numbered_from (n + 1) (drop (i + 1) all)
+  pub next : numbered_from n (drop i all) ≡ line_at n text ∷ numbered_from (n + 1) (drop (i + 1) all)
   next =
       let here : drop i all ≡ get_or all i text ∷ drop (suc i) all = drop-cons all i text within in
       let one : i + 1 ≡ suc i = add-one i in

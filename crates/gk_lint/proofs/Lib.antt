@@ -1,4 +1,6 @@
 pub mod Letters
+pub mod CommonLetters
+pub mod ExchangedLetters
 pub mod OneLetterOff
 pub mod LineOrder
 pub mod NamedAgain
@@ -7,6 +9,7 @@ pub mod RunSteps
 pub mod RisingNumbers
 pub mod EntryLinesLoop
 pub mod MisspeltLoop
+pub mod OneLine
 pub mod WorkedLikeness
 pub mod WorkedFindings
 pub mod WorkedUse

@@ -1,23 +1,17 @@
 -- What is found line after line, as the loop finds it.
-use Rattle.std.proofs.Common.{◌≡◌, ℕ, suc, ◌+◌, ◌<◌, ◌≤◌, List, ◌∷◌, ◌++◌, length, drop, get_or, sym, ap, ◌∙◌, add-one, append_assoc}
-use Rattle.std.proofs.Math.Seq.{drop-cons}
+use Rattle.std.proofs.Common.{◌≡◌, ℕ, ◌+◌, ◌<◌, ◌≤◌, List, ◌++◌, length, drop, get_or, sym, ap, ◌∙◌, append_assoc}
 use Rattle.std.proofs.lemmas.List.{drop_all, append-nil}
 use Rattle.gk_gherkin.specs.Lines.{LineValue, line_at, numbered_from}
 use Rattle.gk_lint.specs.declared.findings.Finding.{Finding}
 use Rattle.gk_lint.specs.declared.standing.Standing.{Standing}
 use Rattle.gk_lint.specs.Standing.{after}
 use Rattle.gk_lint.specs.Misspelt.{misspelt, misspelt_at}
+use Rattle.gk_lint.proofs.EntryLinesLoop.{next}
 
 -- all: the texts of the lines; i: how many are read; n: the next line's number
 module _ (standing : Standing) (all : List (List ℕ)) (i n : ℕ) (text : List ℕ) (within : i < length all) (is : text ≡ get_or all i text) where
-  next : numbered_from n (drop i all) ≡ line_at n text ∷ numbered_from (n + 1) (drop (i + 1) all)
-  next =
-      let here : drop i all ≡ get_or all i text ∷ drop (suc i) all = drop-cons all i text within in
-      let one : i + 1 ≡ suc i = add-one i in
-      ap (numbered_from n) here ∙ ap (λ (x : List ℕ). line_at n x ∷ numbered_from (n + 1) (drop (suc i) all)) (sym is) ∙ ap (λ (k : ℕ). line_at n text ∷ numbered_from (n + 1) (drop k all)) (sym one)
-
   pub one_line : (before : List Finding) → before ++ misspelt standing (numbered_from n (drop i all)) ≡ (before ++ misspelt_at standing (line_at n text)) ++ misspelt (after standing (line_at n text)) (numbered_from (n + 1) (drop (i + 1) all))
-  one_line before = ap (λ (ls : List LineValue). before ++ misspelt standing ls) next ∙ sym (append_assoc before (misspelt_at standing (line_at n text)) (misspelt (after standing (line_at n text)) (numbered_from (n + 1) (drop (i + 1) all))))
+  one_line before = ap (λ (ls : List LineValue). before ++ misspelt standing ls) (next all i n text within is) ∙ sym (append_assoc before (misspelt_at standing (line_at n text)) (misspelt (after standing (line_at n text)) (numbered_from (n + 1) (drop (i + 1) all))))
 
 pub no_line : (standing : Standing) (all : List (List ℕ)) (i n : ℕ) (before : List Finding) → length all ≤ i → before ++ misspelt standing (numbered_from n (drop i all)) ≡ before
 no_line standing all i n before over = ap (λ (ls : List (List ℕ)). before ++ misspelt standing (numbered_from n ls)) (drop_all i all over) ∙ append-nil before

@@ -1,17 +1,18 @@
 -- What is found in small files, worked by computation.
-use Rattle.std.proofs.Common.{codes, ◌≡◌, List, [], ◌∷◌, Some, None, refl}
+use Rattle.std.proofs.Common.{codes, ◌≡◌, List, [], ◌∷◌, ◌++◌, Some, None, refl}
 use Rattle.gk_gherkin.specs.declared.feature.StepType.TheVariants.{Given}
 use Rattle.gk_gherkin.specs.Class.{class, class_of, class_of_words}
 use Rattle.gk_gherkin.specs.DocStrings.{closes}
 use Rattle.gk_gherkin.specs.Feature.{Empty, StepValue, ExamplesValue, ScenarioValue, FeatureValue}
 use Rattle.gk_gherkin.specs.Lines.{Lines, line_at}
-use Rattle.gk_lint.specs.declared.findings.FindingKind.TheVariants.{FileWithoutFeature, FeatureWithoutScenarios, ScenarioWithoutSteps, OutlineWithoutRows, LikeKeyword}
+use Rattle.gk_lint.specs.declared.findings.FindingKind.TheVariants.{CrAlone, FileWithoutFeature, FeatureWithoutScenarios, ScenarioWithoutSteps, OutlineWithoutRows, LikeKeyword, StepOutside}
 use Rattle.gk_lint.specs.declared.keywords.Keyword.TheVariants as keywords
 use Rattle.gk_lint.specs.declared.standing.Standing.TheVariants.{Elsewhere}
 use Rattle.gk_lint.specs.Findings.{at_line}
-use Rattle.gk_lint.specs.Likeness.{same_letters, common_len, differ_at_first, is_one_off, spelt_heading, like}
+use Rattle.gk_lint.specs.Likeness.{same_letters, common_len, differ_at_first, is_one_off, is_exchanged, spelt_heading, spelt_step, like}
 use Rattle.gk_lint.specs.Standing.{after}
 use Rattle.gk_lint.specs.Misspelt.{misspelt, misspelt_at}
+use Rattle.gk_lint.specs.LineEnds.{cr_alone}
 use Rattle.gk_lint.specs.Vanishing.{of_scenario, of_feature, vanishing}
 
 -- Two misspelt lines; the same words in a doc string are content.
@@ -29,21 +30,29 @@ with_text =
     ∷ []
 
 misspelt_lines : misspelt Elsewhere with_text ≡ at_line 2 (LikeKeyword keywords.Scenario) ∷ at_line 4 (LikeKeyword keywords.When) ∷ []
-unfolding with_text misspelt_at after closes class class_of class_of_words like spelt_heading is_one_off differ_at_first common_len same_letters
+unfolding with_text misspelt_at after closes class class_of class_of_words like spelt_heading spelt_step is_one_off is_exchanged differ_at_first common_len same_letters
 misspelt_lines = refl
 
--- In a description a fence opens nothing, and neither does one after a line that only looks like a step.
+-- In a description a fence opens nothing, and neither does one after a step that stands outside of a scenario. A step with `And` isn't found there.
 with_fences : Lines
 with_fences =
     line_at 1 (codes "Feature: The lamp")
     ∷ line_at 2 (codes "  Given light")
     ∷ line_at 3 (codes "  ```")
     ∷ line_at 4 (codes "  Rul: one")
+    ∷ line_at 5 (codes "  And more")
     ∷ []
 
-misspelt_in_description : misspelt Elsewhere with_fences ≡ at_line 4 (LikeKeyword keywords.Rule) ∷ []
-unfolding with_fences misspelt_at after closes class class_of class_of_words like spelt_heading is_one_off differ_at_first common_len same_letters
+misspelt_in_description : misspelt Elsewhere with_fences ≡ at_line 2 StepOutside ∷ at_line 4 (LikeKeyword keywords.Rule) ∷ []
+unfolding with_fences misspelt_at after closes class class_of class_of_words like spelt_heading spelt_step is_one_off is_exchanged differ_at_first common_len same_letters
 misspelt_in_description = refl
+
+-- One line with a carriage return in it, and two lines.
+one_with_cr : cr_alone (line_at 1 (codes "Feature: F" ++ 13 ∷ codes "Scenario: S") ∷ []) ≡ at_line 1 CrAlone ∷ []
+one_with_cr = refl
+
+two_with_cr : cr_alone (line_at 1 (codes "Feature: F" ++ 13 ∷ codes "Scenario: S") ∷ line_at 2 (codes "text") ∷ []) ≡ []
+two_with_cr = refl
 
 a_step : StepValue
 a_step = record { keyword = codes "Given"; step_type = Given; text = codes "a lamp"; block = Empty; line = 4 }

@@ -1,16 +1,19 @@
 -- What is found of steps, libraries, names, hooks and lines, worked by computation.
 use Rattle.std.proofs.Common.{codes, ◌≡◌, ℕ, true, false, List, [], ◌∷◌, Option, Some, None, refl}
 use Rattle.gk_gherkin.specs.declared.feature.StepType.TheVariants.{Given}
-use Rattle.gk_gherkin.specs.declared.hooks.HookKind.TheVariants.{BeforeTag}
+use Rattle.gk_gherkin.specs.declared.hooks.HookKind.TheVariants.{BeforeTag, AfterTag}
 use Rattle.gk_gherkin.specs.Feature.{Empty, Text, Table, StepValue, ExamplesValue, ScenarioValue, FeatureValue}
 use Rattle.gk_gherkin.specs.Hooks.{HookValue}
 use Rattle.gk_gherkin.specs.Lines.{Lines, line_at}
 use Rattle.gk_select.specs.Filling.{filled, filled_from, cell_under}
-use Rattle.gk_steps.specs.declared.action.Action.TheVariants.{FileIs, WriteFiles, FileExists, SetValue}
+use Rattle.gk_steps.specs.declared.action.Action.TheVariants.{FileIs, WriteFiles, FileExists, SetValue, AtCleanup, SkipScenario}
 use Rattle.gk_lint.specs.declared.findings.FindingKind.TheVariants.{NameTwice, OfStep, UnusedEntry, HookOfNoTag}
-use Rattle.gk_lint.specs.declared.step_faults.StepFault.TheVariants.{Undefined, NoText, NoTable, BadTable, IgnoredText, IgnoredTable}
+use Rattle.gk_lint.specs.declared.step_faults.StepFault.TheVariants.{Undefined, NotAllowed, NoText, NoTable, BadTable, IgnoredText, IgnoredTable}
 use Rattle.gk_lint.specs.Findings.{at_line, named_once}
 use Rattle.gk_lint.specs.StepFaults.{all_faults}
+use Rattle.gk_lint.specs.declared.step_sites.StepSite.TheVariants.{Cleanup}
+use Rattle.gk_lint.specs.StepSites.{site_of_hook}
+use Rattle.gk_lint.specs.Lookups.{site_faults}
 use Rattle.gk_lint.specs.Blocks.{block_faults}
 use Rattle.gk_lint.specs.WrittenSteps.{runs_in}
 use Rattle.gk_lint.specs.LibraryUse.{unused_entries}
@@ -37,6 +40,19 @@ table_for_text = refl
 
 text_for_none : block_faults FileExists false (Text (codes "red")) ≡ IgnoredText ∷ []
 text_for_none = refl
+
+-- A scenario is skipped in a hook before a tag, and neither in one after it nor in a cleanup, which registers nothing.
+skip_before_tag : site_faults SkipScenario (site_of_hook BeforeTag) ≡ []
+skip_before_tag = refl
+
+skip_after_tag : site_faults SkipScenario (site_of_hook AfterTag) ≡ NotAllowed ∷ []
+skip_after_tag = refl
+
+register_after_tag : site_faults AtCleanup (site_of_hook AfterTag) ≡ []
+register_after_tag = refl
+
+register_in_cleanup : site_faults AtCleanup Cleanup ≡ NotAllowed ∷ []
+register_in_cleanup = refl
 
 -- A table of files, another one, and none.
 files : block_faults WriteFiles false (Table ((codes "name" ∷ codes "text" ∷ []) ∷ (codes "a" ∷ codes "1" ∷ []) ∷ [])) ≡ []

@@ -3,7 +3,7 @@ use Rattle.std.specs.Prelude.{codes, ◌≡◌, ℕ, Bool, ◌==◌, List, [], �
 use Rattle.std.specs.List.Sorted.{IsNonDecreasingBy}
 use Rattle.gk_lint.specs.declared.findings.Finding.{Finding}
 use Rattle.gk_lint.specs.declared.findings.FindingKind.{FindingKind}
-use Rattle.gk_lint.specs.declared.findings.FindingKind.TheVariants.{FileWithoutFeature, FeatureWithoutScenarios, ScenarioWithoutSteps, OutlineWithoutRows, LikeKeyword, NameTwice, OfStep, UnusedEntry, HookOfNoTag}
+use Rattle.gk_lint.specs.declared.findings.FindingKind.TheVariants.{CrAlone, FileWithoutFeature, FeatureWithoutScenarios, ScenarioWithoutSteps, OutlineWithoutRows, LikeKeyword, StepOutside, NameTwice, OfStep, UnusedEntry, HookOfNoTag}
 use Rattle.gk_lint.specs.declared.step_faults.StepFault.{StepFault}
 use Rattle.gk_lint.specs.Keywords.{spelling}
 use Rattle.gk_lint.specs.StepFaults.{fault_text, has_fault}
@@ -22,10 +22,12 @@ named_once these line faults = flat_map (λ fault. found_if (has_fault faults fa
 
 -- The text of a finding, which names the keyword as it has to be spelt.
 unfoldable pub finding_text : FindingKind → List ℕ
+finding_text CrAlone = codes "file whose lines end with CR alone"
 finding_text FileWithoutFeature = codes "file without feature"
 finding_text FeatureWithoutScenarios = codes "feature without scenarios"
 finding_text ScenarioWithoutSteps = codes "scenario without steps"
 finding_text OutlineWithoutRows = codes "outline without rows"
+finding_text StepOutside = codes "step outside of a scenario"
 finding_text NameTwice = codes "scenario with the name of one before it"
 finding_text (OfStep fault) = fault_text fault
 finding_text HookOfNoTag = codes "hook for a tag that stands nowhere"

@@ -8,8 +8,10 @@ pub mod Misspelt
 pub mod Vanishing
 pub mod TextSets
 pub mod ScenarioNames
+pub mod LineEnds
 pub mod FeatureFile
 pub mod Blocks
+pub mod StepSites
 pub mod Lookups
 pub mod WrittenSteps
 pub mod LibraryUse

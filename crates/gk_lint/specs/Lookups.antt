@@ -1,12 +1,15 @@
 -- What is wrong with a step as it is run, and which entries of the library it finds.
-use Rattle.std.specs.Prelude.{codes, ℕ, Bool, List, [], ◌∷◌, flat_map, Option, Some, None, is_some, unwrap_or}
+use Rattle.std.specs.Prelude.{codes, not, ℕ, Bool, List, [], ◌∷◌, ◌++◌, flat_map, Option, Some, None, is_some, unwrap_or}
 use Rattle.gk_gherkin.specs.Feature.{BlockValue, StepValue}
 use Rattle.gk_steps.specs.declared.action.Action.{Action}
 use Rattle.gk_steps.specs.declared.action.Action.TheVariants as actions
 use Rattle.gk_steps.specs.Finding.{LibraryValue, FoundValue, found, found_any, action_of, text_field}
-use Rattle.gk_lint.specs.Blocks.{block_faults}
+use Rattle.gk_lint.specs.Blocks.{block_faults, fault_if}
 use Rattle.gk_lint.specs.declared.step_faults.StepFault.{StepFault}
-use Rattle.gk_lint.specs.declared.step_faults.StepFault.TheVariants.{Undefined, CleanupWithoutStep}
+use Rattle.gk_lint.specs.declared.step_faults.StepFault.TheVariants.{Undefined, CleanupWithoutStep, NotAllowed}
+use Rattle.gk_lint.specs.declared.step_sites.StepSite.{StepSite}
+use Rattle.gk_lint.specs.declared.step_sites.StepSite.TheVariants.{Cleanup}
+use Rattle.gk_lint.specs.StepSites.{may_stand}
 
 -- The text of the step that `at_cleanup` registers. (behave's documentation: cleanups)
 abbrev pub cleanup_text : LibraryValue → FoundValue → List ℕ
@@ -16,24 +19,28 @@ cleanup_text library f = unwrap_or (text_field library f (codes "step")) []
 abbrev pub has_text : LibraryValue → FoundValue → Bool
 has_text library f = is_some (text_field library f (codes "text"))
 
+-- What is wrong with the place of an action: that it always fails there.
+abbrev pub site_faults : Action → StepSite → List StepFault
+site_faults action site = fault_if (not (may_stand action site)) NotAllowed
+
 -- What is wrong with a cleanup, by what its text finds among the entries of type `step`: it is carried out with the block of the step that registered it. (behave's documentation: cleanups)
 abbrev pub cleanup_faults : LibraryValue → Option FoundValue → BlockValue → List StepFault
 cleanup_faults library None block = CleanupWithoutStep ∷ []
-cleanup_faults library (Some f) block = block_faults (action_of library f) (has_text library f) block
+cleanup_faults library (Some f) block = site_faults (action_of library f) Cleanup ++ block_faults (action_of library f) (has_text library f) block
 
 -- What is wrong with a step whose entry has this action: `at_cleanup` hands the block on to the cleanup.
 abbrev pub action_faults : Action → LibraryValue → FoundValue → BlockValue → List StepFault
 action_faults actions.AtCleanup library f block = cleanup_faults library (found_any library (cleanup_text library f)) block
 action_faults action library f block = block_faults action (has_text library f) block
 
--- What is wrong with a step, by what its text finds.
-abbrev pub found_faults : LibraryValue → Option FoundValue → BlockValue → List StepFault
-found_faults library None block = Undefined ∷ []
-found_faults library (Some f) block = action_faults (action_of library f) library f block
+-- What is wrong with a step that is carried out at a site, by what its text finds.
+abbrev pub found_faults : LibraryValue → StepSite → Option FoundValue → BlockValue → List StepFault
+found_faults library site None block = Undefined ∷ []
+found_faults library site (Some f) block = site_faults (action_of library f) site ++ action_faults (action_of library f) library f block
 
--- What is wrong with a step as it is run: it finds no entry, it registers a cleanup that finds none, or the block is not what the action works with. (behave's documentation: step implementations, cleanups)
-unfoldable pub faults_of : LibraryValue → StepValue → List StepFault
-faults_of library step = found_faults library (found library step.step_type step.text) step.block
+-- What is wrong with a step as it is run at a site: it finds no entry, it registers a cleanup that finds none, an action isn't allowed where it is carried out, or the block is not what the action works with. (behave's documentation: step implementations, cleanups, skipping scenarios)
+unfoldable pub faults_of : LibraryValue → StepSite → StepValue → List StepFault
+faults_of library site step = found_faults library site (found library step.step_type step.text) step.block
 
 -- The place of the entry that was found.
 abbrev pub place_of : Option FoundValue → List ℕ
@@ -54,9 +61,9 @@ found_places library (Some f) = f.entry ∷ cleanup_places (action_of library f)
 unfoldable pub places_of : LibraryValue → StepValue → List ℕ
 places_of library step = found_places library (found library step.step_type step.text)
 
--- What is wrong with steps as they are run, one after the other.
-abbrev pub faults_in : LibraryValue → List StepValue → List StepFault
-faults_in library steps = flat_map (faults_of library) steps
+-- What is wrong with steps as they are run at a site, one after the other.
+abbrev pub faults_in : LibraryValue → StepSite → List StepValue → List StepFault
+faults_in library site steps = flat_map (faults_of library site) steps
 
 -- The places of the entries that steps find as they are run, one after the other.
 abbrev pub places_in : LibraryValue → List StepValue → List ℕ

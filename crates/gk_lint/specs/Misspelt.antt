@@ -1,32 +1,44 @@
--- Lines of descriptions that begin like a keyword.
+-- Lines of descriptions that were meant for something else: those that begin like a keyword, and steps outside of scenarios.
 use Rattle.std.specs.Prelude.{List, [], ◌∷◌, ◌++◌, Option, Some, None}
 use Rattle.gk_gherkin.specs.Lines.{LineValue, Lines}
 use Rattle.gk_gherkin.specs.Text.{trim}
 use Rattle.gk_lint.specs.declared.keywords.Keyword.{Keyword}
+use Rattle.gk_lint.specs.declared.keywords.Keyword.TheVariants.{Given, When, Then}
 use Rattle.gk_lint.specs.declared.findings.Finding.{Finding}
-use Rattle.gk_lint.specs.declared.findings.FindingKind.TheVariants.{LikeKeyword}
+use Rattle.gk_lint.specs.declared.findings.FindingKind.TheVariants.{LikeKeyword, StepOutside}
 use Rattle.gk_lint.specs.declared.standing.LineKind.{LineKind}
 use Rattle.gk_lint.specs.declared.standing.LineKind.TheVariants.{Description}
+use Rattle.gk_lint.specs.declared.standing.LineKind.TheVariants as kinds
 use Rattle.gk_lint.specs.declared.standing.Standing.{Standing}
-use Rattle.gk_lint.specs.declared.standing.Standing.TheVariants.{InText}
-use Rattle.gk_lint.specs.Findings.{at_line}
+use Rattle.gk_lint.specs.declared.standing.Standing.TheVariants.{Elsewhere, InText}
+use Rattle.gk_lint.specs.Findings.{at_line, found_if}
 use Rattle.gk_lint.specs.Likeness.{like}
-use Rattle.gk_lint.specs.Standing.{line_kind, after}
+use Rattle.gk_lint.specs.Standing.{begins_with_one_of, line_kind, after}
 
 -- What is found at a line that begins like a keyword, or like none.
 abbrev pub likened : LineValue → Option Keyword → List Finding
 likened line None = []
 likened line (Some keyword) = at_line line.line (LikeKeyword keyword) ∷ []
 
--- What is found at a line of this kind: a description that begins like a keyword.
-abbrev pub of_kind : LineValue → LineKind → List Finding
-of_kind line Description = likened line (like (trim line.text))
-of_kind line kind = []
+-- The keywords that steps begin with, before others join them by `And`, `But` or `*`, which begin a sentence or a bullet as well.
+abbrev pub opening_words : List Keyword
+opening_words = Given ∷ When ∷ Then ∷ []
+
+-- What is found at the line of a step that stands here: that it has one of these keywords, where no step can stand.
+abbrev pub of_step : Standing → LineValue → List Finding
+of_step Elsewhere line = found_if (begins_with_one_of opening_words (trim line.text)) line.line StepOutside
+of_step standing line = []
+
+-- What is found at a line of this kind that stands here: a description that begins like a keyword, or a step outside of a scenario.
+abbrev pub of_kind : Standing → LineValue → LineKind → List Finding
+of_kind standing line Description = likened line (like (trim line.text))
+of_kind standing line kinds.Step = of_step standing line
+of_kind standing line kind = []
 
 -- What is found at a line that stands here: a doc string may hold anything.
 unfoldable pub misspelt_at : Standing → LineValue → List Finding
 misspelt_at (InText fence) line = []
-misspelt_at standing line = of_kind line (line_kind line)
+misspelt_at standing line = of_kind standing line (line_kind line)
 
 -- What is found at lines, of which the first stands here.
 abbrev pub misspelt : Standing → Lines → List Finding

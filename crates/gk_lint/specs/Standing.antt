@@ -1,13 +1,16 @@
 -- Where a line stands: among steps, in a doc string or elsewhere.
-use Rattle.std.specs.Prelude.{ℕ, List, if◌then◌else◌}
+use Rattle.std.specs.Prelude.{ℕ, Bool, ◌&&◌, List, length, slice_index, if◌then◌else◌}
+use Rattle.std.specs.List.{list_any}
 use Rattle.gk_gherkin.specs.declared.class.Class.{Class}
 use Rattle.gk_gherkin.specs.declared.class.Class.TheVariants as classes
 use Rattle.gk_gherkin.specs.declared.class.Fence.{Fence}
 use Rattle.gk_gherkin.specs.declared.class.Fence.TheVariants as fences
 use Rattle.gk_gherkin.specs.Lines.{LineValue}
 use Rattle.gk_gherkin.specs.Class.{class, fence_text}
-use Rattle.gk_gherkin.specs.Text.{begins}
+use Rattle.gk_gherkin.specs.Text.{begins, is_blank}
 use Rattle.gk_gherkin.specs.DocStrings.{closes}
+use Rattle.gk_lint.specs.declared.keywords.Keyword.{Keyword}
+use Rattle.gk_lint.specs.Keywords.{keyword_text}
 use Rattle.gk_lint.specs.declared.standing.TextFence.{TextFence}
 use Rattle.gk_lint.specs.declared.standing.TextFence.TheVariants.{Quotes, Backticks}
 use Rattle.gk_lint.specs.declared.standing.LineKind.{LineKind}
@@ -37,7 +40,11 @@ kind_of (classes.FenceLine fences.Quotes) = kinds.Fence Quotes
 kind_of (classes.FenceLine fences.Backticks) = kinds.Fence Backticks
 kind_of classes.Other = Description
 
--- What a line with this trimmed text is where it begins neither as a heading nor as a step, a row, a comment or tags: a fence, or else a description.
+-- Whether a text begins with one of some keywords that a blank follows. (Cucumber's Gherkin reference: steps)
+abbrev pub begins_with_one_of : List Keyword → List ℕ → Bool
+begins_with_one_of words text = list_any (λ k. begins text (keyword_text k) && is_blank (slice_index text (length (keyword_text k)))) words
+
+-- Proof machinery: what a line with this trimmed text is where it begins neither as a heading nor as a step, a row, a comment or tags: a fence, or else a description.
 abbrev pub kind_of_rest : List ℕ → LineKind
 kind_of_rest text =
     if begins text (fence_text fences.Quotes) then kinds.Fence Quotes else

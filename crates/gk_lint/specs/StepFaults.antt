@@ -2,12 +2,13 @@
 use Rattle.std.specs.Prelude.{codes, ℕ, Bool, ◌==◌, List, [], ◌∷◌}
 use Rattle.std.specs.List.{list_any}
 use Rattle.gk_lint.specs.declared.step_faults.StepFault.{StepFault}
-use Rattle.gk_lint.specs.declared.step_faults.StepFault.TheVariants.{Undefined, CleanupWithoutStep, NoText, NoTable, BadTable, IgnoredText, IgnoredTable}
+use Rattle.gk_lint.specs.declared.step_faults.StepFault.TheVariants.{Undefined, CleanupWithoutStep, NotAllowed, NoText, NoTable, BadTable, IgnoredText, IgnoredTable}
 
 -- The text of a fault.
 abbrev pub fault_text : StepFault → List ℕ
 fault_text Undefined = codes "undefined step"
 fault_text CleanupWithoutStep = codes "cleanup without step"
+fault_text NotAllowed = codes "action that isn't allowed here"
 fault_text NoText = codes "step without the text that its action needs"
 fault_text NoTable = codes "step without the table that its action needs"
 fault_text BadTable = codes "table that isn't one of name and text"
@@ -16,17 +17,18 @@ fault_text IgnoredTable = codes "table that is ignored"
 
 -- The faults that a step can have.
 abbrev pub all_faults : List StepFault
-all_faults = Undefined ∷ CleanupWithoutStep ∷ NoText ∷ NoTable ∷ BadTable ∷ IgnoredText ∷ IgnoredTable ∷ []
+all_faults = Undefined ∷ CleanupWithoutStep ∷ NotAllowed ∷ NoText ∷ NoTable ∷ BadTable ∷ IgnoredText ∷ IgnoredTable ∷ []
 
 -- Where a fault stands among the faults.
 abbrev pub place_of_fault : StepFault → ℕ
 place_of_fault Undefined = 0
 place_of_fault CleanupWithoutStep = 1
-place_of_fault NoText = 2
-place_of_fault NoTable = 3
-place_of_fault BadTable = 4
-place_of_fault IgnoredText = 5
-place_of_fault IgnoredTable = 6
+place_of_fault NotAllowed = 2
+place_of_fault NoText = 3
+place_of_fault NoTable = 4
+place_of_fault BadTable = 5
+place_of_fault IgnoredText = 6
+place_of_fault IgnoredTable = 7
 
 -- Whether two faults are the same.
 abbrev pub is_same_fault : StepFault → StepFault → Bool

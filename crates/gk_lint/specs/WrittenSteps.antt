@@ -11,17 +11,21 @@ use Rattle.gk_select.specs.Outline.{is_outline}
 use Rattle.gk_steps.specs.Finding.{LibraryValue}
 use Rattle.gk_lint.specs.declared.findings.Finding.{Finding}
 use Rattle.gk_lint.specs.StepFaults.{all_faults}
+use Rattle.gk_lint.specs.declared.step_sites.StepSite.{StepSite}
+use Rattle.gk_lint.specs.declared.step_sites.StepSite.TheVariants as sites
+use Rattle.gk_lint.specs.StepSites.{site_of_hook}
 use Rattle.gk_lint.specs.Findings.{named_once}
 use Rattle.gk_lint.specs.Lookups.{faults_in, places_in}
 
--- A step as it is written, at its line, and the steps that it is run as.
+-- A step as it is written, at its line, where it is carried out, and the steps that it is run as.
 pub record WrittenStep : Type 0 where
   pub line : ℕ
+  pub site : StepSite
   pub runs : List StepValue
 
--- A step that is run as it is written.
-abbrev pub as_written : StepValue → WrittenStep
-as_written step = record { line = step.line; runs = step ∷ [] }
+-- A step that is run at a site as it is written.
+abbrev pub as_written : StepSite → StepValue → WrittenStep
+as_written site step = record { line = step.line; site = site; runs = step ∷ [] }
 
 -- A step filled from each of some rows under a header. (Cucumber's Gherkin reference: scenario outline)
 abbrev pub in_rows : StepValue → List (List ℕ) → List RowValue → List StepValue
@@ -37,7 +41,7 @@ runs_in s step = if is_outline s then in_examples step s.examples else step ∷ 
 
 -- A step of a scenario, and the steps that it is run as.
 abbrev pub in_scenario : ScenarioValue → StepValue → WrittenStep
-in_scenario s step = record { line = step.line; runs = runs_in s step }
+in_scenario s step = record { line = step.line; site = sites.Scenario; runs = runs_in s step }
 
 -- The steps of a scenario.
 abbrev pub of_scenario : ScenarioValue → List WrittenStep
@@ -49,7 +53,7 @@ of_scenarios scenarios = flat_map of_scenario scenarios
 
 -- The steps of a Background, if there is one. (Cucumber's Gherkin reference: background)
 abbrev pub of_background : Option BackgroundValue → List WrittenStep
-of_background background = map as_written (background_steps background)
+of_background background = map (as_written sites.Scenario) (background_steps background)
 
 -- The steps of a rule: of its Background, and of its scenarios. (Cucumber's Gherkin reference: rule)
 abbrev pub of_rule : RuleValue → List WrittenStep
@@ -67,13 +71,13 @@ of_feature f = of_background f.background ++ (of_scenarios f.scenarios ++ of_rul
 abbrev pub background_steps_of : FeatureValue → List StepValue
 background_steps_of f = background_steps f.background ++ flat_map (λ (r : RuleValue). background_steps r.background) f.rules
 
--- The steps that the written steps of a feature are run as are those of its cases and of its Backgrounds: whatever is asked of steps, one of the first answers yes exactly where one of the others does. So each step of a run is looked up, and no other but those of a Background that no case has.
+-- The steps that the written steps of a feature are run as are those of its cases and of its Backgrounds: whatever is asked of steps, one of the first answers yes exactly where one of the others does. So each step of a case is looked up, and no other but those of a Background that no case has.
 abbrev pub LooksUpWhatIsRun : Type 0
 LooksUpWhatIsRun = (f : FeatureValue) (asked : StepValue → Bool) → list_any asked (flat_map (λ (w : WrittenStep). w.runs) (of_feature f)) ≡ (list_any asked (flat_map (λ (c : CaseValue). c.steps) (cases f)) || list_any asked (background_steps_of f))
 
 -- The steps of a hook. (behave's documentation: environment file functions)
 abbrev pub of_hook : HookValue → List WrittenStep
-of_hook h = map as_written h.steps
+of_hook h = map (as_written (site_of_hook h.kind)) h.steps
 
 -- The steps of hooks, one hook after the other. (behave's documentation: environment file functions)
 abbrev pub of_hooks : List HookValue → List WrittenStep
@@ -81,7 +85,7 @@ of_hooks hooks = flat_map of_hook hooks
 
 -- What is found at a written step: each fault that it has as it is run, in some row or other.
 abbrev pub at_step : LibraryValue → WrittenStep → List Finding
-at_step library written = named_once all_faults written.line (faults_in library written.runs)
+at_step library written = named_once all_faults written.line (faults_in library written.site written.runs)
 
 -- What is found of written steps, one after the other.
 abbrev pub found_in : LibraryValue → List WrittenStep → List Finding

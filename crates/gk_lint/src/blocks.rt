@@ -65,7 +65,8 @@ fn is_of_files(rows: &[Vec<String>]) -> bool
     }
 }
 
-fn add_if(faults: &mut Vec<StepFault>, holds: bool, fault: StepFault) -> Result<(), AllocError>
+/// Adds a fault where a test holds. An error comes only where a growth was refused.
+pub fn add_if(faults: &mut Vec<StepFault>, holds: bool, fault: StepFault) -> Result<(), AllocError>
     ensures { OnOk result (faults.new.items ≡ faults.old.items ++ spec.fault_if holds fault) }
 {
     if holds {
@@ -89,7 +90,8 @@ fn add_table_faults(
     add_if(faults, true, StepFault::IgnoredTable)
 }
 
-/// Adds what is wrong with what stands under a step of this action, whose pattern has a field `text` or not.
+/// Adds what is wrong with what stands under a step of this action, whose pattern has a field `text` or not. An error
+/// comes only where a growth was refused; some of it may have been added then.
 pub fn add_block_faults(
     faults: &mut Vec<StepFault>,
     action: Action,

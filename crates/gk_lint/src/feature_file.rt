@@ -10,6 +10,7 @@ ghost use Rattle.gk_lint.specs.FeatureFile as spec;
 ghost use Rattle.gk_lint.specs.FeatureFile.{AreOfFile};
 
 use crate::findings::{Finding, in_order};
+use crate::line_ends::add_cr_alone;
 use crate::misspelt::add_misspelt;
 use crate::scenario_names::add_same_names;
 use crate::vanishing::add_vanishing;
@@ -31,15 +32,16 @@ pub fn lint_feature(
         findings.items) }
 {
     let mut findings = Vec::new(alloc);
+    add_cr_alone(&mut findings, text)?;
     add_vanishing(&mut findings, feature)?;
     add_same_names(&mut findings, alloc, feature)?;
     add_misspelt(&mut findings, text)?;
     in_order(findings)
 }
 
-/// What is found in a feature file of these bytes, in the order of lines: that it has no feature, that
-/// the feature has no scenarios, scenarios without steps, outlines without rows, scenarios with the name of one
-/// before them, and the lines of descriptions that begin like a keyword.
+/// What is found in a feature file of these bytes, in the order of lines: that its lines end with CR alone, that it has
+/// no feature, that the feature has no scenarios, scenarios without steps, outlines without rows, scenarios with the
+/// name of one before them, the lines of descriptions that begin like a keyword, and steps outside of scenarios.
 ///
 /// Where the file doesn't read, the error is the fault that `read_feature` returns of it. `Memory`
 /// comes only where a growth was refused.

@@ -11,6 +11,8 @@ use std::alloc::{AllocError, Global};
 /// What was found.
 #[derive(Clone, Copy, Debug, PartialEq, Eq)]
 pub enum FindingKind {
+    /// The lines of the file end with CR alone, which ends no line, so that it is read as one. It is found at line 1.
+    CrAlone,
     /// The file has no feature. It is found at line 1, in an empty file, too.
     FileWithoutFeature,
     /// The feature has no scenarios, and none of its rules has any.
@@ -21,6 +23,8 @@ pub enum FindingKind {
     OutlineWithoutRows,
     /// The line of a description begins like the keyword.
     LikeKeyword(Keyword),
+    /// A step with `Given`, `When` or `Then` stands where no step can, and so is part of a description.
+    StepOutside,
     /// A scenario before it in the feature has the same name.
     NameTwice,
     /// The step has the fault as it is run, in some row where it stands in an outline.
@@ -39,18 +43,21 @@ pub struct Finding {
 }
 
 impl FindingKind {
-    /// The text of a finding, which names the keyword as it has to be spelt.
+    /// The text of a finding, which names the keyword as it has to be spelt. An error comes only where a growth was
+    /// refused.
     #[tactic(auto, unfolding(crate::specs::Findings::finding_text))]
     pub fn text(self, alloc: Global) -> Result<String, AllocError>
         ensures { IfOk result (λ text. string_bytes text ≡ spec.finding_text self) }
     {
         match self {
+            FindingKind::CrAlone => String::from_str(alloc, "file whose lines end with CR alone"),
             FindingKind::FileWithoutFeature => String::from_str(alloc, "file without feature"),
             FindingKind::FeatureWithoutScenarios => {
                 String::from_str(alloc, "feature without scenarios")
             }
             FindingKind::ScenarioWithoutSteps => String::from_str(alloc, "scenario without steps"),
             FindingKind::OutlineWithoutRows => String::from_str(alloc, "outline without rows"),
+            FindingKind::StepOutside => { String::from_str(alloc, "step outside of a scenario") }
             FindingKind::NameTwice => {
                 String::from_str(alloc, "scenario with the name of one before it")
             }
@@ -68,7 +75,7 @@ impl FindingKind {
     }
 }
 
-/// Adds a finding at a line where a test holds.
+/// Adds a finding at a line where a test holds. An error comes only where a growth was refused.
 pub fn add_if(
     findings: &mut Vec<Finding>,
     holds: bool,
@@ -84,7 +91,8 @@ pub fn add_if(
     Ok(())
 }
 
-/// Adds what is found at a line with some faults: each of these once, however often it stands among them.
+/// Adds what is found at a line with some faults: each of these once, however often it stands among them. An error comes
+/// only where a growth was refused; some of it may have been added then.
 pub fn add_once(
     findings: &mut Vec<Finding>,
     these: &[StepFault],
@@ -101,7 +109,8 @@ pub fn add_once(
     Ok(())
 }
 
-/// The same findings in the order of their lines. Those of one line stay in their order.
+/// The same findings in the order of their lines. Those of one line stay in their order. An error comes only where a
+/// growth was refused; the findings are gone then.
 pub fn in_order(findings: Vec<Finding>) -> Result<Vec<Finding>, AllocError>
     ensures { IfOk result (λ ordered. AreInOrder findings.items ordered.items) }
 {

@@ -47,7 +47,7 @@ fn entry_lines(alloc: Global, text: &str) -> Result<Vec<u32>, AllocError>
     Ok(found)
 }
 
-/// The same numbers in rising order.
+/// The same numbers in rising order. An error comes only where a growth was refused.
 pub fn rising(alloc: Global, numbers: &[usize]) -> Result<Vec<usize>, AllocError>
     ensures rising { IfOk result (λ r. IsNonDecreasing r.items) }
     ensures same { IfOk result (λ r. (n : ℕ) → is_among r.items n ≡ is_among numbers.now n) }

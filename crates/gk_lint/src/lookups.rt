@@ -4,8 +4,9 @@ ghost use Rattle.gk_gherkin.specs.Feature.{step_value, block_value};
 ghost use Rattle.gk_steps.specs.Finding.{library_value, found_value, found_any, action_of};
 ghost use Rattle.gk_lint.specs.Lookups as spec;
 
-use crate::blocks::add_block_faults;
+use crate::blocks::{add_block_faults, add_if};
 use crate::step_faults::StepFault;
+use crate::step_sites::{StepSite, may_stand};
 use gk_gherkin::{Block, Step};
 use gk_steps::{Action, Found, Library};
 use std::alloc::{AllocError, Global};
@@ -30,6 +31,18 @@ fn has_text(library: &Library, found: &Found) -> bool
     ensures { result ≡ spec.has_text (library_value library.now) (found_value found.now) }
 {
     library.text(found, "text").is_some()
+}
+
+// Adds that an action always fails at a site, where it does.
+fn add_site_faults(
+    faults: &mut Vec<StepFault>,
+    action: Action,
+    site: StepSite,
+) -> Result<(), AllocError>
+    ensures { OnOk result (faults.new.items ≡ faults.old.items ++ spec.site_faults action site) }
+{
+    let fails = !may_stand(action, site);
+    add_if(faults, fails, StepFault::NotAllowed)
 }
 
 impl Lookups {
@@ -61,8 +74,10 @@ impl Lookups {
         match library.find_any(alloc, text)? {
             Some(found) => {
                 self.used.push(found.entry)?;
+                let action = library.action(&found);
+                add_site_faults(&mut self.faults, action, StepSite::Cleanup)?;
                 let has_text = has_text(library, &found);
-                add_block_faults(&mut self.faults, library.action(&found), has_text, block)
+                add_block_faults(&mut self.faults, action, has_text, block)
             }
             None => {
                 self.faults.push(StepFault::CleanupWithoutStep)?;
@@ -98,17 +113,25 @@ impl Lookups {
         }
     }
 
-    /// Looks a step up as it is run.
+    /// Looks a step up as it is run at a site. An error comes only where a growth was refused; some of what was found may
+    /// have been added then.
     #[tactic(auto, unfolding(crate::specs::Lookups::faults_of, crate::specs::Lookups::places_of))]
-    pub fn add(&mut self, alloc: Global, library: &Library, step: &Step) -> Result<(), AllocError>
+    pub fn add(
+        &mut self,
+        alloc: Global,
+        library: &Library,
+        site: StepSite,
+        step: &Step,
+    ) -> Result<(), AllocError>
         ensures faults { OnOk result (self.new.faults.items ≡ self.old.faults.items
-            ++ spec.faults_of (library_value library.now) (step_value step.now)) }
+            ++ spec.faults_of (library_value library.now) site (step_value step.now)) }
         ensures used { OnOk result (self.new.used.items ≡ self.old.used.items
             ++ spec.places_of (library_value library.now) (step_value step.now)) }
     {
         match library.find(alloc, step.step_type, step.text.as_str())? {
             Some(found) => {
                 self.used.push(found.entry)?;
+                add_site_faults(&mut self.faults, library.action(&found), site)?;
                 self.add_found(alloc, library, &found, &step.block)
             }
             None => {

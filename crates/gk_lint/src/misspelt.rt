@@ -1,33 +1,77 @@
-//! Lines of descriptions that begin like a keyword.
+//! Lines of descriptions that were meant for something else: those that begin like a keyword, and steps outside of
+//! scenarios.
 ghost use Rattle.std.specs.Prelude.{◌≡◌, ◌≤◌, ◌++◌, OnOk, length};
 ghost use Rattle.std.specs.Str.Lines.{lines};
 ghost use Rattle.gk_gherkin.specs.Lines.{borrowed_value, numbered_from};
+ghost use Rattle.gk_gherkin.specs.Text.{trim};
+ghost use Rattle.gk_lint.specs.Likeness.{like};
 ghost use Rattle.gk_lint.specs.Misspelt as spec;
 ghost use Rattle.gk_lint.specs.Standing.{line_kind};
 ghost use Rattle.gk_lint.specs.declared.standing.Standing.TheVariants.{Elsewhere};
 
-use crate::findings::{Finding, FindingKind};
+use crate::findings::{Finding, FindingKind, add_if};
+use crate::keywords::Keyword;
 use crate::likeness::like;
-use crate::standing::{LineKind, Standing, after, line_kind};
+use crate::standing::{LineKind, Standing, after, begins_with_one_of, line_kind};
 use gk_gherkin::text::trim;
 use gk_gherkin::{BorrowedLine, LIMIT, borrowed_line};
 use std::alloc::AllocError;
 
-// Adds what is found at a line outside of doc strings.
+// The keywords that steps begin with, before others join them.
+const OPENING_WORDS: [Keyword; 3] = [Keyword::Given, Keyword::When, Keyword::Then];
+
+// Adds what is found at a line of a description.
 fn add_like(findings: &mut Vec<Finding>, line: &BorrowedLine<'_>) -> Result<(), AllocError>
     ensures { OnOk result (findings.new.items ≡ findings.old.items
-        ++ spec.of_kind (borrowed_value line.now) (line_kind (borrowed_value line.now))) }
+        ++ spec.likened (borrowed_value line.now) (like (trim (borrowed_value line.now).text))) }
 {
-    if let LineKind::Description = line_kind(line) {
-        if let Some(keyword) = like(trim(line.text)) {
-            let kind = FindingKind::LikeKeyword(keyword);
-            findings.push(Finding {
-                line: line.place.line,
-                kind,
-            })?;
-        }
+    if let Some(keyword) = like(trim(line.text)) {
+        findings.push(Finding {
+            line: line.place.line,
+            kind: FindingKind::LikeKeyword(keyword),
+        })?;
     }
     Ok(())
+}
+
+// Adds what is found at the line of a step that stands here.
+fn add_step(
+    findings: &mut Vec<Finding>,
+    standing: Standing,
+    line: &BorrowedLine<'_>,
+) -> Result<(), AllocError>
+    ensures { OnOk result (findings.new.items ≡ findings.old.items
+        ++ spec.of_step standing (borrowed_value line.now)) }
+{
+    match standing {
+        Standing::Elsewhere => {
+            let is_meant = begins_with_one_of(trim(line.text), &OPENING_WORDS);
+            add_if(
+                findings,
+                is_meant,
+                line.place.line,
+                FindingKind::StepOutside,
+            )
+        }
+        _ => Ok(()),
+    }
+}
+
+// Adds what is found at a line that stands here, outside of doc strings.
+fn add_of_kind(
+    findings: &mut Vec<Finding>,
+    standing: Standing,
+    line: &BorrowedLine<'_>,
+) -> Result<(), AllocError>
+    ensures { OnOk result (findings.new.items ≡ findings.old.items
+        ++ spec.of_kind standing (borrowed_value line.now)
+        (line_kind (borrowed_value line.now))) }
+{
+    match line_kind(line) {
+        LineKind::Description => add_like(findings, line),
+        LineKind::Step => add_step(findings, standing, line),
+        _ => Ok(()),
+    }
 }
 
 // Adds what is found at a line that stands here.
@@ -42,11 +86,12 @@ fn add_at(
 {
     match standing {
         Standing::InText(_) => Ok(()),
-        _ => add_like(findings, line),
+        _ => add_of_kind(findings, standing, line),
     }
 }
 
-/// Adds what is found at the lines of a text.
+/// Adds what is found at the lines of a text. An error comes only where a growth was refused; some of it may have been
+/// added then.
 pub fn add_misspelt(findings: &mut Vec<Finding>, text: &str) -> Result<(), AllocError>
     requires { length text.now ≤ LIMIT }
     ensures { OnOk result (findings.new.items ≡ findings.old.items

@@ -78,7 +78,8 @@ fn add_named_again(
     Ok(())
 }
 
-/// Adds each scenario of a file's feature that has the name of one before it.
+/// Adds each scenario of a file's feature that has the name of one before it. An error comes only where a growth was
+/// refused; some of them may have been added then.
 pub fn add_same_names(
     findings: &mut Vec<Finding>,
     alloc: Global,

@@ -4,8 +4,6 @@ ghost use Rattle.gk_gherkin.specs.Text.{begins, is_blank};
 ghost use Rattle.gk_gherkin.specs.Lines.{borrowed_value};
 ghost use Rattle.gk_gherkin.specs.Class as words;
 ghost use Rattle.gk_gherkin.specs.DocStrings as texts;
-ghost use Rattle.std.specs.List.{list_any};
-ghost use Rattle.gk_lint.specs.Keywords.{keyword_text};
 ghost use Rattle.gk_lint.specs.Standing as spec;
 
 use crate::keywords::{Keyword, STEP_WORDS};
@@ -56,9 +54,9 @@ fn begins_word(text: &str, word: &str) -> bool
     begins(text, word) && (word.len() < text.len() && is_blank(text.as_bytes()[word.len()]))
 }
 
-fn begins_with_one_word(text: &str, some: &[Keyword]) -> bool
-    ensures { result ≡ list_any (λ k. begins text.now (keyword_text k)
-        && is_blank (slice_index text.now (length (keyword_text k)))) some.now }
+/// Whether a text begins with one of some keywords that a blank follows.
+pub fn begins_with_one_of(text: &str, some: &[Keyword]) -> bool
+    ensures { result ≡ spec.begins_with_one_of some.now text.now }
 {
     some.iter().any(|word| begins_word(text, word.text()))
 }
@@ -66,7 +64,7 @@ fn begins_with_one_word(text: &str, some: &[Keyword]) -> bool
 fn begins_as_step(text: &str) -> bool
     ensures { result ≡ words.begins_as_step text.now }
 {
-    begins_with_one_word(text, &STEP_WORDS)
+    begins_with_one_of(text, &STEP_WORDS)
 }
 
 fn begins_as_scenario(text: &str) -> bool

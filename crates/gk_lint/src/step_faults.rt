@@ -10,6 +10,10 @@ pub enum StepFault {
     /// The step registers a cleanup whose text finds no entry of type `step`. (behave's documentation:
     /// cleanups)
     CleanupWithoutStep,
+    /// The action of the step, or of the cleanup that it registers, always fails where it is carried out: a cleanup that
+    /// registers another one or skips the scenario, or a hook that skips and isn't before a scenario. (behave's
+    /// documentation: cleanups, skipping scenarios)
+    NotAllowed,
     /// The action works with a text, and there is neither a field `text` nor a doc string.
     NoText,
     /// The action works with a table, and there is none.
@@ -27,6 +31,8 @@ const UNDEFINED: &str = "undefined step";
 
 const CLEANUP_WITHOUT_STEP: &str = "cleanup without step";
 
+const NOT_ALLOWED: &str = "action that isn't allowed here";
+
 const NO_TEXT: &str = "step without the text that its action needs";
 
 const NO_TABLE: &str = "step without the table that its action needs";
@@ -38,9 +44,10 @@ const IGNORED_TEXT: &str = "doc string that is ignored";
 const IGNORED_TABLE: &str = "table that is ignored";
 
 /// The faults that a step can have.
-pub const ALL_FAULTS: [StepFault; 7] = [
+pub const ALL_FAULTS: [StepFault; 8] = [
     StepFault::Undefined,
     StepFault::CleanupWithoutStep,
+    StepFault::NotAllowed,
     StepFault::NoText,
     StepFault::NoTable,
     StepFault::BadTable,
@@ -56,6 +63,7 @@ impl StepFault {
         match self {
             StepFault::Undefined => UNDEFINED,
             StepFault::CleanupWithoutStep => CLEANUP_WITHOUT_STEP,
+            StepFault::NotAllowed => NOT_ALLOWED,
             StepFault::NoText => NO_TEXT,
             StepFault::NoTable => NO_TABLE,
             StepFault::BadTable => BAD_TABLE,

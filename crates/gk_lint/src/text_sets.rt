@@ -22,7 +22,7 @@ impl<'a> TextSet<'a> {
         }
     }
 
-    /// Adds a text, and returns whether it is new.
+    /// Adds a text, and returns whether it is new. An error comes only where a growth was refused.
     pub fn add(&mut self, text: &'a str) -> Result<bool, AllocError>
         ensures is_new { IfOk result (λ is_new. is_new ≡ not (spec.in_set self.old text.now)) }
         ensures has { OnOk result ((other : List ℕ) →
@@ -39,7 +39,7 @@ impl<'a> TextSet<'a> {
     }
 }
 
-/// The set of some texts.
+/// The set of some texts. An error comes only where a growth was refused.
 pub fn set_of<'a>(alloc: Global, texts: &[&'a str]) -> Result<TextSet<'a>, AllocError>
     ensures { IfOk result (λ set. (text : List ℕ) →
         spec.in_set set text ≡ spec.is_one_of (map (λ t. t.now) texts.now) text) }

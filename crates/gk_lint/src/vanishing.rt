@@ -102,7 +102,8 @@ fn add_of_feature(findings: &mut Vec<Finding>, feature: &Feature) -> Result<(), 
     add_of_rules(findings, &feature.rules)
 }
 
-/// Adds what of a file's feature would vanish, or that the file has none.
+/// Adds what of a file's feature would vanish, or that the file has none. An error comes only where a growth was refused;
+/// some of it may have been added then.
 pub fn add_vanishing(
     findings: &mut Vec<Finding>,
     feature: &Option<Feature>,

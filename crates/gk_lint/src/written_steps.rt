@@ -10,12 +10,14 @@ ghost use Rattle.gk_steps.specs.Finding.{library_value};
 ghost use Rattle.gk_lint.specs.Findings.{AreInOrder, named_once};
 ghost use Rattle.gk_lint.specs.StepFaults.{all_faults};
 ghost use Rattle.gk_lint.specs.Lookups.{faults_in, places_in};
+ghost use Rattle.gk_lint.specs.declared.step_sites.StepSite.TheVariants as sites;
 ghost use Rattle.gk_lint.specs.WrittenSteps as spec;
 ghost use Rattle.gk_lint.specs.WrittenSteps.{found_in, used_in, LooksUpWhatIsRun};
 
 use crate::findings::{Finding, add_once, in_order};
 use crate::lookups::Lookups;
 use crate::step_faults::ALL_FAULTS;
+use crate::step_sites::{StepSite, site_of_hook};
 use crate::vanishing::is_outline;
 use gk_gherkin::{Background, Examples, Feature, Hook, HookFile, Rule, Scenario, Step};
 use gk_select::fill_step;
@@ -41,7 +43,7 @@ fn look_up_rows(
     requires { AllFit (examples_value part.now) }
     ensures faults { let e = examples_value part.now in
         OnOk result (lookups.new.faults.items ≡ lookups.old.faults.items
-        ++ faults_in (library_value library.now)
+        ++ faults_in (library_value library.now) sites.Scenario
         (spec.in_rows (step_value step.now) e.header e.rows)) }
     ensures used { let e = examples_value part.now in
         OnOk result (lookups.new.used.items ≡ lookups.old.used.items
@@ -50,7 +52,7 @@ fn look_up_rows(
 {
     for row in &part.rows {
         let filled = fill_step(alloc, step, &part.header, &row.cells)?;
-        lookups.add(alloc, library, &filled)?;
+        lookups.add(alloc, library, StepSite::Scenario, &filled)?;
     }
     Ok(())
 }
@@ -65,7 +67,7 @@ fn look_up_examples(
 ) -> Result<(), AllocError>
     requires { AllByRecursion AllFit (map examples_value parts.now) }
     ensures faults { OnOk result (lookups.new.faults.items ≡ lookups.old.faults.items
-        ++ faults_in (library_value library.now)
+        ++ faults_in (library_value library.now) sites.Scenario
         (spec.in_examples (step_value step.now) (map examples_value parts.now))) }
     ensures used { OnOk result (lookups.new.used.items ≡ lookups.old.used.items
         ++ places_in (library_value library.now)
@@ -87,7 +89,7 @@ fn look_up_runs(
 ) -> Result<(), AllocError>
     requires { AllByRecursion AllFit (scenario_value scenario.now).examples }
     ensures faults { OnOk result (lookups.new.faults.items ≡ lookups.old.faults.items
-        ++ faults_in (library_value library.now)
+        ++ faults_in (library_value library.now) sites.Scenario
         (spec.runs_in (scenario_value scenario.now) (step_value step.now))) }
     ensures used { OnOk result (lookups.new.used.items ≡ lookups.old.used.items
         ++ places_in (library_value library.now)
@@ -96,7 +98,7 @@ fn look_up_runs(
     if is_outline(scenario) {
         look_up_examples(lookups, alloc, library, step, &scenario.examples)
     } else {
-        lookups.add(alloc, library, step)
+        lookups.add(alloc, library, StepSite::Scenario, step)
     }
 }
 
@@ -171,21 +173,23 @@ fn add_scenarios(
     Ok(())
 }
 
-// Adds what is found of a step that is run as it is written.
+// Adds what is found of a step that is run at a site as it is written.
 fn add_plain_step(
     found: &mut StepFindings,
     alloc: Global,
     library: &Library,
+    site: StepSite,
     step: &Step,
 ) -> Result<(), AllocError>
     ensures found { OnOk result (found.new.findings.items ≡ found.old.findings.items
-        ++ spec.at_step (library_value library.now) (spec.as_written (step_value step.now))) }
+        ++ spec.at_step (library_value library.now)
+        (spec.as_written site (step_value step.now))) }
     ensures used { OnOk result (found.new.used.items ≡ found.old.used.items
         ++ places_in (library_value library.now)
-        (spec.as_written (step_value step.now)).runs) }
+        (spec.as_written site (step_value step.now)).runs) }
 {
     let mut lookups = Lookups::new(alloc);
-    lookups.add(alloc, library, step)?;
+    lookups.add(alloc, library, site, step)?;
     add_lookups(found, step.line, lookups)
 }
 
@@ -193,17 +197,18 @@ fn add_plain_steps(
     found: &mut StepFindings,
     alloc: Global,
     library: &Library,
+    site: StepSite,
     steps: &[Step],
 ) -> Result<(), AllocError>
     ensures found { OnOk result (found.new.findings.items ≡ found.old.findings.items
         ++ found_in (library_value library.now)
-        (map spec.as_written (map step_value steps.now))) }
+        (map (spec.as_written site) (map step_value steps.now))) }
     ensures used { OnOk result (found.new.used.items ≡ found.old.used.items
         ++ used_in (library_value library.now)
-        (map spec.as_written (map step_value steps.now))) }
+        (map (spec.as_written site) (map step_value steps.now))) }
 {
     for step in steps {
-        add_plain_step(found, alloc, library, step)?;
+        add_plain_step(found, alloc, library, site, step)?;
     }
     Ok(())
 }
@@ -222,7 +227,9 @@ fn add_background(
         (spec.of_background (option_map background_value background.now))) }
 {
     match background {
-        Some(background) => add_plain_steps(found, alloc, library, &background.steps),
+        Some(background) => {
+            add_plain_steps(found, alloc, library, StepSite::Scenario, &background.steps)
+        }
         None => Ok(()),
     }
 }
@@ -289,7 +296,7 @@ fn add_hook(
     ensures used { OnOk result (found.new.used.items ≡ found.old.used.items
         ++ used_in (library_value library.now) (spec.of_hook (hook_value hook.now))) }
 {
-    add_plain_steps(found, alloc, library, &hook.steps)
+    add_plain_steps(found, alloc, library, site_of_hook(hook.kind), &hook.steps)
 }
 
 fn add_hooks(
@@ -378,7 +385,7 @@ pub fn lint_hooks(
 }
 
 /// The steps that `lint_steps` looks up are those of the feature's cases, as `expand` returns them, and of its
-/// Backgrounds: each step that is run is looked up, and no other but those of a Background that no case has.
+/// Backgrounds: each step of a case is looked up, and no other but those of a Background that no case has.
 pub fn what_is_run_is_looked_up()
     ensures { LooksUpWhatIsRun }
 {}

@@ -6,6 +6,6 @@ use Rattle.gk_lint.proofs.written_steps.add_plain_steps.Given as goal
 
 abbrev pub invariant-loop-step : goal.invariant-loop-step
 invariant-loop-step l = record {
-  found : l.found.findings.items ++ found_in (library_value l.library) (map as_written (map step_value (drop l.step-index l.steps))) ≡ l.fn.found.findings.items ++ found_in (library_value l.library) (map as_written (map step_value l.steps));
-  used : l.found.used.items ++ used_in (library_value l.library) (map as_written (map step_value (drop l.step-index l.steps))) ≡ l.fn.found.used.items ++ used_in (library_value l.library) (map as_written (map step_value l.steps));
+  found : l.found.findings.items ++ found_in (library_value l.library) (map (as_written l.site) (map step_value (drop l.step-index l.steps))) ≡ l.fn.found.findings.items ++ found_in (library_value l.library) (map (as_written l.site) (map step_value l.steps));
+  used : l.found.used.items ++ used_in (library_value l.library) (map (as_written l.site) (map step_value (drop l.step-index l.steps))) ≡ l.fn.found.used.items ++ used_in (library_value l.library) (map (as_written l.site) (map step_value l.steps));
 }

@@ -1,0 +1,32 @@
+-- Where steps are carried out, and which actions may stand there.
+use Rattle.std.specs.Prelude.{Bool, true, false}
+use Rattle.gk_gherkin.specs.declared.hooks.HookKind.{HookKind}
+use Rattle.gk_gherkin.specs.declared.hooks.HookKind.TheVariants as kinds
+use Rattle.gk_steps.specs.declared.action.Action.{Action}
+use Rattle.gk_steps.specs.declared.action.Action.TheVariants as actions
+use Rattle.gk_lint.specs.declared.step_sites.StepSite.{StepSite}
+use Rattle.gk_lint.specs.declared.step_sites.StepSite.TheVariants.{Scenario, Hook, Cleanup}
+
+-- Where the steps of a hook are carried out. A hook before a tag is one of a scenario where the tag is a scenario's. (behave's documentation: environment file functions)
+abbrev pub site_of_hook : HookKind → StepSite
+site_of_hook kinds.BeforeScenario = Scenario
+site_of_hook kinds.BeforeTag = Scenario
+site_of_hook kind = Hook
+
+-- A step of a scenario, or of a hook before it, may skip the scenario. (behave's documentation: skipping scenarios)
+abbrev pub may_skip : StepSite → Bool
+may_skip Scenario = true
+may_skip Hook = false
+may_skip Cleanup = false
+
+-- Whatever isn't a cleanup may register one. (behave's documentation: cleanups)
+abbrev pub may_register : StepSite → Bool
+may_register Scenario = true
+may_register Hook = true
+may_register Cleanup = false
+
+-- Whether an action may stand at a site; where it may not, it always fails.
+abbrev pub may_stand : Action → StepSite → Bool
+may_stand actions.AtCleanup site = may_register site
+may_stand actions.SkipScenario site = may_skip site
+may_stand action site = true

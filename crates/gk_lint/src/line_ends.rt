@@ -1,0 +1,53 @@
+//! Files whose lines end with CR alone, so that they are read as one line.
+ghost use Rattle.std.specs.Prelude.{◌≡◌, ◌≤◌, ◌==◌, ◌&&◌, ◌||◌, ◌++◌, length, OnOk};
+ghost use Rattle.std.specs.Str.Lines.{lines};
+ghost use Rattle.gk_gherkin.specs.Lines.{numbered_from};
+ghost use Rattle.gk_lint.specs.LineEnds as spec;
+
+use crate::findings::{Finding, FindingKind, add_if};
+use gk_gherkin::LIMIT;
+use std::alloc::AllocError;
+
+fn has_cr(text: &str) -> bool
+    ensures { result ≡ spec.has_cr text.now }
+{
+    text.as_bytes().iter().any(|byte| *byte == b'\r')
+}
+
+// Whether there was a carriage return before, or is one in this text.
+fn has_cr_so_far(before: bool, text: &str) -> bool
+    ensures { result ≡ (before || spec.has_cr text.now) }
+{
+    before || has_cr(text)
+}
+
+// Whether there is one line before the one of this number, with a carriage return.
+fn is_one_before(number: u32, has_cr: bool) -> bool
+    ensures { result ≡ ((number == 2) && has_cr) }
+{
+    number == 2 && has_cr
+}
+
+// Whether a text is one line with a carriage return.
+fn is_one_with_cr(text: &str) -> bool
+    requires { length text.now ≤ LIMIT }
+    ensures { result ≡ spec.is_one_with_cr (numbered_from 1 (lines text.now)) }
+{
+    let mut number: u32 = 1;
+    let mut found = false;
+    for part in text.lines() {
+        found = has_cr_so_far(found, part);
+        number += 1;
+    }
+    is_one_before(number, found)
+}
+
+/// Adds that the lines of a text end with CR alone, where they do. An error comes only where a growth was refused.
+pub fn add_cr_alone(findings: &mut Vec<Finding>, text: &str) -> Result<(), AllocError>
+    requires { length text.now ≤ LIMIT }
+    ensures { OnOk result (findings.new.items ≡ findings.old.items
+        ++ spec.cr_alone (numbered_from 1 (lines text.now))) }
+{
+    let is_one = is_one_with_cr(text);
+    add_if(findings, is_one, 1, FindingKind::CrAlone)
+}

@@ -1,0 +1,3 @@
+Feature: Both
+  Scenario: S
+    Given it passes

@@ -1,0 +1,1 @@
+Feature: F  Scenario: S    Given it passes
