@@ -9,6 +9,7 @@ import collections
 import json
 import os
 import random
+import re
 import shutil
 import sys
 
@@ -68,6 +69,10 @@ OWN_CHECKS = [*(f"held v {number}" for number in range(1, 6)), *(f"see f as {'x'
 KEYWORDS = ("Given", "When", "Then", "And", "But", "*")
 # The sections from the run inwards, as hooks call them.
 SECTIONS = ["all", "feature", "rule", "scenario"]
+
+# The lines of an explanation that have a cleanup, and a step that registered one, each with its place.
+CLEANUP = re.compile(r"  (\S+:\d+): cleanup \.\.\. ")
+REGISTERED = re.compile(r"  (\S+:\d+): (?:before: |after: )?\S+ (?:at cleanup|later) .* \.\.\. passed$")
 
 # A feature or a rule: its tags, its heading, the steps of its background or None, and the lines of each of its scenarios.
 Part = collections.namedtuple("Part", "tags heading background scenarios")
@@ -459,9 +464,13 @@ class Suite:
         parts = text.removesuffix(listed + closing_lines(whole)).split("\n\n")[:-1]
         for part, (heading, steps) in zip(parts, wanted, strict=True):
             first, *events = part.split("\n")
-            others = [it for it in events if it.startswith(("  h.hooks:", "  cleanup", "      "))]
+            cleanups = [it for it in events if CLEANUP.match(it)]
+            others = [it for it in events if it in cleanups or it.startswith(("  h.hooks:", "      "))]
             if first != f"{heading} ... failed" or [it for it in events if it not in others] != steps:
                 yield f"--explain {options}: {part}, and not {heading}, {steps}"
+            registered = [it[1] for it in map(REGISTERED.match, events) if it]
+            if [CLEANUP.match(it)[1] for it in cleanups] != registered[::-1]:
+                yield f"--explain {options}: in {part} the cleanups aren't those that were registered, the last first"
 
     def linted(self):
         """Of the steps that a dry run has, those are found undefined before a run that the dry run calls so."""
@@ -511,7 +520,7 @@ def failures(document):
         if feature["around"] == "failed":
             yield f"{source}:{feature['line']}: Feature: {on_one_line(feature['name'])} {AROUND}", []
     if document["run"] == "failed":
-        yield AROUND, []
+        yield f"Run: {AROUND}", []
 
 
 def closing_lines(document):

@@ -1,7 +1,6 @@
 -- What an explainer says of a case that it was told.
 use Rattle.std.specs.List.{FoldsTo}
-use Rattle.std.proofs.Common.{◌≡◌, ◌∙◌, ℕ, zero, suc, Bool, true, false, cond, List, [], ◌∷◌, ◌++◌, flat_map, reverse, refl, ap, sym, subst, append_assoc}
-use Rattle.std.proofs.lemmas.List.{append-nil}
+use Rattle.std.proofs.Common.{◌≡◌, ◌∙◌, ℕ, zero, suc, Bool, true, false, cond, List, [], ◌∷◌, ◌++◌, reverse, refl, ap, sym, subst}
 use Rattle.gk_gherkin.specs.Feature.{StepValue}
 use Rattle.gk_select.specs.Case.{CaseValue}
 use Rattle.gk_steps.specs.Finding.{LibraryValue}
@@ -21,8 +20,10 @@ use Rattle.gk_run.specs.SectionHooks.{after_lists, before_list, begun, walk_each
 use Rattle.gk_run.specs.Walk.{one_step, walk}
 use Rattle.gk_run.specs.Watching.{Told, of_step, of_cleanup, ToldEvents, in_order, refused, cut_told, told_walk, told_steps, told_each, told_in_turn, told_happened, told_case, before_of, after_of}
 use Rattle.gk_explain.specs.declared.explainer.Explainer.{Explainer}
-use Rattle.gk_explain.specs.Explanation.{ExplanationValue, level_of, lines_of, with_lines, with_case, with_case_of}
-use Rattle.gk_explain.specs.Explainer.{is_cut, said, Hears, CasesAreExplained, lines_of_case}
+use Rattle.gk_explain.specs.SectionLines.{SectionValue, after_event, after_events}
+use Rattle.gk_explain.specs.Event.{level_of}
+use Rattle.gk_explain.specs.Explanation.{ExplanationValue, with_section, with_case, with_case_of}
+use Rattle.gk_explain.specs.Explainer.{is_cut, said, Hears, CasesAreExplained}
 
 -- Events are all of one level.
 abbrev pub AllAt : Level → List Told → Type 0
@@ -99,24 +100,22 @@ are_case run section c =
 at_order : (level : Level) (t : ToldEvents) → AreAt level t → AllAt level (in_order t)
 at_order level t a = at_both _ t.before _ a.0 (at_both _ t.steps _ a.1 (at_both _ t.after _ a.2 a.3))
 
--- Lines more of the scenario.
-abbrev with_case_lines : List ℕ → ExplanationValue → ExplanationValue
-with_case_lines lines e = record e { case_lines = e.case_lines ++ lines }
+-- What is kept of the scenario.
+abbrev with_scenario : SectionValue → ExplanationValue → ExplanationValue
+with_scenario scenario e = record e { scenario = scenario }
 
--- An explainer that isn't cut has the lines of all events of a scenario that it was told.
+-- An explainer that isn't cut keeps of a scenario what all its events make, which it was told.
 hears_all : (ts : List Told) (old new : Explainer) → AllAt levels.Scenario ts → FoldsTo Hears old ts new → is_cut new ≡ false →
-    (is_cut old ≡ false) × (said new ≡ with_case_lines (flat_map (lines_of (said old)) ts) (said old))
+    (is_cut old ≡ false) × (said new ≡ with_scenario (after_events (said old).library (said old).names ts (said old).scenario) (said old))
 hears_all [] old new a h uncut =
-    let same : said new ≡ with_case_lines [] (said new) = ap (λ (lines : List ℕ). record (said new) { case_lines = lines }) (sym (append-nil (said new).case_lines)) in
-    subst (λ (e : Explainer). (is_cut e ≡ false) × (said new ≡ with_case_lines [] (said e))) (sym h) (uncut, same)
+    subst (λ (e : Explainer). (is_cut e ≡ false) × (said new ≡ with_scenario (said e).scenario (said e))) (sym h) (uncut, refl)
 hears_all (t ∷ ts) old new a h uncut =
     let rest = hears_all ts h.0 new a.1 h.2 uncut in
     let first = h.1 rest.0 in
-    let lines = lines_of (said old) t in
-    let next : said h.0 ≡ with_case_lines lines (said old) = first.1 ∙ ap (λ (level : Level). with_lines level lines (said old)) a.0 in (
+    let e = said old in
+    let next : said h.0 ≡ with_scenario (after_event e.library e.names t e.scenario) e = first.1 ∙ ap (λ (level : Level). with_section level (after_event e.library e.names t) e) a.0 in (
       first.0,
-      rest.1 ∙ ap (λ (e : ExplanationValue). with_case_lines (flat_map (lines_of e) ts) e) next
-          ∙ ap (λ (more : List ℕ). record (said old) { case_lines = more }) (append_assoc (said old).case_lines lines (flat_map (lines_of (said old)) ts)),
+      rest.1 ∙ ap (λ (e : ExplanationValue). with_scenario (after_events e.library e.names ts e.scenario) e) next,
     )
 
 pub explained_by_its_events : CasesAreExplained
@@ -124,11 +123,12 @@ explained_by_its_events run section c row old new told uncut none =
     let events = told.1 in
     let ended = told.2 uncut in
     let at = at_order levels.Scenario _ (are_happened levels.Scenario events.refusing events.cut (told_case run section c) (are_case run section c)) in
-    let all = hears_all _ old told.0 at events.told ended.0 in
-    let lines = lines_of_case old run section c events.cut events.refusing in (
+    let ts = in_order (told_happened events.refusing events.cut (told_case run section c)) in
+    let all = hears_all ts old told.0 at events.told ended.0 in
+    let e = said old in (
       events.cut,
       events.refusing,
       events.is,
       all.0,
-      ended.1 ∙ ap (with_case row) all.1 ∙ ap (λ (before : List ℕ). with_case_of (before ++ lines) row (said old)) none,
+      ended.1 ∙ ap (with_case row) all.1 ∙ ap (λ (before : SectionValue). with_case_of (after_events e.library e.names ts before).lines row e) none,
     )

@@ -1,17 +1,18 @@
--- What lines more make of an explanation.
-use Rattle.std.proofs.Common.{◌≡◌, ◌∙◌, List, ℕ, ◌++◌, ap, sym}
+-- What an event more of a section makes of an explanation.
+use Rattle.std.proofs.Common.{◌≡◌, ◌∙◌, ap, sym}
 use Rattle.gk_run.specs.declared.section.Level.{Level}
 use Rattle.gk_run.specs.declared.section.Level.TheVariants as levels
-use Rattle.gk_explain.specs.Explanation.{ExplanationValue, with_lines}
+use Rattle.gk_explain.specs.SectionLines.{SectionValue}
+use Rattle.gk_explain.specs.Explanation.{ExplanationValue, with_section}
 
-pub run_line : (e : ExplanationValue) (level : Level) (more lines : List ℕ) → level ≡ levels.Run → lines ≡ e.run_lines ++ more → record e { run_lines = lines } ≡ with_lines level more e
-run_line e level more lines is has = ap (λ (lines : List ℕ). record e { run_lines = lines }) has ∙ ap (λ (level : Level). with_lines level more e) (sym is)
+pub in_run : (e : ExplanationValue) (level : Level) (change : SectionValue → SectionValue) (new : SectionValue) → level ≡ levels.Run → new ≡ change e.run → record e { run = new } ≡ with_section level change e
+in_run e level change new is becomes = ap (λ (new : SectionValue). record e { run = new }) becomes ∙ ap (λ (level : Level). with_section level change e) (sym is)
 
-pub feature_line : (e : ExplanationValue) (level : Level) (more lines : List ℕ) → level ≡ levels.Feature → lines ≡ e.feature_lines ++ more → record e { feature_lines = lines } ≡ with_lines level more e
-feature_line e level more lines is has = ap (λ (lines : List ℕ). record e { feature_lines = lines }) has ∙ ap (λ (level : Level). with_lines level more e) (sym is)
+pub in_feature : (e : ExplanationValue) (level : Level) (change : SectionValue → SectionValue) (new : SectionValue) → level ≡ levels.Feature → new ≡ change e.feature → record e { feature = new } ≡ with_section level change e
+in_feature e level change new is becomes = ap (λ (new : SectionValue). record e { feature = new }) becomes ∙ ap (λ (level : Level). with_section level change e) (sym is)
 
-pub rule_line : (e : ExplanationValue) (level : Level) (more lines : List ℕ) → level ≡ levels.Rule → lines ≡ e.rule_lines ++ more → record e { rule_lines = lines } ≡ with_lines level more e
-rule_line e level more lines is has = ap (λ (lines : List ℕ). record e { rule_lines = lines }) has ∙ ap (λ (level : Level). with_lines level more e) (sym is)
+pub in_rule : (e : ExplanationValue) (level : Level) (change : SectionValue → SectionValue) (new : SectionValue) → level ≡ levels.Rule → new ≡ change e.rule → record e { rule = new } ≡ with_section level change e
+in_rule e level change new is becomes = ap (λ (new : SectionValue). record e { rule = new }) becomes ∙ ap (λ (level : Level). with_section level change e) (sym is)
 
-pub case_line : (e : ExplanationValue) (level : Level) (more lines : List ℕ) → level ≡ levels.Scenario → lines ≡ e.case_lines ++ more → record e { case_lines = lines } ≡ with_lines level more e
-case_line e level more lines is has = ap (λ (lines : List ℕ). record e { case_lines = lines }) has ∙ ap (λ (level : Level). with_lines level more e) (sym is)
+pub in_scenario : (e : ExplanationValue) (level : Level) (change : SectionValue → SectionValue) (new : SectionValue) → level ≡ levels.Scenario → new ≡ change e.scenario → record e { scenario = new } ≡ with_section level change e
+in_scenario e level change new is becomes = ap (λ (new : SectionValue). record e { scenario = new }) becomes ∙ ap (λ (level : Level). with_section level change e) (sym is)

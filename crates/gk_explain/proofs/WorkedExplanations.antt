@@ -1,6 +1,8 @@
 -- Worked explanations, by computation.
 use Rattle.std.specs.Prelude.{◌≡◌, ℕ, true, false, List, [], ◌∷◌, None, codes, refl}
 use Rattle.std.specs.Fmt.{digits}
+use Rattle.std.specs.Str.{chars, is_utf8}
+use lib.Utf8
 use Rattle.gk_gherkin.specs.declared.feature.StepType.TheVariants as types
 use Rattle.gk_gherkin.specs.Feature.{StepValue, Empty, Table}
 use Rattle.gk_world.specs.State.{State}
@@ -19,12 +21,13 @@ use Rattle.gk_report.specs.PlainReport.{status_line}
 use Rattle.gk_steps.specs.declared.action.Action.TheVariants as actions
 use Rattle.gk_steps.specs.declared.pattern.FieldKind.TheVariants as kinds
 use Rattle.gk_steps.specs.Pattern.{Literal, FieldPiece}
-use Rattle.gk_steps.specs.Finding.{EntryValue, found}
+use Rattle.gk_steps.specs.Matching.{match_of}
+use Rattle.gk_steps.specs.Finding.{EntryValue, LibraryValue, found}
 use Rattle.gk_explain.specs.Details.{event_details}
 use Rattle.gk_explain.specs.Nearest.{agreement, is_near}
 use Rattle.gk_explain.specs.Tables.{refused_file}
-use Rattle.gk_explain.specs.EventLines.{event_line, place_text}
-use Rattle.gk_explain.specs.Headings.{case_heading, rule_heading, feature_heading, run_heading, explanation_text}
+use Rattle.gk_explain.specs.EventLines.{line_of_step, line_of_cleanup, place_text}
+use Rattle.gk_explain.specs.Headings.{case_heading, rule_heading, feature_heading, around_text, run_heading, explanation_text}
 use Rattle.gk_explain.specs.Explanation.{ExplanationValue, nothing_said, with_event, with_case, with_rule, with_source, with_feature, with_run}
 
 -- A step with a keyword, a text and a line.
@@ -61,13 +64,33 @@ of_scenario s cleanup =
 -- Where it failed it is explained.
 failed_is_explained : (s : State) (cleanup : CleanupValue) → (with_case (scenario statuses.Failed) (of_scenario s cleanup)).ready
     ≡ codes "f:6: Scenario: s ... failed\n  h:2: before: Given a ... passed\n  f:7: When b\\nc ... passed\n  f:8: Then d ... failed: differs\n  f:10: And e ... skipped\n  h:4: after: When g ... undefined\n  cleanup ... memory\n\n"
-unfolding found event_details digits status_text reason_text one_line status_line event_line place_text case_heading explanation_text
+unfolding found event_details digits status_text reason_text one_line status_line line_of_step line_of_cleanup place_text case_heading explanation_text
 failed_is_explained s cleanup = refl
 
 -- Where it passed nothing is said of it.
 passed_is_not : (s : State) (cleanup : CleanupValue) → with_case (scenario statuses.Passed) (of_scenario s cleanup) ≡ begun
-unfolding found event_details digits status_text reason_text one_line status_line event_line place_text case_heading explanation_text
+unfolding found event_details digits status_text reason_text one_line status_line line_of_step line_of_cleanup place_text case_heading explanation_text
 passed_is_not s cleanup = refl
+
+-- A library with an entry that registers a cleanup, and one that passes.
+abbrev later_library : LibraryValue
+later_library = record { step_type = None; pattern = Literal (codes "later ") ∷ FieldPiece (codes "step") kinds.Plain ∷ []; action = actions.AtCleanup } ∷ record { step_type = None; pattern = Literal (codes "ok") ∷ []; action = actions.Pass } ∷ []
+
+-- A scenario whose hook and first step register a cleanup, and whose second step can't.
+abbrev with_cleanups : State → CleanupValue → ExplanationValue
+with_cleanups s cleanup =
+    after_events (of_step (record { level = levels.Scenario; part = parts.Before }) (step (codes "Given") (codes "later ok") 2) (marks.Acted outcomes.Passed) s
+    ∷ of_step (record { level = levels.Scenario; part = parts.Steps }) (step (codes "Given") (codes "later ok") 7) (marks.Acted outcomes.Passed) s
+    ∷ of_step (record { level = levels.Scenario; part = parts.Steps }) (step (codes "Given") (codes "later no") 8) (marks.Acted (outcomes.Failed reasons.NoStep)) s
+    ∷ of_step (record { level = levels.Scenario; part = parts.Steps }) (step (codes "Given") (codes "ok") 9) marks.Skipped s
+    ∷ of_cleanup levels.Scenario cleanup outcomes.Passed s
+    ∷ of_cleanup levels.Scenario cleanup (outcomes.Failed reasons.Asked) s ∷ []) (with_source (codes "f") (nothing_said later_library (codes "h")))
+
+-- Its cleanups have the places of the steps that registered them, the last first.
+cleanups_have_places : (s : State) (cleanup : CleanupValue) → (with_case (scenario statuses.Failed) (with_cleanups s cleanup)).ready
+    ≡ codes "f:6: Scenario: s ... failed\n  h:2: before: Given later ok ... passed\n  f:7: Given later ok ... passed\n  f:8: Given later no ... failed: no such step\n  f:9: Given ok ... skipped\n  f:7: cleanup ... passed\n  h:2: cleanup ... failed: fail step\n\n"
+unfolding found match_of is_utf8 chars lib.Utf8.encode event_details digits status_text reason_text one_line status_line line_of_step line_of_cleanup place_text case_heading explanation_text
+cleanups_have_places s cleanup = refl
 
 -- Hooks and cleanups of a rule, a feature and a run, with one event in each, of which the rule's passed.
 abbrev of_sections : State → ExplanationValue
@@ -81,12 +104,12 @@ abbrev ended : State → Status → ExplanationValue
 ended s rule = with_run statuses.Failed (with_feature (feature statuses.Memory) (with_rule (record { line = 5; around = rule }) (of_sections s)))
 
 sections_are_explained : (s : State) → (ended s statuses.Passed).ready
-    ≡ codes "f:1: Feature: n (hooks and cleanups) ... memory\n  h:2: before: Given b ... passed\n\n(hooks and cleanups) ... failed\n  h:1: before: Given a ... passed\n\n"
-unfolding found event_details digits status_text reason_text one_line status_line event_line place_text rule_heading feature_heading run_heading explanation_text
+    ≡ codes "f:1: Feature: n (hooks and cleanups) ... memory\n  h:2: before: Given b ... passed\n\nRun: (hooks and cleanups) ... failed\n  h:1: before: Given a ... passed\n\n"
+unfolding found event_details digits status_text reason_text one_line status_line line_of_step line_of_cleanup place_text rule_heading feature_heading around_text run_heading explanation_text
 sections_are_explained s = refl
 
-sections_are_listed : (s : State) → (ended s statuses.Failed).failures ≡ codes "f:5: Rule: (hooks and cleanups)\nf:1: Feature: n (hooks and cleanups)\n(hooks and cleanups)\n"
-unfolding found event_details digits status_text reason_text one_line status_line event_line place_text rule_heading feature_heading run_heading explanation_text
+sections_are_listed : (s : State) → (ended s statuses.Failed).failures ≡ codes "f:5: Rule: (hooks and cleanups)\nf:1: Feature: n (hooks and cleanups)\nRun: (hooks and cleanups)\n"
+unfolding found event_details digits status_text reason_text one_line status_line line_of_step line_of_cleanup place_text rule_heading feature_heading around_text run_heading explanation_text
 sections_are_listed s = refl
 
 -- An entry for steps of each type, with a field between two literals.
@@ -103,6 +126,16 @@ near_by_more_than_a_word = refl
 
 not_near_by_a_word : is_near entry (codes "the kiln") ≡ false
 not_near_by_a_word = refl
+
+-- An entry that begins with a field: no byte of it agrees with the first word, however long that is.
+abbrev named : EntryValue
+named = record { step_type = None; pattern = FieldPiece (codes "n") kinds.Plain ∷ Literal (codes " stops") ∷ []; action = actions.Pass }
+
+near_after_a_long_word : is_near named (codes "everything st") ≡ true
+near_after_a_long_word = refl
+
+not_near_by_a_blank : is_near named (codes "everything runs") ≡ false
+not_near_by_a_blank = refl
 
 -- A row whose name has no byte is the first that can't be written, and the header isn't looked at.
 row_without_name : refused_file (Table ((codes "" ∷ codes "text" ∷ []) ∷ (codes "a" ∷ codes "b" ∷ []) ∷ (codes "" ∷ codes "c" ∷ []) ∷ [])) ≡ ([], codes "c")

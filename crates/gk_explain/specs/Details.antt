@@ -1,11 +1,11 @@
 -- What is said below an event that failed: what its reason means there.
 use Rattle.std.specs.Prelude.{ℕ, ℤ, List, [], ◌++◌, Option, Some, None, unwrap_or, codes, option_copied, length}
 use Rattle.std.specs.Fmt.{decimal, signed_decimal}
-use Rattle.gk_gherkin.specs.Feature.{BlockValue, StepValue, block_value, step_value}
+use Rattle.gk_gherkin.specs.Feature.{BlockValue, StepValue, block_value}
 use Rattle.gk_steps.specs.declared.action.Action.{Action}
 use Rattle.gk_steps.specs.declared.action.Action.TheVariants as actions
-use Rattle.gk_steps.specs.Finding.{LibraryValue, FoundValue, found_value, action_of, found}
-use Rattle.gk_world.specs.State.{State, see, state_of}
+use Rattle.gk_steps.specs.Finding.{LibraryValue, FoundValue, action_of, found}
+use Rattle.gk_world.specs.State.{State, see}
 use Rattle.gk_world.specs.Refusals.{joined}
 use Rattle.gk_run.specs.declared.results.Mark.{Mark}
 use Rattle.gk_run.specs.declared.results.Mark.TheVariants.{Acted, Undefined}
@@ -16,11 +16,9 @@ use Rattle.gk_run.specs.declared.results.Reason.TheVariants as reasons
 use Rattle.gk_run.specs.Acting.{Given, given}
 use Rattle.gk_run.specs.Watching.{Told, of_step, of_cleanup}
 use Rattle.gk_report.specs.ReportTexts.{line_feed}
-use Rattle.gk_explain.specs.declared.details.CleanupEvent.{CleanupEvent}
 use Rattle.gk_explain.specs.declared.details.Given as declared
 use Rattle.gk_explain.specs.declared.details.Kind.{Kind}
 use Rattle.gk_explain.specs.declared.details.Kind.TheVariants as kinds
-use Rattle.gk_explain.specs.declared.details.StepEvent.{StepEvent}
 use Rattle.gk_explain.specs.declared.differences.Position.{Position}
 use Rattle.gk_explain.specs.Differences.{first_difference}
 use Rattle.gk_explain.specs.Nearest.{nearest_told}
@@ -139,22 +137,23 @@ new_text action g s = unwrap_or g.text []
 unfoldable pub text_length : ℕ → List ℕ
 text_length count = codes "      the text has " ++ (decimal count ++ codes " bytes; at most 1048576 are allowed\n")
 
--- What a reason means for an action at a state.
-abbrev pub details : Action → Given → Reason → State → List ℕ
-details action g reasons.Differs s = difference action g (found_text action g s)
-details action g reasons.Absent s = absent_line (kind_of action) g.name
-details action g reasons.Present s = found_below (present_text action g s)
-details action g reasons.NotNumber s = found_below (found_text action g s)
-details action g reasons.OutOfRange s = sum_out_of_range (found_text action g s) g.number
-details action g reasons.OtherLayer s = in_outer_layer (found_text action g s)
-details action g reasons.BadTable s = other_table g.block
-details action g reasons.BadName s = name_length (length (given_name action g))
-details action g reasons.TextTooLong s = text_length (length (new_text action g s))
-details action g _ s = []
+-- What a reason means for an action at a state. Where a text that is to be run at the end finds no entry, the nearest is named.
+abbrev pub details : LibraryValue → Action → Given → Reason → State → List ℕ
+details library action g reasons.Differs s = difference action g (found_text action g s)
+details library action g reasons.Absent s = absent_line (kind_of action) g.name
+details library action g reasons.Present s = found_below (present_text action g s)
+details library action g reasons.NotNumber s = found_below (found_text action g s)
+details library action g reasons.OutOfRange s = sum_out_of_range (found_text action g s) g.number
+details library action g reasons.OtherLayer s = in_outer_layer (found_text action g s)
+details library action g reasons.BadTable s = other_table g.block
+details library action g reasons.BadName s = name_length (length (given_name action g))
+details library action g reasons.TextTooLong s = text_length (length (new_text action g s))
+details library action g reasons.NoStep s = nearest_told library g.step
+details library action g _ s = []
 
 -- What an outcome means for what was found, with a step's block.
 abbrev pub outcome_details : LibraryValue → FoundValue → BlockValue → Outcome → State → List ℕ
-outcome_details library f block (Failed why) s = details (action_of library f) (given library f block) why s
+outcome_details library f block (Failed why) s = details library (action_of library f) (given library f block) why s
 outcome_details library f block outcome s = []
 
 -- The same of what a look-up found.
@@ -176,11 +175,3 @@ event_details library (of_cleanup level cleanup outcome s) = outcome_details lib
 -- What a `Given` says beside its action.
 abbrev pub given_value : declared.Given → Given
 given_value g = record { name = g.name.now; to = g.to.now; step = g.step.now; number = g.number; text = option_copied g.text; block = block_value g.block.now }
-
--- What a `StepEvent` says.
-abbrev pub step_told : StepEvent → Told
-step_told e = of_step e.place (step_value e.step.now) e.mark (state_of e.sandbox.now.now)
-
--- What a `CleanupEvent` says.
-abbrev pub cleanup_told : CleanupEvent → Told
-cleanup_told e = of_cleanup e.level (record { found = found_value e.found.now; block = block_value e.block.now }) e.outcome (state_of e.sandbox.now.now)

@@ -1,17 +1,22 @@
 -- The lines of an event of a run.
-use Rattle.std.specs.Prelude.{ℕ, List, [], ◌++◌, codes}
+use Rattle.std.specs.Prelude.{ℕ, List, [], ◌++◌, Option, Some, None, codes}
 use Rattle.std.specs.Fmt.{decimal}
+use Rattle.gk_gherkin.specs.Feature.{StepValue}
 use Rattle.gk_run.specs.declared.results.Mark.{Mark}
 use Rattle.gk_run.specs.declared.results.Mark.TheVariants.{Acted}
+use Rattle.gk_run.specs.declared.results.Outcome.{Outcome}
 use Rattle.gk_run.specs.declared.section.Part.{Part}
 use Rattle.gk_run.specs.declared.section.Part.TheVariants as parts
+use Rattle.gk_run.specs.declared.section.Place.{Place}
 use Rattle.gk_run.specs.Ending.{status_of_mark, reason_of_mark}
 use Rattle.gk_run.specs.Watching.{Told, of_step, of_cleanup}
 use Rattle.gk_steps.specs.Finding.{LibraryValue}
 use Rattle.gk_report.specs.ReportTexts.{one_line}
 use Rattle.gk_report.specs.PlainReport.{status_line, step_verdict}
 use Rattle.gk_explain.specs.declared.event_lines.Names.{Names}
+use Rattle.gk_explain.specs.declared.registrations.Registration.{Registration}
 use Rattle.gk_explain.specs.Details.{event_details}
+use Rattle.gk_explain.specs.Registrations.{last_of}
 
 -- The names of the hooks file and of the feature file that steps stand in.
 pub record NamesValue : Type 0 where
@@ -42,12 +47,25 @@ place_text file line = one_line file ++ codes ":" ++ decimal line ++ codes ": "
 abbrev pub mark_text : Mark → List ℕ
 mark_text mark = step_verdict (status_of_mark mark) (reason_of_mark mark)
 
--- The line of an event.
-unfoldable pub event_line : NamesValue → Told → List ℕ
-event_line names (of_step place step mark s) =
+-- Where a cleanup was registered, in front of it.
+abbrev pub registered_text : NamesValue → Option Registration → List ℕ
+registered_text names None = []
+registered_text names (Some r) = place_text (file_of names r.part) r.line
+
+-- The line of a cleanup that was registered there.
+unfoldable pub line_of_cleanup : NamesValue → Option Registration → Outcome → List ℕ
+line_of_cleanup names at outcome = status_line (codes "  " ++ registered_text names at ++ codes "cleanup") (mark_text (Acted outcome))
+
+-- The line of a step.
+unfoldable pub line_of_step : NamesValue → Place → StepValue → Mark → List ℕ
+line_of_step names place step mark =
     status_line (codes "  " ++ place_text (file_of names place.part) step.line ++ part_text place.part ++ step.keyword ++ codes " " ++ one_line step.text) (mark_text mark)
-event_line names (of_cleanup level cleanup outcome s) = status_line (codes "  cleanup") (mark_text (Acted outcome))
+
+-- The line of an event of a section in which these cleanups are registered and still to run: a cleanup that runs is the last of them.
+abbrev pub event_line : NamesValue → List Registration → Told → List ℕ
+event_line names registered (of_step place step mark s) = line_of_step names place step mark
+event_line names registered (of_cleanup level cleanup outcome s) = line_of_cleanup names (last_of registered) outcome
 
 -- The lines of an event: its own, and what is said below it.
-abbrev pub event_lines : LibraryValue → NamesValue → Told → List ℕ
-event_lines library names told = event_line names told ++ event_details library told
+abbrev pub event_lines : LibraryValue → NamesValue → List Registration → Told → List ℕ
+event_lines library names registered told = event_line names registered told ++ event_details library told

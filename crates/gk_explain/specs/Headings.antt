@@ -1,10 +1,12 @@
 -- The heading of what failed, and its explanation.
 use Rattle.std.specs.Prelude.{ℕ, cond, List, [], ◌∷◌, ◌++◌, codes}
 use Rattle.gk_run.specs.declared.results.Status.{Status}
-use Rattle.gk_run.specs.Results.{CaseRow, RuleRow, FeatureRow}
+use Rattle.gk_run.specs.Results.{CaseRow, RuleRow, FeatureRow, case_row, rule_row, feature_row}
 use Rattle.gk_run.specs.Cases.{is_bad}
 use Rattle.gk_report.specs.ReportTexts.{status_text, one_line, line_feed}
 use Rattle.gk_report.specs.PlainReport.{status_line}
+use Rattle.gk_explain.specs.declared.headings.Ended.{Ended}
+use Rattle.gk_explain.specs.declared.headings.Ended.TheVariants as variants
 use Rattle.gk_explain.specs.EventLines.{place_text}
 
 -- The heading of a scenario of a file.
@@ -15,13 +17,31 @@ case_heading source c = place_text source c.line ++ c.keyword ++ codes ": " ++ o
 unfoldable pub rule_heading : List ℕ → RuleRow → List ℕ
 rule_heading source r = place_text source r.line ++ codes "Rule: (hooks and cleanups)"
 
+-- What is said after the name of a feature.
+unfoldable pub around_text : List ℕ
+around_text = codes " (hooks and cleanups)"
+
 -- The heading of the hooks and cleanups of the feature of a file.
 unfoldable pub feature_heading : List ℕ → FeatureRow → List ℕ
-feature_heading source f = place_text source f.line ++ codes "Feature: " ++ one_line f.name ++ codes " (hooks and cleanups)"
+feature_heading source f = place_text source f.line ++ codes "Feature: " ++ one_line f.name ++ around_text
 
 -- The heading of the hooks and cleanups of the run.
 unfoldable pub run_heading : List ℕ
-run_heading = codes "(hooks and cleanups)"
+run_heading = codes "Run: (hooks and cleanups)"
+
+-- The heading of what has ended, in a file.
+abbrev pub heading_of : List ℕ → Ended → List ℕ
+heading_of source (variants.Scenario c) = case_heading source (case_row c.now)
+heading_of source (variants.Rule r) = rule_heading source (rule_row r.now)
+heading_of source (variants.Feature f) = feature_heading source (feature_row f.now)
+heading_of source (variants.Run around) = run_heading
+
+-- How it ended.
+abbrev pub ended_status : Ended → Status
+ended_status (variants.Scenario c) = c.now.status
+ended_status (variants.Rule r) = r.now.around
+ended_status (variants.Feature f) = f.now.around
+ended_status (variants.Run around) = around
 
 -- An explanation: a heading with a status, the lines of events, an empty line.
 unfoldable pub explanation_text : List ℕ → Status → List ℕ → List ℕ

@@ -1,10 +1,14 @@
 -- What an explanation says, in reading order. A definition whose comment names no source is this project's profile, or a word that the others use.
+pub mod Event
 pub mod Shown
 pub mod Differences
 pub mod Tables
 pub mod Nearest
+pub mod NearestLines
 pub mod Details
+pub mod Registrations
 pub mod EventLines
+pub mod SectionLines
 pub mod Headings
 pub mod Explanation
 pub mod Explainer

@@ -1,5 +1,5 @@
 -- The entry of a library that comes nearest to the text of a step that none matches.
-use Rattle.std.specs.Prelude.{ℕ, ◌+◌, ◌-◌, Bool, cond, ◌==◌, nat_lt, List, [], ◌∷◌, ◌++◌, length, drop, flat_map, codes, chars, Option, Some, None}
+use Rattle.std.specs.Prelude.{ℕ, ◌+◌, ◌-◌, Bool, cond, ◌==◌, nat_lt, List, [], ◌∷◌, ◌++◌, length, take, drop, flat_map, codes, chars, Option, Some, None}
 use Rattle.std.specs.List.{common_prefix_len, position_or_len, best_of}
 use Rattle.gk_gherkin.specs.declared.feature.StepType.{StepType}
 use Rattle.gk_gherkin.specs.declared.feature.StepType.TheVariants as types
@@ -62,9 +62,13 @@ pattern_shown ps = flat_map piece_shown ps
 unfoldable pub nearest_line : EntryValue → List ℕ
 nearest_line e = codes "      the nearest entry is: " ++ (type_word e.step_type ++ (codes " " ++ (pattern_shown e.pattern ++ line_feed)))
 
--- An entry agrees with more of a text than its first word and the blank after it.
+-- The first word of a text: what stands before its first blank.
+abbrev pub first_word : List ℕ → List ℕ
+first_word text = take (position_or_len (is_same 32) text) text
+
+-- An entry agrees with more of a text than with its first word alone, by two bytes at least, of which one may be the blank after that word. A field that takes the first word agrees with nothing of it.
 abbrev pub is_near : EntryValue → List ℕ → Bool
-is_near e text = nat_lt 1 (agreement e.pattern text - position_or_len (is_same 32) text)
+is_near e text = nat_lt 1 (agreement e.pattern text - agreement e.pattern (first_word text))
 
 -- An entry is named where it is near.
 abbrev pub told_if_near : EntryValue → List ℕ → List ℕ

@@ -8,13 +8,15 @@ ghost use Rattle.gk_run.specs.declared.results.Outcome.TheVariants.{Failed};
 ghost use Rattle.gk_report.specs.ReportTexts.{Pushes};
 ghost use Rattle.gk_explain.specs.Details as spec;
 ghost use Rattle.gk_explain.specs.Details.{given_value};
+ghost use Rattle.gk_explain.specs.Event.{event_told};
 
 use crate::differences::{Position, first_difference};
-use crate::nearest::push_nearest;
+use crate::event::{CleanupEvent, Event, StepEvent};
+use crate::nearest_lines::NearestLines;
 use crate::shown::{push_shown, push_text};
 use crate::tables::{push_table, refused_file};
-use gk_gherkin::{Block, Step};
-use gk_run::{Level, Mark, Outcome, Place, Reason};
+use gk_gherkin::Block;
+use gk_run::{Mark, Outcome, Reason};
 use gk_steps::{Action, Found, Library};
 use gk_world::Sandbox;
 use std::alloc::{AllocError, Global};
@@ -317,19 +319,30 @@ fn push_text_length(out: &mut String, count: u128) -> Result<(), AllocError>
     Ok(())
 }
 
-// Pushes what a reason means for an action that left this sandbox.
+// An action that failed: what it works with, for which reason, and the sandbox that it left.
+#[derive(Clone, Copy)]
+struct Failure<'a> {
+    given: Given<'a>,
+    reason: Reason,
+    sandbox: &'a Sandbox,
+}
+
+// Pushes what the reason of a failure means.
 fn push_details(
     alloc: Global,
     out: &mut String,
-    given: &Given<'_>,
-    reason: Reason,
-    sandbox: &Sandbox,
+    nearest: &mut NearestLines<'_>,
+    failure: &Failure<'_>,
 ) -> Result<(), AllocError>
-    ensures { Pushes out.old (spec.details given.now.action (given_value given.now) reason
-        (state_of sandbox.now.now)) result out.new }
+    ensures pushed { let given = failure.now.given in Pushes out.old
+        (spec.details nearest.old given.action (given_value given) failure.now.reason
+        (state_of failure.now.sandbox.now.now)) result out.new }
+    ensures kept { nearest.new ≡ nearest.old }
 {
+    let given = &failure.given;
+    let sandbox = failure.sandbox;
     let found = found_text(given, sandbox);
-    match reason {
+    match failure.reason {
         Reason::Differs => push_difference(alloc, out, given, found),
         Reason::Absent => push_absent(out, kind_of(given.action), given.name),
         Reason::Present => push_text(alloc, out, "found   ", present_text(given, sandbox)),
@@ -339,89 +352,84 @@ fn push_details(
         Reason::BadTable => push_table(out, given.block),
         Reason::BadName => push_name_length(out, given_name(given).len()),
         Reason::TextTooLong => push_text_length(out, new_text_len(given, sandbox)),
+        Reason::NoStep => nearest.push(alloc, out, given.step),
         _ => Ok(()),
     }
-}
-
-/// What happened to a step: where it stands, what became of it, and the sandbox that it left.
-#[derive(Clone, Copy)]
-pub struct StepEvent<'a> {
-    pub place: Place,
-    pub step: &'a Step,
-    pub mark: Mark,
-    pub sandbox: &'a Sandbox,
-}
-
-/// What happened to a cleanup of a section of a level: its outcome, and the sandbox that it left.
-#[derive(Clone, Copy)]
-pub struct CleanupEvent<'a> {
-    pub level: Level,
-    pub found: &'a Found,
-    pub block: &'a Block,
-    pub outcome: Outcome,
-    pub sandbox: &'a Sandbox,
 }
 
 // Pushes what a reason means for a step. The library finds its action.
 fn push_reason(
     alloc: Global,
     out: &mut String,
-    library: &Library,
+    nearest: &mut NearestLines<'_>,
     event: &StepEvent<'_>,
     reason: Reason,
 ) -> Result<(), AllocError>
-    ensures { Pushes out.old (spec.details_if_found (library_value library.now)
-        (found (library_value library.now) event.now.step.now.step_type
-        (string_bytes event.now.step.now.text)) (block_value event.now.step.now.block)
-        (Failed reason) (state_of event.now.sandbox.now.now)) result out.new }
+    ensures pushed { Pushes out.old (spec.details_if_found nearest.old
+        (found nearest.old event.now.step.now.step_type (string_bytes event.now.step.now.text))
+        (block_value event.now.step.now.block) (Failed reason)
+        (state_of event.now.sandbox.now.now)) result out.new }
+    ensures kept { nearest.new ≡ nearest.old }
 {
+    let library = nearest.library();
     let step = event.step;
     match library.find(alloc, step.step_type, step.text.as_str())? {
         Some(found) => {
-            let given = given_to(library, &found, &step.block);
-            push_details(alloc, out, &given, reason, event.sandbox)
+            let failure = Failure {
+                given: given_to(library, &found, &step.block),
+                reason,
+                sandbox: event.sandbox,
+            };
+            push_details(alloc, out, nearest, &failure)
         }
         None => Ok(()),
     }
 }
 
-/// Pushes what is said below the line of a step: what the reason means where its action failed, and the nearest entry
-/// where it is undefined. An error comes only where a growth was refused.
-#[tactic(auto, unfolding(crate::specs::Details::event_details))]
-pub fn push_step_details(
+// Pushes what a reason means for a cleanup.
+fn push_cleanup_reason(
     alloc: Global,
     out: &mut String,
-    library: &Library,
-    event: &StepEvent<'_>,
+    nearest: &mut NearestLines<'_>,
+    event: &CleanupEvent<'_>,
+    reason: Reason,
 ) -> Result<(), AllocError>
-    ensures { Pushes out.old (spec.event_details (library_value library.now)
-        (spec.step_told event.now)) result out.new }
+    ensures pushed { Pushes out.old (spec.outcome_details nearest.old
+        (found_value event.now.found.now) (block_value event.now.block.now) (Failed reason)
+        (state_of event.now.sandbox.now.now)) result out.new }
+    ensures kept { nearest.new ≡ nearest.old }
 {
-    let text = event.step.text.as_str();
-    match event.mark {
-        Mark::Acted(Outcome::Failed(reason)) => push_reason(alloc, out, library, event, reason),
-        Mark::Undefined => push_nearest(out, library, text),
-        _ => Ok(()),
-    }
+    let failure = Failure {
+        given: given_to(nearest.library(), event.found, event.block),
+        reason,
+        sandbox: event.sandbox,
+    };
+    push_details(alloc, out, nearest, &failure)
 }
 
-/// Pushes what is said below the line of a cleanup: nothing, unless it failed. An error comes only where a growth
-/// was refused.
+/// Pushes what is said below the line of an event: what the reason means where its action failed, and the nearest
+/// entry where a step is undefined. An error comes only where a growth was refused; a part of it may have been pushed
+/// then.
 #[tactic(auto, unfolding(crate::specs::Details::event_details))]
-pub fn push_cleanup_details(
+pub fn push_event_details(
     alloc: Global,
     out: &mut String,
-    library: &Library,
-    event: &CleanupEvent<'_>,
+    nearest: &mut NearestLines<'_>,
+    event: Event<'_>,
 ) -> Result<(), AllocError>
-    ensures { Pushes out.old (spec.event_details (library_value library.now)
-        (spec.cleanup_told event.now)) result out.new }
+    ensures pushed { Pushes out.old
+        (spec.event_details nearest.old (event_told event.entry)) result out.new }
+    ensures kept { nearest.new ≡ nearest.old }
 {
-    match event.outcome {
-        Outcome::Failed(reason) => {
-            let given = given_to(library, event.found, event.block);
-            push_details(alloc, out, &given, reason, event.sandbox)
-        }
-        _ => Ok(()),
+    match event {
+        Event::Step(step) => match step.mark {
+            Mark::Acted(Outcome::Failed(why)) => push_reason(alloc, out, nearest, &step, why),
+            Mark::Undefined => nearest.push(alloc, out, step.step.text.as_str()),
+            _ => Ok(()),
+        },
+        Event::Cleanup(cleanup) => match cleanup.outcome {
+            Outcome::Failed(why) => push_cleanup_reason(alloc, out, nearest, &cleanup, why),
+            _ => Ok(()),
+        },
     }
 }

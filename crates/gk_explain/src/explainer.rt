@@ -2,12 +2,13 @@
 ghost use Rattle.std.specs.Prelude.{◌≡◌, true, false, IfOk, OnOk, OnErr, string_bytes};
 ghost use Rattle.gk_steps.specs.Finding.{library_value};
 ghost use Rattle.gk_run.specs.Results.{feature_row};
+ghost use Rattle.gk_explain.specs.Registrations.{CleanupsAreOfTheirSteps};
 ghost use Rattle.gk_explain.specs.Headings.{failures_text};
 ghost use Rattle.gk_explain.specs.Explanation.{nothing_said, with_source, with_feature, with_run, with_taken};
 ghost use Rattle.gk_explain.specs.Explainer as spec;
 ghost use Rattle.gk_explain.specs.Explainer.{said, Becomes, Hears, Ends, CasesAreExplained};
 
-use crate::details::{CleanupEvent, StepEvent};
+use crate::event::{CleanupEvent, Event, StepEvent};
 use crate::explanation::Explanation;
 use gk_gherkin::{Block, Step};
 use gk_run::{
@@ -20,7 +21,8 @@ use std::alloc::{AllocError, Global};
 /// Explains a run that it is told as its observer: each scenario, and the hooks and cleanups of each rule, each
 /// feature and the run, where they failed or were refused memory, by a line for each event, in order, and below the
 /// line of one that failed by what its reason means there, and of a step that is undefined by the nearest entry of the
-/// library. It keeps no event. Once a growth is refused to it, it is cut, and adds nothing any more.
+/// library. It keeps no event. Where a growth is refused to it, in any call and at any event, it is cut: from then on it
+/// adds nothing, and what is asked of it is answered by an error. The run that it hears goes on.
 #[derive(Debug, Drop)]
 pub struct Explainer<'a> {
     alloc: Global,
@@ -43,7 +45,7 @@ impl<'a> Explainer<'a> {
         }
     }
 
-    /// Whether a growth was refused to it.
+    /// Whether a growth was refused to it. Takes no memory.
     pub fn is_cut(&self) -> bool
         ensures { result ≡ spec.is_cut self.now }
     {
@@ -60,7 +62,8 @@ impl<'a> Explainer<'a> {
         }
     }
 
-    /// A feature begins, of the source of this name. It comes before the feature's first event.
+    /// A feature begins, of the source of this name. It comes before the feature's first event. Where a growth is
+    /// refused, the explainer is cut.
     pub fn begin_feature(&mut self, source: &str)
         ensures { Becomes self.old (with_source source.now) self.new }
     {
@@ -72,19 +75,19 @@ impl<'a> Explainer<'a> {
     }
 
     /// A feature has ended with this result, after its events. What failed of its own hooks and cleanups is
-    /// ready then, too.
+    /// ready then, too. Where a growth is refused, the explainer is cut.
     pub fn end_feature(&mut self, feature: &FeatureResult)
         ensures { Becomes self.old (with_feature (feature_row feature.now)) self.new }
     {
         if self.cut {
             return;
         }
-        let added = self.explanation.end_feature(self.alloc, feature);
+        let added = self.explanation.end_feature(feature);
         self.cut_after(added);
     }
 
     /// The run has ended, after all events, `around` being how its own hooks and cleanups ended. What failed
-    /// of them is ready then, too.
+    /// of them is ready then, too. Where a growth is refused, the explainer is cut.
     pub fn end_run(&mut self, around: Status)
         ensures { Becomes self.old (with_run around) self.new }
     {
@@ -95,8 +98,8 @@ impl<'a> Explainer<'a> {
         self.cut_after(added);
     }
 
-    /// The explanations that are ready, and weren't taken before. Takes no memory. An error comes only where
-    /// the explainer is cut, and leaves it so.
+    /// The explanations that are ready, and weren't taken before; then none is. Takes no memory. An error comes only
+    /// where a growth was refused to the explainer before, so that it is cut, and leaves it as it is.
     pub fn take_ready(&mut self) -> Result<String, AllocError>
         ensures uncut { IfOk result (λ text. spec.is_cut self.old ≡ false) }
         ensures text { let old = said self.old in IfOk result (λ text.
@@ -112,7 +115,8 @@ impl<'a> Explainer<'a> {
     }
 
     /// The list of what failed, a line for each, with an empty line behind it; it is empty where nothing
-    /// failed. An error comes only where the explainer is cut or a growth was refused.
+    /// failed. An error comes only where a growth was refused, before, so that the explainer is cut, or now; nothing is
+    /// left of the explainer then.
     pub fn into_failures(self) -> Result<String, AllocError>
         ensures uncut { IfOk result (λ text. spec.is_cut self.entry ≡ false) }
         ensures text { let said = said self.entry in IfOk result (λ text.
@@ -134,13 +138,13 @@ impl Observer for Explainer<'_> {
         if self.cut {
             return;
         }
-        let event = StepEvent {
+        let event = Event::Step(StepEvent {
             place,
             step,
             mark,
             sandbox,
-        };
-        let added = self.explanation.add_step(self.alloc, &event);
+        });
+        let added = self.explanation.add(self.alloc, event);
         self.cut_after(added);
     }
 
@@ -155,14 +159,14 @@ impl Observer for Explainer<'_> {
         if self.cut {
             return;
         }
-        let event = CleanupEvent {
+        let event = Event::Cleanup(CleanupEvent {
             level,
             found,
             block,
             outcome,
             sandbox,
-        };
-        let added = self.explanation.add_cleanup(self.alloc, &event);
+        });
+        let added = self.explanation.add(self.alloc, event);
         self.cut_after(added);
     }
 
@@ -170,7 +174,7 @@ impl Observer for Explainer<'_> {
         if self.cut {
             return;
         }
-        let added = self.explanation.end_case(self.alloc, row);
+        let added = self.explanation.end_case(row);
         self.cut_after(added);
     }
 
@@ -178,7 +182,7 @@ impl Observer for Explainer<'_> {
         if self.cut {
             return;
         }
-        let added = self.explanation.end_rule(self.alloc, row);
+        let added = self.explanation.end_rule(row);
         self.cut_after(added);
     }
 }
@@ -187,4 +191,10 @@ impl Observer for Explainer<'_> {
 /// order, with what is said below those that failed; and nothing is said of another.
 pub fn cases_are_explained()
     ensures { CasesAreExplained }
+{}
+
+/// The cleanups of a case that run are those that its hooks and steps registered, the last first, and the place that is
+/// said of each is that of the step that registered it.
+pub fn cleanups_are_of_their_steps()
+    ensures { CleanupsAreOfTheirSteps }
 {}

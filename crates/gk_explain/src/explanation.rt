@@ -1,27 +1,29 @@
-//! What is kept of a run to explain it: no event, only its lines.
+//! What is kept of a run to explain it: no event, only its lines, and where cleanups were registered.
 ghost use Rattle.std.specs.Prelude.{◌≡◌, ◌++◌, true, IfOk, OnOk, string_bytes};
-ghost use Rattle.gk_run.specs.Cases as cases;
 ghost use Rattle.gk_report.specs.ReportTexts.{line_feed, Pushes};
 ghost use Rattle.gk_explain.specs.Headings as headings;
+ghost use Rattle.gk_explain.specs.SectionLines.{section_value, untold};
 
-use crate::details::{CleanupEvent, StepEvent};
-use crate::event_lines::{Names, push_cleanup, push_step};
-use crate::headings::{case_heading, feature_heading, push_explanation, rule_heading, run_heading};
+use crate::event::{Event, level_of};
+use crate::event_lines::Names;
+use crate::headings::{Ended, ended_status, push_explanation, push_heading};
+use crate::nearest_lines::NearestLines;
+use crate::section_lines::SectionLines;
 use gk_run::{CaseResult, FeatureResult, Level, RuleResult, Status, is_bad};
 use gk_steps::Library;
 use std::alloc::{AllocError, Global};
 use std::mem;
 
-/// The lines of the events so far of each section that is open, and what is explained.
+/// What is kept of each section that is open, and what is explained.
 #[derive(Debug, Drop)]
 pub struct Explanation<'a> {
-    library: &'a Library,
+    nearest: NearestLines<'a>,
     hooks: &'a str,
     source: String,
-    run_lines: String,
-    feature_lines: String,
-    rule_lines: String,
-    case_lines: String,
+    run: SectionLines,
+    feature: SectionLines,
+    rule: SectionLines,
+    scenario: SectionLines,
     explained: Explained,
 }
 
@@ -34,15 +36,38 @@ struct Explained {
 
 impl Explained {
     // Adds the explanation of what failed, and its line in the list.
-    fn add(&mut self, heading: &str, status: Status, lines: &str) -> Result<(), AllocError>
+    fn add(&mut self, source: &str, ended: Ended<'_>, lines: &str) -> Result<(), AllocError>
         ensures ready { Pushes self.old.ready
-            (headings.explanation_text heading.now status lines.now) result self.new.ready }
+            (headings.explanation_text (headings.heading_of source.now ended.entry)
+            (headings.ended_status ended.entry) lines.now) result self.new.ready }
         ensures failures { Pushes self.old.failures
-            (heading.now ++ line_feed) result self.new.failures }
+            (headings.heading_of source.now ended.entry ++ line_feed) result self.new.failures }
     {
-        push_explanation(&mut self.ready, heading, status, lines)?;
-        self.failures.push_str(heading)?;
+        push_explanation(&mut self.ready, source, ended, lines)?;
+        push_heading(&mut self.failures, source, ended)?;
         self.failures.push_str("\n")
+    }
+
+    // Explains what has ended where it failed or was refused memory. Nothing is kept of its section then.
+    fn end(
+        &mut self,
+        source: &str,
+        ended: Ended<'_>,
+        section: &mut SectionLines,
+    ) -> Result<(), AllocError>
+        ensures ready { let old = section_value section.old in Pushes self.old.ready
+            (headings.explained (headings.heading_of source.now ended.entry)
+            (headings.ended_status ended.entry) old.lines) result self.new.ready }
+        ensures failures { Pushes self.old.failures
+            (headings.listed (headings.heading_of source.now ended.entry)
+            (headings.ended_status ended.entry)) result self.new.failures }
+        ensures section { OnOk result (section_value section.new ≡ untold) }
+    {
+        if is_bad(ended_status(ended)) {
+            self.add(source, ended, section.lines())?;
+        }
+        section.clear();
+        Ok(())
     }
 }
 
@@ -50,7 +75,7 @@ impl<'a> Explanation<'a> {
     ghost use Rattle.std.specs.Prelude.{◌≡◌, IfOk, OnOk, string_bytes};
     ghost use Rattle.gk_steps.specs.Finding.{library_value};
     ghost use Rattle.gk_run.specs.Results.{case_row, rule_row, feature_row};
-    ghost use Rattle.gk_explain.specs.Details.{step_told, cleanup_told};
+    ghost use Rattle.gk_explain.specs.Event.{event_told};
     ghost use Rattle.gk_explain.specs.Headings.{failures_text};
     ghost use Rattle.gk_explain.specs.Explanation.{explanation_value, nothing_said, with_event, with_case, with_rule, with_source, with_feature, with_run, with_taken};
 
@@ -61,13 +86,13 @@ impl<'a> Explanation<'a> {
             ≡ nothing_said (library_value library.entry.now) hooks.entry.now }
     {
         Explanation {
-            library,
+            nearest: NearestLines::new(alloc, library),
             hooks,
             source: String::new(alloc),
-            run_lines: String::new(alloc),
-            feature_lines: String::new(alloc),
-            rule_lines: String::new(alloc),
-            case_lines: String::new(alloc),
+            run: SectionLines::new(alloc),
+            feature: SectionLines::new(alloc),
+            rule: SectionLines::new(alloc),
+            scenario: SectionLines::new(alloc),
             explained: Explained {
                 ready: String::new(alloc),
                 failures: String::new(alloc),
@@ -75,7 +100,8 @@ impl<'a> Explanation<'a> {
         }
     }
 
-    /// A feature of a file of this name begins. An error comes only where a growth was refused.
+    /// A feature of a file of this name begins. An error comes only where a growth was refused; the source
+    /// has no name then.
     pub fn begin_feature(&mut self, source: &str) -> Result<(), AllocError>
         ensures { OnOk result (explanation_value self.new
             ≡ with_source source.now (explanation_value self.old)) }
@@ -84,91 +110,64 @@ impl<'a> Explanation<'a> {
         self.source.push_str(source)
     }
 
-    /// Adds the lines of a step. An error comes only where a growth was refused.
-    pub fn add_step(&mut self, alloc: Global, event: &StepEvent<'_>) -> Result<(), AllocError>
+    /// Adds an event to what is kept of its section. An error comes only where a growth was refused; the section may
+    /// have a part of its lines then.
+    pub fn add(&mut self, alloc: Global, event: Event<'_>) -> Result<(), AllocError>
         ensures { OnOk result (explanation_value self.new
-            ≡ with_event (step_told event.now) (explanation_value self.old)) }
+            ≡ with_event (event_told event.entry) (explanation_value self.old)) }
     {
-        let library = self.library;
+        let nearest = &mut self.nearest;
         let names = Names {
             hooks: self.hooks,
             source: self.source.as_str(),
         };
-        match event.place.level {
-            Level::Run => push_step(alloc, &mut self.run_lines, library, names, event),
-            Level::Feature => push_step(alloc, &mut self.feature_lines, library, names, event),
-            Level::Rule => push_step(alloc, &mut self.rule_lines, library, names, event),
-            Level::Scenario => push_step(alloc, &mut self.case_lines, library, names, event),
+        match level_of(event) {
+            Level::Run => self.run.add(alloc, nearest, names, event),
+            Level::Feature => self.feature.add(alloc, nearest, names, event),
+            Level::Rule => self.rule.add(alloc, nearest, names, event),
+            Level::Scenario => self.scenario.add(alloc, nearest, names, event),
         }
     }
 
-    /// Adds the lines of a cleanup of a section of a level. An error comes only where a growth was refused.
-    pub fn add_cleanup(&mut self, alloc: Global, event: &CleanupEvent<'_>) -> Result<(), AllocError>
-        ensures { OnOk result (explanation_value self.new
-            ≡ with_event (cleanup_told event.now) (explanation_value self.old)) }
-    {
-        let library = self.library;
-        match event.level {
-            Level::Run => push_cleanup(alloc, &mut self.run_lines, library, event),
-            Level::Feature => push_cleanup(alloc, &mut self.feature_lines, library, event),
-            Level::Rule => push_cleanup(alloc, &mut self.rule_lines, library, event),
-            Level::Scenario => push_cleanup(alloc, &mut self.case_lines, library, event),
-        }
-    }
-
-    /// The scenario that is open has ended with this result. An error comes only where a growth was refused.
-    pub fn end_case(&mut self, alloc: Global, case: &CaseResult) -> Result<(), AllocError>
+    /// The scenario that is open has ended with this result. An error comes only where a growth was refused; a part of
+    /// its explanation may be ready then.
+    pub fn end_case(&mut self, case: &CaseResult) -> Result<(), AllocError>
         ensures { OnOk result (explanation_value self.new
             ≡ with_case (case_row case.now) (explanation_value self.old)) }
     {
-        if is_bad(case.status) {
-            let heading = case_heading(alloc, self.source.as_str(), case)?;
-            let lines = self.case_lines.as_str();
-            self.explained.add(heading.as_str(), case.status, lines)?;
-        }
-        self.case_lines.clear();
-        Ok(())
+        let source = self.source.as_str();
+        self.explained
+            .end(source, Ended::Scenario(case), &mut self.scenario)
     }
 
-    /// The rule that is open has ended with this result. An error comes only where a growth was refused.
-    pub fn end_rule(&mut self, alloc: Global, rule: &RuleResult) -> Result<(), AllocError>
+    /// The rule that is open has ended with this result. Errors are those of a scenario.
+    pub fn end_rule(&mut self, rule: &RuleResult) -> Result<(), AllocError>
         ensures { OnOk result (explanation_value self.new
             ≡ with_rule (rule_row rule.now) (explanation_value self.old)) }
     {
-        if is_bad(rule.around) {
-            let heading = rule_heading(alloc, self.source.as_str(), rule)?;
-            let lines = self.rule_lines.as_str();
-            self.explained.add(heading.as_str(), rule.around, lines)?;
-        }
-        self.rule_lines.clear();
-        Ok(())
+        let source = self.source.as_str();
+        self.explained
+            .end(source, Ended::Rule(rule), &mut self.rule)
     }
 
-    /// The feature that is open has ended with this result. An error comes only where a growth was refused.
-    pub fn end_feature(&mut self, alloc: Global, feature: &FeatureResult) -> Result<(), AllocError>
+    /// The feature that is open has ended with this result. Errors are those of a scenario.
+    pub fn end_feature(&mut self, feature: &FeatureResult) -> Result<(), AllocError>
         ensures { OnOk result (explanation_value self.new
             ≡ with_feature (feature_row feature.now) (explanation_value self.old)) }
     {
-        if is_bad(feature.around) {
-            let heading = feature_heading(alloc, self.source.as_str(), feature)?;
-            let lines = self.feature_lines.as_str();
-            self.explained.add(heading.as_str(), feature.around, lines)?;
-        }
-        self.feature_lines.clear();
-        Ok(())
+        let source = self.source.as_str();
+        self.explained
+            .end(source, Ended::Feature(feature), &mut self.feature)
     }
 
-    /// The run has ended, its own hooks and cleanups so. An error comes only where a growth was refused.
+    /// The run has ended, its own hooks and cleanups so. Errors are those of a scenario.
     pub fn end_run(&mut self, around: Status) -> Result<(), AllocError>
         ensures { OnOk result (explanation_value self.new
             ≡ with_run around (explanation_value self.old)) }
     {
-        if is_bad(around) {
-            let lines = self.run_lines.as_str();
-            self.explained.add(run_heading(), around, lines)?;
-        }
-        self.run_lines.clear();
-        Ok(())
+        let source = self.source.as_str();
+        self.explained
+            .end(source, Ended::Run(around), &mut self.run)
     }
 
     /// What is ready, which then nothing is. Takes no memory.
@@ -180,7 +179,7 @@ impl<'a> Explanation<'a> {
     }
 
     /// The list of what failed, with an empty line behind it where there is any. An error comes only where a
-    /// growth was refused.
+    /// growth was refused; nothing is left then.
     pub fn into_failures(self) -> Result<String, AllocError>
         ensures { let said = explanation_value self.entry in IfOk result (λ text.
             string_bytes text ≡ failures_text said.failures) }

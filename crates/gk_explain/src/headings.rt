@@ -1,77 +1,114 @@
 //! The heading of what failed, and its explanation.
 ghost use Rattle.std.specs.Prelude.{◌≡◌};
 ghost use Rattle.gk_run.specs.Results.{case_row, rule_row, feature_row};
-ghost use Rattle.gk_report.specs.ReportTexts.{AnswersText, Pushes};
+ghost use Rattle.gk_report.specs.ReportTexts.{Pushes};
 ghost use Rattle.gk_explain.specs.Headings as spec;
 
 use crate::event_lines::push_place;
 use gk_report::{push_ending, push_one_line};
 use gk_run::{CaseResult, FeatureResult, RuleResult, Status};
-use std::alloc::{AllocError, Global};
+use std::alloc::AllocError;
 
-/// The heading of the hooks and cleanups of the run.
-#[tactic(auto, unfolding(crate::specs::Headings::run_heading))]
-pub fn run_heading() -> &'static str
-    ensures { result.now ≡ spec.run_heading }
-{
-    "(hooks and cleanups)"
+/// What has ended: a scenario, or the hooks and cleanups of a rule, of a feature or of the run, and how they ended.
+#[derive(Clone, Copy)]
+pub enum Ended<'a> {
+    Scenario(&'a CaseResult),
+    Rule(&'a RuleResult),
+    Feature(&'a FeatureResult),
+    Run(Status),
 }
 
-/// The heading of a scenario of a file. An error comes only where a growth was refused.
+/// How it ended. Takes no memory.
+pub fn ended_status(ended: Ended<'_>) -> Status
+    ensures { result ≡ spec.ended_status ended.entry }
+{
+    match ended {
+        Ended::Scenario(case) => case.status,
+        Ended::Rule(rule) => rule.around,
+        Ended::Feature(feature) => feature.around,
+        Ended::Run(around) => around,
+    }
+}
+
+// Pushes the heading of a scenario of a file.
 #[tactic(auto, unfolding(crate::specs::Headings::case_heading))]
-pub fn case_heading(alloc: Global, source: &str, case: &CaseResult) -> Result<String, AllocError>
-    ensures { AnswersText result (spec.case_heading source.now (case_row case.now)) }
+fn push_case_heading(out: &mut String, source: &str, case: &CaseResult) -> Result<(), AllocError>
+    ensures { Pushes out.old (spec.case_heading source.now (case_row case.now)) result out.new }
 {
-    let mut heading = String::new(alloc);
-    push_place(&mut heading, source, case.line)?;
-    heading.push_str(case.keyword.as_str())?;
-    heading.push_str(": ")?;
-    push_one_line(&mut heading, case.name.as_str())?;
-    Ok(heading)
+    push_place(out, source, case.line)?;
+    out.push_str(case.keyword.as_str())?;
+    out.push_str(": ")?;
+    push_one_line(out, case.name.as_str())
 }
 
-/// The heading of the hooks and cleanups of a rule of a file. An error comes only where a growth was refused.
+// Pushes the heading of the hooks and cleanups of a rule of a file.
 #[tactic(auto, unfolding(crate::specs::Headings::rule_heading))]
-pub fn rule_heading(alloc: Global, source: &str, rule: &RuleResult) -> Result<String, AllocError>
-    ensures { AnswersText result (spec.rule_heading source.now (rule_row rule.now)) }
+fn push_rule_heading(out: &mut String, source: &str, rule: &RuleResult) -> Result<(), AllocError>
+    ensures { Pushes out.old (spec.rule_heading source.now (rule_row rule.now)) result out.new }
 {
-    let mut heading = String::new(alloc);
-    push_place(&mut heading, source, rule.line)?;
-    heading.push_str("Rule: (hooks and cleanups)")?;
-    Ok(heading)
+    push_place(out, source, rule.line)?;
+    out.push_str("Rule: (hooks and cleanups)")
 }
 
-/// The heading of the hooks and cleanups of the feature of a file. An error comes only where a growth was
-/// refused.
+// Pushes what is said after the name of a feature.
+#[tactic(auto, unfolding(crate::specs::Headings::around_text))]
+fn push_around(out: &mut String) -> Result<(), AllocError>
+    ensures { Pushes out.old spec.around_text result out.new }
+{
+    out.push_str(" (hooks and cleanups)")
+}
+
+// Pushes the heading of the hooks and cleanups of the feature of a file.
 #[tactic(auto, unfolding(crate::specs::Headings::feature_heading))]
-pub fn feature_heading(
-    alloc: Global,
+fn push_feature_heading(
+    out: &mut String,
     source: &str,
     feature: &FeatureResult,
-) -> Result<String, AllocError>
-    ensures { AnswersText result (spec.feature_heading source.now (feature_row feature.now)) }
+) -> Result<(), AllocError>
+    ensures { Pushes out.old
+        (spec.feature_heading source.now (feature_row feature.now)) result out.new }
 {
-    let mut heading = String::new(alloc);
-    push_place(&mut heading, source, feature.line)?;
-    heading.push_str("Feature: ")?;
-    push_one_line(&mut heading, feature.name.as_str())?;
-    heading.push_str(" (hooks and cleanups)")?;
-    Ok(heading)
+    push_place(out, source, feature.line)?;
+    out.push_str("Feature: ")?;
+    push_one_line(out, feature.name.as_str())?;
+    push_around(out)
 }
 
-/// Pushes an explanation: a heading with a status, the lines of events, an empty line. An error comes only
-/// where a growth was refused.
+// Pushes the heading of the hooks and cleanups of the run.
+#[tactic(auto, unfolding(crate::specs::Headings::run_heading))]
+fn push_run_heading(out: &mut String) -> Result<(), AllocError>
+    ensures { Pushes out.old spec.run_heading result out.new }
+{
+    out.push_str("Run: (hooks and cleanups)")
+}
+
+/// Pushes the heading of what has ended, in the file of this name. An error comes only where a growth was refused; a
+/// part of the heading may have been pushed then.
+pub fn push_heading(out: &mut String, source: &str, ended: Ended<'_>) -> Result<(), AllocError>
+    ensures { Pushes out.old (spec.heading_of source.now ended.entry) result out.new }
+{
+    match ended {
+        Ended::Scenario(case) => push_case_heading(out, source, case),
+        Ended::Rule(rule) => push_rule_heading(out, source, rule),
+        Ended::Feature(feature) => push_feature_heading(out, source, feature),
+        Ended::Run(_) => push_run_heading(out),
+    }
+}
+
+/// Pushes an explanation: the heading of what has ended with its status, the lines of events, an empty line. An error
+/// comes only where a growth was refused; a part of it may have been pushed then.
 #[tactic(auto, unfolding(crate::specs::Headings::explanation_text, gk_report::specs::PlainReport::status_line))]
 pub fn push_explanation(
     out: &mut String,
-    heading: &str,
-    status: Status,
+    source: &str,
+    ended: Ended<'_>,
     lines: &str,
 ) -> Result<(), AllocError>
-    ensures { Pushes out.old (spec.explanation_text heading.now status lines.now) result out.new }
+    ensures { Pushes out.old (spec.explanation_text (spec.heading_of source.now ended.entry)
+        (spec.ended_status ended.entry) lines.now) result out.new }
 {
-    out.push_str(heading)?;
-    push_ending(out, status, None)?;
+    push_heading(out, source, ended)?;
+    push_ending(out, ended_status(ended), None)?;
     out.push_str(lines)?;
     out.push_str("\n")
 }

@@ -5,13 +5,17 @@
 
 mod details;
 mod differences;
+mod event;
 mod event_lines;
 mod explainer;
 mod explanation;
 mod headings;
 mod nearest;
+mod nearest_lines;
+mod registrations;
+mod section_lines;
 mod shown;
 mod tables;
 
 pub use event_lines::push_place;
-pub use explainer::{Explainer, cases_are_explained};
+pub use explainer::{Explainer, cases_are_explained, cleanups_are_of_their_steps};

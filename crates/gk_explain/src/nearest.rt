@@ -169,17 +169,25 @@ fn push_entry(out: &mut String, entry: &Entry) -> Result<(), AllocError>
     Ok(())
 }
 
-// Whether an entry agrees with more of a text than its first word and the blank after it.
+// The first word of a text: what stands before its first blank.
+fn first_word(text: &[u8]) -> &[u8]
+    ensures { result.now ≡ spec.first_word text.now }
+{
+    &text[..len_before(b' ', text)]
+}
+
+// Whether an entry agrees with more of a text than with its first word alone, by two bytes at least.
 fn is_near(entry: &Entry, text: &[u8]) -> bool
     ensures { result ≡ spec.is_near (entry_value entry.now) text.now }
 {
-    let word = len_before(b' ', text);
-    agreement(&entry.pattern.pieces, text).saturating_sub(word) > 1
+    let pieces = &entry.pattern.pieces;
+    let word = agreement(pieces, first_word(text));
+    agreement(pieces, text).saturating_sub(word) > 1
 }
 
 /// Pushes which entry comes nearest to the text of a step: the one that agrees with it longest, and of equals the
 /// first. Nothing is pushed where none agrees with more than its first word. An error comes only where a growth was
-/// refused.
+/// refused; a part of the line may have been pushed then.
 pub fn push_nearest(out: &mut String, library: &Library, text: &str) -> Result<(), AllocError>
     ensures { Pushes out.old (spec.nearest_told (library_value library.now) text.now)
         result out.new }

@@ -35,7 +35,8 @@ fn push_number(out: &mut String, code: u32) -> Result<(), AllocError>
     out.push_str("}")
 }
 
-/// Pushes a character as it is shown. An error comes only where a growth was refused.
+/// Pushes a character as it is shown. An error comes only where a growth was refused; a part of it may have been
+/// pushed then.
 pub fn push_char(out: &mut String, c: char) -> Result<(), AllocError>
     ensures { Pushes out.old (spec.shown_char c) result out.new }
 {
@@ -54,7 +55,7 @@ pub fn push_char(out: &mut String, c: char) -> Result<(), AllocError>
 }
 
 /// Pushes a text as it is shown: what can't be seen stands there as an escape. An error comes only where a growth
-/// was refused.
+/// was refused; a part of it may have been pushed then.
 pub fn push_shown(out: &mut String, text: &str) -> Result<(), AllocError>
     ensures { Pushes out.old (spec.shown text.now) result out.new }
 {
@@ -119,7 +120,8 @@ fn push_few_lines(out: &mut String, mark: &str, lines: &[&str]) -> Result<(), Al
 }
 
 /// Pushes the lines of a text, each after a mark and between quotes, in at most twenty rows: of more than twenty
-/// lines those in the middle are left out. An error comes only where a growth was refused.
+/// lines those in the middle are left out. An error comes only where a growth was refused; some of the rows may have
+/// been pushed then.
 #[tactic(auto, unfolding(crate::specs::Shown::marked_text))]
 pub fn push_text(alloc: Global, out: &mut String, mark: &str, text: &str) -> Result<(), AllocError>
     ensures { Pushes out.old (spec.marked_text mark.now text.now) result out.new }

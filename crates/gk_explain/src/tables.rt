@@ -60,7 +60,7 @@ fn push_first(out: &mut String, rows: &[Vec<String>]) -> Result<(), AllocError>
 }
 
 /// Pushes which table is expected of files, and the header of the one that was found. An error comes only where a
-/// growth was refused.
+/// growth was refused; a part of it may have been pushed then.
 pub fn push_table(out: &mut String, block: &Block) -> Result<(), AllocError>
     ensures { Pushes out.old (spec.other_table (block_value block.now)) result out.new }
 {

@@ -1,0 +1,28 @@
+-- An event of a run, as an explainer is told it.
+use Rattle.gk_gherkin.specs.Feature.{block_value, step_value}
+use Rattle.gk_steps.specs.Finding.{found_value}
+use Rattle.gk_world.specs.State.{state_of}
+use Rattle.gk_run.specs.declared.section.Level.{Level}
+use Rattle.gk_run.specs.Watching.{Told, of_step, of_cleanup}
+use Rattle.gk_explain.specs.declared.event.CleanupEvent.{CleanupEvent}
+use Rattle.gk_explain.specs.declared.event.Event.{Event}
+use Rattle.gk_explain.specs.declared.event.Event.TheVariants.{Step, Cleanup}
+use Rattle.gk_explain.specs.declared.event.StepEvent.{StepEvent}
+
+-- What a `StepEvent` says.
+abbrev pub step_told : StepEvent → Told
+step_told e = of_step e.place (step_value e.step.now) e.mark (state_of e.sandbox.now.now)
+
+-- What a `CleanupEvent` says.
+abbrev pub cleanup_told : CleanupEvent → Told
+cleanup_told e = of_cleanup e.level (record { found = found_value e.found.now; block = block_value e.block.now }) e.outcome (state_of e.sandbox.now.now)
+
+-- What an `Event` says.
+abbrev pub event_told : Event → Told
+event_told (Step e) = step_told e
+event_told (Cleanup e) = cleanup_told e
+
+-- The level of the section that an event is of.
+abbrev pub level_of : Told → Level
+level_of (of_step place step mark s) = place.level
+level_of (of_cleanup level cleanup outcome s) = level

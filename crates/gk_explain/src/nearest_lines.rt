@@ -1,0 +1,84 @@
+//! What is kept of the nearest entries.
+ghost use Rattle.std.specs.Prelude.{◌≡◌, IfSome, string_bytes};
+ghost use Rattle.gk_steps.specs.Finding.{library_value};
+ghost use Rattle.gk_report.specs.ReportTexts.{Pushes};
+ghost use Rattle.gk_explain.specs.Nearest.{nearest_told};
+
+use crate::nearest::push_nearest;
+use gk_steps::Library;
+use std::alloc::{AllocError, Global};
+use std::collections::HashMap;
+use std::marker::Model;
+
+/// A library, and for each text that was asked for what is said of the entry that comes nearest to it. So a text that
+/// comes again, as a step of a Background does for each scenario, isn't held against all entries again.
+#[derive(Debug, Drop)]
+pub struct NearestLines<'a> {
+    library: &'a Library,
+    lines: HashMap<String, String>,
+}
+
+impl<'a> Model for NearestLines<'a> {
+    ghost use Rattle.gk_steps.specs.Finding.{LibraryValue, library_value};
+    ghost use Rattle.gk_explain.specs.NearestLines.{AreNearest};
+
+    ghost Value = { LibraryValue };
+
+    ghost view = { λ nearest. library_value nearest.library.now };
+
+    ghost invariant = { λ nearest. AreNearest (library_value nearest.library.now) nearest.lines };
+}
+
+impl<'a> NearestLines<'a> {
+    /// This library, of which no text was asked for. Takes no memory.
+    pub fn new(alloc: Global, library: &'a Library) -> NearestLines<'a>
+        ensures { result ≡ library_value library.entry.now }
+    {
+        NearestLines {
+            library,
+            lines: HashMap::new(alloc),
+        }
+    }
+
+    /// The library. Takes no memory.
+    pub fn library(&self) -> &'a Library
+        ensures { library_value result.now ≡ self.now }
+    {
+        self.library
+    }
+
+    // What was kept for a text.
+    fn kept(&self, text: &str) -> Option<&str>
+        ensures { IfSome result (λ line. line.now ≡ nearest_told self.now text.now) }
+    {
+        match self.lines.get(text) {
+            Some(line) => Some(line.as_str()),
+            None => None,
+        }
+    }
+
+    // Keeps what is said of a text.
+    fn keep(&mut self, alloc: Global, text: &str, line: String) -> Result<(), AllocError>
+        requires { string_bytes line ≡ nearest_told self.old text.now }
+        ensures kept { self.new ≡ self.old }
+    {
+        let text = String::from_str(alloc, text)?;
+        self.lines.insert(text, line)?;
+        Ok(())
+    }
+
+    /// Pushes which entry comes nearest to a text, as `push_nearest`. An error comes only where a growth was refused;
+    /// a part of the line may have been pushed then.
+    pub fn push(&mut self, alloc: Global, out: &mut String, text: &str) -> Result<(), AllocError>
+        ensures pushed { Pushes out.old (nearest_told self.old text.now) result out.new }
+        ensures kept { self.new ≡ self.old }
+    {
+        if let Some(line) = self.kept(text) {
+            return out.push_str(line);
+        }
+        let mut line = String::new(alloc);
+        push_nearest(&mut line, self.library(), text)?;
+        out.push_str(line.as_str())?;
+        self.keep(alloc, text, line)
+    }
+}
