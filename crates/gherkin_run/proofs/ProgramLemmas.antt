@@ -1,7 +1,6 @@
 -- A run whose output is flushed, the program's faults for those of the run, and variables one after another.
-use Rattle.std.proofs.Common.{◌≡◌, ◌∙◌, ◌+◌, ◌<◌, ◌≤◌, ◌++◌, ap, sym, subst, refl, inl, inr, arith, suc, ℕ, List, [], ◌∷◌, length, map, take, drop, get_or, Option, Some, None, Result, Ok, Err, add-one}
-use Rattle.std.specs.Borrow.{Bor}
-use Rattle.std.specs.Prelude.{option_copied, IfErr, IfOk, IsSome, IsSomeAnd, String, is_some, option_map, string_bytes}
+use Rattle.std.proofs.Common.{◌≡◌, ◌∙◌, ◌+◌, ◌<◌, ◌≤◌, ◌++◌, ap, sym, subst, refl, inl, inr, arith, suc, zero, ℕ, List, [], ◌∷◌, length, map, take, drop, get_or, Option, Some, None, Result, Ok, Err, add-one}
+use Rattle.std.specs.Prelude.{IfErr, IfOk, IsSome, IsSomeAnd, String, is_some, option_map, string_bytes}
 use Rattle.std.specs.declared.alloc.Global.{Global}
 use Rattle.std.specs.List.{All, Any}
 use Rattle.std.specs.Io.KnownBytes.{Appends}
@@ -18,11 +17,13 @@ use Rattle.gk_select.specs.declared.select_fault.SelectFault.TheVariants as sele
 use Rattle.gk_cli.specs.Arguments.{PairValue, pair_value}
 use Rattle.gk_cli.specs.Counted.{CanRise, one_more}
 use Rattle.gk_cli.specs.Inputs.{Request}
-use Rattle.gk_cli.specs.Source.{SourceValue, source_value}
+use Rattle.gk_cli.specs.Source.{SourceValue, source_value, names_of}
 use Rattle.gk_cli.specs.declared.source.Source.{Source}
 use Rattle.gk_cli.specs.GrowingReport.{StopsBy}
 use Rattle.gk_cli.specs.Suite.{Device, IsUntouched, SaysFault}
-use Rattle.gk_cli.specs.ExplainedSuite.{SaysExplanationFault, file_value}
+use Rattle.gk_cli.specs.ExplainedSuite.{SaysExplanationFault}
+use Rattle.gk_cli.specs.SuiteFiles.{HaveSameNames}
+use Rattle.gk_cli.specs.declared.suite_files.SuiteFiles.{SuiteFiles}
 use Rattle.gk_cli.specs.LintedSuite.{SaysLintFault}
 use Rattle.gk_cli.specs.declared.arguments.Mode.{Mode}
 use Rattle.gk_cli.specs.declared.arguments.Mode.TheVariants.{Report, Explanation, Findings}
@@ -31,8 +32,7 @@ use Rattle.gk_cli.specs.declared.arguments.Words.{Words}
 use Rattle.gk_cli.specs.declared.run_fault.RunFault.{RunFault}
 use Rattle.gk_cli.specs.declared.run_fault.RunFault.TheVariants as run
 use Rattle.gherkin_run.specs.Files.{FilesValue, IsFaultOfFiles, IsFileFault, files_value, name_of}
-use Rattle.gherkin_run.specs.Program.{AreGiven, AreTaken, IsFaultOfGiven, IsFaultOfRun, IsFaultOfVariable, IsFlushedRun, IsGiven, IsNamed, IsRefused, IsRun, IsWithin, SaysCallsOfRun, SaysFaultAs, IsStoppedAs, hooks_name, library_name, SaysProgram, SaysSuite, SaysVariables, contents_given, bytes_given, request_of_files, variables_given, with_variables}
-use Rattle.gherkin_run.specs.declared.files.RunFiles.{RunFiles}
+use Rattle.gherkin_run.specs.Program.{AreGiven, AreTaken, IsFaultOfGiven, IsFaultOfRun, IsFaultOfVariable, IsFlushedRun, IsGiven, IsNamed, IsRefused, IsRun, IsWithin, SaysCallsOfRun, IsWrittenAs, SaysFaultAs, IsStoppedAs, hooks_name, library_name, SaysProgram, SaysSuite, SaysVariables, contents_given, bytes_given, request_of_files, variables_given, with_variables}
 use Rattle.gherkin_run.specs.declared.fault.Fault.{Fault}
 use Rattle.gherkin_run.specs.declared.fault.Fault.TheVariants.{NotUtf8, Usage, Env, CannotRead, TooLong, Library, Hooks, Read, TooMany, BadTags, Write, Memory}
 
@@ -45,25 +45,12 @@ pub if_err_by : {T E : Type 0} {P Q : E → Type 0} (r : Result T E) → ((e : E
 if_err_by (Ok x) f h = h
 if_err_by (Err e) f h = f e h
 
--- files with these parts
-abbrev FilesAre : Option SourceValue → Option SourceValue → List SourceValue → FilesValue → Type 0
-FilesAre library hooks sources files = let parts : FilesValue = record { library = library; hooks = hooks; sources = sources } in parts ≡ files
+-- what is written and what a fault says, in a mode that is known
+pub in_mode : (mode known : Mode) (files : FilesValue) (r : Request) (c : Contents) (old new : Device) (result : Result ℕ RunFault) → mode ≡ known → IfOk result (IsWrittenAs known files r c old new) → IfOk result (IsWrittenAs mode files r c old new)
+in_mode mode known files r c old new result is written = subst (λ (m : Mode). IfOk result (IsWrittenAs m files r c old new)) (sym is) written
 
--- a file that is borrowed says what it says
-pub same_file : (file : Option (Bor Source)) (own : Option Source) → option_copied file ≡ own → file_value file ≡ option_map source_value own
-same_file file own same = go file ∙ ap (option_map source_value) same
-  where
-    go : (file : Option (Bor Source)) → file_value file ≡ option_map source_value (option_copied file)
-    go None = refl
-    go (Some x) = refl
-
--- the files that are passed on are those of the run
-pub same_files : (library hooks : Option (Bor Source)) (sources : List Source) (files : RunFiles) → option_copied library ≡ files.library → option_copied hooks ≡ files.hooks → sources ≡ files.sources.items
-    → FilesAre (file_value library) (file_value hooks) (map source_value sources) (files_value files)
-same_files library hooks sources files l h s = alike (same_file library files.library l) (same_file hooks files.hooks h) (ap (map source_value) s)
-  where
-    alike : {a a' b b' : Option SourceValue} {c c' : List SourceValue} → a ≡ a' → b ≡ b' → c ≡ c' → FilesAre a b c (record { library = a'; hooks = b'; sources = c' })
-    alike e f g = cc
+pub fault_in_mode : (mode known : Mode) (files : FilesValue) (r : Request) (c : Contents) (old new : Device) (result : Result ℕ RunFault) → mode ≡ known → IfErr result (SaysFaultAs known files r c old new) → IfErr result (SaysFaultAs mode files r c old new)
+fault_in_mode mode known files r c old new result is says = subst (λ (m : Mode). IfErr result (SaysFaultAs m files r c old new)) (sym is) says
 
 -- a device that isn't called
 pub untouched : (d : Device) → IsUntouched d d
@@ -81,6 +68,61 @@ taken_out f xs i x within is =
     let many = length-map xs f in
     let lt : i < length xs = omega (arith, within, many) in
     (f x, slice_get-map f xs i ∙ ap (option_map f) (slice_get_read xs (length xs) i x refl lt is), refl)
+
+not_empty : (a : List ℕ) (xs : List (List ℕ)) → a ∷ xs ≡ [] → ⊥
+not_empty a xs e = cc
+
+-- a source that has a name among others has it among those with the same names
+named_again : (old new : List SourceValue) (input : ℕ) (name : List ℕ) → names_of new ≡ names_of old → IsNamed new input name → IsNamed old input name
+named_again [] [] input name same is = is
+named_again [] (y ∷ ys) input name same is = absurd (not_empty y.name (names_of ys) same)
+named_again (x ∷ xs) [] input name same is = absurd (not_empty x.name (names_of xs) (sym same))
+named_again (x ∷ xs) (y ∷ ys) zero name same is = (x, refl, is.2 ∙ sym (ap (λ (s : SourceValue). s.name) (same_some y is.0 is.1)) ∙ same_first y.name x.name (names_of ys) (names_of xs) same)
+  where
+    same_some : (a b : SourceValue) → ◌≡◌ {A = Option SourceValue} (Some a) (Some b) → a ≡ b
+    same_some a b e = cc
+
+    same_first : (a b : List ℕ) (xs ys : List (List ℕ)) → a ∷ xs ≡ b ∷ ys → a ≡ b
+    same_first a b xs ys e = cc
+named_again (x ∷ xs) (y ∷ ys) (suc i) name same is = named_again xs ys i name (same_rest y.name x.name (names_of ys) (names_of xs) same) is
+  where
+    same_rest : (a b : List ℕ) (xs ys : List (List ℕ)) → a ∷ xs ≡ b ∷ ys → xs ≡ ys
+    same_rest a b xs ys e = cc
+
+-- so a fault is named as before sources gave up their bytes
+pub named_as_before : (old new : SuiteFiles) (by : RunFault) (fault : Fault) → HaveSameNames old new → IsFaultOfRun (files_value new) by fault → IsFaultOfRun (files_value old) by fault
+named_as_before old new run.Write Write same is = tt
+named_as_before old new run.Write _ same is = absurd is
+named_as_before old new run.Memory Memory same is = tt
+named_as_before old new run.Memory _ same is = absurd is
+named_as_before old new (run.Read input f) (Read name g) same is = (is.0, named_again (files_value old).sources (files_value new).sources input (string_bytes name) same.sources is.1)
+named_as_before old new (run.Read input f) _ same is = absurd is
+named_as_before old new (run.Library f) (Library name g) same is = (is.0, ap (option_map (λ (s : SourceValue). s.name)) (sym same.library) ∙ is.1)
+named_as_before old new (run.Library f) _ same is = absurd is
+named_as_before old new (run.Hooks f) (Hooks name g) same is = (is.0, ap (option_map (λ (s : SourceValue). s.name)) (sym same.hooks) ∙ is.1)
+named_as_before old new (run.Hooks f) _ same is = absurd is
+named_as_before old new (run.Select (Some input) f) (TooMany name) same is = named_again (files_value old).sources (files_value new).sources input (string_bytes name) same.sources is
+named_as_before old new (run.Select (Some input) f) _ same is = absurd is
+named_as_before old new (run.Select None f) BadTags same is = tt
+named_as_before old new (run.Select None f) _ same is = absurd is
+
+-- as many sources as names
+as_many : (old new : List SourceValue) → names_of new ≡ names_of old → length new ≡ length old
+as_many old new same = sym (length-map new (λ (s : SourceValue). s.name)) ∙ ap length same ∙ length-map old (λ (s : SourceValue). s.name)
+
+-- and what it speaks of is there still
+pub within_still : (old new : SuiteFiles) (by : RunFault) → HaveSameNames old new → IsWithin (files_value old) by → IsWithin (files_value new) by
+within_still old new (run.Read input f) same is = subst (λ n. input < n) (sym (as_many (files_value old).sources (files_value new).sources same.sources)) is
+within_still old new (run.Library f) same is = subst IsSome (sym same.library) is
+within_still old new (run.Hooks f) same is = subst IsSome (sym same.hooks) is
+within_still old new (run.Select (Some input) select.TooMany) same is = subst (λ n. input < n) (sym (as_many (files_value old).sources (files_value new).sources same.sources)) is
+within_still old new (run.Select (Some input) select.BadTagText) same is = is
+within_still old new (run.Select (Some input) select.Memory) same is = is
+within_still old new (run.Select None select.TooMany) same is = is
+within_still old new (run.Select None select.BadTagText) same is = is
+within_still old new (run.Select None select.Memory) same is = is
+within_still old new run.Write same is = tt
+within_still old new run.Memory same is = tt
 
 some_file : (file : Option SourceValue) (bytes : List ℕ) → bytes_given file ≡ Some bytes → IsSome file
 some_file None bytes e = absurd cc
@@ -285,18 +327,18 @@ of_suite w files old new fault given taken says =
 
 -- ---- the run of the files
 
-names_of : (xs : List Source) → map (λ s. s.name) (map source_value xs) ≡ map name_of xs
-names_of [] = refl
-names_of (x ∷ xs) = ap (λ l. name_of x ∷ l) (names_of xs)
+their_names : (xs : List Source) → names_of (map source_value xs) ≡ map name_of xs
+their_names [] = refl
+their_names (x ∷ xs) = ap (λ l. name_of x ∷ l) (their_names xs)
 
 name_given : (file : Option Source) → option_map (λ s. s.name) (option_map source_value file) ≡ option_map name_of file
 name_given None = refl
 name_given (Some x) = refl
 
-pub are_given : (w : Words) (files : RunFiles) → option_map name_of files.library ≡ option_map string_bytes w.library → option_map name_of files.hooks ≡ option_map string_bytes w.hooks
+pub are_given : (w : Words) (files : SuiteFiles) → option_map name_of files.library ≡ option_map string_bytes w.library → option_map name_of files.hooks ≡ option_map string_bytes w.hooks
     → map name_of files.sources.items ≡ map string_bytes w.files.items → AreGiven w (files_value files)
 are_given w files l h s = record {
-  sources = names_of files.sources.items ∙ s;
+  sources = their_names files.sources.items ∙ s;
   library = name_given files.library ∙ l;
   hooks = name_given files.hooks ∙ h;
 }

@@ -5,10 +5,10 @@ use Rattle.std.specs.declared.alloc.Global.{Global}
 use Rattle.gk_cli.specs.Source.{SourceValue, source_value}
 use Rattle.gk_cli.specs.declared.source.Source.{Source}
 use Rattle.gk_cli.specs.declared.source.SourceFault.{SourceFault}
+use Rattle.gk_cli.specs.declared.suite_files.SuiteFiles.{SuiteFiles}
 use Rattle.gk_cli.specs.declared.source.SourceFault.TheVariants as reading
 use Rattle.gherkin_run.specs.declared.fault.Fault.{Fault}
 use Rattle.gherkin_run.specs.declared.fault.Fault.TheVariants.{CannotRead, TooLong, Memory}
-use Rattle.gherkin_run.specs.declared.files.RunFiles.{RunFiles}
 
 -- The name of a source.
 abbrev pub name_of : Source → List ℕ
@@ -75,7 +75,7 @@ pub record FilesValue : Type 0 where
   pub sources : List SourceValue
 
 -- The files of a run as the definitions see them.
-abbrev pub files_value : RunFiles → FilesValue
+abbrev pub files_value : SuiteFiles → FilesValue
 files_value files = record {
   library = option_map source_value files.library;
   hooks = option_map source_value files.hooks;

@@ -19,9 +19,9 @@ use Rattle.gk_cli.specs.declared.arguments.Options.{Options}
 use Rattle.gk_cli.specs.GrowingReport.{StopsBy}
 use Rattle.gk_cli.specs.RunFault.{IsUnread}
 use Rattle.gk_cli.specs.Suite.{CutShort, Device, IsUntouched, JudgedReport, OnlyReport}
-use Rattle.gk_cli.specs.ExplainedSuite.{Explained, ExplainedInPart, file_value, name_of}
+use Rattle.gk_cli.specs.ExplainedSuite.{Explained, ExplainedInPart}
 use Rattle.gk_cli.specs.LintedSuite.{Linted, LintedInPart}
-use Rattle.gk_cli.specs.declared.explained_suite.SuiteFiles.{SuiteFiles}
+use Rattle.gk_cli.specs.SuiteFiles.{name_of}
 use Rattle.gk_cli.specs.declared.arguments.Mode.{Mode}
 use Rattle.gk_cli.specs.declared.arguments.Mode.TheVariants.{Report, Explanation, Findings}
 use Rattle.gk_cli.specs.declared.arguments.Words.{Words}
@@ -215,10 +215,6 @@ variables_given w = map pair_value w.env.items
 -- The contents that a run begins with: the variables alone.
 abbrev pub contents_given : Words → Contents
 contents_given w = with_variables nothing_yet (variables_given w)
-
--- The files of a run, as they are passed on.
-abbrev pub suite_value : SuiteFiles → FilesValue
-suite_value files = record { library = file_value files.library; hooks = file_value files.hooks; sources = map source_value files.sources.now }
 
 -- What a run of these files is asked for.
 abbrev pub request_of_files : Options → FilesValue → Request

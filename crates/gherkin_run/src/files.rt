@@ -5,7 +5,7 @@ ghost use Rattle.gherkin_run.specs.Files.{AreRead, IsFaultOfFiles, IsFaultOfRead
 ghost use Rattle.gk_cli.specs.Source.{source_value};
 
 use crate::fault::Fault;
-use gk_cli::{Counted, Source, SourceFault, read_source};
+use gk_cli::{Counted, Source, SourceFault, SuiteFiles, read_source};
 use gk_gherkin::LIMIT;
 use std::alloc::Global;
 use std::rt::Files;
@@ -123,14 +123,6 @@ fn read_named_file<S: System>(
     }
 }
 
-/// The files of a run, read whole.
-#[derive(Drop)]
-pub struct RunFiles {
-    pub library: Option<Source>,
-    pub hooks: Option<Source>,
-    pub sources: Vec<Source>,
-}
-
 /// Reads the library file and the hooks file, where they are named, and then each feature file, in order, and
 /// nothing else. The first that can't be read is the fault, and none is read after it.
 pub fn read_run_files<S: System>(
@@ -139,7 +131,7 @@ pub fn read_run_files<S: System>(
     library: Option<String>,
     hooks: Option<String>,
     names: Vec<String>,
-) -> Result<RunFiles, Fault>
+) -> Result<SuiteFiles, Fault>
     ensures library { IfOk result
         (λ files. option_map name_of files.library ≡ option_map string_bytes library) }
     ensures hooks { IfOk result
@@ -157,7 +149,7 @@ pub fn read_run_files<S: System>(
     let library = read_named_file(alloc, system, library)?;
     let hooks = read_named_file(alloc, system, hooks)?;
     let sources = read_files(alloc, system, names)?;
-    Ok(RunFiles {
+    Ok(SuiteFiles {
         library,
         hooks,
         sources,

@@ -5,14 +5,15 @@ ghost use Rattle.gk_cli.specs.Arguments.{pair_value};
 ghost use Rattle.gk_cli.specs.Counted.{CountsCanRise, flushes_of, failures_of, one_more};
 ghost use Rattle.gk_cli.specs.Suite.{device_of};
 ghost use Rattle.gk_cli.specs.Source.{source_value};
+ghost use Rattle.gk_cli.specs.SuiteFiles.{HaveSameNames};
 ghost use Rattle.gherkin_run.specs.Files.{files_value};
-ghost use Rattle.gherkin_run.specs.Program.{SaysAsked, SaysError, IsHelpFault, IsArgumentsFault, IsFaultOfVariable, SaysVariables, IsWithin, IsNamed, IsFaultOfRun, bytes_given, request_of_files, suite_value, IsRunOfFiles, IsWrittenAs, SaysFaultAs, SaysRun, SaysCalls, SaysCallsOfRun, SaysProgram, IsRun, IsShown, IsHelp, IsDoneFor, IsFaultFor, IsDoneForSome, IsFaultForSome};
+ghost use Rattle.gherkin_run.specs.Program.{SaysAsked, SaysError, IsHelpFault, IsArgumentsFault, IsFaultOfVariable, SaysVariables, IsWithin, IsNamed, IsFaultOfRun, request_of_files, IsRunOfFiles, IsWrittenAs, SaysFaultAs, SaysRun, SaysCalls, SaysCallsOfRun, SaysProgram, IsRun, IsShown, IsHelp, IsDoneFor, IsFaultFor, IsDoneForSome, IsFaultForSome};
 
 use crate::fault::Fault;
-use crate::files::{Machine, RunFiles, read_run_files};
+use crate::files::{Machine, read_run_files};
 use gk_cli::{
     Counted, Mode, Options, RunFault, Source, SuiteFiles, Words, WordsFault, explain_suite,
-    lint_suite, read_words, run_suite, write_whole,
+    lint_suite, read_words, report_suite, write_whole,
 };
 use gk_world::{Sandbox, WorldFault};
 use std::alloc::Global;
@@ -141,7 +142,7 @@ fn name_at(sources: Vec<Source>, input: usize) -> String
 }
 
 // The program's fault for one of the run: files have their names in place of numbers.
-fn fault_of_run(fault: RunFault, files: RunFiles) -> Fault
+fn fault_of_run(fault: RunFault, files: SuiteFiles) -> Fault
     requires { IsWithin (files_value files) fault }
     ensures { IsFaultOfRun (files_value files) fault result }
 {
@@ -170,27 +171,6 @@ fn fault_of_run(fault: RunFault, files: RunFiles) -> Fault
     }
 }
 
-fn bytes_of(file: &Option<Source>) -> Option<&[u8]>
-    ensures { option_map (λ bytes. bytes.now) result
-        ≡ bytes_given (option_map source_value file.now) }
-{
-    match file {
-        Some(source) => Some(source.bytes.as_slice()),
-        None => None,
-    }
-}
-
-// The files of a run, borrowed.
-fn named_files(files: &RunFiles) -> SuiteFiles<'_>
-    ensures { suite_value result ≡ files_value files.now }
-{
-    SuiteFiles {
-        library: files.library.as_ref(),
-        hooks: files.hooks.as_ref(),
-        sources: files.sources.as_slice(),
-    }
-}
-
 /// How a run goes, and what is written of it or in place of it.
 #[derive(Clone, Copy)]
 pub struct Manner<'a> {
@@ -199,33 +179,30 @@ pub struct Manner<'a> {
 }
 
 // Runs the suite, and writes its report or its explanation; or runs nothing, and writes what is found in it.
+// Sources that are run give up their bytes once they are read.
 fn write_run<W: Write>(
     alloc: Global,
     sandbox: &mut Sandbox,
     manner: Manner<'_>,
-    files: &RunFiles,
+    files: &mut SuiteFiles,
     out: &mut Counted<W>,
 ) -> Result<u8, RunFault>
     requires room { CountsCanRise out.old }
     requires outside { depth sandbox.old ≡ 0 }
+    ensures names { HaveSameNames files.old files.new }
     ensures quiet { OnOk result (failures_of out.new ≡ failures_of out.old) }
-    ensures written { IfOk result (IsWrittenAs manner.entry.mode (files_value files.now)
-        (request_of_files manner.entry.options.now (files_value files.now)) sandbox.old.now
+    ensures written { IfOk result (IsWrittenAs manner.entry.mode (files_value files.old)
+        (request_of_files manner.entry.options.now (files_value files.old)) sandbox.old.now
         (device_of W.contents out.old) (device_of W.contents out.new)) }
-    ensures fault { IfErr result (SaysFaultAs manner.entry.mode (files_value files.now)
-        (request_of_files manner.entry.options.now (files_value files.now)) sandbox.old.now
+    ensures fault { IfErr result (SaysFaultAs manner.entry.mode (files_value files.old)
+        (request_of_files manner.entry.options.now (files_value files.old)) sandbox.old.now
         (device_of W.contents out.old) (device_of W.contents out.new)) }
 {
     let options = manner.options;
     match manner.mode {
-        Mode::Report => {
-            let steps = bytes_of(&files.library);
-            let around = bytes_of(&files.hooks);
-            let sources = files.sources.as_slice();
-            run_suite(alloc, sandbox, options, steps, around, sources, out)
-        }
-        Mode::Explanation => explain_suite(alloc, sandbox, options, named_files(files), out),
-        Mode::Findings => lint_suite(alloc, options, named_files(files), out),
+        Mode::Report => report_suite(alloc, sandbox, options, files, out),
+        Mode::Explanation => explain_suite(alloc, sandbox, options, files, out),
+        Mode::Findings => lint_suite(alloc, options, files, out),
     }
 }
 
@@ -236,7 +213,7 @@ fn run_sources<W: Write>(
     alloc: Global,
     sandbox: &mut Sandbox,
     manner: Manner<'_>,
-    files: RunFiles,
+    files: SuiteFiles,
     out: &mut Counted<W>,
 ) -> Result<u8, Fault>
     requires room { CountsCanRise out.old }
@@ -255,7 +232,8 @@ fn run_sources<W: Write>(
     ensures calls { IfErr result
         (SaysCallsOfRun (device_of W.contents out.old) (device_of W.contents out.new)) }
 {
-    match write_run(alloc, sandbox, manner, &files, out) {
+    let mut files = files;
+    match write_run(alloc, sandbox, manner, &mut files, out) {
         Ok(status) => match out.flush() {
             Ok(()) => Ok(status),
             Err(_) => Err(Fault::Write),

@@ -1,12 +1,13 @@
 -- Inputs, one after another, and that they are determined.
-use Rattle.std.proofs.Common.{◌≡◌, ◌⊎◌, inl, inr, ℕ, suc, zero, ◌+◌, ◌<◌, Bool, List, [], ◌∷◌, ◌++◌, map, take, drop, length, get_or, Option, Some, None, refl, ap, sym, subst, ◌∙◌, arith, add-one, append_assoc}
+use Rattle.std.proofs.Common.{◌≡◌, ◌⊎◌, inl, inr, ℕ, suc, zero, ◌+◌, ◌<◌, Bool, List, [], ◌∷◌, ◌++◌, map, take, drop, length, get_or, Option, Some, None, Result, Ok, Err, refl, ap, sym, subst, ◌∙◌, arith, add-one, append_assoc}
 use Rattle.std.proofs.lemmas.Grind.{common_steps}
-use Rattle.std.specs.Prelude.{slice_get}
+use Rattle.std.specs.Prelude.{option_map, slice_get, OnOk}
 use Rattle.std.specs.List.{AllByRecursion}
 use Rattle.gk_gherkin.specs.declared.read_fault.ReadFault.{ReadFault}
 use Rattle.gk_gherkin.specs.declared.read_fault.ReadFault.TheVariants as read_faults
 use Rattle.gk_gherkin.specs.Lines.{lines_of, IsText}
-use Rattle.gk_gherkin.specs.Feature.{FeatureValue}
+use Rattle.gk_gherkin.specs.declared.feature.Feature.{Feature}
+use Rattle.gk_gherkin.specs.Feature.{FeatureValue, feature_value}
 use Rattle.gk_gherkin.specs.Grammar.{Reads, HasOneReading}
 use Rattle.gk_gherkin.specs.Hooks.{HookValue}
 use Rattle.gk_gherkin.specs.HooksGrammar.{HaveOneHooksReading}
@@ -24,12 +25,13 @@ use Rattle.gk_steps.specs.Finding.{LibraryValue}
 use Rattle.gk_steps.specs.DefaultFile.{default_text}
 use Rattle.gk_steps.specs.LibraryFile.{LibraryReadingIsUnique}
 use Rattle.gk_steps.specs.LibraryFault.{LibraryFaultSays}
-use Rattle.gk_run.specs.Chosen.{HeadValue, MemberValue, ChosenValue, members_of}
+use Rattle.gk_run.specs.declared.chosen.Chosen.{Chosen}
+use Rattle.gk_run.specs.Chosen.{HeadValue, MemberValue, ChosenValue, chosen_value, members_of, IsFormed}
 use Rattle.gk_cli.specs.Source.{SourceValue}
-use Rattle.gk_cli.specs.Inputs.{Request, Inputs, AreRules, IsLibrary, AreHooks, member_by, with_reading, IsWithinLimit, AreRead, HasFault}
+use Rattle.gk_cli.specs.Inputs.{Request, Inputs, AreRules, IsLibrary, AreHooks, member_by, chosen_of, with_reading, IsWithinLimit, AreRead, HasFault, IsReading, IsReadOnto}
 use Rattle.gk_cli.specs.declared.run_fault.RunFault.{RunFault}
 use Rattle.gk_cli.specs.declared.run_fault.RunFault.TheVariants.{Read, Library, Hooks, Select, Write, Memory}
-use Rattle.gk_cli.specs.RunFault.{IsUnread, SaysTags, SaysLibrary, SaysHooks, SaysSourceAt, SaysSources, read_fault_at, select_fault_at, tags_fault, library_fault, hooks_fault, SaysExpansion}
+use Rattle.gk_cli.specs.RunFault.{IsUnread, SaysTags, SaysLibrary, SaysHooks, SaysSourceAt, SaysSources, SaysTooMany, read_fault_at, select_fault_at, tags_fault, library_fault, hooks_fault, SaysExpansion}
 use Rattle.gk_cli.specs.Suite.{InputsAreUnique}
 
 -- The element at a place, as a loop has it.
@@ -127,6 +129,37 @@ pub says_select_fault : (input : ℕ) (fault : SelectFault) (bytes : List ℕ) (
 says_select_fault input select_faults.TooMany bytes f text reads h = (refl, (f, text, reads, h))
 says_select_fault input select_faults.BadTagText bytes f text reads h = h
 says_select_fault input select_faults.Memory bytes f text reads h = tt
+
+-- The fault of a feature's cases, named as it is.
+pub too_many_at : (input : ℕ) (f : FeatureValue) (fault : SelectFault) → SaysExpansion f fault → SaysTooMany input f (select_fault_at input fault)
+too_many_at input f select_faults.TooMany h = (refl, h)
+too_many_at input f select_faults.BadTagText h = absurd h
+too_many_at input f select_faults.Memory h = tt
+
+-- It is that of the source that the feature is read of.
+pub too_many_of : (input : ℕ) (bytes : List ℕ) (f : FeatureValue) (fault : RunFault) → IsReading bytes (Some f) → SaysTooMany input f fault → SaysSourceAt input bytes fault
+too_many_of input bytes f (Select (Some i) select_faults.TooMany) reading h = (h.0, (f, reading.text, reading.reads, h.1))
+too_many_of input bytes f (Select (Some i) select_faults.BadTagText) reading h = h
+too_many_of input bytes f (Select (Some i) select_faults.Memory) reading h = h
+too_many_of input bytes f (Select None fault) reading h = h
+too_many_of input bytes f (Read i fault) reading h = absurd h
+too_many_of input bytes f (Library fault) reading h = h
+too_many_of input bytes f (Hooks fault) reading h = h
+too_many_of input bytes f Write reading h = h
+too_many_of input bytes f Memory reading h = tt
+
+-- What bytes that are known read as.
+pub reading_of : (known bytes : List ℕ) (found : Option Feature) (feature : Feature) → known ≡ bytes → found ≡ Some feature → IsReading known (option_map feature_value found) → IsReading bytes (Some (feature_value feature))
+reading_of known bytes found feature same is reading =
+    subst (λ b. IsReading b (Some (feature_value feature))) same (subst (λ o. IsReading known (option_map feature_value o)) is reading)
+
+-- A source whose feature was added reads, and its feature stands after the others.
+pub added_onto : (chooses : CaseValue → Bool) (source : SourceValue) (f : FeatureValue) (old new : List Chosen) (r : Result (Unit {0}) RunFault) →
+    IsReading source.bytes (Some f) → OnOk r (map chosen_value new ≡ map chosen_value old ++ chosen_of chooses source.name f ∷ []) →
+    OnOk r (AllByRecursion IsFormed old → AllByRecursion IsFormed new) → OnOk r (IsWithinLimit (Some f)) → OnOk r (IsReadOnto chooses source old new)
+added_onto chooses source f old new (Ok u) reading added formed limit =
+    record { reading = Some f; text = reading.text; reads = reading.reads; limit = limit; added = added; formed = formed }
+added_onto chooses source f old new (Err e) reading added formed limit = tt
 
 -- The first source that doesn't read is named, or memory was refused.
 pub first_unread : (chooses : CaseValue → Bool) (sources : List SourceValue) (features : List ChosenValue) (input : ℕ) (source : SourceValue) (fault : RunFault) →

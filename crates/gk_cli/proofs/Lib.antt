@@ -3,6 +3,7 @@ pub mod SourceLemmas
 pub mod ArgumentsLemmas
 pub mod WorkedArguments
 pub mod InputsLemmas
+pub mod TakenSourcesLemmas
 pub mod GrowingReportLemmas
 pub mod WrittenRunLemmas
 pub mod SuiteLemmas

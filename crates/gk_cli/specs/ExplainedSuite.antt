@@ -1,38 +1,13 @@
 -- What a whole run may return and write that is explained.
-use Rattle.std.specs.Prelude.{◌⊎◌, ℕ, false, List, [], map, unwrap_or, Option, option_map}
-use denote.Ref.{Bor}
+use Rattle.std.specs.Prelude.{◌⊎◌, ℕ, false, List}
 use Rattle.gk_world.specs.State.{Contents}
 use Rattle.gk_run.specs.Run.{Run}
-use Rattle.gk_cli.specs.declared.arguments.Options.{Options}
-use Rattle.gk_cli.specs.declared.explained_suite.SuiteFiles.{SuiteFiles}
 use Rattle.gk_cli.specs.declared.run_fault.RunFault.{RunFault}
 use Rattle.gk_cli.specs.declared.run_fault.RunFault.TheVariants.{Write, Memory}
-use Rattle.gk_cli.specs.declared.source.Source.{Source}
-use Rattle.gk_cli.specs.Inputs.{Request, Inputs, request_of, AreInputs}
+use Rattle.gk_cli.specs.Inputs.{Request, Inputs, AreInputs}
 use Rattle.gk_cli.specs.RunFault.{IsUnread}
-use Rattle.gk_cli.specs.Source.{SourceValue, source_value}
 use Rattle.gk_cli.specs.Suite.{Device, IsUntouched}
 use Rattle.gk_cli.specs.ExplainedRun.{IsExplained, IsExplainedUpTo}
-
--- A file that may be there.
-abbrev pub file_value : Option (Bor Source) → Option SourceValue
-file_value file = option_map (λ (source : Bor Source). source_value source.now) file
-
--- The bytes of a file that may be there.
-abbrev pub bytes_of : Option SourceValue → Option (List ℕ)
-bytes_of file = option_map (λ (s : SourceValue). s.bytes) file
-
--- The name of a file that may be there; no name where there is none.
-abbrev pub name_of : Option SourceValue → List ℕ
-name_of file = unwrap_or (option_map (λ (s : SourceValue). s.name) file) []
-
--- What is asked for with these files.
-abbrev pub request_of_files : Options → SuiteFiles → Request
-request_of_files options files = request_of options (bytes_of (file_value files.library)) (bytes_of (file_value files.hooks)) (map source_value files.sources.now)
-
--- The name of the hooks file.
-abbrev pub hooks_name : SuiteFiles → List ℕ
-hooks_name files = name_of (file_value files.hooks)
 
 -- What stays the same during a run of these inputs that is explained: it isn't dry, whatever is asked for.
 abbrev pub explained_run : Request → Inputs → Run

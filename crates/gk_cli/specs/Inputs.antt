@@ -10,10 +10,10 @@ use Rattle.gk_gherkin.specs.Hooks.{HookValue, hooks_value}
 use Rattle.gk_gherkin.specs.HooksGrammar.{ReadsHooks}
 use Rattle.gk_gherkin.specs.ReadFault.{FaultSays, FeatureFault}
 use Rattle.gk_select.specs.Case.{CaseValue}
-use Rattle.gk_select.specs.Expansion.{cases, step_count, step_limit, HasTooManySteps}
+use Rattle.gk_select.specs.Expansion.{cases, step_count, step_limit, HasTooManySteps, IsExpandable}
 use Rattle.gk_select.specs.TagGrammar.{Expression}
 use Rattle.gk_select.specs.TagRules.{ReadsTags}
-use Rattle.gk_select.specs.Choice.{is_chosen}
+use Rattle.gk_select.specs.Choice.{chosen_by, is_chosen}
 use Rattle.gk_steps.specs.LibraryFile.{ReadsLibrary}
 use Rattle.gk_steps.specs.DefaultFile.{default_text}
 use Rattle.gk_steps.specs.Finding.{LibraryValue, library_value}
@@ -21,6 +21,7 @@ use Rattle.gk_run.specs.declared.chosen.Chosen.{Chosen}
 use Rattle.gk_run.specs.Chosen.{HeadValue, MemberValue, ChosenValue, chosen_value, IsFormed}
 use Rattle.gk_report.specs.declared.report.Style.{Style}
 use Rattle.gk_cli.specs.declared.arguments.Options.{Options}
+use Rattle.gk_cli.specs.declared.inputs.ReadBefore.{ReadBefore}
 use Rattle.gk_cli.specs.declared.inputs.ReadInputs.{ReadInputs}
 use Rattle.gk_cli.specs.declared.source.Source.{Source}
 use Rattle.gk_cli.specs.Source.{SourceValue, source_value}
@@ -152,7 +153,21 @@ HasTooMany bytes = (f : FeatureValue) × IsText bytes × Reads (lines_of bytes) 
 abbrev pub inputs_value : ReadInputs → Inputs
 inputs_value inputs = record { library = library_value inputs.library; hooks = hooks_value inputs.hooks; features = map chosen_value inputs.features.items }
 
--- Proof machinery: a source reads, and its feature stands after the others.
+-- Proof machinery, from here on: these bytes are a text with this reading, whose cases can be listed.
+pub record IsReading (bytes : List ℕ) (reading : Option FeatureValue) : Type 0 where
+  pub text : IsText bytes
+  pub reads : Reads (lines_of bytes) reading
+  pub expandable : (f : FeatureValue) → reading ≡ Some f → IsExpandable f
+
+-- What is asked for reads so before its sources: the choice among cases, the library and the hooks.
+pub record IsReadBefore (r : Request) (before : ReadBefore) : Type 0 where
+  pub rules : List Expression
+  pub tags : AreRules r.tags rules
+  pub choice : chosen_by before.choice ≡ is_chosen rules r.lines
+  pub library : IsLibrary r.library (library_value before.library)
+  pub hooks : AreHooks r.hooks (hooks_value before.hooks)
+
+-- A source reads, and its feature stands after the others.
 pub record IsReadOnto (chooses : CaseValue → Bool) (source : SourceValue) (old new : List Chosen) : Type 0 where
   pub reading : Option FeatureValue
   pub text : IsText source.bytes

@@ -4,9 +4,11 @@ pub mod Counted
 pub mod Source
 pub mod Inputs
 pub mod RunFault
+pub mod SuiteFiles
 pub mod Suite
 pub mod GrowingReport
 pub mod WrittenRun
+pub mod ReportedSuite
 pub mod ExplainedRun
 pub mod ExplainedSuite
 pub mod FindingLines

@@ -11,22 +11,16 @@ use Rattle.gk_lint.specs.LibraryUse.{unused_entries}
 use Rattle.gk_lint.specs.ScenarioLines.{without_scenario}
 use Rattle.gk_lint.specs.TagUse.{hooks_of_no_tag}
 use Rattle.gk_lint.specs.WrittenSteps.{of_hooks, found_in, used_in}
-use Rattle.gk_cli.specs.declared.explained_suite.SuiteFiles.{SuiteFiles}
 use Rattle.gk_cli.specs.declared.inputs.ReadInputs.{ReadInputs}
 use Rattle.gk_cli.specs.declared.linted_sources.LintSoFar.{LintSoFar}
 use Rattle.gk_cli.specs.declared.run_fault.RunFault.{RunFault}
 use Rattle.gk_cli.specs.declared.run_fault.RunFault.TheVariants.{Write, Memory}
-use Rattle.gk_cli.specs.ExplainedSuite.{file_value, name_of}
 use Rattle.gk_cli.specs.FindingLines.{finding_lines, idle_lines}
 use Rattle.gk_cli.specs.GrowingReport.{IsWritten, IsStopped}
 use Rattle.gk_cli.specs.Inputs.{Request, AreRules, IsLibrary, AreHooks}
 use Rattle.gk_cli.specs.LintedSources.{features_in, used_by, AreLinted}
 use Rattle.gk_cli.specs.RunFault.{IsUnread}
 use Rattle.gk_cli.specs.Suite.{Device, IsUntouched}
-
--- The name of the library file; no name where there is none.
-abbrev pub library_name : SuiteFiles → List ℕ
-library_name files = name_of (file_value files.library)
 
 -- What is found of a library file, by the places of the entries that are used: its other entries. Where none is given, nothing is.
 abbrev pub library_findings : Option (List ℕ) → List ℕ → List Finding

@@ -1,5 +1,6 @@
 -- What each fault of a run says.
 use Rattle.std.specs.Prelude.{◌≡◌, ◌≢◌, ℕ, Bool, List, Option, Some, None}
+use denote.Ref.{Bor}
 use Rattle.gk_gherkin.specs.declared.read_fault.ReadFault.{ReadFault}
 use Rattle.gk_gherkin.specs.declared.read_fault.ReadFault.TheVariants as read_faults
 use Rattle.gk_select.specs.declared.select_fault.SelectFault.{SelectFault}
@@ -13,10 +14,12 @@ use Rattle.gk_steps.specs.declared.library_fault.LibraryFault.{LibraryFault}
 use Rattle.gk_steps.specs.declared.library_fault.LibraryFault.TheVariants as library_faults
 use Rattle.gk_steps.specs.Finding.{LibraryValue}
 use Rattle.gk_steps.specs.LibraryFault.{LibraryFaultSays}
+use Rattle.gk_cli.specs.declared.arguments.Options.{Options}
 use Rattle.gk_cli.specs.declared.run_fault.RunFault.{RunFault}
 use Rattle.gk_cli.specs.declared.run_fault.RunFault.TheVariants.{Read, Library, Hooks, Select, Write, Memory}
+use Rattle.gk_cli.specs.declared.source.Source.{Source}
 use Rattle.gk_cli.specs.Source.{SourceValue}
-use Rattle.gk_cli.specs.Inputs.{Request, AreRules, IsLibrary, HasBadTags, IsFirstUnread, StopsAtSource, HasFault, HasTooMany}
+use Rattle.gk_cli.specs.Inputs.{Request, asked, AreRules, IsLibrary, HasBadTags, IsFirstUnread, StopsAtSource, HasFault, HasTooMany}
 
 -- A library file doesn't read, where the texts of tags do.
 pub record StopsAtLibrary (r : Request) (fault : LibraryFault) : Type 0 where
@@ -55,6 +58,10 @@ status_of_fault Memory = 4
 status_of_fault (Select input select_faults.BadTagText) = 2
 status_of_fault fault = 3
 
+-- Proof machinery: whatever the sources are, this is why what is asked for doesn't read.
+abbrev pub IsUnreadBefore : Options → Option (Bor (List ℕ)) → Option (Bor (List ℕ)) → RunFault → Type 0
+IsUnreadBefore options library hooks fault = (sources : List Source) → IsUnread (asked options library hooks sources) fault
+
 -- Proof machinery: the same of the texts of tags alone.
 abbrev pub SaysTags : List (List ℕ) → SelectFault → Type 0
 SaysTags tags select_faults.BadTagText = HasBadTags tags
@@ -84,6 +91,12 @@ SaysSourceAt place bytes (Read input fault) = (input ≡ place) × HasFault faul
 SaysSourceAt place bytes (Select (Some input) select_faults.TooMany) = (input ≡ place) × HasTooMany bytes
 SaysSourceAt place bytes Memory = Unit {0}
 SaysSourceAt place bytes fault = ⊥
+
+-- Proof machinery: the same of one source that reads as this feature.
+abbrev pub SaysTooMany : ℕ → FeatureValue → RunFault → Type 0
+SaysTooMany place f (Select (Some input) select_faults.TooMany) = (input ≡ place) × HasTooManySteps f
+SaysTooMany place f Memory = Unit {0}
+SaysTooMany place f fault = ⊥
 
 -- Proof machinery: why the cases of a feature aren't listed.
 abbrev pub SaysExpansion : FeatureValue → SelectFault → Type 0

@@ -1,5 +1,5 @@
 -- A source, and reading one whole.
-use Rattle.std.specs.Prelude.{◌≡◌, ◌≤◌, ℕ, List, length, drop, Option, Some, None, Result, Ok, Err, IsSomeAnd, string_bytes}
+use Rattle.std.specs.Prelude.{◌≡◌, ◌≤◌, ◌++◌, ℕ, List, [], length, map, take, drop, Option, Some, None, Result, Ok, Err, IsSomeAnd, string_bytes}
 use Rattle.std.specs.Io.KnownBytes.{Consumes}
 use Rattle.gk_cli.specs.Counted.{one_more}
 use Rattle.gk_cli.specs.declared.source.Source.{Source}
@@ -14,6 +14,18 @@ pub record SourceValue : Type 0 where
 -- What a `Source` says.
 abbrev pub source_value : Source → SourceValue
 source_value s = record { name = string_bytes s.name; bytes = s.bytes.items }
+
+-- The names of sources, in order.
+abbrev pub names_of : List SourceValue → List (List ℕ)
+names_of sources = map (λ (s : SourceValue). s.name) sources
+
+-- A source that gave up its bytes: it has its name, and no bytes.
+abbrev pub without_bytes : SourceValue → SourceValue
+without_bytes s = record { name = s.name; bytes = [] }
+
+-- The first of some sources gave up their bytes, and the others are as they were.
+abbrev pub GaveUpInTurn : List SourceValue → List SourceValue → Type 0
+GaveUpInTurn old new = (count : ℕ) × (new ≡ map without_bytes (take count old) ++ drop count old)
 
 -- The reader gave this many bytes and no more; it had them.
 abbrev pub StopsAfter : ℕ → Option (List ℕ) → Option (List ℕ) → Type 0

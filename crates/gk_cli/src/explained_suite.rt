@@ -1,51 +1,21 @@
 //! The whole run, explained.
-ghost use Rattle.std.specs.Prelude.{◌≡◌, option_map, IfOk, IfErr, OnOk};
+ghost use Rattle.std.specs.Prelude.{◌≡◌, IfOk, IfErr, OnOk};
 ghost use Rattle.gk_world.specs.Sandbox.{depth};
 ghost use Rattle.gk_run.specs.Running.{IsSame};
 ghost use Rattle.gk_cli.specs.Counted.{CountsCanRise, HasNotFailed, IsUnflushed, IsNeverIdle};
 ghost use Rattle.gk_cli.specs.Suite.{device_of};
-ghost use Rattle.gk_cli.specs.ExplainedSuite as spec;
-ghost use Rattle.gk_cli.specs.ExplainedSuite.{file_value, request_of_files, hooks_name, Explained, SaysExplanationFault};
+ghost use Rattle.gk_cli.specs.SuiteFiles.{request_of_files, hooks_name, HaveSameNames, AreGivenUp, AreGivenUpInTurn};
+ghost use Rattle.gk_cli.specs.ExplainedSuite.{Explained, SaysExplanationFault};
 
 use crate::arguments::Options;
 use crate::counted::Counted;
 use crate::explained_run::{Explaining, write_explanation};
-use crate::inputs::read_inputs;
+use crate::inputs::take_inputs;
 use crate::run_fault::RunFault;
-use crate::source::Source;
+use crate::suite_files::{SuiteFiles, name_of};
 use gk_world::Sandbox;
 use std::alloc::Global;
 use std::io::Write;
-
-/// The files of a run, each with its name.
-#[derive(Clone, Copy)]
-pub struct SuiteFiles<'a> {
-    /// The library file; without it the steps are those of the default library.
-    pub library: Option<&'a Source>,
-    /// The hooks file; without it there are no hooks.
-    pub hooks: Option<&'a Source>,
-    pub sources: &'a [Source],
-}
-
-/// The bytes of a file that may be there. Takes no memory.
-pub fn bytes_of(file: Option<&Source>) -> Option<&[u8]>
-    ensures { option_map (λ bytes. bytes.now) result ≡ spec.bytes_of (file_value file.entry) }
-{
-    match file {
-        Some(source) => Some(source.bytes.as_slice()),
-        None => None,
-    }
-}
-
-/// The name of a file that may be there; no name where there is none. Takes no memory.
-pub fn name_of(file: Option<&Source>) -> &str
-    ensures { result.now ≡ spec.name_of (file_value file.entry) }
-{
-    match file {
-        Some(source) => source.name.as_str(),
-        None => "",
-    }
-}
 
 /// Runs what is asked for as `run_suite` does, and writes an explanation in place of the report. When a feature
 /// has ended, each of its scenarios that failed or was refused memory has a heading with its place and status,
@@ -56,13 +26,14 @@ pub fn name_of(file: Option<&Source>) -> &str
 ///
 /// The answer is the status of the results, as `run_suite` has it. `RunFault` says when each error comes: at
 /// `Write` and `Memory` a prefix was written, perhaps an empty one, at every other nothing. Whatever is returned,
-/// files, variables, values and layers of the sandbox are as they were, and nothing is flushed. No layer of the sandbox is open, and the writer's counts of failures,
+/// files, variables, values and layers of the sandbox are as they were, and nothing is flushed. The sources are given
+/// up as in `report_suite`, and the names stay. No layer of the sandbox is open, and the writer's counts of failures,
 /// idle calls and flushes are below `u64::MAX - 1`, so that one more of each can be seen.
 pub fn explain_suite<W: Write>(
     alloc: Global,
     sandbox: &mut Sandbox,
     options: &Options,
-    files: SuiteFiles<'_>,
+    files: &mut SuiteFiles,
     out: &mut Counted<W>,
 ) -> Result<u8, RunFault>
     requires room { CountsCanRise out.old }
@@ -71,29 +42,34 @@ pub fn explain_suite<W: Write>(
     // What was written is the explanation of a run that was told event by event, whose results are judged; the
     // status is theirs.
     ensures explained { IfOk result (Explained
-        (request_of_files options.now files.entry) (hooks_name files.entry) sandbox.old.now
+        (request_of_files options.now files.old) (hooks_name files.old) sandbox.old.now
         (device_of W.contents out.old) (device_of W.contents out.new)) }
     // Whatever is returned, files, variables, values and layers are as they were.
     ensures same { IsSame sandbox.old sandbox.new }
     // Which fault it is, and what was written.
     ensures fault { IfErr result (SaysExplanationFault
-        (request_of_files options.now files.entry) (hooks_name files.entry) sandbox.old.now
+        (request_of_files options.now files.old) (hooks_name files.old) sandbox.old.now
         (device_of W.contents out.old) (device_of W.contents out.new)) }
+    // Whatever is returned, the names stay.
+    ensures names { HaveSameNames files.old files.new }
+    // The sources gave up their bytes one after another; at a status each has.
+    ensures in_turn { AreGivenUpInTurn files.old files.new }
+    ensures given_up { OnOk result (AreGivenUp files.old files.new) }
     // A status comes only where the writer didn't fail.
     ensures quiet { OnOk result (HasNotFailed out.old out.new) }
     // Each call of the writer moved at least one byte.
     ensures busy { OnOk result (IsNeverIdle out.old out.new) }
     ensures unflushed { IsUnflushed out.old out.new }
 {
-    let library = bytes_of(files.library);
-    let hooks = bytes_of(files.hooks);
-    let explaining = Explaining {
-        alloc,
-        hooks: name_of(files.hooks),
-        stop: options.stop,
-    };
-    match read_inputs(alloc, options, library, hooks, files.sources) {
-        Ok(inputs) => write_explanation(explaining, sandbox, inputs, out),
+    match take_inputs(alloc, options, files) {
+        Ok(inputs) => {
+            let explaining = Explaining {
+                alloc,
+                hooks: name_of(&files.hooks),
+                stop: options.stop,
+            };
+            write_explanation(explaining, sandbox, inputs, out)
+        }
         Err(fault) => Err(fault),
     }
 }

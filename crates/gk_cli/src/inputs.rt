@@ -1,6 +1,6 @@
 //! Reading what a run is asked for: the rules of tags, the step library, the hooks, and the features with
 //! their cases and the choice among them.
-ghost use Rattle.std.specs.Prelude.{◌≡◌, map, option_map, string_bytes, IfOk, IfErr, OnOk, Some};
+ghost use Rattle.std.specs.Prelude.{◌≡◌, ◌++◌, ◌∷◌, [], map, option_map, string_bytes, IfOk, IfErr, OnOk, Some};
 ghost use Rattle.std.specs.List.{AllByRecursion};
 ghost use Rattle.gk_gherkin.specs.Feature.{feature_value, rule_value, texts};
 ghost use Rattle.gk_gherkin.specs.Hooks.{hooks_value};
@@ -10,15 +10,17 @@ ghost use Rattle.gk_select.specs.Expansion.{IsExpandable};
 ghost use Rattle.gk_select.specs.TagRules.{tag_rule_value};
 ghost use Rattle.gk_steps.specs.Finding.{library_value};
 ghost use Rattle.gk_run.specs.Chosen.{chosen_value, head_value, IsFormed};
-ghost use Rattle.gk_cli.specs.Source.{source_value};
+ghost use Rattle.gk_cli.specs.Source.{source_value, names_of, without_bytes, GaveUpInTurn};
+ghost use Rattle.gk_cli.specs.SuiteFiles.{request_of_files, HaveSameNames, AreGivenUp, AreGivenUpInTurn};
 ghost use Rattle.gk_cli.specs.Inputs as spec;
-ghost use Rattle.gk_cli.specs.Inputs.{asked, AreRules, IsLibrary, AreHooks, AreRead, AreInputs, IsReadOnto, inputs_value};
+ghost use Rattle.gk_cli.specs.Inputs.{asked, AreRules, IsLibrary, AreHooks, AreRead, AreInputs, IsReading, IsReadBefore, IsReadOnto, inputs_value};
 ghost use Rattle.gk_cli.specs.RunFault as faults;
-ghost use Rattle.gk_cli.specs.RunFault.{IsUnread, SaysTags, SaysLibrary, SaysHooks, SaysExpansion, SaysSourceAt, SaysSources};
+ghost use Rattle.gk_cli.specs.RunFault.{IsUnread, IsUnreadBefore, SaysTags, SaysLibrary, SaysHooks, SaysExpansion, SaysSourceAt, SaysSources, SaysTooMany};
 
 use crate::arguments::Options;
 use crate::run_fault::RunFault;
 use crate::source::Source;
+use crate::suite_files::{SuiteFiles, bytes_of};
 use gk_gherkin::{Feature, HookFile, ReadFault, Rule, read_feature, read_hooks};
 use gk_run::{Chosen, RuleHead};
 use gk_select::{
@@ -235,6 +237,51 @@ pub fn select_fault_at(input: usize, fault: SelectFault) -> RunFault
     }
 }
 
+// The feature of these bytes of the source at a place, if they have one.
+fn feature_at(alloc: Global, input: usize, bytes: &[u8]) -> Result<Option<Feature>, RunFault>
+    ensures read { IfOk result (λ feature. IsReading bytes.now (option_map feature_value feature)) }
+    ensures fault { IfErr result (λ e. SaysSourceAt input bytes.now e) }
+{
+    // No code runs here: the law says that what was read can be expanded.
+    read_features_are_expandable();
+    match read_feature(alloc, bytes) {
+        Ok(feature) => Ok(feature),
+        Err(fault) => Err(read_fault_at(input, fault)),
+    }
+}
+
+// A source by its place and its name.
+#[derive(Clone, Copy)]
+struct SourceAt<'a> {
+    input: usize,
+    name: &'a str,
+}
+
+// Adds the feature of a source after those of other sources.
+fn add_feature(
+    alloc: Global,
+    choice: &Choice,
+    source: SourceAt<'_>,
+    feature: Feature,
+    features: &mut Vec<Chosen>,
+) -> Result<(), RunFault>
+    requires { IsExpandable (feature_value feature) }
+    ensures added { OnOk result (map chosen_value features.new.items
+        ≡ map chosen_value features.old.items ++ spec.chosen_of
+        (chosen_by choice.now) source.entry.name.now (feature_value feature) ∷ []) }
+    ensures formed { OnOk result (AllByRecursion IsFormed features.old.items
+        → AllByRecursion IsFormed features.new.items) }
+    ensures limit { OnOk result (spec.IsWithinLimit (Some (feature_value feature))) }
+    ensures fault { IfErr result (λ e. SaysTooMany source.entry.input (feature_value feature) e) }
+{
+    let chosen = match chosen_of(alloc, choice, source.name, feature) {
+        Ok(chosen) => chosen,
+        Err(fault) => return Err(select_fault_at(source.input, fault)),
+    };
+    features.push(chosen)?;
+    Ok(())
+}
+
 // Reads the source at a place, and adds its feature after those of other sources, if it has one.
 fn read_onto(
     alloc: Global,
@@ -247,19 +294,39 @@ fn read_onto(
         features.old.items features.new.items) }
     ensures fault { IfErr result (λ e. SaysSourceAt input source.now.bytes.items e) }
 {
-    let feature = match read_feature(alloc, source.bytes.as_slice()) {
-        Ok(Some(feature)) => feature,
-        Ok(None) => return Ok(()),
-        Err(fault) => return Err(read_fault_at(input, fault)),
-    };
-    // No code runs here: the law says that what was read can be expanded.
-    read_features_are_expandable();
-    let chosen = match chosen_of(alloc, choice, source.name.as_str(), feature) {
-        Ok(chosen) => chosen,
-        Err(fault) => return Err(select_fault_at(input, fault)),
-    };
-    features.push(chosen)?;
-    Ok(())
+    let name = source.name.as_str();
+    match feature_at(alloc, input, source.bytes.as_slice()) {
+        Ok(Some(feature)) => {
+            add_feature(alloc, choice, SourceAt { input, name }, feature, features)
+        }
+        Ok(None) => Ok(()),
+        Err(fault) => Err(fault),
+    }
+}
+
+// Does what `read_onto` does, and the source gives up its bytes, before the cases of its feature are listed.
+fn take_onto(
+    alloc: Global,
+    choice: &Choice,
+    input: usize,
+    source: &mut Source,
+    features: &mut Vec<Chosen>,
+) -> Result<(), RunFault>
+    ensures given_up { source_value source.new ≡ without_bytes (source_value source.old) }
+    ensures ok { OnOk result (IsReadOnto (chosen_by choice.now) (source_value source.old)
+        features.old.items features.new.items) }
+    ensures fault { IfErr result (λ e. SaysSourceAt input source.old.bytes.items e) }
+{
+    let read = feature_at(alloc, input, source.bytes.as_slice());
+    source.bytes = Vec::new(alloc);
+    let name = source.name.as_str();
+    match read {
+        Ok(Some(feature)) => {
+            add_feature(alloc, choice, SourceAt { input, name }, feature, features)
+        }
+        Ok(None) => Ok(()),
+        Err(fault) => Err(fault),
+    }
 }
 
 fn read_sources(alloc: Global, choice: &Choice, sources: &[Source]) -> Result<Vec<Chosen>, RunFault>
@@ -278,20 +345,50 @@ fn read_sources(alloc: Global, choice: &Choice, sources: &[Source]) -> Result<Ve
     Ok(features)
 }
 
-/// Reads what a run is asked for: first the texts of tags, then the library, then the hooks, then each
-/// source in turn. An error names the first that doesn't read.
-pub fn read_inputs(
+// Does what `read_sources` does, and the sources give up their bytes, each before the next one is read.
+fn take_sources(
+    alloc: Global,
+    choice: &Choice,
+    sources: &mut [Source],
+) -> Result<Vec<Chosen>, RunFault>
+    ensures read { IfOk result (λ features. AreRead (chosen_by choice.now)
+        (map source_value sources.old) (map chosen_value features.items)) }
+    ensures formed { IfOk result (λ features. AllByRecursion IsFormed features.items) }
+    ensures fault { IfErr result (λ e. SaysSources (chosen_by choice.now)
+        (map source_value sources.old) e) }
+    ensures names { names_of (map source_value sources.new)
+        ≡ names_of (map source_value sources.old) }
+    ensures in_turn { GaveUpInTurn (map source_value sources.old) (map source_value sources.new) }
+    ensures given_up { OnOk result (map source_value sources.new
+        ≡ map without_bytes (map source_value sources.old)) }
+{
+    let mut features = Vec::new(alloc);
+    for (input, source) in sources.iter_mut().enumerate() {
+        if let Err(fault) = take_onto(alloc, choice, input, source, &mut features) {
+            return Err(fault);
+        }
+    }
+    Ok(features)
+}
+
+// What is read before the sources.
+#[derive(Drop)]
+struct ReadBefore {
+    choice: Choice,
+    library: Library,
+    hooks: HookFile,
+}
+
+fn read_before(
     alloc: Global,
     options: &Options,
     library: Option<&[u8]>,
     hooks: Option<&[u8]>,
-    sources: &[Source],
-) -> Result<ReadInputs, RunFault>
-    ensures read { IfOk result (λ inputs. AreInputs
-        (asked options.now library.entry hooks.entry sources.now) (inputs_value inputs)) }
-    ensures formed { IfOk result (λ inputs. AllByRecursion IsFormed inputs.features.items) }
-    ensures fault { IfErr result (λ e. IsUnread
-        (asked options.now library.entry hooks.entry sources.now) e) }
+) -> Result<ReadBefore, RunFault>
+    ensures read { IfOk result (λ before. IsReadBefore
+        (asked options.now library.entry hooks.entry []) before) }
+    ensures fault { IfErr result (λ e. IsUnreadBefore
+        options.now library.entry hooks.entry e) }
 {
     let rules = match read_rules(alloc, options.tags.as_slice()) {
         Ok(rules) => rules,
@@ -307,10 +404,67 @@ pub fn read_inputs(
         Ok(hooks) => hooks,
         Err(fault) => return Err(hooks_fault(fault)),
     };
-    match read_sources(alloc, &choice, sources) {
+    Ok(ReadBefore {
+        choice,
+        library,
+        hooks,
+    })
+}
+
+/// Reads what a run is asked for: first the texts of tags, then the library, then the hooks, then each
+/// source in turn. An error names the first that doesn't read.
+pub fn read_inputs(
+    alloc: Global,
+    options: &Options,
+    library: Option<&[u8]>,
+    hooks: Option<&[u8]>,
+    sources: &[Source],
+) -> Result<ReadInputs, RunFault>
+    ensures read { IfOk result (λ inputs. AreInputs
+        (asked options.now library.entry hooks.entry sources.now) (inputs_value inputs)) }
+    ensures formed { IfOk result (λ inputs. AllByRecursion IsFormed inputs.features.items) }
+    ensures fault { IfErr result (λ e. IsUnread
+        (asked options.now library.entry hooks.entry sources.now) e) }
+{
+    let before = match read_before(alloc, options, library, hooks) {
+        Ok(before) => before,
+        Err(fault) => return Err(fault),
+    };
+    match read_sources(alloc, &before.choice, sources) {
         Ok(features) => Ok(ReadInputs {
-            library,
-            hooks,
+            library: before.library,
+            hooks: before.hooks,
+            features,
+        }),
+        Err(fault) => Err(fault),
+    }
+}
+
+/// Reads these files as `read_inputs` does. Each source gives up its bytes before the next one is read, and the
+/// names stay.
+pub fn take_inputs(
+    alloc: Global,
+    options: &Options,
+    files: &mut SuiteFiles,
+) -> Result<ReadInputs, RunFault>
+    ensures names { HaveSameNames files.old files.new }
+    ensures in_turn { AreGivenUpInTurn files.old files.new }
+    ensures given_up { OnOk result (AreGivenUp files.old files.new) }
+    ensures read { IfOk result (λ inputs. AreInputs
+        (request_of_files options.now files.old) (inputs_value inputs)) }
+    ensures formed { IfOk result (λ inputs. AllByRecursion IsFormed inputs.features.items) }
+    ensures fault { IfErr result (λ e. IsUnread (request_of_files options.now files.old) e) }
+{
+    let library = bytes_of(&files.library);
+    let hooks = bytes_of(&files.hooks);
+    let before = match read_before(alloc, options, library, hooks) {
+        Ok(before) => before,
+        Err(fault) => return Err(fault),
+    };
+    match take_sources(alloc, &before.choice, files.sources.as_mut_slice()) {
+        Ok(features) => Ok(ReadInputs {
+            library: before.library,
+            hooks: before.hooks,
             features,
         }),
         Err(fault) => Err(fault),

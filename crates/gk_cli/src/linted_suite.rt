@@ -6,25 +6,25 @@ ghost use Rattle.gk_report.specs.ReportTexts.{Pushes};
 ghost use Rattle.gk_steps.specs.Finding.{library_value};
 ghost use Rattle.gk_lint.specs.Findings.{AreInOrder};
 ghost use Rattle.gk_cli.specs.Counted.{CountsCanRise, HasNotFailed, IsUnflushed, IsNeverIdle};
-ghost use Rattle.gk_cli.specs.ExplainedSuite as explained;
-ghost use Rattle.gk_cli.specs.ExplainedSuite.{file_value, request_of_files, hooks_name};
+ghost use Rattle.gk_cli.specs.SuiteFiles as of_files;
+ghost use Rattle.gk_cli.specs.SuiteFiles.{file_value, request_of_files, library_name, hooks_name};
 ghost use Rattle.gk_cli.specs.FindingLines.{finding_lines};
 ghost use Rattle.gk_cli.specs.RunFault.{IsUnread};
 ghost use Rattle.gk_cli.specs.Suite.{device_of};
 ghost use Rattle.gk_lint.specs.TagUse.{hooks_of_no_tag};
 ghost use Rattle.gk_lint.specs.WrittenSteps.{of_hooks, found_in, used_in};
 ghost use Rattle.gk_cli.specs.LintedSources.{used_by};
-ghost use Rattle.gk_cli.specs.LintedSuite.{library_name, library_findings, lint_status, AreTexts, IsTextOf, read_of, IsLinted, Linted, SaysLintFault};
+ghost use Rattle.gk_cli.specs.LintedSuite.{library_findings, lint_status, AreTexts, IsTextOf, read_of, IsLinted, Linted, SaysLintFault};
 
 use crate::arguments::Options;
 use crate::counted::Counted;
-use crate::explained_suite::{SuiteFiles, bytes_of, name_of};
 use crate::finding_lines::{push_findings, push_idle_lines};
 use crate::growing_report::write_piece;
 use crate::inputs::{ReadInputs, read_inputs};
 use crate::linted_sources::{LintSoFar, known_text, lint_sources, with_findings};
 use crate::run_fault::RunFault;
 use crate::source::Source;
+use crate::suite_files::{SuiteFiles, bytes_of, name_of};
 use gk_gherkin::Feature;
 use gk_lint::{StepFindings, lines_without_scenario, lint_hook_tags, lint_hooks, lint_library};
 use std::alloc::{AllocError, Global};
@@ -34,13 +34,13 @@ use std::io::Write;
 fn push_library_findings(
     out: &mut String,
     alloc: Global,
-    library: Option<&Source>,
+    library: &Option<Source>,
     used: &[usize],
 ) -> Result<(), AllocError>
-    requires { AreTexts (explained.bytes_of (file_value library)) }
-    ensures { let file = file_value library.entry in Pushes out.old (finding_lines
-        (explained.name_of file)
-        (library_findings (explained.bytes_of file) used.now)) result out.new }
+    requires { AreTexts (of_files.bytes_of (file_value library.now)) }
+    ensures { let file = file_value library.now in Pushes out.old (finding_lines
+        (of_files.name_of file)
+        (library_findings (of_files.bytes_of file) used.now)) result out.new }
 {
     match library {
         Some(source) => {
@@ -75,15 +75,15 @@ fn findings_of_hooks(
 fn whole_text(
     alloc: Global,
     options: &Options,
-    files: SuiteFiles<'_>,
+    files: &SuiteFiles,
     inputs: &ReadInputs,
     so_far: LintSoFar,
 ) -> Result<String, AllocError>
-    requires texts { AreTexts (explained.bytes_of (file_value files.library)) }
+    requires texts { AreTexts (of_files.bytes_of (file_value files.now.library)) }
     requires used { so_far.used.items ≡ used_by (library_value inputs.now.library)
         (map feature_value so_far.features.items) }
-    ensures { IfOk result (λ text. IsTextOf (request_of_files options.now files.entry)
-        (library_name files.entry) (hooks_name files.entry)
+    ensures { IfOk result (λ text. IsTextOf (request_of_files options.now files.now)
+        (library_name files.now) (hooks_name files.now)
         (read_of inputs.now so_far) (string_bytes text)) }
 {
     let LintSoFar {
@@ -95,8 +95,8 @@ fn whole_text(
     let mut used = used;
     of_hooks.used.append(&mut used)?;
     let mut text = String::new(alloc);
-    push_library_findings(&mut text, alloc, files.library, of_hooks.used.as_slice())?;
-    let hooks = name_of(files.hooks);
+    push_library_findings(&mut text, alloc, &files.library, of_hooks.used.as_slice())?;
+    let hooks = name_of(&files.hooks);
     push_findings(&mut text, alloc, hooks, of_hooks.findings.as_slice())?;
     text.push_str(of_sources.as_str())?;
     let idle = lines_without_scenario(alloc, options.lines.as_slice(), features.as_slice())?;
@@ -105,23 +105,19 @@ fn whole_text(
 }
 
 // Reads what is asked for, and answers the text of all that is found in it.
-fn read_and_lint(
-    alloc: Global,
-    options: &Options,
-    files: SuiteFiles<'_>,
-) -> Result<String, RunFault>
-    ensures linted { IfOk result (λ text. IsLinted (request_of_files options.now files.entry)
-        (library_name files.entry) (hooks_name files.entry) (string_bytes text)) }
-    ensures fault { IfErr result (λ e. IsUnread (request_of_files options.now files.entry) e) }
+fn read_and_lint(alloc: Global, options: &Options, files: &SuiteFiles) -> Result<String, RunFault>
+    ensures linted { IfOk result (λ text. IsLinted (request_of_files options.now files.now)
+        (library_name files.now) (hooks_name files.now) (string_bytes text)) }
+    ensures fault { IfErr result (λ e. IsUnread (request_of_files options.now files.now) e) }
 {
-    let library = bytes_of(files.library);
-    let hooks = bytes_of(files.hooks);
+    let library = bytes_of(&files.library);
+    let hooks = bytes_of(&files.hooks);
     // The sources are read one after another below, so that only their features are kept.
     let inputs = match read_inputs(alloc, options, library, hooks, &[]) {
         Ok(inputs) => inputs,
         Err(fault) => return Err(fault),
     };
-    match lint_sources(alloc, &inputs.library, files.sources) {
+    match lint_sources(alloc, &inputs.library, files.sources.as_slice()) {
         Ok(so_far) => Ok(whole_text(alloc, options, files, &inputs, so_far)?),
         Err(fault) => Err(fault),
     }
@@ -146,17 +142,17 @@ fn status_of(text: &str) -> u8
 pub fn lint_suite<W: Write>(
     alloc: Global,
     options: &Options,
-    files: SuiteFiles<'_>,
+    files: &SuiteFiles,
     out: &mut Counted<W>,
 ) -> Result<u8, RunFault>
     requires { CountsCanRise out.old }
     // All that is found was written, and nothing else; the status says whether anything was found.
-    ensures linted { IfOk result (Linted (request_of_files options.now files.entry)
-        (library_name files.entry) (hooks_name files.entry)
+    ensures linted { IfOk result (Linted (request_of_files options.now files.now)
+        (library_name files.now) (hooks_name files.now)
         (device_of W.contents out.old) (device_of W.contents out.new)) }
     // Which fault it is, and what was written.
-    ensures fault { IfErr result (SaysLintFault (request_of_files options.now files.entry)
-        (library_name files.entry) (hooks_name files.entry)
+    ensures fault { IfErr result (SaysLintFault (request_of_files options.now files.now)
+        (library_name files.now) (hooks_name files.now)
         (device_of W.contents out.old) (device_of W.contents out.new)) }
     // A status comes only where the writer didn't fail.
     ensures quiet { OnOk result (HasNotFailed out.old out.new) }

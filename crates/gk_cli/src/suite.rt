@@ -20,7 +20,8 @@ use gk_world::Sandbox;
 use std::alloc::Global;
 use std::io::Write;
 
-fn inputs_are_unique()
+/// What is asked for reads in one way only. No code runs here.
+pub fn inputs_are_unique()
     ensures { InputsAreUnique }
 {
     reading_is_unique();

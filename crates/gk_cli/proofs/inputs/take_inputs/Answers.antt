@@ -1,0 +1,35 @@
+use Rattle.std.proofs.Common.{map, subst}
+use Rattle.gk_gherkin.specs.Hooks.{hooks_value}
+use Rattle.gk_steps.specs.Finding.{library_value}
+use Rattle.gk_run.specs.Chosen.{chosen_value}
+use Rattle.gk_cli.specs.Inputs.{AreRead}
+use Rattle.gk_cli.specs.RunFault.{SaysSources}
+use Rattle.gk_cli.specs.SuiteFiles.{request_of_files}
+use Rattle.gk_cli.proofs.InputsLemmas.{sources_unread}
+use Rattle.gk_cli.proofs.inputs.take_inputs.Goals as goal
+
+pub returns-in-Err-clause-fault : goal.returns-in-Err-clause-fault
+returns-in-Err-clause-fault c =
+    let unread = rw (c.bytes_of-library.ensures, c.bytes_of-hooks.ensures) at c.in-Err.ensures.fault c.args.files.now.sources.items in
+    unread
+
+pub returns-in-Ok-take_sources-clause-read : goal.returns-in-Ok-take_sources-clause-read
+returns-in-Ok-take_sources-clause-read c =
+    let request = request_of_files c.args.options.now c.args.files.now in
+    let before = rw (c.bytes_of-library.ensures, c.bytes_of-hooks.ensures) at c.in-Ok.ensures.read in
+    let read = rw (c.as_mut_slice.ensures.value) at c.in-Ok-take_sources.ensures.read in
+    record {
+      rules = before.rules;
+      tags = before.tags;
+      library = before.library;
+      hooks = before.hooks;
+      features = subst (λ f. AreRead f request.sources (map chosen_value c.in-Ok-take_sources.features.items)) before.choice read;
+    }
+
+pub returns-in-Err-take_sources-clause-fault : goal.returns-in-Err-take_sources-clause-fault
+returns-in-Err-take_sources-clause-fault c =
+    let request = request_of_files c.args.options.now c.args.files.now in
+    let before = rw (c.bytes_of-library.ensures, c.bytes_of-hooks.ensures) at c.in-Ok.ensures.read in
+    let says = rw (c.as_mut_slice.ensures.value) at c.in-Err-take_sources.ensures.fault in
+    sources_unread request before.rules (library_value c.in-Ok.before.library) (hooks_value c.in-Ok.before.hooks) c.in-Err-take_sources.fault before.tags before.library before.hooks
+    (subst (λ f. SaysSources f request.sources c.in-Err-take_sources.fault) before.choice says)
