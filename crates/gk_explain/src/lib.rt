@@ -19,3 +19,4 @@ mod tables;
 
 pub use event_lines::push_place;
 pub use explainer::{Explainer, cases_are_explained, cleanups_are_of_their_steps};
+pub use shown::push_shown;
