@@ -31,6 +31,7 @@ SUITE = {
     "h.hooks": "after_scenario:\n  Then the file \"f\" should not exist\nbefore_rule:\n  Given it fails\nafter_all:\n  Given no such step\n",
     "bad.feature": "Feature: F\nFeature: G\n",
     "bad.hooks": "before_everything:\n",
+    "quoted.feature": "@a a.feature:1: undefined step\n",
     "in a folder/lost.feature": "Feature: L\n  scenario: Small\n  Scenario: Twice\n  Scenario: Twice\n    Given no such step\n",
     "two.steps": "step it passes => pass\nstep it fails => fail\n",
 }
@@ -44,7 +45,8 @@ RUNS = [
     (["--hooks", "bad.hooks", "a.feature"], [("bad.hooks", 1)]),
     (["--lint", "--library", "two.steps", "--line", "1", "in a folder/lost.feature", "in a folder/b c.feature"],
      [("two.steps", 2)] + [("in a folder/lost.feature", line) for line in (2, 3, 4, 5)]),
-    (["--lint", "bad.feature"], [("bad.feature", 2)]),
+    (["--lint", "--hooks", "bad.hooks", "bad.feature", "quoted.feature"],
+     [("bad.hooks", 1), ("bad.feature", 2), ("quoted.feature", 1)]),
     (["--lint", "in a folder/b c.feature"], []),
 ]
 

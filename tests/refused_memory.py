@@ -432,7 +432,7 @@ EXPLAINED = ["two files and all options", "each action", "hooks of all kinds", "
              "a run that doesn't begin", "a cleanup after a refused table", "a run that stops", "rules whose hooks fail,"]
 
 # The stored runs of what is found before a run.
-LINTED = ["each_finding", "several_files"]
+LINTED = ["each_finding", "several_files", "fault_of_each_file"]
 
 # The end of a layer brings back a file that was removed in it, though the next growth is refused.
 REMOVED_IN_A_SCENARIO = "a file that a scenario removes"
@@ -657,9 +657,11 @@ class AmpleFindings:
         self.ended = ended
 
     def is_read_well(self):
-        """Whether something is found."""
+        """Whether something is found, or more than one file doesn't read."""
         status, printed, complained = self.ended
-        return (status, complained) == (1, b"") and printed != b""
+        if status == 1:
+            return complained == b"" and printed != b""
+        return status == 3 and printed == b"" and complained.count(b"gherkin_run: ") > 1
 
     def ending(self, ended):
         """How a run ends: as one of ENDINGS, or nothing. What is found is written as one piece, or not at all."""

@@ -1,3 +1,4 @@
 -- Lemmas.
 mod FilesLemmas
+mod ListingLemmas
 mod ProgramLemmas

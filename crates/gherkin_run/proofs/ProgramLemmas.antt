@@ -1,6 +1,6 @@
 -- A run whose output is flushed, the program's faults for those of the run, and variables one after another.
-use Rattle.std.proofs.Common.{◌≡◌, ◌∙◌, ◌+◌, ◌<◌, ◌≤◌, ◌++◌, ap, sym, subst, refl, inl, inr, arith, suc, zero, ℕ, List, [], ◌∷◌, length, map, take, drop, get_or, Option, Some, None, Result, Ok, Err, add-one}
-use Rattle.std.specs.Prelude.{IfErr, IfOk, IsSome, IsSomeAnd, String, is_some, option_map, string_bytes}
+use Rattle.std.proofs.Common.{◌≡◌, ◌≢◌, ◌∙◌, ◌+◌, ◌<◌, ◌≤◌, ◌++◌, ap, sym, subst, refl, inl, inr, arith, suc, zero, ℕ, List, [], ◌∷◌, length, map, take, drop, get_or, Option, Some, None, Result, Ok, Err, add-one}
+use Rattle.std.specs.Prelude.{option_copied, IfErr, IfOk, IsSome, IsSomeAnd, String, is_some, option_map, slice_get, string_bytes, unwrap_or}
 use Rattle.std.specs.declared.alloc.Global.{Global}
 use Rattle.std.specs.List.{All, Any}
 use Rattle.std.specs.Io.KnownBytes.{Appends}
@@ -22,7 +22,9 @@ use Rattle.gk_cli.specs.declared.source.Source.{Source}
 use Rattle.gk_cli.specs.GrowingReport.{StopsBy}
 use Rattle.gk_cli.specs.Suite.{Device, IsUntouched, SaysFault}
 use Rattle.gk_cli.specs.ExplainedSuite.{SaysExplanationFault}
-use Rattle.gk_cli.specs.SuiteFiles.{HaveSameNames}
+use Rattle.gk_cli.specs.SuiteFiles.{FilesValue, HaveSameNames, suite_value}
+use Rattle.gk_cli.specs.SuiteFiles as cli
+use Rattle.gk_cli.specs.FaultNotes.{name_at_fault}
 use Rattle.gk_cli.specs.declared.suite_files.SuiteFiles.{SuiteFiles}
 use Rattle.gk_cli.specs.LintedSuite.{SaysLintFault}
 use Rattle.gk_cli.specs.declared.arguments.Mode.{Mode}
@@ -31,10 +33,12 @@ use Rattle.gk_cli.specs.declared.arguments.Options.{Options}
 use Rattle.gk_cli.specs.declared.arguments.Words.{Words}
 use Rattle.gk_cli.specs.declared.run_fault.RunFault.{RunFault}
 use Rattle.gk_cli.specs.declared.run_fault.RunFault.TheVariants as run
-use Rattle.gherkin_run.specs.Files.{FilesValue, IsFaultOfFiles, IsFileFault, files_value, name_of}
-use Rattle.gherkin_run.specs.Program.{AreGiven, AreTaken, IsFaultOfGiven, IsFaultOfRun, IsFaultOfVariable, IsFlushedRun, IsGiven, IsNamed, IsRefused, IsRun, IsWithin, SaysCallsOfRun, IsWrittenAs, SaysFaultAs, IsStoppedAs, hooks_name, library_name, SaysProgram, SaysSuite, SaysVariables, contents_given, bytes_given, request_of_files, variables_given, with_variables}
+use Rattle.gherkin_run.specs.Files.{IsFaultOfFiles, IsFileFault, name_of}
+use Rattle.gherkin_run.specs.Program.{AreGiven, AreLeft, AreTaken, IsFaultAs, IsFaultOfGiven, IsFaultOfRun, IsFaultOfVariable, IsFlushedRun, IsGiven, IsNamed, IsRefused, IsRun, IsWithin, SaysCallsOfRun, IsWrittenAs, SaysFaultAs, IsStoppedAs, hooks_name, library_name, SaysProgram, SaysSuite, SaysVariables, contents_given, bytes_given, request_of_files, variables_given, with_variables}
+use Rattle.gherkin_run.specs.Fault.{IsFaultNamed}
+use Rattle.gherkin_run.specs.Listing.{IsListedAs}
 use Rattle.gherkin_run.specs.declared.fault.Fault.{Fault}
-use Rattle.gherkin_run.specs.declared.fault.Fault.TheVariants.{NotUtf8, Usage, Env, CannotRead, TooLong, Library, Hooks, Read, TooMany, BadTags, Write, Memory}
+use Rattle.gherkin_run.specs.declared.fault.Fault.TheVariants.{NotUtf8, Usage, Env, CannotRead, TooLong, Library, Hooks, Read, TooMany, BadTags, Unread, Write, Memory}
 
 -- what holds of a result, by what is known of it
 pub if_ok_both : {T E : Type 0} (P Q : T → Type 0) (r : Result T E) → IfOk r P → IfOk r Q → IfOk r (λ x. P x × Q x)
@@ -90,18 +94,18 @@ named_again (x ∷ xs) (y ∷ ys) (suc i) name same is = named_again xs ys i nam
     same_rest a b xs ys e = cc
 
 -- so a fault is named as before sources gave up their bytes
-pub named_as_before : (old new : SuiteFiles) (by : RunFault) (fault : Fault) → HaveSameNames old new → IsFaultOfRun (files_value new) by fault → IsFaultOfRun (files_value old) by fault
+pub named_as_before : (old new : SuiteFiles) (by : RunFault) (fault : Fault) → HaveSameNames old new → IsFaultOfRun (suite_value new) by fault → IsFaultOfRun (suite_value old) by fault
 named_as_before old new run.Write Write same is = tt
 named_as_before old new run.Write _ same is = absurd is
 named_as_before old new run.Memory Memory same is = tt
 named_as_before old new run.Memory _ same is = absurd is
-named_as_before old new (run.Read input f) (Read name g) same is = (is.0, named_again (files_value old).sources (files_value new).sources input (string_bytes name) same.sources is.1)
+named_as_before old new (run.Read input f) (Read name g) same is = (is.0, named_again (suite_value old).sources (suite_value new).sources input (string_bytes name) same.sources is.1)
 named_as_before old new (run.Read input f) _ same is = absurd is
 named_as_before old new (run.Library f) (Library name g) same is = (is.0, ap (option_map (λ (s : SourceValue). s.name)) (sym same.library) ∙ is.1)
 named_as_before old new (run.Library f) _ same is = absurd is
 named_as_before old new (run.Hooks f) (Hooks name g) same is = (is.0, ap (option_map (λ (s : SourceValue). s.name)) (sym same.hooks) ∙ is.1)
 named_as_before old new (run.Hooks f) _ same is = absurd is
-named_as_before old new (run.Select (Some input) f) (TooMany name) same is = named_again (files_value old).sources (files_value new).sources input (string_bytes name) same.sources is
+named_as_before old new (run.Select (Some input) f) (TooMany name) same is = named_again (suite_value old).sources (suite_value new).sources input (string_bytes name) same.sources is
 named_as_before old new (run.Select (Some input) f) _ same is = absurd is
 named_as_before old new (run.Select None f) BadTags same is = tt
 named_as_before old new (run.Select None f) _ same is = absurd is
@@ -111,11 +115,11 @@ as_many : (old new : List SourceValue) → names_of new ≡ names_of old → len
 as_many old new same = sym (length-map new (λ (s : SourceValue). s.name)) ∙ ap length same ∙ length-map old (λ (s : SourceValue). s.name)
 
 -- and what it speaks of is there still
-pub within_still : (old new : SuiteFiles) (by : RunFault) → HaveSameNames old new → IsWithin (files_value old) by → IsWithin (files_value new) by
-within_still old new (run.Read input f) same is = subst (λ n. input < n) (sym (as_many (files_value old).sources (files_value new).sources same.sources)) is
+pub within_still : (old new : SuiteFiles) (by : RunFault) → HaveSameNames old new → IsWithin (suite_value old) by → IsWithin (suite_value new) by
+within_still old new (run.Read input f) same is = subst (λ n. input < n) (sym (as_many (suite_value old).sources (suite_value new).sources same.sources)) is
 within_still old new (run.Library f) same is = subst IsSome (sym same.library) is
 within_still old new (run.Hooks f) same is = subst IsSome (sym same.hooks) is
-within_still old new (run.Select (Some input) select.TooMany) same is = subst (λ n. input < n) (sym (as_many (files_value old).sources (files_value new).sources same.sources)) is
+within_still old new (run.Select (Some input) select.TooMany) same is = subst (λ n. input < n) (sym (as_many (suite_value old).sources (suite_value new).sources same.sources)) is
 within_still old new (run.Select (Some input) select.BadTagText) same is = is
 within_still old new (run.Select (Some input) select.Memory) same is = is
 within_still old new (run.Select None select.TooMany) same is = is
@@ -123,6 +127,56 @@ within_still old new (run.Select None select.BadTagText) same is = is
 within_still old new (run.Select None select.Memory) same is = is
 within_still old new run.Write same is = tt
 within_still old new run.Memory same is = tt
+
+-- what is left of the files, in a mode that is known
+pub left_in_mode : (mode known : Mode) (old new : SuiteFiles) → mode ≡ known → AreLeft known old new → AreLeft mode old new
+left_in_mode mode known old new is left = subst (λ (m : Mode). AreLeft m old new) (sym is) left
+
+-- so what a fault speaks of is left, and the program's fault is that of the files before
+pub within_left : (mode : Mode) (old new : SuiteFiles) (by : RunFault) → AreLeft mode old new → IsWithin (suite_value old) by → IsWithin (suite_value new) by
+within_left Report old new by left is = within_still old new by left is
+within_left Explanation old new by left is = within_still old new by left is
+within_left Findings old new by left is = subst (λ (files : SuiteFiles). IsWithin (suite_value files) by) (sym left) is
+
+pub fault_as_before : (mode : Mode) (old new : SuiteFiles) (by : RunFault) (fault : Fault) → AreLeft mode old new → IsFaultAs mode (suite_value new) by fault → IsFaultAs mode (suite_value old) by fault
+fault_as_before Report old new by fault left is = named_as_before old new by fault left is
+fault_as_before Explanation old new by fault left is = named_as_before old new by fault left is
+fault_as_before Findings old new by fault left is = subst (λ (files : SuiteFiles). IsFaultAs Findings (suite_value files) by fault) left is
+
+-- the name of a source, and of a file that is given
+pub named_source : (sources : List SourceValue) (input : ℕ) (name : List ℕ) → IsNamed sources input name → name ≡ cli.name_of (slice_get sources input)
+named_source sources input name is = is.2 ∙ sym (ap cli.name_of is.1)
+
+pub named_file : (file : Option SourceValue) (name : List ℕ) → option_map (λ s. s.name) file ≡ Some name → name ≡ cli.name_of file
+named_file file name is = sym (ap (λ found. unwrap_or found []) is)
+
+is_named : (sources : List SourceValue) (input : ℕ) (name : List ℕ) → input < length sources → name ≡ cli.name_of (slice_get sources input) → IsNamed sources input name
+is_named [] input name less is = absurd (omega arith)
+is_named (s ∷ ss) zero name less is = (s, refl, is)
+is_named (s ∷ ss) (suc input) name less is = is_named ss input name (omega arith) is
+
+has_name : (file : Option SourceValue) (name : List ℕ) → IsSome file → name ≡ cli.name_of file → option_map (λ s. s.name) file ≡ Some name
+has_name None name some is = absurd cc
+has_name (Some s) name some is = sym (ap Some is)
+
+-- the fault of a run, with the name of the file that it is of
+pub named_in : (files : FilesValue) (by : RunFault) (name : List ℕ) (fault : Fault) → IsWithin files by → name ≡ name_at_fault files by → IsFaultNamed by name fault → IsFaultOfRun files by fault
+named_in files (run.Read input f) name (Read other g) within is named = (named.0, is_named files.sources input (string_bytes other) within (named.1 ∙ is))
+named_in files (run.Read input f) name _ within is named = absurd named
+named_in files (run.Library f) name (Library other g) within is named = (named.0, has_name files.library (string_bytes other) within (named.1 ∙ is))
+named_in files (run.Library f) name _ within is named = absurd named
+named_in files (run.Hooks f) name (Hooks other g) within is named = (named.0, has_name files.hooks (string_bytes other) within (named.1 ∙ is))
+named_in files (run.Hooks f) name _ within is named = absurd named
+named_in files (run.Select (Some input) select.TooMany) name (TooMany other) within is named = is_named files.sources input (string_bytes other) within (named ∙ is)
+named_in files (run.Select (Some input) select.BadTagText) name _ within is named = absurd within
+named_in files (run.Select (Some input) select.Memory) name _ within is named = absurd within
+named_in files (run.Select (Some input) f) name _ within is named = absurd named
+named_in files (run.Select None f) name BadTags within is named = tt
+named_in files (run.Select None f) name _ within is named = absurd named
+named_in files run.Write name Write within is named = tt
+named_in files run.Write name _ within is named = absurd named
+named_in files run.Memory name Memory within is named = tt
+named_in files run.Memory name _ within is named = absurd named
 
 some_file : (file : Option SourceValue) (bytes : List ℕ) → bytes_given file ≡ Some bytes → IsSome file
 some_file None bytes e = absurd cc
@@ -200,6 +254,32 @@ calls_of_run mode r c old new files (run.Select (Some input) f) (TooMany name) r
 calls_of_run mode r c old new files (run.Select (Some input) f) _ room is says = absurd is
 calls_of_run mode r c old new files (run.Select None f) BadTags room is says = says.1
 calls_of_run mode r c old new files (run.Select None f) _ room is says = absurd is
+
+-- with `--lint`, all files that don't read are listed
+pub as_listed : (files : FilesValue) (by : RunFault) (fault : Fault) → by ≢ run.Write → by ≢ run.Memory → IsListedAs files by fault → IsFaultAs Findings files by fault
+as_listed files run.Write fault write memory is = absurd (write refl)
+as_listed files run.Memory fault write memory is = absurd (memory refl)
+as_listed files (run.Read input f) fault write memory is = is
+as_listed files (run.Library f) fault write memory is = is
+as_listed files (run.Hooks f) fault write memory is = is
+as_listed files (run.Select input f) fault write memory is = is
+
+listed_calls : (files : FilesValue) (by : RunFault) (old new : Device) (fault : Fault) → IsListedAs files by fault → IsUntouched old new → SaysCallsOfRun old new fault
+listed_calls files by old new (Unread status lines) is nothing = nothing
+listed_calls files by old new Memory is nothing = inl nothing
+listed_calls files by old new _ is nothing = absurd is
+
+-- the same, by what is written of the run
+pub calls_as : (mode : Mode) (r : Request) (c : Contents) (old new : Device) (files : FilesValue) (by : RunFault) (fault : Fault)
+    → CanRise old.failures → IsFaultAs mode files by fault → SaysFaultAs mode files r c old new by → SaysCallsOfRun old new fault
+calls_as Report r c old new files by fault room is says = calls_of_run Report r c old new files by fault room is says
+calls_as Explanation r c old new files by fault room is says = calls_of_run Explanation r c old new files by fault room is says
+calls_as Findings r c old new files run.Write fault room is says = calls_of_run Findings r c old new files run.Write fault room is says
+calls_as Findings r c old new files run.Memory fault room is says = calls_of_run Findings r c old new files run.Memory fault room is says
+calls_as Findings r c old new files (run.Read input f) fault room is says = listed_calls files (run.Read input f) old new fault is says.1
+calls_as Findings r c old new files (run.Library f) fault room is says = listed_calls files (run.Library f) old new fault is says.1
+calls_as Findings r c old new files (run.Hooks f) fault room is says = listed_calls files (run.Hooks f) old new fault is says.1
+calls_as Findings r c old new files (run.Select input f) fault room is says = listed_calls files (run.Select input f) old new fault is says.1
 
 -- ---- variables
 
@@ -306,8 +386,23 @@ suite_fault files (run.Select (Some input) f) _ is = absurd is
 suite_fault files (run.Select None f) BadTags is = tt
 suite_fault files (run.Select None f) _ is = absurd is
 
+listed_fault : (files : FilesValue) (by : RunFault) (fault : Fault) → IsListedAs files by fault → IsSuiteFault fault
+listed_fault files by (Unread status lines) is = tt
+listed_fault files by Memory is = tt
+listed_fault files by _ is = absurd is
+
+fault_as : (mode : Mode) (files : FilesValue) (by : RunFault) (fault : Fault) → IsFaultAs mode files by fault → IsSuiteFault fault
+fault_as Report files by fault is = suite_fault files by fault is
+fault_as Explanation files by fault is = suite_fault files by fault is
+fault_as Findings files run.Write fault is = suite_fault files run.Write fault is
+fault_as Findings files run.Memory fault is = suite_fault files run.Memory fault is
+fault_as Findings files (run.Read input f) fault is = listed_fault files (run.Read input f) fault is
+fault_as Findings files (run.Library f) fault is = listed_fault files (run.Library f) fault is
+fault_as Findings files (run.Hooks f) fault is = listed_fault files (run.Hooks f) fault is
+fault_as Findings files (run.Select input f) fault is = listed_fault files (run.Select input f) fault is
+
 suite_named : (mode : Mode) (files : FilesValue) (r : Request) (c : Contents) (old new : Device) (fault : Fault) → SaysSuite mode files r c old new fault → IsSuiteFault fault
-suite_named mode files r c old new fault (inl says) = suite_fault files says.0 fault says.1
+suite_named mode files r c old new fault (inl says) = fault_as mode files says.0 fault says.1
 suite_named mode files r c old new fault (inr unflushed) = subst IsSuiteFault (sym unflushed.named) tt
 
 of_given : (w : Words) (old new : Device) (fault : Fault) → IsSuiteFault fault → IsFaultOfGiven w old new fault → SaysProgram w old new fault
@@ -316,6 +411,7 @@ of_given w old new (Hooks name f) is h = h
 of_given w old new (Read name f) is h = h
 of_given w old new (TooMany name) is h = h
 of_given w old new BadTags is h = h
+of_given w old new (Unread status lines) is h = h
 of_given w old new Write is h = h
 of_given w old new Memory is h = inr h
 of_given w old new _ is h = absurd is
@@ -336,7 +432,7 @@ name_given None = refl
 name_given (Some x) = refl
 
 pub are_given : (w : Words) (files : SuiteFiles) → option_map name_of files.library ≡ option_map string_bytes w.library → option_map name_of files.hooks ≡ option_map string_bytes w.hooks
-    → map name_of files.sources.items ≡ map string_bytes w.files.items → AreGiven w (files_value files)
+    → map name_of files.sources.items ≡ map string_bytes w.files.items → AreGiven w (suite_value files)
 are_given w files l h s = record {
   sources = their_names files.sources.items ∙ s;
   library = name_given files.library ∙ l;

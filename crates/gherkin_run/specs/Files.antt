@@ -2,10 +2,10 @@
 use Rattle.std.specs.Prelude.{◌≡◌, ◌⊎◌, ◌++◌, List, [], ◌∷◌, ℕ, map, Option, Some, None, Result, Ok, Err, String, Vec, option_map, string_bytes, IsSomeAnd}
 use Rattle.std.specs.List.{Any}
 use Rattle.std.specs.declared.alloc.Global.{Global}
-use Rattle.gk_cli.specs.Source.{SourceValue, source_value}
+use Rattle.gk_cli.specs.Source.{SourceValue}
+use Rattle.gk_cli.specs.SuiteFiles.{FilesValue}
 use Rattle.gk_cli.specs.declared.source.Source.{Source}
 use Rattle.gk_cli.specs.declared.source.SourceFault.{SourceFault}
-use Rattle.gk_cli.specs.declared.suite_files.SuiteFiles.{SuiteFiles}
 use Rattle.gk_cli.specs.declared.source.SourceFault.TheVariants as reading
 use Rattle.gherkin_run.specs.declared.fault.Fault.{Fault}
 use Rattle.gherkin_run.specs.declared.fault.Fault.TheVariants.{CannotRead, TooLong, Memory}
@@ -67,20 +67,6 @@ pub record StopsReading {S : Type 0} (reads : S → List ℕ → Result (List �
 abbrev pub one_of : {X : Type 0} → Option X → List X
 one_of None = []
 one_of (Some x) = x ∷ []
-
--- The files of a run, with their bytes as they were read: the library file and the hooks file, where they are named, and the feature files.
-pub record FilesValue : Type 0 where
-  pub library : Option SourceValue
-  pub hooks : Option SourceValue
-  pub sources : List SourceValue
-
--- The files of a run as the definitions see them.
-abbrev pub files_value : SuiteFiles → FilesValue
-files_value files = record {
-  library = option_map source_value files.library;
-  hooks = option_map source_value files.hooks;
-  sources = map source_value files.sources.items;
-}
 
 -- The files of a run in the order in which they are read: the library file, the hooks file, the feature files.
 abbrev pub files_in_order : FilesValue → List SourceValue

@@ -14,21 +14,22 @@ use Rattle.gk_select.specs.declared.select_fault.SelectFault.TheVariants as sele
 use Rattle.gk_cli.specs.Arguments.{PairValue, SaysArguments, faults_in, pair_value}
 use Rattle.gk_cli.specs.Counted.{one_more}
 use Rattle.gk_cli.specs.Inputs.{Request, request_of}
-use Rattle.gk_cli.specs.Source.{SourceValue, source_value}
+use Rattle.gk_cli.specs.Source.{SourceValue}
 use Rattle.gk_cli.specs.declared.arguments.Options.{Options}
 use Rattle.gk_cli.specs.GrowingReport.{StopsBy}
 use Rattle.gk_cli.specs.RunFault.{IsUnread}
 use Rattle.gk_cli.specs.Suite.{CutShort, Device, IsUntouched, JudgedReport, OnlyReport}
 use Rattle.gk_cli.specs.ExplainedSuite.{Explained, ExplainedInPart}
 use Rattle.gk_cli.specs.LintedSuite.{Linted, LintedInPart}
-use Rattle.gk_cli.specs.SuiteFiles.{name_of}
+use Rattle.gk_cli.specs.SuiteFiles.{FilesValue, HaveSameNames, name_of}
+use Rattle.gk_cli.specs.declared.suite_files.SuiteFiles.{SuiteFiles}
 use Rattle.gk_cli.specs.declared.arguments.Mode.{Mode}
 use Rattle.gk_cli.specs.declared.arguments.Mode.TheVariants.{Report, Explanation, Findings}
 use Rattle.gk_cli.specs.declared.arguments.Words.{Words}
 use Rattle.gk_cli.specs.declared.arguments.WordsFault.TheVariants as words
 use Rattle.gk_cli.specs.declared.run_fault.RunFault.{RunFault}
 use Rattle.gk_cli.specs.declared.run_fault.RunFault.TheVariants as run
-use Rattle.gherkin_run.specs.Files.{FilesValue}
+use Rattle.gherkin_run.specs.Listing.{IsListedAs}
 use Rattle.gherkin_run.specs.declared.fault.Fault.{Fault}
 use Rattle.gherkin_run.specs.declared.fault.Fault.TheVariants.{NotUtf8, Usage, Env, CannotRead, TooLong, Library, Hooks, Read, TooMany, BadTags, Write, Memory}
 use Rattle.gherkin_run.specs.declared.program.Asked.{Asked}
@@ -162,6 +163,13 @@ IsFaultOfRun files run.Write Write = Unit {0}
 IsFaultOfRun files run.Memory Memory = Unit {0}
 IsFaultOfRun files fault other = ⊥
 
+-- The program's fault for a fault of the run, by what is written of it: with `--lint`, all files that don't read are listed.
+abbrev pub IsFaultAs : Mode → FilesValue → RunFault → Fault → Type 0
+IsFaultAs Findings files run.Write fault = IsFaultOfRun files run.Write fault
+IsFaultAs Findings files run.Memory fault = IsFaultOfRun files run.Memory fault
+IsFaultAs Findings files by fault = IsListedAs files by fault
+IsFaultAs mode files by fault = IsFaultOfRun files by fault
+
 -- Standard output was flushed once, and took nothing more.
 pub record IsFlushed (old new : Device) : Type 0 where
   pub written : Keeps old.bytes new.bytes
@@ -181,6 +189,11 @@ SaysFaultAs mode files request contents old new run.Write = IsStoppedAs mode fil
 SaysFaultAs mode files request contents old new run.Memory = IsUntouched old new ⊎ IsStoppedAs mode files request contents old new run.Memory
 SaysFaultAs mode files request contents old new by = IsUnread request by × IsUntouched old new
 
+-- What is left of the files of a run: with `--lint` all that they were; else sources may have given up their bytes, and the names are as they were.
+abbrev pub AreLeft : Mode → SuiteFiles → SuiteFiles → Type 0
+AreLeft Findings old new = new ≡ old
+AreLeft mode old new = HaveSameNames old new
+
 -- What is written of a run was, and was flushed, and its status is returned.
 pub record IsFlushedRun (mode : Mode) (files : FilesValue) (request : Request) (contents : Contents) (old new : Device) (status : ℕ) : Type 0 where
   pub written : Device
@@ -199,7 +212,7 @@ pub record FailsToFlush (mode : Mode) (files : FilesValue) (request : Request) (
 -- A fault after the files are read: that of the run, or of the flush.
 abbrev pub SaysSuite : Mode → FilesValue → Request → Contents → Device → Device → Fault → Type 0
 SaysSuite mode files request contents old new fault =
-    ((by : RunFault) × IsFaultOfRun files by fault × SaysFaultAs mode files request contents old new by)
+    ((by : RunFault) × IsFaultAs mode files by fault × SaysFaultAs mode files request contents old new by)
     ⊎ FailsToFlush mode files request contents old new fault
 
 -- The sources are those of the files that were given, in order, and of the library file and the hooks file.

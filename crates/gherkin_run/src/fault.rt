@@ -1,8 +1,10 @@
-//! Why the program ends without a report, in one line and a status.
-ghost use Rattle.std.specs.Prelude.{◌≡◌, ◌++◌, codes, option_map, Some};
+//! Why the program ends without a report, in one line and a status; with `--lint`, in the lines of all files that don't
+//! read.
+ghost use Rattle.std.specs.Prelude.{◌≡◌, ◌++◌, codes, option_map, string_bytes, Some};
 ghost use Rattle.std.specs.Fmt.{DisplaysOnOk};
-ghost use Rattle.gherkin_run.specs.Fault.{row_of, line_of, placed};
+ghost use Rattle.gherkin_run.specs.Fault.{IsFaultNamed, row_of, line_of, placed, said_line};
 
+use gk_cli::RunFault;
 use gk_gherkin::ReadFault;
 use gk_steps::LibraryFault;
 use std::alloc::{AllocError, AllocFailed};
@@ -31,6 +33,9 @@ pub enum Fault {
     TooMany { name: String },
     /// A text of `--tags` is no rule of tags.
     BadTags,
+    /// With `--lint`, a text of `--tags` is no rule of tags, or some files don't read: the status of the first of these
+    /// faults, and the lines of them all.
+    Unread { status: u8, lines: String },
     /// Standard output took no more. A prefix of what is printed was written, or all of it where the flush failed.
     Write,
     /// A growth of memory was refused. Nothing or a prefix of what is printed was written.
@@ -47,8 +52,29 @@ impl Fault {
             Fault::CannotRead { .. } | Fault::TooLong { .. } => 3,
             Fault::Library { .. } | Fault::Hooks { .. } | Fault::Read { .. } => 3,
             Fault::TooMany { .. } | Fault::Write => 3,
+            Fault::Unread { status, .. } => *status,
             Fault::Memory => 4,
         }
+    }
+}
+
+/// The program's fault for one of a run, of a file of this name.
+pub fn fault_named(fault: RunFault, name: String) -> Fault
+    ensures named { IsFaultNamed fault (string_bytes name) result }
+    // This is what is printed of it.
+    ensures line { line_of result ≡ Some (said_line (string_bytes name) fault) }
+{
+    match fault {
+        RunFault::Read { fault, .. } => Fault::Read { name, fault },
+        RunFault::Library(fault) => Fault::Library { name, fault },
+        RunFault::Hooks(fault) => Fault::Hooks { name, fault },
+        // A feature has too many steps; of the texts of `--tags` one is bad.
+        RunFault::Select { input, .. } => match input {
+            Some(_) => Fault::TooMany { name },
+            None => Fault::BadTags,
+        },
+        RunFault::Write => Fault::Write,
+        RunFault::Memory => Fault::Memory,
     }
 }
 
@@ -89,7 +115,7 @@ fn write_placed<W: fmt::Write, T: fmt::Display>(
     }
 }
 
-// Writes the line of a fault, without its line feed.
+// Writes the line of a fault, without its line feed; of files that don't read all lines, each with its own.
 impl fmt::Display for Fault {
     ghost output = { line_of };
 
@@ -105,6 +131,7 @@ impl fmt::Display for Fault {
             Fault::Read { name, fault } => write_placed(f, name, fault.line(), fault),
             Fault::TooMany { name } => write_placed(f, name, None, &"more than 1000000 steps"),
             Fault::BadTags => f.write_str("gherkin_run: bad tag expression"),
+            Fault::Unread { lines, .. } => f.write_str(lines.as_str()),
             Fault::Write => f.write_str("gherkin_run: cannot write"),
             Fault::Memory => f.write_str("gherkin_run: out of memory"),
         }

@@ -1,8 +1,9 @@
 //! Reading the files.
 ghost use Rattle.std.specs.Prelude.{◌≡◌, ◌≤◌, map, IfOk, IfErr, IfSome, Ok, option_map, string_bytes, vec_len};
 ghost use Rattle.std.specs.List.{Any};
-ghost use Rattle.gherkin_run.specs.Files.{AreRead, IsFaultOfFiles, IsFaultOfReading, IsFileFault, IsNotRead, StopsReading, files_in_order, files_value, name_of, names_in_order, one_of};
+ghost use Rattle.gherkin_run.specs.Files.{AreRead, IsFaultOfFiles, IsFaultOfReading, IsFileFault, IsNotRead, StopsReading, files_in_order, name_of, names_in_order, one_of};
 ghost use Rattle.gk_cli.specs.Source.{source_value};
+ghost use Rattle.gk_cli.specs.SuiteFiles.{suite_value};
 
 use crate::fault::Fault;
 use gk_cli::{Counted, Source, SourceFault, SuiteFiles, read_source};
@@ -140,7 +141,7 @@ pub fn read_run_files<S: System>(
         (λ files. map name_of files.sources.items ≡ map string_bytes names.items) }
     // Each source has the bytes that the file of its name gave, and no other file was read.
     ensures read { IfOk result (λ files.
-        AreRead S.reads system.old (files_in_order (files_value files)) system.new) }
+        AreRead S.reads system.old (files_in_order (suite_value files)) system.new) }
     // The fault is of the first file that wasn't read, in the order library, hooks, files.
     ensures first { IfErr result (StopsReading S.reads system.old
         (names_in_order library hooks names.items) system.new) }

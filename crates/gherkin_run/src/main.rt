@@ -8,6 +8,7 @@ ghost use Rattle.gherkin_run.specs.Fault.{status_of};
 
 mod fault;
 mod files;
+mod listing;
 mod program;
 
 use fault::Fault;
@@ -19,6 +20,8 @@ use std::process::ExitCode;
 fn report<R: Eprint>(rt: &R, fault: &Fault) {
     let _ = match fault {
         Fault::Usage(error) => rt.eprint(error),
+        // Its lines end with a line feed.
+        Fault::Unread { lines, .. } => rt.eprint(lines),
         _ => rt.eprintln(fault),
     };
 }

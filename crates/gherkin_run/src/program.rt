@@ -5,12 +5,14 @@ ghost use Rattle.gk_cli.specs.Arguments.{pair_value};
 ghost use Rattle.gk_cli.specs.Counted.{CountsCanRise, flushes_of, failures_of, one_more};
 ghost use Rattle.gk_cli.specs.Suite.{device_of};
 ghost use Rattle.gk_cli.specs.Source.{source_value};
-ghost use Rattle.gk_cli.specs.SuiteFiles.{HaveSameNames};
-ghost use Rattle.gherkin_run.specs.Files.{files_value};
-ghost use Rattle.gherkin_run.specs.Program.{SaysAsked, SaysError, IsHelpFault, IsArgumentsFault, IsFaultOfVariable, SaysVariables, IsWithin, IsNamed, IsFaultOfRun, request_of_files, IsRunOfFiles, IsWrittenAs, SaysFaultAs, SaysRun, SaysCalls, SaysCallsOfRun, SaysProgram, IsRun, IsShown, IsHelp, IsDoneFor, IsFaultFor, IsDoneForSome, IsFaultForSome};
+ghost use Rattle.gk_cli.specs.SuiteFiles.{suite_value};
+ghost use Rattle.gk_cli.specs.FaultNotes.{name_at_fault};
+ghost use Rattle.gherkin_run.specs.Fault.{line_of, said_line};
+ghost use Rattle.gherkin_run.specs.Program.{SaysAsked, SaysError, IsHelpFault, IsArgumentsFault, IsFaultOfVariable, SaysVariables, IsWithin, IsNamed, IsFaultOfRun, IsFaultAs, AreLeft, request_of_files, IsRunOfFiles, IsWrittenAs, SaysFaultAs, SaysRun, SaysCalls, SaysCallsOfRun, SaysProgram, IsRun, IsShown, IsHelp, IsDoneFor, IsFaultFor, IsDoneForSome, IsFaultForSome};
 
-use crate::fault::Fault;
+use crate::fault::{Fault, fault_named};
 use crate::files::{Machine, read_run_files};
+use crate::listing::fault_listed;
 use gk_cli::{
     Counted, Mode, Options, RunFault, Source, SuiteFiles, Words, WordsFault, explain_suite,
     lint_suite, read_words, report_suite, write_whole,
@@ -141,33 +143,48 @@ fn name_at(sources: Vec<Source>, input: usize) -> String
     sources.swap_remove(input).name
 }
 
-// The program's fault for one of the run: files have their names in place of numbers.
-fn fault_of_run(fault: RunFault, files: SuiteFiles) -> Fault
-    requires { IsWithin (files_value files) fault }
-    ensures { IsFaultOfRun (files_value files) fault result }
+// The name of the file that a fault of the run is of; an empty one where it is of none.
+#[tactic(auto, using(crate::proofs::ProgramLemmas::named_source, crate::proofs::ProgramLemmas::named_file))]
+fn name_of_fault(alloc: Global, fault: RunFault, files: SuiteFiles) -> String
+    requires { IsWithin (suite_value files) fault }
+    ensures { string_bytes result ≡ name_at_fault (suite_value files) fault }
 {
     match fault {
-        RunFault::Read { input, fault } => Fault::Read {
-            name: name_at(files.sources, input),
-            fault,
+        RunFault::Read { input, .. } => name_at(files.sources, input),
+        RunFault::Library(_) => name_given(files.library),
+        RunFault::Hooks(_) => name_given(files.hooks),
+        RunFault::Select { input, .. } => match input {
+            Some(input) => name_at(files.sources, input),
+            None => String::new(alloc),
         },
-        RunFault::Library(fault) => Fault::Library {
-            name: name_given(files.library),
-            fault,
+        RunFault::Write | RunFault::Memory => String::new(alloc),
+    }
+}
+
+// The program's fault for one of the run: files have their names in place of numbers.
+fn fault_of_run(alloc: Global, fault: RunFault, files: SuiteFiles) -> Fault
+    requires { IsWithin (suite_value files) fault }
+    ensures named { IsFaultOfRun (suite_value files) fault result }
+    // This is what is printed of it.
+    ensures line { line_of result
+        ≡ Some (said_line (name_at_fault (suite_value files) fault) fault) }
+{
+    fault_named(fault, name_of_fault(alloc, fault, files))
+}
+
+// The program's fault for one of the run, by what is written of it. With `--lint`, all files that don't read are listed.
+fn fault_as(alloc: Global, mode: Mode, fault: RunFault, files: SuiteFiles) -> Fault
+    requires { IsWithin (suite_value files) fault }
+    ensures { IsFaultAs mode (suite_value files) fault result }
+{
+    match mode {
+        Mode::Report => fault_of_run(alloc, fault, files),
+        Mode::Explanation => fault_of_run(alloc, fault, files),
+        Mode::Findings => match fault {
+            RunFault::Write => Fault::Write,
+            RunFault::Memory => Fault::Memory,
+            _ => fault_listed(alloc, &files, fault),
         },
-        RunFault::Hooks(fault) => Fault::Hooks {
-            name: name_given(files.hooks),
-            fault,
-        },
-        // A feature has too many steps; of the texts of `--tags` one is bad.
-        RunFault::Select { input, fault: _ } => match input {
-            Some(input) => Fault::TooMany {
-                name: name_at(files.sources, input),
-            },
-            None => Fault::BadTags,
-        },
-        RunFault::Write => Fault::Write,
-        RunFault::Memory => Fault::Memory,
     }
 }
 
@@ -189,13 +206,14 @@ fn write_run<W: Write>(
 ) -> Result<u8, RunFault>
     requires room { CountsCanRise out.old }
     requires outside { depth sandbox.old ≡ 0 }
-    ensures names { HaveSameNames files.old files.new }
+    // Files whose findings are written keep their bytes; the names stay in any case.
+    ensures left { AreLeft manner.entry.mode files.old files.new }
     ensures quiet { OnOk result (failures_of out.new ≡ failures_of out.old) }
-    ensures written { IfOk result (IsWrittenAs manner.entry.mode (files_value files.old)
-        (request_of_files manner.entry.options.now (files_value files.old)) sandbox.old.now
+    ensures written { IfOk result (IsWrittenAs manner.entry.mode (suite_value files.old)
+        (request_of_files manner.entry.options.now (suite_value files.old)) sandbox.old.now
         (device_of W.contents out.old) (device_of W.contents out.new)) }
-    ensures fault { IfErr result (SaysFaultAs manner.entry.mode (files_value files.old)
-        (request_of_files manner.entry.options.now (files_value files.old)) sandbox.old.now
+    ensures fault { IfErr result (SaysFaultAs manner.entry.mode (suite_value files.old)
+        (request_of_files manner.entry.options.now (suite_value files.old)) sandbox.old.now
         (device_of W.contents out.old) (device_of W.contents out.new)) }
 {
     let options = manner.options;
@@ -208,7 +226,8 @@ fn write_run<W: Write>(
 
 /// Does what `write_run` does, and flushes what is written. A fault names the file that it comes from. `Write` comes
 /// where a write or the flush failed; then a prefix of that, or all of it, was written. At `Memory` nothing or a
-/// prefix of it was written. At any other fault nothing was.
+/// prefix of it was written. At any other fault nothing was; with `--lint`, the fault of each file that doesn't read
+/// is in it.
 fn run_sources<W: Write>(
     alloc: Global,
     sandbox: &mut Sandbox,
@@ -219,13 +238,13 @@ fn run_sources<W: Write>(
     requires room { CountsCanRise out.old }
     requires outside { depth sandbox.old ≡ 0 }
     // What was written and the status are those of one run of these inputs, or of what is found in them.
-    ensures run { IfOk result (IsRunOfFiles manner.entry (files_value files)
+    ensures run { IfOk result (IsRunOfFiles manner.entry (suite_value files)
         sandbox.old.now (device_of W.contents out.old) (device_of W.contents out.new)) }
     // A status comes only where the writer did not fail, and was flushed once.
     ensures quiet { OnOk result (failures_of out.new ≡ failures_of out.old) }
     ensures flushed { OnOk result (flushes_of out.new ≡ one_more (flushes_of out.old)) }
     // A fault is that of the run, or the flush failed.
-    ensures fault { IfErr result (SaysRun manner.entry (files_value files)
+    ensures fault { IfErr result (SaysRun manner.entry (suite_value files)
         sandbox.old.now (device_of W.contents out.old) (device_of W.contents out.new)) }
     // Where standard output isn't at fault, it was not called, or memory was refused after a
     // prefix of what is written of the run.
@@ -238,7 +257,7 @@ fn run_sources<W: Write>(
             Ok(()) => Ok(status),
             Err(_) => Err(Fault::Write),
         },
-        Err(fault) => Err(fault_of_run(fault, files)),
+        Err(fault) => Err(fault_as(alloc, manner.mode, fault, files)),
     }
 }
 

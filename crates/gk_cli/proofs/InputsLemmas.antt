@@ -40,7 +40,7 @@ at_place f [] i x less is = absurd (omega arith)
 at_place f (y ∷ ys) zero x less is = ap (λ z. Some (f z)) (sym is)
 at_place f (y ∷ ys) (suc i) x less is = at_place f ys i x (omega arith) is
 
-same_some : {A : Type 0} (x y : A) → ◌≡◌ {A = Option A} (Some x) (Some y) → x ≡ y
+pub same_some : {A : Type 0} (x y : A) → ◌≡◌ {A = Option A} (Some x) (Some y) → x ≡ y
 same_some x y e = cc
 
 -- One element more of a list.

@@ -11,6 +11,8 @@ pub mod ExplainedRunLemmas
 pub mod ExplainedSuiteLemmas
 pub mod LintedSourcesLemmas
 pub mod LintedSuiteLemmas
+pub mod AllFaultsLemmas
+pub mod AllFaultsLaw
 pub mod WorkedRun
 pub mod WorkedHooksRun
 pub mod WorkedLongRun

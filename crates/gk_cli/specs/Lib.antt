@@ -14,3 +14,6 @@ pub mod ExplainedSuite
 pub mod FindingLines
 pub mod LintedSources
 pub mod LintedSuite
+pub mod AllFaults
+pub mod Hints
+pub mod FaultNotes

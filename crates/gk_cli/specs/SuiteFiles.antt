@@ -10,6 +10,16 @@ use Rattle.gk_cli.specs.Source.{SourceValue, source_value, names_of, without_byt
 abbrev pub file_value : Option Source → Option SourceValue
 file_value file = option_map source_value file
 
+-- The files of a run as the definitions see them: the library file and the hooks file, where they are named, and the feature files.
+pub record FilesValue : Type 0 where
+  pub library : Option SourceValue
+  pub hooks : Option SourceValue
+  pub sources : List SourceValue
+
+-- What these files are.
+abbrev pub suite_value : SuiteFiles → FilesValue
+suite_value files = record { library = file_value files.library; hooks = file_value files.hooks; sources = map source_value files.sources.items }
+
 -- The bytes of a file that may be there.
 abbrev pub bytes_of : Option SourceValue → Option (List ℕ)
 bytes_of file = option_map (λ (s : SourceValue). s.bytes) file

@@ -63,7 +63,8 @@ fn tags_fault(fault: SelectFault) -> RunFault
     }
 }
 
-fn read_step_library(alloc: Global, library: Option<&[u8]>) -> Result<Library, LibraryFault>
+/// The library; without a library file, the default one. Of the file, an error says why it doesn't read.
+pub fn read_step_library(alloc: Global, library: Option<&[u8]>) -> Result<Library, LibraryFault>
     ensures read { IfOk result (λ l.
         IsLibrary (option_map (λ bytes. bytes.now) library.entry) (library_value l)) }
     ensures fault { IfErr result (λ e.
@@ -75,7 +76,8 @@ fn read_step_library(alloc: Global, library: Option<&[u8]>) -> Result<Library, L
     }
 }
 
-fn library_fault(fault: LibraryFault) -> RunFault
+/// The fault of a run, from that of its library. Takes no memory.
+pub fn library_fault(fault: LibraryFault) -> RunFault
     ensures { result ≡ faults.library_fault fault }
 {
     match fault {
@@ -84,8 +86,8 @@ fn library_fault(fault: LibraryFault) -> RunFault
     }
 }
 
-// Without a hooks file there are no hooks.
-fn read_hook_file(alloc: Global, hooks: Option<&[u8]>) -> Result<HookFile, ReadFault>
+/// The hooks; without a hooks file there are none. Of the file, an error says why it doesn't read.
+pub fn read_hook_file(alloc: Global, hooks: Option<&[u8]>) -> Result<HookFile, ReadFault>
     ensures read { IfOk result (λ file.
         AreHooks (option_map (λ bytes. bytes.now) hooks.entry) (hooks_value file)) }
     ensures fault { IfErr result (λ e. SaysHooks (option_map (λ bytes. bytes.now) hooks.entry) e) }
@@ -98,7 +100,8 @@ fn read_hook_file(alloc: Global, hooks: Option<&[u8]>) -> Result<HookFile, ReadF
     }
 }
 
-fn hooks_fault(fault: ReadFault) -> RunFault
+/// The fault of a run, from that of its hooks. Takes no memory.
+pub fn hooks_fault(fault: ReadFault) -> RunFault
     ensures { result ≡ faults.hooks_fault fault }
 {
     match fault {

@@ -2,12 +2,15 @@
 //! in place of it, and the status goes out. So does what is found in these before any run. The arguments of the command line, and readers and writers whose calls are counted, stand here too.
 #![tactic(auto)]
 
+mod all_faults;
 mod arguments;
 mod counted;
 mod explained_run;
 mod explained_suite;
+mod fault_notes;
 mod finding_lines;
 mod growing_report;
+mod hints;
 mod inputs;
 mod linted_sources;
 mod linted_suite;
@@ -18,9 +21,11 @@ mod suite;
 mod suite_files;
 mod written_run;
 
+pub use all_faults::{all_faults_are_found, faults_after};
 pub use arguments::{Mode, Options, Words, WordsFault, read_words};
 pub use counted::{Counted, NotWritten, write_whole};
 pub use explained_suite::explain_suite;
+pub use fault_notes::{name_at_fault, push_notes};
 pub use linted_suite::lint_suite;
 pub use reported_suite::report_suite;
 pub use run_fault::RunFault;

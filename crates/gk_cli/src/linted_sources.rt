@@ -53,8 +53,8 @@ fn check_limit(alloc: Global, feature: &Feature) -> Result<(), SelectFault>
     Ok(())
 }
 
-// Reads the source at a place.
-fn read_one(alloc: Global, input: usize, source: &Source) -> Result<Option<Feature>, RunFault>
+/// Reads the source at a place. An error says why it doesn't read; `Memory` comes only where a growth was refused.
+pub fn read_one(alloc: Global, input: usize, source: &Source) -> Result<Option<Feature>, RunFault>
     ensures read { IfOk result (λ feature. IsReadAs source.now.bytes.items
         (option_map feature_value feature)) }
     ensures fault { IfErr result (λ e. SaysSourceAt input source.now.bytes.items e) }

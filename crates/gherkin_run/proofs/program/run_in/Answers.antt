@@ -1,7 +1,7 @@
 use Rattle.std.proofs.Common.{map, subst, sym}
 use Rattle.gk_cli.specs.Arguments.{pair_value}
 use Rattle.gk_cli.specs.Suite.{device_of}
-use Rattle.gherkin_run.specs.Files.{files_value}
+use Rattle.gk_cli.specs.SuiteFiles.{suite_value}
 use Rattle.gherkin_run.specs.Program.{SaysCallsOfRun, SaysProgram}
 use Rattle.gherkin_run.proofs.FilesLemmas.{passed_on}
 use Rattle.gherkin_run.proofs.ProgramLemmas.{are_given, calls_of_files, calls_of_variables, fails, from_run_files, of_variables, put_in, runs, taken_in}
@@ -34,11 +34,11 @@ returns-clause-run g c =
     let given = are_given c.args.words c.in_ok-files.files c.in_ok-files.ensures.library c.in_ok-files.ensures.hooks c.in_ok-files.ensures.named in
     let taken = taken_in c.args.words c.as_slice.result.now c.in_ok-put_variables.ensures.2 c.as_slice.ensures.value in
     let put = put_in c.args.words c.args.sandbox.now c.put_variables.new.sandbox.now c.as_slice.result.now c.in_ok-put_variables.ensures.0 c.requires.empty c.as_slice.ensures.value in
-    runs c.args.words (files_value c.in_ok-files.files) _ _ c.put_variables.new.sandbox.now c.run_sources.result given taken put c.run_sources.ensures.run
+    runs c.args.words (suite_value c.in_ok-files.files) _ _ c.put_variables.new.sandbox.now c.run_sources.result given taken put c.run_sources.ensures.run
 
 pub returns-clause-fault : goal.returns-clause-fault
 returns-clause-fault g c =
     let given = are_given c.args.words c.in_ok-files.files c.in_ok-files.ensures.library c.in_ok-files.ensures.hooks c.in_ok-files.ensures.named in
     let taken = taken_in c.args.words c.as_slice.result.now c.in_ok-put_variables.ensures.2 c.as_slice.ensures.value in
     let put = put_in c.args.words c.args.sandbox.now c.put_variables.new.sandbox.now c.as_slice.result.now c.in_ok-put_variables.ensures.0 c.requires.empty c.as_slice.ensures.value in
-    fails c.args.words (files_value c.in_ok-files.files) _ _ c.put_variables.new.sandbox.now c.run_sources.result given taken put c.run_sources.ensures.fault
+    fails c.args.words (suite_value c.in_ok-files.files) _ _ c.put_variables.new.sandbox.now c.run_sources.result given taken put c.run_sources.ensures.fault

@@ -1,8 +1,8 @@
 use Rattle.std.proofs.Common.{◌∙◌, ap, inl, inr, refl}
 use Rattle.gk_cli.specs.Counted.{one_more}
 use Rattle.gk_cli.specs.Suite.{device_of}
-use Rattle.gherkin_run.specs.Files.{files_value}
-use Rattle.gherkin_run.proofs.ProgramLemmas.{calls_of_run, named_as_before, within, within_still}
+use Rattle.gk_cli.specs.SuiteFiles.{suite_value}
+use Rattle.gherkin_run.proofs.ProgramLemmas.{calls_as, fault_as_before, within, within_left}
 use Rattle.gherkin_run.proofs.program.run_sources.Goals as goal
 
 pub returns-in-Ok-flush-clause-run : goal.returns-in-Ok-flush-clause-run
@@ -22,16 +22,16 @@ returns-in-Ok-clause-fault g c = inr record {
   failed = c.in-Err-flush.ensures.failures ∙ ap one_more c.in-Ok.ensures.quiet;
 }
 
-pub fault_of_run-requires : goal.fault_of_run-requires
-fault_of_run-requires g c =
-    within_still c.args.files c.write_run.new.files c.in-Err.fault c.write_run.ensures.names
-    (within c.args.manner.mode c.args.manner.options.now (files_value c.args.files) _ _ _ c.in-Err.fault c.in-Err.ensures.fault)
+pub fault_as-requires : goal.fault_as-requires
+fault_as-requires g c =
+    within_left c.args.manner.mode c.args.files c.write_run.new.files c.in-Err.fault c.write_run.ensures.left
+    (within c.args.manner.mode c.args.manner.options.now (suite_value c.args.files) _ _ _ c.in-Err.fault c.in-Err.ensures.fault)
 
 pub returns-clause-fault : goal.returns-clause-fault
 returns-clause-fault g c =
-    inl (c.in-Err.fault, named_as_before c.args.files c.write_run.new.files c.in-Err.fault c.fault_of_run.result c.write_run.ensures.names c.fault_of_run.ensures, c.in-Err.ensures.fault)
+    inl (c.in-Err.fault, fault_as_before c.args.manner.mode c.args.files c.write_run.new.files c.in-Err.fault c.fault_as.result c.write_run.ensures.left c.fault_as.ensures, c.in-Err.ensures.fault)
 
 pub returns-clause-calls : goal.returns-clause-calls
 returns-clause-calls g c =
-    let named = named_as_before c.args.files c.write_run.new.files c.in-Err.fault c.fault_of_run.result c.write_run.ensures.names c.fault_of_run.ensures in
-    calls_of_run c.args.manner.mode _ _ _ _ (files_value c.args.files) c.in-Err.fault c.fault_of_run.result c.requires.room.0.0 named c.in-Err.ensures.fault
+    let fault = fault_as_before c.args.manner.mode c.args.files c.write_run.new.files c.in-Err.fault c.fault_as.result c.write_run.ensures.left c.fault_as.ensures in
+    calls_as c.args.manner.mode _ _ _ _ (suite_value c.args.files) c.in-Err.fault c.fault_as.result c.requires.room.0.0 fault c.in-Err.ensures.fault

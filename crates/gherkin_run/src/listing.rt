@@ -1,0 +1,67 @@
+//! What is printed, with `--lint`, of all files of a run that don't read.
+ghost use Rattle.std.specs.Prelude.{◌≡◌, ◌++◌, IfOk, OnOk, string_bytes};
+ghost use Rattle.gk_cli.specs.SuiteFiles.{suite_value};
+ghost use Rattle.gherkin_run.specs.Listing as spec;
+ghost use Rattle.gherkin_run.specs.Listing.{IsListedAs, IsListing};
+
+use crate::fault::{Fault, fault_named};
+use gk_cli::{RunFault, SuiteFiles, faults_after, name_at_fault, push_notes};
+use std::alloc::{AllocError, Global};
+
+// Pushes what is printed of a fault: the line that a run prints of it, and what is said below it.
+fn push_block(
+    out: &mut String,
+    alloc: Global,
+    files: &SuiteFiles,
+    fault: RunFault,
+) -> Result<(), AllocError>
+    ensures { OnOk result (string_bytes out.new
+        ≡ string_bytes out.old ++ spec.block (suite_value files.now) fault) }
+{
+    let name = String::from_str(alloc, name_at_fault(files, fault))?;
+    let named = fault_named(fault, name);
+    write!(out, "{named}\n")?;
+    push_notes(out, alloc, files, fault)
+}
+
+// Pushes what is printed of faults, one after the other.
+fn push_blocks(
+    out: &mut String,
+    alloc: Global,
+    files: &SuiteFiles,
+    faults: &[RunFault],
+) -> Result<(), AllocError>
+    ensures { OnOk result (string_bytes out.new
+        ≡ string_bytes out.old ++ spec.blocks (suite_value files.now) faults.now) }
+{
+    for fault in faults {
+        push_block(out, alloc, files, *fault)?;
+    }
+    Ok(())
+}
+
+// What is printed where a run of these files has this fault.
+fn listing(alloc: Global, files: &SuiteFiles, first: RunFault) -> Result<String, AllocError>
+    ensures { IfOk result (λ text.
+        IsListing (suite_value files.now) first (string_bytes text)) }
+{
+    let later = faults_after(alloc, files, first)?;
+    let mut text = String::new(alloc);
+    push_block(&mut text, alloc, files, first)?;
+    push_blocks(&mut text, alloc, files, later.as_slice())?;
+    Ok(text)
+}
+
+/// The program's fault where a run of these files has this one and `--lint` is given: what is printed has all faults of
+/// the files, from this one on. `Memory` comes only where a growth was refused.
+pub fn fault_listed(alloc: Global, files: &SuiteFiles, first: RunFault) -> Fault
+    ensures { IsListedAs (suite_value files.now) first result }
+{
+    match listing(alloc, files, first) {
+        Ok(lines) => Fault::Unread {
+            status: first.status(),
+            lines,
+        },
+        Err(_) => Fault::Memory,
+    }
+}

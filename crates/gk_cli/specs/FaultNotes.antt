@@ -1,0 +1,64 @@
+-- What is said below a fault of a run.
+use Rattle.std.specs.Prelude.{ℕ, ◌-◌, List, [], ◌++◌, codes, slice_get, Option, Some, None, option_map}
+use denote.Ref.{Bor}
+use Rattle.std.specs.Str.Lines.{lines}
+use Rattle.std.specs.Str.Lossy.{utf8_lossy}
+use Rattle.gk_gherkin.specs.ReadFault.{line_of_fault}
+use Rattle.gk_steps.specs.LibraryFault.{line_of_library_fault}
+use Rattle.gk_explain.specs.Shown.{shown}
+use Rattle.gk_cli.specs.declared.run_fault.RunFault.{RunFault}
+use Rattle.gk_cli.specs.declared.run_fault.RunFault.TheVariants.{Read, Library, Hooks, Select, Write, Memory}
+use Rattle.gk_cli.specs.Hints.{hint}
+use Rattle.gk_cli.specs.Source.{SourceValue, source_value}
+use Rattle.gk_cli.specs.SuiteFiles.{FilesValue, name_of}
+use Rattle.gk_cli.specs.declared.source.Source.{Source}
+
+-- A borrowed file, where there is one.
+abbrev pub lent_value : Option (Bor Source) → Option SourceValue
+lent_value file = option_map (λ (source : Bor Source). source_value source.now) file
+
+-- The file that a fault is of: none for the texts of tags, and where no file is at fault.
+abbrev pub file_of : FilesValue → RunFault → Option SourceValue
+file_of files (Read input fault) = slice_get files.sources input
+file_of files (Library fault) = files.library
+file_of files (Hooks fault) = files.hooks
+file_of files (Select (Some input) fault) = slice_get files.sources input
+file_of files (Select None fault) = None
+file_of files Write = None
+file_of files Memory = None
+
+-- The name of the file that a fault is of; no name where it is of none.
+abbrev pub name_at_fault : FilesValue → RunFault → List ℕ
+name_at_fault files fault = name_of (file_of files fault)
+
+-- The line that a fault names.
+abbrev pub line_at_fault : RunFault → Option ℕ
+line_at_fault (Read input fault) = line_of_fault fault
+line_at_fault (Library fault) = line_of_library_fault fault
+line_at_fault (Hooks fault) = line_of_fault fault
+line_at_fault (Select input fault) = None
+line_at_fault Write = None
+line_at_fault Memory = None
+
+-- The line of a file with this number, counted from 1. Bytes that aren't UTF-8 stand there as U+FFFD. (std's `lines` and `from_utf8_lossy`)
+abbrev pub line_text : List ℕ → ℕ → Option (List ℕ)
+line_text bytes n = slice_get (lines (utf8_lossy bytes)) (n - 1)
+
+-- A text below a fault, on a line of its own.
+unfoldable pub note : List ℕ → List ℕ
+note text = codes "    " ++ (text ++ codes "\n")
+
+-- A line of a file as it is quoted: what can't be seen is shown.
+abbrev pub quote : Option (List ℕ) → List ℕ
+quote None = []
+quote (Some text) = note (shown text)
+
+-- What is quoted of a file, where a line of it is named.
+abbrev pub quote_of : Option SourceValue → Option ℕ → List ℕ
+quote_of None line = []
+quote_of (Some file) None = []
+quote_of (Some file) (Some n) = quote (line_text file.bytes n)
+
+-- What is said below a fault: the line that it names, and what is to be done about it.
+abbrev pub notes : FilesValue → RunFault → List ℕ
+notes files fault = quote_of (file_of files fault) (line_at_fault fault) ++ note (hint fault)

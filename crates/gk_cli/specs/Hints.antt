@@ -1,0 +1,63 @@
+-- What is to be done about each fault, in one line.
+use Rattle.std.specs.Prelude.{ℕ, List, codes}
+use Rattle.gk_gherkin.specs.declared.read_fault.ReadFault.{ReadFault}
+use Rattle.gk_gherkin.specs.declared.read_fault.ReadFault.TheVariants as read_faults
+use Rattle.gk_select.specs.declared.select_fault.SelectFault.{SelectFault}
+use Rattle.gk_select.specs.declared.select_fault.SelectFault.TheVariants as select_faults
+use Rattle.gk_steps.specs.declared.library_fault.LibraryFault.{LibraryFault}
+use Rattle.gk_steps.specs.declared.library_fault.LibraryFault.TheVariants as library_faults
+use Rattle.gk_cli.specs.declared.run_fault.RunFault.{RunFault}
+use Rattle.gk_cli.specs.declared.run_fault.RunFault.TheVariants.{Read, Library, Hooks, Select, Write, Memory}
+
+-- What is to be done about a file that is too long.
+unfoldable pub long_file_hint : List ℕ
+long_file_hint = codes "divide the file"
+
+-- What is to be done about bytes that aren't UTF-8.
+unfoldable pub encoding_hint : List ℕ
+encoding_hint = codes "save the file as UTF-8"
+
+-- What is to be done where memory ran out.
+unfoldable pub memory_hint : List ℕ
+memory_hint = codes "divide the files, or spread them over several runs"
+
+-- What is to be done about a fault of a feature file or of a hooks file.
+unfoldable pub read_hint : ReadFault → List ℕ
+read_hint (read_faults.NotUtf8 n) = encoding_hint
+read_hint (read_faults.Unexpected n) = codes "look at the line above, too: a description ends at the first step, and a step has one block"
+read_hint (read_faults.BadTag n) = codes "write an @ before each tag, and a # before remarks"
+read_hint (read_faults.CellCount n) = codes "give each row as many cells as the first; write \\| for a bar inside a cell"
+read_hint (read_faults.UnclosedText n) = codes "close it with a line of the same three characters alone"
+read_hint (read_faults.TagsAtEnd n) = codes "give the tags a scenario, or take them out"
+read_hint (read_faults.Language n) = codes "write the keywords in English, and take this comment out"
+read_hint (read_faults.BadRow n) = codes "close the row with a bar"
+read_hint (read_faults.BadHook n) = codes "write before_ or after_, and then all:, feature:, rule:, scenario: or tag @NAME:, each heading once"
+read_hint read_faults.TooLong = long_file_hint
+read_hint read_faults.Memory = memory_hint
+
+-- What is to be done about a fault of a library file.
+unfoldable pub library_hint : LibraryFault → List ℕ
+library_hint library_faults.TooLong = long_file_hint
+library_hint (library_faults.NotUtf8 n) = encoding_hint
+library_hint (library_faults.BadType n) = codes "begin the line with given, when, then or step, in lower case"
+library_hint (library_faults.BadPattern n) = codes "write PATTERN => ACTION, with {{ and }} for braces, and a name of its own for each field"
+library_hint (library_faults.UnknownAction n) = codes "take a name of the table of actions, in lower case"
+library_hint (library_faults.MissingField n) = codes "name the fields as the action does"
+library_hint (library_faults.FieldKind n) = codes "write {n:d} for the number; name, to, text and step are texts"
+library_hint (library_faults.Ambiguous n) = codes "put the special entry first, or make it differ"
+library_hint library_faults.Memory = memory_hint
+
+-- What is to be done about cases with too many steps, and about a text of tags that spells no rule.
+unfoldable pub select_hint : SelectFault → List ℕ
+select_hint select_faults.TooMany = codes "divide the outline or the file"
+select_hint select_faults.BadTagText = codes "write it as '@a and not @b', or as @a,~@b"
+select_hint select_faults.Memory = memory_hint
+
+-- What is to be done about a fault of a run.
+abbrev pub hint : RunFault → List ℕ
+hint (Read input fault) = read_hint fault
+hint (Library fault) = library_hint fault
+hint (Hooks fault) = read_hint fault
+hint (Select input fault) = select_hint fault
+hint Write = codes "make room, and run again"
+hint Memory = memory_hint

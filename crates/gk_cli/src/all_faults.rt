@@ -1,0 +1,160 @@
+//! The faults of all files of a run.
+ghost use Rattle.std.specs.Prelude.{List, ◌∷◌, ◌+◌, [], drop, map, IfOk, OnOk};
+ghost use Rattle.gk_cli.specs.AllFaults.{RunFile, source_at, AllFaultsAreFound, AreFaultsOf, AreAdded, SaysOfFiles, after_library, files_after, hooks_files, library_files, run_files, sources_from};
+ghost use Rattle.gk_cli.specs.SuiteFiles.{file_value, suite_value};
+ghost use Rattle.gk_cli.specs.Source.{source_value};
+
+use crate::inputs::{hooks_fault, library_fault, read_hook_file, read_step_library};
+use crate::linted_sources::read_one;
+use crate::run_fault::RunFault;
+use crate::source::Source;
+use crate::suite_files::{SuiteFiles, bytes_of};
+use std::alloc::{AllocError, Global};
+
+// Whether the library file reads, if there is one.
+fn check_library(alloc: Global, library: &Option<Source>) -> Result<(), RunFault>
+    ensures { SaysOfFiles (library_files (file_value library.now)) result }
+{
+    match read_step_library(alloc, bytes_of(library)) {
+        Ok(_library) => Ok(()),
+        Err(fault) => Err(library_fault(fault)),
+    }
+}
+
+// Whether the hooks file reads, if there is one.
+fn check_hooks(alloc: Global, hooks: &Option<Source>) -> Result<(), RunFault>
+    ensures { SaysOfFiles (hooks_files (file_value hooks.now)) result }
+{
+    match read_hook_file(alloc, bytes_of(hooks)) {
+        Ok(_hooks) => Ok(()),
+        Err(fault) => Err(hooks_fault(fault)),
+    }
+}
+
+// Whether the source at a place reads.
+fn check_source(alloc: Global, place: usize, source: &Source) -> Result<(), RunFault>
+    ensures { SaysOfFiles (source_at place source.now.bytes.items ∷ []) result }
+{
+    match read_one(alloc, place, source) {
+        Ok(_feature) => Ok(()),
+        Err(fault) => Err(fault),
+    }
+}
+
+// Adds the fault that was found of a file, if there is one.
+#[tactic(auto, using(crate::proofs::AllFaultsLemmas::none_found, crate::proofs::AllFaultsLemmas::one_found))]
+fn add_fault(faults: &mut Vec<RunFault>, found: Result<(), RunFault>) -> Result<(), AllocError>
+    ensures { (files : List RunFile) → SaysOfFiles files found
+        → OnOk result (AreAdded files faults.old.items faults.new.items) }
+{
+    match found {
+        Ok(()) => Ok(()),
+        Err(RunFault::Memory) => Err(AllocError),
+        Err(fault) => {
+            faults.push(fault)?;
+            Ok(())
+        }
+    }
+}
+
+// Adds the faults of the sources from a place on.
+fn add_sources(
+    faults: &mut Vec<RunFault>,
+    alloc: Global,
+    sources: &[Source],
+    from: usize,
+) -> Result<(), AllocError>
+    ensures { OnOk result (AreAdded (sources_from from (drop from (map source_value sources.now)))
+        faults.old.items faults.new.items) }
+{
+    for place in from..sources.len() {
+        add_fault(faults, check_source(alloc, place, &sources[place]))?;
+    }
+    Ok(())
+}
+
+// Adds the faults of the sources after the one at a place.
+fn add_sources_after(
+    faults: &mut Vec<RunFault>,
+    alloc: Global,
+    sources: &[Source],
+    place: usize,
+) -> Result<(), AllocError>
+    ensures { OnOk result (AreAdded
+        (sources_from (place + 1) (drop (place + 1) (map source_value sources.now)))
+        faults.old.items faults.new.items) }
+{
+    if place < sources.len() {
+        add_sources(faults, alloc, sources, place + 1)
+    } else {
+        Ok(())
+    }
+}
+
+// Adds the faults of the files that are read after the library file.
+fn add_after_library(
+    faults: &mut Vec<RunFault>,
+    alloc: Global,
+    files: &SuiteFiles,
+) -> Result<(), AllocError>
+    ensures { OnOk result (AreAdded (after_library (suite_value files.now))
+        faults.old.items faults.new.items) }
+{
+    add_fault(faults, check_hooks(alloc, &files.hooks))?;
+    add_sources(faults, alloc, files.sources.as_slice(), 0)
+}
+
+// Adds the faults of all files.
+fn add_all(faults: &mut Vec<RunFault>, alloc: Global, files: &SuiteFiles) -> Result<(), AllocError>
+    ensures { OnOk result (AreAdded (run_files (suite_value files.now))
+        faults.old.items faults.new.items) }
+{
+    add_fault(faults, check_library(alloc, &files.library))?;
+    add_after_library(faults, alloc, files)
+}
+
+// Adds the faults of the files that are read after the one that this fault is of.
+fn add_after(
+    faults: &mut Vec<RunFault>,
+    alloc: Global,
+    files: &SuiteFiles,
+    first: RunFault,
+) -> Result<(), AllocError>
+    ensures { OnOk result (AreAdded (files_after (suite_value files.now) first)
+        faults.old.items faults.new.items) }
+{
+    let sources = files.sources.as_slice();
+    match first {
+        RunFault::Select { input: None, .. } => add_all(faults, alloc, files),
+        RunFault::Library(_) => add_after_library(faults, alloc, files),
+        RunFault::Hooks(_) => add_sources(faults, alloc, sources, 0),
+        RunFault::Read { input, .. } => add_sources_after(faults, alloc, sources, input),
+        RunFault::Select {
+            input: Some(input),
+            ..
+        } => add_sources_after(faults, alloc, sources, input),
+        RunFault::Write | RunFault::Memory => Ok(()),
+    }
+}
+
+/// The faults of the files of a run that are read after the one that its first fault is of: of each that doesn't read
+/// one, in the order in which a run reads them. A text of tags is read before all files. An error comes only where a
+/// growth was refused.
+pub fn faults_after(
+    alloc: Global,
+    files: &SuiteFiles,
+    first: RunFault,
+) -> Result<Vec<RunFault>, AllocError>
+    ensures { IfOk result (λ faults.
+        AreFaultsOf (files_after (suite_value files.now) first) faults.items) }
+{
+    let mut faults = Vec::new(alloc);
+    add_after(&mut faults, alloc, files, first)?;
+    Ok(faults)
+}
+
+/// Where what is asked for doesn't read, the first fault and those of the files after it are the faults of all files: one
+/// of each that doesn't read, and no other.
+pub fn all_faults_are_found()
+    ensures { AllFaultsAreFound }
+{}

@@ -1,0 +1,124 @@
+//! What is said below a fault of a run: the line of the file, and what is to be done about it.
+ghost use Rattle.std.specs.Prelude.{◌≡◌, ◌-◌, option_map, slice_get};
+ghost use Rattle.std.specs.Str.Lines.{lines};
+ghost use Rattle.gk_report.specs.ReportTexts.{Pushes};
+ghost use Rattle.gk_explain.specs.Shown.{shown};
+ghost use Rattle.gk_cli.specs.SuiteFiles.{suite_value};
+ghost use Rattle.gk_cli.specs.FaultNotes as spec;
+ghost use Rattle.gk_cli.specs.FaultNotes.{lent_value};
+
+use crate::hints::hint;
+use crate::run_fault::RunFault;
+use crate::source::Source;
+use crate::suite_files::SuiteFiles;
+use gk_explain::push_shown;
+use std::alloc::{AllocError, Global};
+
+// The file that a fault is of, if it is of one.
+fn file_of<'a>(files: &'a SuiteFiles, fault: RunFault) -> Option<&'a Source>
+    ensures { lent_value result ≡ spec.file_of (suite_value files.now) fault }
+{
+    match fault {
+        RunFault::Read { input, .. } => files.sources.get(input),
+        RunFault::Library(_) => files.library.as_ref(),
+        RunFault::Hooks(_) => files.hooks.as_ref(),
+        RunFault::Select { input, .. } => match input {
+            Some(input) => files.sources.get(input),
+            None => None,
+        },
+        RunFault::Write | RunFault::Memory => None,
+    }
+}
+
+/// The name of the file that a fault of a run of these files is of; an empty one where it is of none. Takes no
+/// memory.
+pub fn name_at_fault<'a>(files: &'a SuiteFiles, fault: RunFault) -> &'a str
+    ensures { result.now ≡ spec.name_at_fault (suite_value files.now) fault }
+{
+    match file_of(files, fault) {
+        Some(file) => file.name.as_str(),
+        None => "",
+    }
+}
+
+// The line that a fault names, if it names one.
+fn line_at_fault(fault: RunFault) -> Option<u32>
+    ensures { result ≡ spec.line_at_fault fault }
+{
+    match fault {
+        RunFault::Read { fault, .. } | RunFault::Hooks(fault) => fault.line(),
+        RunFault::Library(fault) => fault.line(),
+        RunFault::Select { .. } | RunFault::Write | RunFault::Memory => None,
+    }
+}
+
+// The line of a text with this number, counted from 1.
+fn line_of(text: &str, line: u32) -> Option<&str>
+    ensures { option_map (λ part. part.now) result ≡ slice_get (lines text.now) (line - 1) }
+{
+    text.lines().nth(line.saturating_sub(1) as usize)
+}
+
+// Pushes a text below a fault, on a line of its own.
+#[tactic(auto, unfolding(crate::specs::FaultNotes::note))]
+fn push_note(out: &mut String, text: &str) -> Result<(), AllocError>
+    ensures { Pushes out.old (spec.note text.now) result out.new }
+{
+    out.push_str("    ")?;
+    out.push_str(text)?;
+    out.push_str("\n")
+}
+
+// Pushes a line of a file below a fault.
+#[tactic(auto, unfolding(crate::specs::FaultNotes::note))]
+fn push_shown_note(out: &mut String, text: &str) -> Result<(), AllocError>
+    ensures { Pushes out.old (spec.note (shown text.now)) result out.new }
+{
+    out.push_str("    ")?;
+    push_shown(out, text)?;
+    out.push_str("\n")
+}
+
+// Pushes the line of a file with this number, if it has one.
+fn push_line(out: &mut String, alloc: Global, bytes: &[u8], line: u32) -> Result<(), AllocError>
+    ensures { Pushes out.old (spec.quote (spec.line_text bytes.now line)) result out.new }
+{
+    let text = String::from_utf8_lossy(alloc, bytes)?;
+    match line_of(text.as_str(), line) {
+        Some(text) => push_shown_note(out, text),
+        None => Ok(()),
+    }
+}
+
+// Pushes the line of a file, where both are there.
+fn push_quote(
+    out: &mut String,
+    alloc: Global,
+    file: Option<&Source>,
+    line: Option<u32>,
+) -> Result<(), AllocError>
+    ensures { Pushes out.old (spec.quote_of (lent_value file.entry) line) result out.new }
+{
+    match file {
+        Some(file) => match line {
+            Some(line) => push_line(out, alloc, file.bytes.as_slice(), line),
+            None => Ok(()),
+        },
+        None => Ok(()),
+    }
+}
+
+/// Pushes what is said below a fault of a run of these files: the line that it names, where it names one, with what
+/// can't be seen shown as an escape; and what is to be done about it. Both are lines that four blanks begin. An error
+/// comes only where a growth was refused; a part of it may have been pushed then.
+pub fn push_notes(
+    out: &mut String,
+    alloc: Global,
+    files: &SuiteFiles,
+    fault: RunFault,
+) -> Result<(), AllocError>
+    ensures { Pushes out.old (spec.notes (suite_value files.now) fault) result out.new }
+{
+    push_quote(out, alloc, file_of(files, fault), line_at_fault(fault))?;
+    push_note(out, hint(fault))
+}

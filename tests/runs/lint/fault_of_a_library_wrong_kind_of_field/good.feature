@@ -1,0 +1,3 @@
+Feature: Good
+  Scenario: One
+    Given it passes

@@ -1,0 +1,4 @@
+Feature: A bar
+  Scenario: One
+    Given it passes
+      | a | b

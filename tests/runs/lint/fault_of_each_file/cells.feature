@@ -1,0 +1,5 @@
+Feature: Cells
+  Scenario: One
+    Given it passes
+      | a | b |
+      | a|b | c |

@@ -1,0 +1,3 @@
+Feature: Latin
+  Scenario: At a café in summer
+    Given it passes

@@ -1,0 +1,2 @@
+@slow database
+Feature: A tag

@@ -1,0 +1,6 @@
+Feature: Tags at the end
+  Scenario: One
+    Given it passes
+
+  @slow
+# the end

@@ -1,0 +1,5 @@
+Feature: A text
+  Scenario: One
+    Given it passes
+      """
+      a \ text

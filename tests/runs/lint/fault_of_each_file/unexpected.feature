@@ -1,0 +1,4 @@
+Feature: Unexpected
+  Scenario: One
+    Given it passes
+	Given it passes

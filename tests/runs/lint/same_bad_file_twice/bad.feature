@@ -1,0 +1,2 @@
+Feature: Bad
+Feature: Again

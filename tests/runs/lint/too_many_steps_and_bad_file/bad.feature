@@ -1,0 +1,4 @@
+Feature: Bad
+  Scenario: One
+    Given it passes
+    it passes

@@ -1,0 +1,2003 @@
+Feature: Many
+Background:
+* x
+* x
+* x
+* x
+* x
+* x
+* x
+* x
+* x
+* x
+* x
+* x
+* x
+* x
+* x
+* x
+* x
+* x
+* x
+* x
+* x
+* x
+* x
+* x
+* x
+* x
+* x
+* x
+* x
+* x
+* x
+* x
+* x
+* x
+* x
+* x
+* x
+* x
+* x
+* x
+* x
+* x
+* x
+* x
+* x
+* x
+* x
+* x
+* x
+* x
+* x
+* x
+* x
+* x
+* x
+* x
+* x
+* x
+* x
+* x
+* x
+* x
+* x
+* x
+* x
+* x
+* x
+* x
+* x
+* x
+* x
+* x
+* x
+* x
+* x
+* x
+* x
+* x
+* x
+* x
+* x
+* x
+* x
+* x
+* x
+* x
+* x
+* x
+* x
+* x
+* x
+* x
+* x
+* x
+* x
+* x
+* x
+* x
+* x
+* x
+* x
+* x
+* x
+* x
+* x
+* x
+* x
+* x
+* x
+* x
+* x
+* x
+* x
+* x
+* x
+* x
+* x
+* x
+* x
+* x
+* x
+* x
+* x
+* x
+* x
+* x
+* x
+* x
+* x
+* x
+* x
+* x
+* x
+* x
+* x
+* x
+* x
+* x
+* x
+* x
+* x
+* x
+* x
+* x
+* x
+* x
+* x
+* x
+* x
+* x
+* x
+* x
+* x
+* x
+* x
+* x
+* x
+* x
+* x
+* x
+* x
+* x
+* x
+* x
+* x
+* x
+* x
+* x
+* x
+* x
+* x
+* x
+* x
+* x
+* x
+* x
+* x
+* x
+* x
+* x
+* x
+* x
+* x
+* x
+* x
+* x
+* x
+* x
+* x
+* x
+* x
+* x
+* x
+* x
+* x
+* x
+* x
+* x
+* x
+* x
+* x
+* x
+* x
+* x
+* x
+* x
+* x
+* x
+* x
+* x
+* x
+* x
+* x
+* x
+* x
+* x
+* x
+* x
+* x
+* x
+* x
+* x
+* x
+* x
+* x
+* x
+* x
+* x
+* x
+* x
+* x
+* x
+* x
+* x
+* x
+* x
+* x
+* x
+* x
+* x
+* x
+* x
+* x
+* x
+* x
+* x
+* x
+* x
+* x
+* x
+* x
+* x
+* x
+* x
+* x
+* x
+* x
+* x
+* x
+* x
+* x
+* x
+* x
+* x
+* x
+* x
+* x
+* x
+* x
+* x
+* x
+* x
+* x
+* x
+* x
+* x
+* x
+* x
+* x
+* x
+* x
+* x
+* x
+* x
+* x
+* x
+* x
+* x
+* x
+* x
+* x
+* x
+* x
+* x
+* x
+* x
+* x
+* x
+* x
+* x
+* x
+* x
+* x
+* x
+* x
+* x
+* x
+* x
+* x
+* x
+* x
+* x
+* x
+* x
+* x
+* x
+* x
+* x
+* x
+* x
+* x
+* x
+* x
+* x
+* x
+* x
+* x
+* x
+* x
+* x
+* x
+* x
+* x
+* x
+* x
+* x
+* x
+* x
+* x
+* x
+* x
+* x
+* x
+* x
+* x
+* x
+* x
+* x
+* x
+* x
+* x
+* x
+* x
+* x
+* x
+* x
+* x
+* x
+* x
+* x
+* x
+* x
+* x
+* x
+* x
+* x
+* x
+* x
+* x
+* x
+* x
+* x
+* x
+* x
+* x
+* x
+* x
+* x
+* x
+* x
+* x
+* x
+* x
+* x
+* x
+* x
+* x
+* x
+* x
+* x
+* x
+* x
+* x
+* x
+* x
+* x
+* x
+* x
+* x
+* x
+* x
+* x
+* x
+* x
+* x
+* x
+* x
+* x
+* x
+* x
+* x
+* x
+* x
+* x
+* x
+* x
+* x
+* x
+* x
+* x
+* x
+* x
+* x
+* x
+* x
+* x
+* x
+* x
+* x
+* x
+* x
+* x
+* x
+* x
+* x
+* x
+* x
+* x
+* x
+* x
+* x
+* x
+* x
+* x
+* x
+* x
+* x
+* x
+* x
+* x
+* x
+* x
+* x
+* x
+* x
+* x
+* x
+* x
+* x
+* x
+* x
+* x
+* x
+* x
+* x
+* x
+* x
+* x
+* x
+* x
+* x
+* x
+* x
+* x
+* x
+* x
+* x
+* x
+* x
+* x
+* x
+* x
+* x
+* x
+* x
+* x
+* x
+* x
+* x
+* x
+* x
+* x
+* x
+* x
+* x
+* x
+* x
+* x
+* x
+* x
+* x
+* x
+* x
+* x
+* x
+* x
+* x
+* x
+* x
+* x
+* x
+* x
+* x
+* x
+* x
+* x
+* x
+* x
+* x
+* x
+* x
+* x
+* x
+* x
+* x
+* x
+* x
+* x
+* x
+* x
+* x
+* x
+* x
+* x
+* x
+* x
+* x
+* x
+* x
+* x
+* x
+* x
+* x
+* x
+* x
+* x
+* x
+* x
+* x
+* x
+* x
+* x
+* x
+* x
+* x
+* x
+* x
+* x
+* x
+* x
+* x
+* x
+* x
+* x
+* x
+* x
+* x
+* x
+* x
+* x
+* x
+* x
+* x
+* x
+* x
+* x
+* x
+* x
+* x
+* x
+* x
+* x
+* x
+* x
+* x
+* x
+* x
+* x
+* x
+* x
+* x
+* x
+* x
+* x
+* x
+* x
+* x
+* x
+* x
+* x
+* x
+* x
+* x
+* x
+* x
+* x
+* x
+* x
+* x
+* x
+* x
+* x
+* x
+* x
+* x
+* x
+* x
+* x
+* x
+* x
+* x
+* x
+* x
+* x
+* x
+* x
+* x
+* x
+* x
+* x
+* x
+* x
+* x
+* x
+* x
+* x
+* x
+* x
+* x
+* x
+* x
+* x
+* x
+* x
+* x
+* x
+* x
+* x
+* x
+* x
+* x
+* x
+* x
+* x
+* x
+* x
+* x
+* x
+* x
+* x
+* x
+* x
+* x
+* x
+* x
+* x
+* x
+* x
+* x
+* x
+* x
+* x
+* x
+* x
+* x
+* x
+* x
+* x
+* x
+* x
+* x
+* x
+* x
+* x
+* x
+* x
+* x
+* x
+* x
+* x
+* x
+* x
+* x
+* x
+* x
+* x
+* x
+* x
+* x
+* x
+* x
+* x
+* x
+* x
+* x
+* x
+* x
+* x
+* x
+* x
+* x
+* x
+* x
+* x
+* x
+* x
+* x
+* x
+* x
+* x
+* x
+* x
+* x
+* x
+* x
+* x
+* x
+* x
+* x
+* x
+* x
+* x
+* x
+* x
+* x
+* x
+* x
+* x
+* x
+* x
+* x
+* x
+* x
+* x
+* x
+* x
+* x
+* x
+* x
+* x
+* x
+* x
+* x
+* x
+* x
+* x
+* x
+* x
+* x
+* x
+* x
+* x
+* x
+* x
+* x
+* x
+* x
+* x
+* x
+* x
+* x
+* x
+* x
+* x
+* x
+* x
+* x
+* x
+* x
+* x
+* x
+* x
+* x
+* x
+* x
+* x
+* x
+* x
+* x
+* x
+* x
+* x
+* x
+* x
+* x
+* x
+* x
+* x
+* x
+* x
+* x
+* x
+* x
+* x
+* x
+* x
+* x
+* x
+* x
+* x
+* x
+* x
+* x
+* x
+* x
+* x
+* x
+* x
+* x
+* x
+* x
+* x
+* x
+* x
+* x
+* x
+* x
+* x
+* x
+* x
+* x
+* x
+* x
+* x
+* x
+* x
+* x
+* x
+* x
+* x
+* x
+* x
+* x
+* x
+* x
+* x
+* x
+* x
+* x
+* x
+* x
+* x
+* x
+* x
+* x
+* x
+* x
+* x
+* x
+* x
+* x
+* x
+* x
+* x
+* x
+* x
+* x
+* x
+* x
+* x
+* x
+* x
+* x
+* x
+* x
+* x
+* x
+* x
+* x
+* x
+* x
+* x
+* x
+* x
+* x
+* x
+* x
+* x
+* x
+* x
+* x
+* x
+* x
+* x
+* x
+* x
+* x
+* x
+* x
+* x
+* x
+* x
+* x
+* x
+* x
+* x
+* x
+* x
+* x
+* x
+* x
+* x
+* x
+* x
+* x
+* x
+* x
+* x
+* x
+* x
+* x
+* x
+* x
+* x
+* x
+* x
+* x
+* x
+* x
+* x
+* x
+* x
+* x
+* x
+* x
+* x
+* x
+* x
+* x
+* x
+* x
+* x
+* x
+* x
+* x
+* x
+* x
+* x
+* x
+* x
+* x
+* x
+* x
+* x
+* x
+* x
+* x
+* x
+* x
+* x
+* x
+* x
+* x
+* x
+* x
+* x
+* x
+* x
+* x
+* x
+* x
+* x
+* x
+* x
+* x
+* x
+* x
+* x
+* x
+* x
+* x
+* x
+* x
+* x
+* x
+* x
+* x
+* x
+* x
+* x
+* x
+* x
+* x
+* x
+* x
+* x
+* x
+* x
+* x
+* x
+* x
+Scenario:
+Scenario:
+Scenario:
+Scenario:
+Scenario:
+Scenario:
+Scenario:
+Scenario:
+Scenario:
+Scenario:
+Scenario:
+Scenario:
+Scenario:
+Scenario:
+Scenario:
+Scenario:
+Scenario:
+Scenario:
+Scenario:
+Scenario:
+Scenario:
+Scenario:
+Scenario:
+Scenario:
+Scenario:
+Scenario:
+Scenario:
+Scenario:
+Scenario:
+Scenario:
+Scenario:
+Scenario:
+Scenario:
+Scenario:
+Scenario:
+Scenario:
+Scenario:
+Scenario:
+Scenario:
+Scenario:
+Scenario:
+Scenario:
+Scenario:
+Scenario:
+Scenario:
+Scenario:
+Scenario:
+Scenario:
+Scenario:
+Scenario:
+Scenario:
+Scenario:
+Scenario:
+Scenario:
+Scenario:
+Scenario:
+Scenario:
+Scenario:
+Scenario:
+Scenario:
+Scenario:
+Scenario:
+Scenario:
+Scenario:
+Scenario:
+Scenario:
+Scenario:
+Scenario:
+Scenario:
+Scenario:
+Scenario:
+Scenario:
+Scenario:
+Scenario:
+Scenario:
+Scenario:
+Scenario:
+Scenario:
+Scenario:
+Scenario:
+Scenario:
+Scenario:
+Scenario:
+Scenario:
+Scenario:
+Scenario:
+Scenario:
+Scenario:
+Scenario:
+Scenario:
+Scenario:
+Scenario:
+Scenario:
+Scenario:
+Scenario:
+Scenario:
+Scenario:
+Scenario:
+Scenario:
+Scenario:
+Scenario:
+Scenario:
+Scenario:
+Scenario:
+Scenario:
+Scenario:
+Scenario:
+Scenario:
+Scenario:
+Scenario:
+Scenario:
+Scenario:
+Scenario:
+Scenario:
+Scenario:
+Scenario:
+Scenario:
+Scenario:
+Scenario:
+Scenario:
+Scenario:
+Scenario:
+Scenario:
+Scenario:
+Scenario:
+Scenario:
+Scenario:
+Scenario:
+Scenario:
+Scenario:
+Scenario:
+Scenario:
+Scenario:
+Scenario:
+Scenario:
+Scenario:
+Scenario:
+Scenario:
+Scenario:
+Scenario:
+Scenario:
+Scenario:
+Scenario:
+Scenario:
+Scenario:
+Scenario:
+Scenario:
+Scenario:
+Scenario:
+Scenario:
+Scenario:
+Scenario:
+Scenario:
+Scenario:
+Scenario:
+Scenario:
+Scenario:
+Scenario:
+Scenario:
+Scenario:
+Scenario:
+Scenario:
+Scenario:
+Scenario:
+Scenario:
+Scenario:
+Scenario:
+Scenario:
+Scenario:
+Scenario:
+Scenario:
+Scenario:
+Scenario:
+Scenario:
+Scenario:
+Scenario:
+Scenario:
+Scenario:
+Scenario:
+Scenario:
+Scenario:
+Scenario:
+Scenario:
+Scenario:
+Scenario:
+Scenario:
+Scenario:
+Scenario:
+Scenario:
+Scenario:
+Scenario:
+Scenario:
+Scenario:
+Scenario:
+Scenario:
+Scenario:
+Scenario:
+Scenario:
+Scenario:
+Scenario:
+Scenario:
+Scenario:
+Scenario:
+Scenario:
+Scenario:
+Scenario:
+Scenario:
+Scenario:
+Scenario:
+Scenario:
+Scenario:
+Scenario:
+Scenario:
+Scenario:
+Scenario:
+Scenario:
+Scenario:
+Scenario:
+Scenario:
+Scenario:
+Scenario:
+Scenario:
+Scenario:
+Scenario:
+Scenario:
+Scenario:
+Scenario:
+Scenario:
+Scenario:
+Scenario:
+Scenario:
+Scenario:
+Scenario:
+Scenario:
+Scenario:
+Scenario:
+Scenario:
+Scenario:
+Scenario:
+Scenario:
+Scenario:
+Scenario:
+Scenario:
+Scenario:
+Scenario:
+Scenario:
+Scenario:
+Scenario:
+Scenario:
+Scenario:
+Scenario:
+Scenario:
+Scenario:
+Scenario:
+Scenario:
+Scenario:
+Scenario:
+Scenario:
+Scenario:
+Scenario:
+Scenario:
+Scenario:
+Scenario:
+Scenario:
+Scenario:
+Scenario:
+Scenario:
+Scenario:
+Scenario:
+Scenario:
+Scenario:
+Scenario:
+Scenario:
+Scenario:
+Scenario:
+Scenario:
+Scenario:
+Scenario:
+Scenario:
+Scenario:
+Scenario:
+Scenario:
+Scenario:
+Scenario:
+Scenario:
+Scenario:
+Scenario:
+Scenario:
+Scenario:
+Scenario:
+Scenario:
+Scenario:
+Scenario:
+Scenario:
+Scenario:
+Scenario:
+Scenario:
+Scenario:
+Scenario:
+Scenario:
+Scenario:
+Scenario:
+Scenario:
+Scenario:
+Scenario:
+Scenario:
+Scenario:
+Scenario:
+Scenario:
+Scenario:
+Scenario:
+Scenario:
+Scenario:
+Scenario:
+Scenario:
+Scenario:
+Scenario:
+Scenario:
+Scenario:
+Scenario:
+Scenario:
+Scenario:
+Scenario:
+Scenario:
+Scenario:
+Scenario:
+Scenario:
+Scenario:
+Scenario:
+Scenario:
+Scenario:
+Scenario:
+Scenario:
+Scenario:
+Scenario:
+Scenario:
+Scenario:
+Scenario:
+Scenario:
+Scenario:
+Scenario:
+Scenario:
+Scenario:
+Scenario:
+Scenario:
+Scenario:
+Scenario:
+Scenario:
+Scenario:
+Scenario:
+Scenario:
+Scenario:
+Scenario:
+Scenario:
+Scenario:
+Scenario:
+Scenario:
+Scenario:
+Scenario:
+Scenario:
+Scenario:
+Scenario:
+Scenario:
+Scenario:
+Scenario:
+Scenario:
+Scenario:
+Scenario:
+Scenario:
+Scenario:
+Scenario:
+Scenario:
+Scenario:
+Scenario:
+Scenario:
+Scenario:
+Scenario:
+Scenario:
+Scenario:
+Scenario:
+Scenario:
+Scenario:
+Scenario:
+Scenario:
+Scenario:
+Scenario:
+Scenario:
+Scenario:
+Scenario:
+Scenario:
+Scenario:
+Scenario:
+Scenario:
+Scenario:
+Scenario:
+Scenario:
+Scenario:
+Scenario:
+Scenario:
+Scenario:
+Scenario:
+Scenario:
+Scenario:
+Scenario:
+Scenario:
+Scenario:
+Scenario:
+Scenario:
+Scenario:
+Scenario:
+Scenario:
+Scenario:
+Scenario:
+Scenario:
+Scenario:
+Scenario:
+Scenario:
+Scenario:
+Scenario:
+Scenario:
+Scenario:
+Scenario:
+Scenario:
+Scenario:
+Scenario:
+Scenario:
+Scenario:
+Scenario:
+Scenario:
+Scenario:
+Scenario:
+Scenario:
+Scenario:
+Scenario:
+Scenario:
+Scenario:
+Scenario:
+Scenario:
+Scenario:
+Scenario:
+Scenario:
+Scenario:
+Scenario:
+Scenario:
+Scenario:
+Scenario:
+Scenario:
+Scenario:
+Scenario:
+Scenario:
+Scenario:
+Scenario:
+Scenario:
+Scenario:
+Scenario:
+Scenario:
+Scenario:
+Scenario:
+Scenario:
+Scenario:
+Scenario:
+Scenario:
+Scenario:
+Scenario:
+Scenario:
+Scenario:
+Scenario:
+Scenario:
+Scenario:
+Scenario:
+Scenario:
+Scenario:
+Scenario:
+Scenario:
+Scenario:
+Scenario:
+Scenario:
+Scenario:
+Scenario:
+Scenario:
+Scenario:
+Scenario:
+Scenario:
+Scenario:
+Scenario:
+Scenario:
+Scenario:
+Scenario:
+Scenario:
+Scenario:
+Scenario:
+Scenario:
+Scenario:
+Scenario:
+Scenario:
+Scenario:
+Scenario:
+Scenario:
+Scenario:
+Scenario:
+Scenario:
+Scenario:
+Scenario:
+Scenario:
+Scenario:
+Scenario:
+Scenario:
+Scenario:
+Scenario:
+Scenario:
+Scenario:
+Scenario:
+Scenario:
+Scenario:
+Scenario:
+Scenario:
+Scenario:
+Scenario:
+Scenario:
+Scenario:
+Scenario:
+Scenario:
+Scenario:
+Scenario:
+Scenario:
+Scenario:
+Scenario:
+Scenario:
+Scenario:
+Scenario:
+Scenario:
+Scenario:
+Scenario:
+Scenario:
+Scenario:
+Scenario:
+Scenario:
+Scenario:
+Scenario:
+Scenario:
+Scenario:
+Scenario:
+Scenario:
+Scenario:
+Scenario:
+Scenario:
+Scenario:
+Scenario:
+Scenario:
+Scenario:
+Scenario:
+Scenario:
+Scenario:
+Scenario:
+Scenario:
+Scenario:
+Scenario:
+Scenario:
+Scenario:
+Scenario:
+Scenario:
+Scenario:
+Scenario:
+Scenario:
+Scenario:
+Scenario:
+Scenario:
+Scenario:
+Scenario:
+Scenario:
+Scenario:
+Scenario:
+Scenario:
+Scenario:
+Scenario:
+Scenario:
+Scenario:
+Scenario:
+Scenario:
+Scenario:
+Scenario:
+Scenario:
+Scenario:
+Scenario:
+Scenario:
+Scenario:
+Scenario:
+Scenario:
+Scenario:
+Scenario:
+Scenario:
+Scenario:
+Scenario:
+Scenario:
+Scenario:
+Scenario:
+Scenario:
+Scenario:
+Scenario:
+Scenario:
+Scenario:
+Scenario:
+Scenario:
+Scenario:
+Scenario:
+Scenario:
+Scenario:
+Scenario:
+Scenario:
+Scenario:
+Scenario:
+Scenario:
+Scenario:
+Scenario:
+Scenario:
+Scenario:
+Scenario:
+Scenario:
+Scenario:
+Scenario:
+Scenario:
+Scenario:
+Scenario:
+Scenario:
+Scenario:
+Scenario:
+Scenario:
+Scenario:
+Scenario:
+Scenario:
+Scenario:
+Scenario:
+Scenario:
+Scenario:
+Scenario:
+Scenario:
+Scenario:
+Scenario:
+Scenario:
+Scenario:
+Scenario:
+Scenario:
+Scenario:
+Scenario:
+Scenario:
+Scenario:
+Scenario:
+Scenario:
+Scenario:
+Scenario:
+Scenario:
+Scenario:
+Scenario:
+Scenario:
+Scenario:
+Scenario:
+Scenario:
+Scenario:
+Scenario:
+Scenario:
+Scenario:
+Scenario:
+Scenario:
+Scenario:
+Scenario:
+Scenario:
+Scenario:
+Scenario:
+Scenario:
+Scenario:
+Scenario:
+Scenario:
+Scenario:
+Scenario:
+Scenario:
+Scenario:
+Scenario:
+Scenario:
+Scenario:
+Scenario:
+Scenario:
+Scenario:
+Scenario:
+Scenario:
+Scenario:
+Scenario:
+Scenario:
+Scenario:
+Scenario:
+Scenario:
+Scenario:
+Scenario:
+Scenario:
+Scenario:
+Scenario:
+Scenario:
+Scenario:
+Scenario:
+Scenario:
+Scenario:
+Scenario:
+Scenario:
+Scenario:
+Scenario:
+Scenario:
+Scenario:
+Scenario:
+Scenario:
+Scenario:
+Scenario:
+Scenario:
+Scenario:
+Scenario:
+Scenario:
+Scenario:
+Scenario:
+Scenario:
+Scenario:
+Scenario:
+Scenario:
+Scenario:
+Scenario:
+Scenario:
+Scenario:
+Scenario:
+Scenario:
+Scenario:
+Scenario:
+Scenario:
+Scenario:
+Scenario:
+Scenario:
+Scenario:
+Scenario:
+Scenario:
+Scenario:
+Scenario:
+Scenario:
+Scenario:
+Scenario:
+Scenario:
+Scenario:
+Scenario:
+Scenario:
+Scenario:
+Scenario:
+Scenario:
+Scenario:
+Scenario:
+Scenario:
+Scenario:
+Scenario:
+Scenario:
+Scenario:
+Scenario:
+Scenario:
+Scenario:
+Scenario:
+Scenario:
+Scenario:
+Scenario:
+Scenario:
+Scenario:
+Scenario:
+Scenario:
+Scenario:
+Scenario:
+Scenario:
+Scenario:
+Scenario:
+Scenario:
+Scenario:
+Scenario:
+Scenario:
+Scenario:
+Scenario:
+Scenario:
+Scenario:
+Scenario:
+Scenario:
+Scenario:
+Scenario:
+Scenario:
+Scenario:
+Scenario:
+Scenario:
+Scenario:
+Scenario:
+Scenario:
+Scenario:
+Scenario:
+Scenario:
+Scenario:
+Scenario:
+Scenario:
+Scenario:
+Scenario:
+Scenario:
+Scenario:
+Scenario:
+Scenario:
+Scenario:
+Scenario:
+Scenario:
+Scenario:
+Scenario:
+Scenario:
+Scenario:
+Scenario:
+Scenario:
+Scenario:
+Scenario:
+Scenario:
+Scenario:
+Scenario:
+Scenario:
+Scenario:
+Scenario:
+Scenario:
+Scenario:
+Scenario:
+Scenario:
+Scenario:
+Scenario:
+Scenario:
+Scenario:
+Scenario:
+Scenario:
+Scenario:
+Scenario:
+Scenario:
+Scenario:
+Scenario:
+Scenario:
+Scenario:
+Scenario:
+Scenario:
+Scenario:
+Scenario:
+Scenario:
+Scenario:
+Scenario:
+Scenario:
+Scenario:
+Scenario:
+Scenario:
+Scenario:
+Scenario:
+Scenario:
+Scenario:
+Scenario:
+Scenario:
+Scenario:
+Scenario:
+Scenario:
+Scenario:
+Scenario:
+Scenario:
+Scenario:
+Scenario:
+Scenario:
+Scenario:
+Scenario:
+Scenario:
+Scenario:
+Scenario:
+Scenario:
+Scenario:
+Scenario:
+Scenario:
+Scenario:
+Scenario:
+Scenario:
+Scenario:
+Scenario:
+Scenario:
+Scenario:
+Scenario:
+Scenario:
+Scenario:
+Scenario:
+Scenario:
+Scenario:
+Scenario:
+Scenario:
+Scenario:
+Scenario:
+Scenario:
+Scenario:
+Scenario:
+Scenario:
+Scenario:
+Scenario:
+Scenario:
+Scenario:
+Scenario:
+Scenario:
+Scenario:
+Scenario:
+Scenario:
+Scenario:
+Scenario:
+Scenario:
+Scenario:
+Scenario:
+Scenario:
+Scenario:
+Scenario:
+Scenario:
+Scenario:
+Scenario:
+Scenario:
+Scenario:
+Scenario:
+Scenario:
+Scenario:
+Scenario:
+Scenario:
+Scenario:
+Scenario:
+Scenario:
+Scenario:
+Scenario:
+Scenario:
+Scenario:
+Scenario:
+Scenario:
+Scenario:
+Scenario:
+Scenario:
+Scenario:
+Scenario:
+Scenario:
+Scenario:
+Scenario:
+Scenario:
+Scenario:
+Scenario:
+Scenario:
+Scenario:
+Scenario:
+Scenario:
+Scenario:
+Scenario:
+Scenario:
+Scenario:
+Scenario:
+Scenario:
+Scenario:
+Scenario:
+Scenario:
+Scenario:
+Scenario:
+Scenario:
+Scenario:
+Scenario:
+Scenario:
+Scenario:
+Scenario:
+Scenario:
+Scenario:
+Scenario:
+Scenario:
+Scenario:
+Scenario:
+Scenario:
+Scenario:
+Scenario:
+Scenario:
+Scenario:
+Scenario:
+Scenario:
+Scenario:
+Scenario:
+Scenario:
+Scenario:
+Scenario:
+Scenario:
+Scenario:
+Scenario:
+Scenario:
+Scenario:
+Scenario:
+Scenario:
+Scenario:
+Scenario:
+Scenario:
+Scenario:
+Scenario:
+Scenario:
+Scenario:
+Scenario:
+Scenario:
+Scenario:
+Scenario:
+Scenario:
+Scenario:
+Scenario:
+Scenario:
+Scenario:
