@@ -1,6 +1,5 @@
 -- Sources that give up their bytes one after another: a list whose first elements are changed.
 use Rattle.std.proofs.Common.{◌≡◌, ℕ, suc, zero, ◌+◌, ◌<◌, List, [], ◌∷◌, ◌++◌, map, set, get_or, length, take, drop, Option, Some, refl, ap, sym, ◌∙◌, arith, add-one}
-use Rattle.std.proofs.lemmas.Grind.{common_steps}
 use Rattle.std.specs.Prelude.{slice_get}
 
 -- The first elements of a list are changed, and the others are as they were.

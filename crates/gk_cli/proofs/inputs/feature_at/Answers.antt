@@ -1,6 +1,5 @@
-use Rattle.std.proofs.Common.{option_map, subst}
+use Rattle.std.proofs.Common.{subst}
 use Rattle.gk_gherkin.specs.Lines.{lines_of}
-use Rattle.gk_gherkin.specs.Feature.{feature_value}
 use Rattle.gk_gherkin.specs.Grammar.{Reads}
 use Rattle.gk_cli.proofs.inputs.feature_at.Goals as goal
 

@@ -1,4 +1,4 @@
-use Rattle.std.proofs.Common.{◌≡◌, ◌∙◌, ap, sym, subst, map, option_map}
+use Rattle.std.proofs.Common.{◌≡◌, ◌∙◌, ap, sym, subst, map}
 use Rattle.gk_gherkin.specs.Feature.{texts}
 use Rattle.gk_select.specs.TagRules.{tag_rule_value}
 use Rattle.gk_select.specs.Choice.{is_chosen}
