@@ -431,7 +431,7 @@ def fault_texts():
     """The texts of faults and the reasons that the code prints."""
     texts = set()
     for path in FILES:
-        if not re.fullmatch(r"crates/[^/]+/src/.*\.rt", path) or path.startswith(TESTS):
+        if not re.fullmatch(r"crates/[^/]+/src/.*\.rt", path) or path.startswith(TESTS) or path == HINTS:
             continue
         code = re.sub(r"//.*", "", read(path))
         for pattern in (r'#\[error\("([^"{}]+)"\)\]', r'write_str\("([^"{}]+)"\)', r'=>\s*"([^"{}]+)"',
@@ -440,6 +440,9 @@ def fault_texts():
     return {it for it in texts if re.fullmatch(r"[A-Za-z][A-Za-z0-9 -]+", it) and it not in STATUSES and "-- @" not in it
             and (" " in it or it in REASONS_OF_ONE_WORD or it.startswith("bad"))}
 
+
+# What is to be done about each fault, in the last column of docs/FAULTS.md.
+HINTS = "crates/gk_cli/src/hints.rt"
 
 # Reasons that are one word; other single words in the code are keywords and names.
 REASONS_OF_ONE_WORD = {"absent", "present", "differs"}
@@ -453,6 +456,14 @@ def fault_differences():
         yield f"docs/FAULTS.md has no entry for `{text}`"
     for text in sorted(listed - texts - STATUSES):
         yield f"docs/FAULTS.md has an entry for `{text}`, which the program doesn't print"
+
+
+def hint_differences():
+    """Hints of the code that begin no cell of docs/FAULTS.md."""
+    page = re.sub(r"\[([^]]*)\]\([^)]*\)", r"\1", read("docs/FAULTS.md")).replace("`", "")
+    for hint in re.findall(r'"([^"]+)"', re.sub(r"//.*", "", read(HINTS))):
+        if f"| {hint}" not in page:
+            yield f"docs/FAULTS.md has no cell that begins with `{hint}`"
 
 
 # ---- the built-in library
@@ -531,6 +542,7 @@ def main():
     length = read("README.md").count("\n")
     tests.check("the length of README.md", [f"{length} lines"] if length > README_LINES else [])
     tests.check("entries of docs/FAULTS.md", fault_differences())
+    tests.check("hints of docs/FAULTS.md", hint_differences())
     tests.check("the built-in library", library_difference())
     faults, elsewhere = counted_words()
     tests.check("words in pages", [f"{path}:{number}: {text}" for path, number, text in faults])
