@@ -1,4 +1,4 @@
 -- Lemmas.
 mod FilesLemmas
-mod ListingLemmas
+mod FaultListingLemmas
 mod ProgramLemmas

@@ -7,8 +7,8 @@ ghost use Rattle.std.specs.Process.{exit_status};
 ghost use Rattle.gherkin_run.specs.Fault.{status_of};
 
 mod fault;
+mod fault_listing;
 mod files;
-mod listing;
 mod program;
 
 use fault::Fault;

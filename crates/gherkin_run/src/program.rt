@@ -11,8 +11,8 @@ ghost use Rattle.gherkin_run.specs.Fault.{line_of, said_line};
 ghost use Rattle.gherkin_run.specs.Program.{SaysAsked, SaysError, IsHelpFault, IsArgumentsFault, IsFaultOfVariable, SaysVariables, IsWithin, IsNamed, IsFaultOfRun, IsFaultAs, AreLeft, request_of_files, IsRunOfFiles, IsWrittenAs, SaysFaultAs, SaysRun, SaysCalls, SaysCallsOfRun, SaysProgram, IsRun, IsShown, IsHelp, IsDoneFor, IsFaultFor, IsDoneForSome, IsFaultForSome};
 
 use crate::fault::{Fault, fault_named};
+use crate::fault_listing::fault_listed;
 use crate::files::{Machine, read_run_files};
-use crate::listing::fault_listed;
 use gk_cli::{
     Counted, Mode, Options, RunFault, Source, SuiteFiles, Words, WordsFault, explain_suite,
     lint_suite, read_words, report_suite, write_whole,

@@ -1,8 +1,8 @@
 //! What is printed, with `--lint`, of all files of a run that don't read.
 ghost use Rattle.std.specs.Prelude.{◌≡◌, ◌++◌, IfOk, OnOk, string_bytes};
 ghost use Rattle.gk_cli.specs.SuiteFiles.{suite_value};
-ghost use Rattle.gherkin_run.specs.Listing as spec;
-ghost use Rattle.gherkin_run.specs.Listing.{IsListedAs, IsListing};
+ghost use Rattle.gherkin_run.specs.FaultListing as spec;
+ghost use Rattle.gherkin_run.specs.FaultListing.{IsListedAs, IsListing};
 
 use crate::fault::{Fault, fault_named};
 use gk_cli::{RunFault, SuiteFiles, faults_after, name_at_fault, push_notes};

@@ -3,8 +3,8 @@ use Rattle.std.proofs.lemmas.Result.{on_ok_weaker}
 use Rattle.gk_cli.specs.SuiteFiles.{suite_value}
 use Rattle.gk_cli.specs.FaultNotes.{name_at_fault}
 use Rattle.gherkin_run.specs.Fault.{said_line}
-use Rattle.gherkin_run.proofs.ListingLemmas.{block_pushed}
-use Rattle.gherkin_run.proofs.listing.push_block.Goals as goal
+use Rattle.gherkin_run.proofs.FaultListingLemmas.{block_pushed}
+use Rattle.gherkin_run.proofs.fault_listing.push_block.Goals as goal
 
 pub returns : goal.returns
 returns c =
