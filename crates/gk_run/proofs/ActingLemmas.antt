@@ -26,9 +26,11 @@ use Rattle.gk_run.specs.declared.results.Reason.TheVariants as reasons
 use Rattle.gk_steps.specs.Decimal.{is_number, is_numeral, number_of, is_i64}
 use Rattle.gk_steps.specs.declared.action.Action.{Action}
 use Rattle.gk_steps.specs.declared.action.Action.TheVariants as actions
-use Rattle.gk_steps.specs.Finding.{found_any, LibraryValue, FoundValue, action_of}
+use Rattle.std.specs.Option.{option_or}
+use Rattle.gk_steps.specs.declared.used_fields.UsedFields.{UsedFields}
+use Rattle.gk_steps.specs.Finding.{found_any, HasUsedFields, LibraryValue, FoundValue, action_of}
 use Rattle.gk_gherkin.specs.Feature.{BlockValue, texts}
-use Rattle.gk_run.specs.Acting.{IsActedWith, WritesFirst, WritesFile, row_file, first_file, rows_files, files_of, Given, given, table, carried_out, act, at_site, done_of, without_cleanups, registers, registers_at, may_register, skips, CleanupValue, HasRegistered, changes_nothing, write_row, write_rows, have_two_cells, Done, add_number, is_pass, is_fail, is_refused, and_then, set_own, passes, fails, unless, unless_for, with_T, absent, differs, outcome_of, IsExactly, IsDone, IsActed, IsText, HasText, IsNumber, lacks, not_number, differs_from, with_file, without_file, with_env, without_env, with_own, without_own}
+use Rattle.gk_run.specs.Acting.{IsActedWith, WritesFirst, WritesFile, row_file, first_file, rows_files, files_of, Given, given, given_by, doc_string, table, carried_out, act, at_site, done_of, without_cleanups, registers, registers_at, may_register, skips, CleanupValue, HasRegistered, changes_nothing, write_row, write_rows, have_two_cells, Done, add_number, is_pass, is_fail, is_refused, and_then, set_own, passes, fails, unless, unless_for, with_T, absent, differs, outcome_of, IsExactly, IsDone, IsActed, IsText, HasText, IsNumber, lacks, not_number, differs_from, with_file, without_file, with_env, without_env, with_own, without_own}
 
 not_so : (b : Bool) (P : Type 0) → (b ≡ true → P) → (P → ⊥) → b ≡ false
 not_so true P so never = absurd (never (so refl))
@@ -445,7 +447,7 @@ is_row actions.AtCleanup = false
 is_row actions.SkipScenario = false
 is_row _ = true
 
-row_at : (action : Action) (site : Site) (library : LibraryValue) (g : Given) (s : State) → is_row action ≡ true → at_site action site library g s ≡ without_cleanups (table action g s)
+pub row_at : (action : Action) (site : Site) (library : LibraryValue) (g : Given) (s : State) → is_row action ≡ true → at_site action site library g s ≡ without_cleanups (table action g s)
 row_at actions.WriteFile site library g s h = refl
 row_at actions.AppendFile site library g s h = refl
 row_at actions.RemoveFile site library g s h = refl
@@ -518,3 +520,18 @@ none_registered done cleanups (outcomes.Failed why) = sym (append-nil cleanups)
 pub skip_exact : (b : Bool) (s : State) (o : Outcome) → o ≡ cond b outcomes.Skip (outcomes.Failed reasons.NotHere) → IsExactly (cond b (skips s) (fails s reasons.NotHere)) o s
 skip_exact true s o h = (h, refl)
 skip_exact false s o h = (h, refl)
+
+-- what the used fields of what was found give
+pub used_given : (library : LibraryValue) (f : FoundValue) (u : UsedFields) (block : BlockValue) → HasUsedFields library f u → given_by u block ≡ given library f block
+used_given library f u block h =
+    let g : Given = given_by u block in
+    ap (λ (x : Option (List ℕ)). record g { name = unwrap_or x [] }) h.name
+    ∙ ap (λ (x : Option (List ℕ)). record (given library f block) { to = unwrap_or x []; step = g.step; number = g.number; text = g.text }) h.to
+    ∙ ap (λ (x : Option (List ℕ)). record (given library f block) { step = unwrap_or x []; number = g.number; text = g.text }) h.step
+    ∙ ap (λ (x : Option ℤ). record (given library f block) { number = unwrap_or x (pos 0); text = g.text }) h.number
+    ∙ ap (λ (x : Option (List ℕ)). record (given library f block) { text = option_or x (doc_string block) }) h.text
+
+-- the action of a found step as it is called
+pub called_is : (library : LibraryValue) (site : Site) (f : FoundValue) (block : BlockValue) (s : State) (action : Action) (g : Given) → action ≡ action_of library f → g ≡ given library f block → at_site action site library g s ≡ act library site f block s
+unfolding act
+called_is library site f block s action g e h = ap (λ a. at_site a site library g s) e ∙ ap (λ x. at_site (action_of library f) site library x s) h

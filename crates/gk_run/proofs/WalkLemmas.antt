@@ -7,7 +7,8 @@ use Rattle.gk_gherkin.specs.declared.hooks.HookKind.TheVariants as kinds
 use Rattle.gk_gherkin.specs.Feature.{StepValue}
 use Rattle.gk_gherkin.specs.declared.hooks.HookKind.{HookKind}
 use Rattle.gk_gherkin.specs.Hooks.{HookValue, is_for}
-use Rattle.gk_steps.specs.Finding.{LibraryValue}
+use Rattle.gk_steps.specs.declared.used_fields.FoundUse.{FoundUse}
+use Rattle.gk_steps.specs.Finding.{FoundValue, IsUseOf, LibraryValue}
 use Rattle.gk_world.specs.State.{State}
 use Rattle.gk_run.specs.declared.acting.Site.{Site}
 use Rattle.gk_run.specs.declared.acting.Site.TheVariants as sites
@@ -15,11 +16,13 @@ use Rattle.gk_run.specs.declared.ending.Ending.{Ending}
 use Rattle.gk_run.specs.declared.ending.Ending.TheVariants as endings
 use Rattle.gk_run.specs.declared.results.Mark.{Mark}
 use Rattle.gk_run.specs.declared.results.Mark.TheVariants.{Acted, Skipped, Undefined, Untested}
+use Rattle.gk_run.specs.declared.results.Outcome.{Outcome}
 use Rattle.gk_run.specs.declared.results.Outcome.TheVariants as outcomes
 use Rattle.gk_run.specs.declared.section.Level.{Level}
-use Rattle.gk_run.specs.Acting.{CleanupValue}
+use Rattle.gk_run.specs.Acting.{Acted as ActedValue, CleanupValue, Given, given_by, act, at_site, done_of, IsDone, HasRegistered}
+use Rattle.gk_run.proofs.ActingLemmas.{called_is, used_given}
 use Rattle.gk_run.specs.Ending.{ended_of, ending_of, has_passed, worse}
-use Rattle.gk_run.specs.Walk.{IsStepRun, IsWalked, Walked, followed_by, one_step, walk}
+use Rattle.gk_run.specs.Walk.{IsStepRun, IsWalked, Walked, followed_by, one_step, stepped, walk}
 use Rattle.gk_run.specs.Section.{is_place}
 use Rattle.gk_run.specs.SectionHooks.{before_kind, before_list, hook_steps, tag_lists, walk_each}
 use Rattle.gk_run.proofs.EndingLemmas.{ended_append, past, place_before, place_past, worse_assoc, worse_memory, worse_passed}
@@ -299,3 +302,23 @@ step_found hook hooks kind tag false e = e
 pub steps_found : (hooks : List HookValue) (kind : HookKind) (tag : Option (List ℕ)) → option_map_or (λ (hook : HookValue). hook.steps) (find (λ (hook : HookValue). is_for hook kind tag) hooks) [] ≡ hook_steps hooks kind tag
 steps_found [] kind tag = refl
 steps_found (hook ∷ hooks) kind tag = step_found hook hooks kind tag (is_for hook kind tag) (steps_found hooks kind tag)
+
+-- a step whose action was carried out
+acted_step : (acted : ActedValue) (cleanups new_cleanups : List CleanupValue) (o : Outcome) (new : State) → IsDone (done_of acted) o new → HasRegistered acted cleanups o new_cleanups
+    → IsStepRun (record { mark = Acted acted.done.outcome; state = acted.done.state; registered = acted.registered }) cleanups (Acted o) new new_cleanups
+acted_step acted cleanups new_cleanups outcomes.Memory new done registered = record {}
+acted_step acted cleanups new_cleanups outcomes.Passed new done registered = (ap (λ o. Acted o) done.0, done.1, registered)
+acted_step acted cleanups new_cleanups outcomes.Skip new done registered = (ap (λ o. Acted o) done.0, done.1, registered)
+acted_step acted cleanups new_cleanups (outcomes.Failed why) new done registered = (ap (λ o. Acted o) done.0, done.1, registered)
+
+-- a step of which the action and what its fields took were found
+pub used_step : (library : LibraryValue) (site : Site) (s new : State) (cleanups new_cleanups : List CleanupValue) (step : StepValue) (x : Option FoundValue) (u : FoundUse) (g : Given) (o : Outcome)
+    → IsUseOf library x (Some u) → g ≡ given_by u.fields step.block
+    → IsDone (done_of (at_site u.action site library g s)) o new → HasRegistered (at_site u.action site library g s) cleanups o new_cleanups
+    → IsStepRun (stepped library site s step x) cleanups (Acted o) new new_cleanups
+used_step library site s new cleanups new_cleanups step None u g o looked h done registered = absurd looked
+used_step library site s new cleanups new_cleanups step (Some f) u g o looked h done registered =
+    let is = called_is library site f step.block s u.action g looked.action (h ∙ used_given library f u.fields step.block looked.fields) in
+    acted_step (act library site f step.block s) cleanups new_cleanups o new
+    (subst (λ (a : ActedValue). IsDone (done_of a) o new) is done)
+    (subst (λ (a : ActedValue). HasRegistered a cleanups o new_cleanups) is registered)

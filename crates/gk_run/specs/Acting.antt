@@ -12,13 +12,15 @@ use Rattle.gk_steps.specs.declared.action.Action.TheVariants as actions
 use Rattle.gk_gherkin.specs.declared.feature.Block.{Block}
 use Rattle.gk_steps.specs.declared.finding.Found.{Found}
 use Rattle.gk_steps.specs.declared.library.Library.{Library}
-use Rattle.gk_steps.specs.Finding.{LibraryValue, FoundValue, library_value, found_value, action_of, text_field, number_field, found_any, HasCandidate}
+use Rattle.gk_steps.specs.declared.used_fields.UsedFields.{UsedFields}
+use Rattle.gk_steps.specs.Finding.{LibraryValue, FoundValue, library_value, found_value, action_of, text_field, number_field, found_any, lent_text, HasCandidate}
 use Rattle.gk_world.specs.declared.refusals.WorldFault.{WorldFault}
 use Rattle.gk_world.specs.declared.refusals.WorldFault.TheVariants as faults
 use Rattle.gk_world.specs.State.{State, with_text, without, see, state_of}
 use Rattle.gk_world.specs.Refusals.{first_true, is_bad_name, is_too_long, joined}
 use Rattle.gk_world.specs.Sandbox.{SandboxValue, PutsFile, KeepsLayers}
 use Rattle.gk_run.specs.declared.acting.Arguments.{Arguments}
+use Rattle.gk_run.specs.declared.acting.Call.{Call}
 use Rattle.gk_run.specs.declared.acting.Site.{Site}
 use Rattle.gk_run.specs.declared.acting.Site.TheVariants as sites
 use Rattle.gk_run.specs.declared.results.Reason.{Reason}
@@ -497,3 +499,28 @@ HasText held text = IsOutcome (λ s. with_T s text (λ t. unless s (absent held 
 -- The number that is held has to be this one.
 abbrev pub IsNumber : Option (List ℕ) → ℤ → Outcome → Type 0
 IsNumber held n = IsOutcome (λ s. unless s (absent held ∷ not_number held ∷ differs_from held n ∷ []) s)
+
+-- What is given by the fields of what was found, and a block.
+abbrev pub given_by : UsedFields → BlockValue → Given
+given_by used block = record {
+  name = unwrap_or (lent_text used.name) [];
+  to = unwrap_or (lent_text used.to) [];
+  step = unwrap_or (lent_text used.step) [];
+  number = unwrap_or used.number (pos 0);
+  text = option_or (lent_text used.text) (doc_string block);
+  block = block;
+}
+
+-- What an action leaves and registers as it is called.
+abbrev pub called : Library → Call → State → Acted
+called library call s = at_site call.action call.site (library_value library) (given_value call.arguments) s
+
+-- The same three of an action as it is called.
+abbrev pub IsCallExact : Library → Call → State → Outcome → State → Type 0
+IsCallExact library call s outcome new = changes_nothing call.action ≡ true → IsExactly (done_of (called library call s)) outcome new
+
+abbrev pub CallNeedsCandidate : Library → Call → Outcome → Type 0
+CallNeedsCandidate library call outcome = call.action ≡ actions.AtCleanup → NeedsCandidate (library_value library) call.arguments.step.now outcome
+
+abbrev pub CallKeepsAtMemory : Call → SandboxValue → Outcome → SandboxValue → Type 0
+CallKeepsAtMemory call old outcome new = outcome ≡ outcomes.Memory → WritesFirst (files_of call.action (given_value call.arguments) (state_of old.now)) old new

@@ -20,7 +20,7 @@ use Rattle.gk_run.specs.Rules.{Inside, RuleCuts, rules_of}
 use Rattle.gk_run.specs.Run.{run_value, Run}
 use Rattle.gk_run.specs.Section.{Cut, nowhere}
 
--- The cuts of a feature: in its own hooks and cleanups, in each of its own cases, and in each of its rules. What a list doesn't name isn't cut, and a cut of what isn't reached is none.
+-- The cuts of a feature: in its own hooks and cleanups, in each of its own cases, and in each of its rules. In a dry run, which begins no feature and no rule, `cases` are of all its cases, those of its rules among them, and the other cuts are none. What a list doesn't name isn't cut, and a cut of what isn't reached is none.
 pub record FeatureCuts : Type 0 where
   pub own : Cut
   pub cases : List Cut

@@ -6,7 +6,7 @@ ghost use Rattle.gk_world.specs.State.{State, state_of};
 ghost use Rattle.gk_world.specs.Sandbox.{depth, KeepsLayers};
 ghost use Rattle.gk_run.specs.Cleanups.{cleanups_value};
 ghost use Rattle.gk_run.specs.Acting as words;
-ghost use Rattle.gk_run.specs.Acting.{given, given_value, table, carried_out_of, registers, act_of, Performs, changes_nothing, may_skip, may_register, IsDone, IsExactly, IsExact, HasRegistered, KeepsAtMemory, IsHeld, IsNotHeld, IsText, HasText, NeedsCandidate, CleanupNeedsCandidate};
+ghost use Rattle.gk_run.specs.Acting.{given, given_by, given_value, table, carried_out_of, registers, act_of, called, Performs, changes_nothing, may_skip, may_register, IsDone, IsExactly, IsExact, IsCallExact, HasRegistered, KeepsAtMemory, CallKeepsAtMemory, IsHeld, IsNotHeld, IsText, HasText, NeedsCandidate, CallNeedsCandidate, CleanupNeedsCandidate};
 
 mod file_actions;
 mod number_actions;
@@ -21,7 +21,7 @@ use file_actions::{
 };
 use gk_gherkin::Block;
 use gk_gherkin::text::stands_in;
-use gk_steps::{Action, Found, Library};
+use gk_steps::{Action, Found, Library, UsedFields};
 use gk_world::{Sandbox, WorldFault};
 use number_actions::{add_number, number_is, set_number};
 use std::alloc::{AllocError, Global};
@@ -136,13 +136,11 @@ fn doc_string(block: &Block) -> Option<&str>
     }
 }
 
-// What a step's action works with.
+// What an action works with, of what the fields took and the step's block.
 #[inline(always)]
-fn arguments_of<'a>(library: &Library, found: &'a Found, block: &'a Block) -> Arguments<'a>
-    ensures { given_value result
-        ≡ given (library_value library.now) (found_value found.now) (block_value block.now) }
+pub(crate) fn arguments_by<'a>(used: UsedFields<'a>, block: &'a Block) -> Arguments<'a>
+    ensures { given_value result ≡ given_by used.entry (block_value block.now) }
 {
-    let used = library.used_fields(found);
     Arguments {
         name: used.name.unwrap_or(""),
         to: used.to.unwrap_or(""),
@@ -151,6 +149,15 @@ fn arguments_of<'a>(library: &Library, found: &'a Found, block: &'a Block) -> Ar
         text: used.text.or(doc_string(block)),
         block,
     }
+}
+
+// What a step's action works with.
+#[inline(always)]
+fn arguments_of<'a>(library: &Library, found: &'a Found, block: &'a Block) -> Arguments<'a>
+    ensures { given_value result
+        ≡ given (library_value library.now) (found_value found.now) (block_value block.now) }
+{
+    arguments_by(library.used_fields(found), block)
 }
 
 // Carries out an action.
@@ -289,6 +296,41 @@ fn at_cleanup(
     register(alloc, cleanups, library, arguments.step, arguments.block)
 }
 
+/// An action as it is called: where, which one, and with what.
+#[derive(Clone, Copy)]
+pub struct Call<'a> {
+    pub site: Site,
+    pub action: Action,
+    pub arguments: Arguments<'a>,
+}
+
+/// Carries out an action, as `act` does.
+#[inline(always)]
+pub(crate) fn act_by(
+    alloc: Global,
+    sandbox: &mut Sandbox,
+    cleanups: &mut Cleanups,
+    library: &Library,
+    call: &Call<'_>,
+) -> Outcome
+    requires in_layer { 0 < depth sandbox.old }
+    ensures done { IsDone (words.done_of (called library.now call.now (state_of sandbox.old.now)))
+        result (state_of sandbox.new.now) }
+    ensures exact { IsCallExact library.now call.now (state_of sandbox.old.now)
+        result (state_of sandbox.new.now) }
+    ensures registered { HasRegistered (called library.now call.now (state_of sandbox.old.now))
+        (cleanups_value cleanups.old) result (cleanups_value cleanups.new) }
+    ensures memory { CallNeedsCandidate library.now call.now result }
+    ensures kept { CallKeepsAtMemory call.now sandbox.old result sandbox.new }
+    ensures layers { KeepsLayers sandbox.old sandbox.new }
+{
+    match call.action {
+        Action::AtCleanup => at_cleanup(alloc, cleanups, library, call.site, &call.arguments),
+        Action::SkipScenario => skip(call.site),
+        _ => perform(alloc, sandbox, call.action, &call.arguments),
+    }
+}
+
 /// Carries out the action of a step that was found in a library, with the step's block.
 ///
 /// The outcome is `Passed`, `Failed` with the first of the action's reasons that holds, `Skip`, or
@@ -323,12 +365,10 @@ pub fn act(
         sandbox.old result sandbox.new }
     ensures layers { KeepsLayers sandbox.old sandbox.new }
 {
-    match library.action(found) {
-        Action::AtCleanup => {
-            let arguments = arguments_of(library, found, block);
-            at_cleanup(alloc, cleanups, library, site, &arguments)
-        }
-        Action::SkipScenario => skip(site),
-        _ => carry_out(alloc, sandbox, library, found, block),
-    }
+    let call = Call {
+        site,
+        action: library.action(found),
+        arguments: arguments_of(library, found, block),
+    };
+    act_by(alloc, sandbox, cleanups, library, &call)
 }

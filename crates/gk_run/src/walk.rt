@@ -7,7 +7,7 @@ ghost use Rattle.gk_run.specs.Results.{step_row};
 ghost use Rattle.gk_run.specs.Walk.{row_of_step, RunsStep, WalksHook, IsLookedUp, TakesNext, RunsSteps};
 ghost use Rattle.gk_run.specs.Watching.{TellsHook, TellsNext, TellsSteps};
 
-use crate::acting::{Site, act};
+use crate::acting::{Call, Site, act_by, arguments_by};
 use crate::cleanups::Cleanups;
 use crate::ending::{Ending, ending_of, has_passed, is_memory, reason_of, status_of, worse};
 use crate::reserved::ReservedSteps;
@@ -33,17 +33,18 @@ fn run_step(
         sandbox.old cleanups.old result sandbox.new cleanups.new }
     ensures layers { KeepsLayers sandbox.old sandbox.new }
 {
-    let library = run.library;
-    match library.find(run.alloc, step.step_type, step.text.as_str()) {
-        Ok(Some(found)) => Mark::Acted(act(
-            run.alloc,
-            sandbox,
-            cleanups,
-            library,
-            site,
-            &found,
-            &step.block,
-        )),
+    match run
+        .library
+        .find_used(run.alloc, step.step_type, step.text.as_str())
+    {
+        Ok(Some(used)) => {
+            let call = Call {
+                site,
+                action: used.action,
+                arguments: arguments_by(used.fields, &step.block),
+            };
+            Mark::Acted(act_by(run.alloc, sandbox, cleanups, run.library, &call))
+        }
         Ok(None) => Mark::Undefined,
         Err(AllocError) => Mark::Acted(Outcome::Memory),
     }

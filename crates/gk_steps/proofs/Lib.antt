@@ -24,3 +24,4 @@ mod LeftmostLemmas
 mod LibraryLemmas
 mod EntryIndexLemmas
 mod KeptLemmas
+mod UsedFieldsLemmas

@@ -12,13 +12,13 @@ use Rattle.gk_steps.specs.Library.{are_for_each_from}
 use Rattle.gk_steps.proofs.DecimalLemmas.{and_left, and_right}
 
 -- elements before a place
-get_before : {X : Type 0} (xs : List X) (n i : ℕ) → i < n → slice_get (take n xs) i ≡ slice_get xs i
+pub get_before : {X : Type 0} (xs : List X) (n i : ℕ) → i < n → slice_get (take n xs) i ≡ slice_get xs i
 get_before xs zero i less = absurd (omega arith)
 get_before [] (suc n) i less = refl
 get_before (x ∷ xs) (suc n) zero less = refl
 get_before (x ∷ xs) (suc n) (suc i) less = get_before xs n i (omega arith)
 
-get_taken : {X : Type 0} (xs : List X) (n i : ℕ) (x : X) → slice_get (take n xs) i ≡ Some x → i < n
+pub get_taken : {X : Type 0} (xs : List X) (n i : ℕ) (x : X) → slice_get (take n xs) i ≡ Some x → i < n
 get_taken xs zero i x e = let bad : ⊥ = cc in absurd bad
 get_taken [] (suc n) i x e = let bad : ⊥ = cc in absurd bad
 get_taken (y ∷ ys) (suc n) zero x e = omega arith

@@ -1,5 +1,6 @@
 -- Which entry of a library a step's text finds.
-use Rattle.std.specs.Prelude.{◌≡◌, ◌<◌, ◌⊎◌, ℕ, suc, ℤ, Bool, true, false, List, [], ◌∷◌, if◌then◌else◌, map, slice_get, Option, Some, None, option_and_then}
+use denote.Ref.{Bor}
+use Rattle.std.specs.Prelude.{codes, option_map, ◌≡◌, ◌<◌, ◌⊎◌, ℕ, suc, ℤ, Bool, true, false, List, [], ◌∷◌, if◌then◌else◌, map, slice_get, Option, Some, None, option_and_then}
 use Rattle.std.specs.Option.{option_or, option_map_or}
 use Rattle.std.specs.Str.{bytes_eq}
 use Rattle.gk_gherkin.specs.declared.feature.StepType.{StepType}
@@ -10,6 +11,8 @@ use Rattle.gk_steps.specs.declared.pattern.FieldKind.TheVariants.{Plain, Decimal
 use Rattle.gk_steps.specs.declared.library.Entry.{Entry}
 use Rattle.gk_steps.specs.declared.library.Library.{Library}
 use Rattle.gk_steps.specs.declared.finding.Found.{Found}
+use Rattle.gk_steps.specs.declared.used_fields.UsedFields.{UsedFields}
+use Rattle.gk_steps.specs.declared.used_fields.FoundUse.{FoundUse}
 use Rattle.gk_steps.specs.Pattern.{PieceValue, Literal, FieldPiece, pattern_value}
 use Rattle.gk_steps.specs.PassingOver.{FitsStart, FitsEnd}
 use Rattle.gk_steps.specs.Matching.{FieldValue, TextField, NumberField, field_value, MatchesNot, IsMatchResult, match_of}
@@ -178,6 +181,29 @@ text_field library f name = option_and_then as_text (field_of library f name)
 -- The number in a field of this name, where the pattern has such a field. (behave's documentation: step parameters)
 abbrev pub number_field : LibraryValue → FoundValue → List ℕ → Option ℤ
 number_field library f name = option_and_then as_number (field_of library f name)
+
+-- A text that is lent, where there is one.
+abbrev pub lent_text : Option (Bor (List ℕ)) → Option (List ℕ)
+lent_text text = option_map (λ (t : Bor (List ℕ)). t.now) text
+
+-- What the fields of a found entry took that actions use. (behave's documentation: step parameters)
+pub record HasUsedFields (library : LibraryValue) (f : FoundValue) (u : UsedFields) : Type 0 where
+  pub name : lent_text u.name ≡ text_field library f (codes "name")
+  pub to : lent_text u.to ≡ text_field library f (codes "to")
+  pub step : lent_text u.step ≡ text_field library f (codes "step")
+  pub number : u.number ≡ number_field library f (codes "n")
+  pub text : lent_text u.text ≡ text_field library f (codes "text")
+
+-- The action of a found entry, and what its fields took that actions use.
+pub record HasUse (library : LibraryValue) (f : FoundValue) (u : FoundUse) : Type 0 where
+  pub action : u.action ≡ action_of library f
+  pub fields : HasUsedFields library f u.fields
+
+-- What a step's action works with, where something is found. (behave's documentation: step implementations)
+abbrev pub IsUseOf : LibraryValue → Option FoundValue → Option FoundUse → Type 0
+IsUseOf library None None = Unit {0}
+IsUseOf library (Some f) (Some u) = HasUse library f u
+IsUseOf library _ _ = ⊥
 
 -- Proof machinery: no entry before a place matches.
 abbrev pub NoneBefore : ℕ → LibraryValue → Option StepType → List ℕ → Type 0

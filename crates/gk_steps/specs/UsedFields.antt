@@ -1,17 +1,17 @@
 -- Proof machinery: the first fields of the names that actions use.
-use denote.Ref.{Bor}
 use Rattle.std.specs.Prelude.{◌≡◌, codes, ℕ, Bool, List, if◌then◌else◌, Option, Some, None, option_map}
 use Rattle.std.specs.Option.{option_or}
 use Rattle.std.specs.Str.{bytes_eq}
-use Rattle.gk_steps.specs.declared.pattern.Field.{Field}
+use Rattle.gk_steps.specs.declared.kept.Taken.{Taken}
 use Rattle.gk_steps.specs.declared.used_fields.FirstFields.{FirstFields}
 use Rattle.gk_steps.specs.Pattern.{PieceValue}
-use Rattle.gk_steps.specs.Matching.{FieldValue, field_value}
-use Rattle.gk_steps.specs.Finding.{field_named}
+use Rattle.gk_steps.specs.Matching.{FieldValue}
+use Rattle.gk_steps.specs.Finding.{HaveKindsOf, field_named}
+use Rattle.gk_steps.specs.Kept.{taken_value}
 
 -- What a field says, where there is one.
-abbrev pub said : Option (Bor Field) → Option FieldValue
-said field = option_map (λ (f : Bor Field). field_value f.now) field
+abbrev pub said : Option Taken → Option FieldValue
+said taken = option_map taken_value taken
 
 -- The first field of a name, with one field more.
 abbrev pub first_of : Option FieldValue → Bool → FieldValue → Option FieldValue
@@ -24,6 +24,19 @@ pub record AreFirst (named : List ℕ → Option FieldValue) (firsts : FirstFiel
   pub step : said firsts.step ≡ named (codes "step")
   pub number : said firsts.number ≡ named (codes "n")
   pub text : said firsts.text ≡ named (codes "text")
+
+-- These are the first fields of the names in what these pieces took, which is something for each field.
+pub record KeepsFirst (ps : List PieceValue) (firsts : FirstFields) (fs : List FieldValue) : Type 0 where
+  pub fit : HaveKindsOf ps fs
+  pub first : AreFirst (λ name. field_named name ps fs) firsts
+
+-- These are the first of some fields and of those after them.
+pub record AreJoined (old later new : FirstFields) : Type 0 where
+  pub name : said new.name ≡ option_or (said old.name) (said later.name)
+  pub to : said new.to ≡ option_or (said old.to) (said later.to)
+  pub step : said new.step ≡ option_or (said old.step) (said later.step)
+  pub number : said new.number ≡ option_or (said old.number) (said later.number)
+  pub text : said new.text ≡ option_or (said old.text) (said later.text)
 
 -- A field of this name was added.
 pub record IsAdded (n : List ℕ) (f : FieldValue) (old new : FirstFields) : Type 0 where

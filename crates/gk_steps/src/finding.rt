@@ -1,10 +1,10 @@
 //! What a step's text finds in a library.
-ghost use Rattle.std.specs.Prelude.{◌≡◌, ◌≤◌, ◌+◌, map, IfOk, IfErr, MatchBool, MatchOption, option_map, is_some, Option, Some, None};
+ghost use Rattle.std.specs.Prelude.{◌≡◌, ◌≤◌, ◌+◌, map, List, IfOk, IfErr, MatchBool, MatchOption, option_map, is_some, Option, Some, None};
 ghost use Rattle.gk_steps.specs.Pattern.{pieces_said};
-ghost use Rattle.gk_steps.specs.Matching.{field_value};
+ghost use Rattle.gk_steps.specs.Matching.{FieldValue, field_value};
 ghost use Rattle.gk_steps.specs.Finding as spec;
 ghost use Rattle.gk_steps.specs.Finding.{HasCandidate, HasCandidateFor, FindsWhatIsFound};
-ghost use Rattle.gk_steps.specs.Finding.{FoundValue, entries_said, library_value, found_value};
+ghost use Rattle.gk_steps.specs.Finding.{FoundValue, LibraryValue, entries_said, library_value, found_value};
 ghost use Rattle.gk_steps.specs.Kept.{IsHit, HitsWhatIsFound};
 ghost use Rattle.gk_steps.specs.FilledCells.{cells_of_type, cells_of_step};
 ghost use Rattle.gk_steps.specs.EntryIndex.{IsShelf};
@@ -49,12 +49,12 @@ fn is_same(a: Option<StepType>, b: Option<StepType>) -> bool
 // What a text finds among the entries of one type. An entry whose ends the text doesn't have is passed over here,
 // before a match begins.
 #[inline(always)]
-pub(crate) fn find_of<K: Kept>(
+pub(crate) fn find_of<'t, K: Kept<'t>>(
     cells: &mut Cells,
     alloc: Global,
     shelf: &Shelf<'_>,
     step_type: Option<StepType>,
-    text: &str,
+    text: &'t str,
 ) -> Result<Option<Hit<K>>, AllocError>
     requires { IsShelf shelf.now }
     ensures found { let entries = entries_said shelf.now.entries.now in IfOk result (λ hit.
@@ -84,7 +84,8 @@ pub(crate) fn find_of<K: Kept>(
 // What was found, where all that the fields took was kept.
 #[inline(always)]
 fn found_of(hit: Option<Hit<Vec<Field>>>) -> Option<Found>
-    ensures { (found : Option FoundValue) → IsHit ⟦<Vec<Field> as Kept>⟧.keeps hit found
+    ensures { (entries : LibraryValue) (found : Option FoundValue)
+        → IsHit ⟦<Vec<Field> as Kept<'static>>⟧.keeps entries hit found
         → option_map found_value result ≡ found }
 {
     match hit {
@@ -115,17 +116,18 @@ fn field_named<'a>(pieces: &[Piece], fields: &'a [Field], name: &str) -> Option<
 }
 
 impl Library {
-    // What a step finds, with what is kept of it, and the cells counted.
+    /// What a step finds, with what is kept of it, and the cells counted.
     #[inline(always)]
-    fn search<K: Kept>(
+    pub(crate) fn search<'t, K: Kept<'t>>(
         &self,
         alloc: Global,
         cells: &mut Cells,
         step_type: StepType,
-        text: &str,
+        text: &'t str,
     ) -> Result<Option<Hit<K>>, AllocError>
         ensures found { IfOk result (λ hit.
-            IsHit K.keeps hit (spec.found (library_value self.now) step_type text.now)) }
+            IsHit K.keeps (library_value self.now) hit
+            (spec.found (library_value self.now) step_type text.now)) }
         ensures memory { IfErr result (λ e.
             HasCandidateFor (library_value self.now) step_type text.now) }
         ensures most { cells.new.filled
@@ -139,14 +141,15 @@ impl Library {
     }
 
     // The same among the entries of type `step` alone.
-    fn search_any<K: Kept>(
+    fn search_any<'t, K: Kept<'t>>(
         &self,
         alloc: Global,
         cells: &mut Cells,
-        text: &str,
+        text: &'t str,
     ) -> Result<Option<Hit<K>>, AllocError>
         ensures found { IfOk result (λ hit.
-            IsHit K.keeps hit (spec.found_any (library_value self.now) text.now)) }
+            IsHit K.keeps (library_value self.now) hit
+            (spec.found_any (library_value self.now) text.now)) }
         ensures memory { IfErr result (λ e. HasCandidate (library_value self.now) None text.now) }
         ensures most { cells.new.filled
             ≤ cells.old.filled + cells_of_type (library_value self.now) None text.now }
@@ -260,14 +263,23 @@ impl Library {
         )
     }
 
+    /// The action of the entry at a place. Takes no memory.
+    #[inline(always)]
+    pub(crate) fn action_at(&self, entry: usize) -> Action
+        ensures { (fields : List FieldValue)
+            → result ≡ spec.action_of (library_value self.now) (spec.found_at entry fields) }
+    {
+        match self.entries.get(entry) {
+            Some(entry) => entry.action,
+            None => Action::Pass,
+        }
+    }
+
     /// The action of what was found in this library. Takes no memory.
     pub fn action(&self, found: &Found) -> Action
         ensures { result ≡ spec.action_of (library_value self.now) (found_value found.now) }
     {
-        match self.entries.get(found.entry) {
-            Some(entry) => entry.action,
-            None => Action::Pass,
-        }
+        self.action_at(found.entry)
     }
 
     // What the field of a name took in what was found in this library.

@@ -1,44 +1,65 @@
 //! What a match keeps of what a pattern's fields took.
-ghost use Rattle.std.specs.Prelude.{◌≡◌, ◌++◌, List, [], map, IfOk, OnOk};
-ghost use Rattle.gk_steps.specs.Pattern.{piece_value};
+ghost use Rattle.std.specs.Prelude.{◌≡◌, ◌++◌, ◌∷◌, List, [], map, IfOk, OnOk};
+ghost use Rattle.gk_steps.specs.Pattern.{PieceValue, piece_value};
 ghost use Rattle.gk_steps.specs.Matching.{FieldValue, IsSpan, field_value, span_value};
 ghost use Rattle.gk_steps.specs.Columns.{Takes, values_of};
+ghost use Rattle.gk_steps.specs.Kept.{taken_value};
 
 use crate::decimal::number_of;
 use crate::pattern::{Field, FieldKind, Piece};
 use std::alloc::{AllocError, Global};
 
+/// What a field took, in the text that it took it from.
+#[derive(Clone, Copy, Debug)]
+pub(crate) enum Taken<'t> {
+    Text(&'t str),
+    Number(i64),
+}
+
 /// What is kept of what fields took, in the pattern's order.
-pub(crate) trait Kept: Drop {
-    /// Whether this is what is kept of these fields.
-    ghost keeps: { Self → List FieldValue → Type 0 };
+pub(crate) trait Kept<'t>: Drop {
+    /// Whether this is what is kept of these fields of these pieces.
+    ghost keeps: { List PieceValue → Self → List FieldValue → Type 0 };
 
     /// What is kept of no fields. Takes no memory.
     fn empty(alloc: Global) -> Self
-        ensures { keeps result [] };
+        ensures { keeps [] result [] };
 
     /// Adds what is kept of a piece that took a span.
-    fn add(&mut self, alloc: Global, piece: &Piece, span: &str) -> Result<(), AllocError>
+    fn add(&mut self, alloc: Global, piece: &Piece, span: &'t str) -> Result<(), AllocError>
         requires { Takes (piece_value piece.now) span.now }
-        ensures { let more = values_of (piece_value piece.now) span.now in
-            OnOk result ((before : List FieldValue) → keeps self.old before
-            → keeps self.new (before ++ more)) };
+        ensures { let p = piece_value piece.now in
+            OnOk result ((ps : List PieceValue) (before : List FieldValue)
+            → keeps ps self.old before
+            → keeps (ps ++ p ∷ []) self.new (before ++ values_of p span.now)) };
 
-    /// Adds what is kept of the fields after these.
+    /// Adds what is kept of the fields of the pieces after these.
     fn join(&mut self, later: Self) -> Result<(), AllocError>
-        ensures { OnOk result ((before after : List FieldValue) → keeps self.old before
-            → keeps later after → keeps self.new (before ++ after)) };
+        ensures { OnOk result ((ps qs : List PieceValue) (before after : List FieldValue)
+            → keeps ps self.old before → keeps qs later after
+            → keeps (ps ++ qs) self.new (before ++ after)) };
 }
 
-// What a field says that took a span.
+/// What a field took that took a span.
 #[inline(always)]
-fn field_of(alloc: Global, kind: FieldKind, span: &str) -> Result<Field, AllocError>
+pub(crate) fn taken_of<'t>(kind: FieldKind, span: &'t str) -> Taken<'t>
     requires { IsSpan kind span.now }
-    ensures { IfOk result (λ field. field_value field ≡ span_value kind span.now) }
+    ensures { taken_value result ≡ span_value kind span.now }
 {
     match kind {
-        FieldKind::Plain => Ok(Field::Text(String::from_str(alloc, span)?)),
-        FieldKind::Decimal => Ok(Field::Number(number_of(span).unwrap())),
+        FieldKind::Plain => Taken::Text(span),
+        FieldKind::Decimal => Taken::Number(number_of(span).unwrap()),
+    }
+}
+
+// What a field says that took this, with a copy of its text.
+#[inline(always)]
+fn copy_of(alloc: Global, taken: Taken<'_>) -> Result<Field, AllocError>
+    ensures { IfOk result (λ field. field_value field ≡ taken_value taken.entry) }
+{
+    match taken {
+        Taken::Text(text) => Ok(Field::Text(String::from_str(alloc, text)?)),
+        Taken::Number(number) => Ok(Field::Number(number)),
     }
 }
 
@@ -55,21 +76,21 @@ fn push_taken(
         OnOk result (map field_value fields.new.items ≡ map field_value fields.old.items ++ more) }
 {
     if let Piece::Field { kind, .. } = piece {
-        fields.push(field_of(alloc, *kind, span)?)?;
+        fields.push(copy_of(alloc, taken_of(*kind, span))?)?;
     }
     Ok(())
 }
 
 /// All that they took, with copies of their texts.
-impl Kept for Vec<Field> {
-    ghost keeps = { λ kept fields. map field_value kept.items ≡ fields };
+impl<'t> Kept<'t> for Vec<Field> {
+    ghost keeps = { λ pieces kept fields. map field_value kept.items ≡ fields };
 
     fn empty(alloc: Global) -> Self {
         Vec::new(alloc)
     }
 
     #[inline(always)]
-    fn add(&mut self, alloc: Global, piece: &Piece, span: &str) -> Result<(), AllocError> {
+    fn add(&mut self, alloc: Global, piece: &Piece, span: &'t str) -> Result<(), AllocError> {
         push_taken(self, alloc, piece, span)
     }
 
@@ -83,15 +104,15 @@ impl Kept for Vec<Field> {
 #[derive(Drop)]
 pub(crate) struct Unkept;
 
-impl Kept for Unkept {
-    ghost keeps = { λ kept fields. Unit {0} };
+impl<'t> Kept<'t> for Unkept {
+    ghost keeps = { λ pieces kept fields. Unit {0} };
 
     fn empty(_alloc: Global) -> Self {
         Unkept
     }
 
     #[inline(always)]
-    fn add(&mut self, _alloc: Global, _piece: &Piece, _span: &str) -> Result<(), AllocError> {
+    fn add(&mut self, _alloc: Global, _piece: &Piece, _span: &'t str) -> Result<(), AllocError> {
         Ok(())
     }
 

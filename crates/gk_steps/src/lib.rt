@@ -35,4 +35,4 @@ pub use library_file::{library_reading_is_unique, read_library};
 pub use matching::matches_are_determined;
 pub use pattern::{Field, FieldKind, Pattern, PatternFault, Piece};
 pub use spelling::{read_pattern, spelling_is_unique};
-pub use used_fields::UsedFields;
+pub use used_fields::{FoundUse, UsedFields};

@@ -2,7 +2,7 @@
 ghost use Rattle.std.specs.Prelude.{◌≡◌, ◌<◌, ◌≤◌, ◌+◌, ◌*◌, ℕ, List, length};
 ghost use Rattle.std.specs.Prelude.{false, IfOk, IfErr, OnOk, IsTrue, Some};
 ghost use Rattle.std.specs.Str.{chars};
-ghost use Rattle.gk_steps.specs.Pattern.{pieces_said, pattern_value};
+ghost use Rattle.gk_steps.specs.Pattern.{PieceValue, pieces_said, pattern_value};
 ghost use Rattle.gk_steps.specs.Matching.{FieldValue, Matches, IsMatchResult, MatchesAreDetermined};
 ghost use Rattle.gk_steps.specs.Matching.{fields_said};
 ghost use Rattle.gk_steps.specs.Places.{ArePlaces};
@@ -64,10 +64,10 @@ fn table_of(
 }
 
 // Reads the preferred match from the table.
-fn read<K: Kept>(
+fn read<'t, K: Kept<'t>>(
     alloc: Global,
     pieces: &[Piece],
-    text: &str,
+    text: &'t str,
     places: &[usize],
     rows: &[Vec<bool>],
 ) -> Result<K, AllocError>
@@ -93,11 +93,11 @@ fn read<K: Kept>(
 }
 
 // A match by a table of these places.
-fn match_pieces<K: Kept>(
+fn match_pieces<'t, K: Kept<'t>>(
     cells: &mut Cells,
     alloc: Global,
     pieces: &[Piece],
-    text: &str,
+    text: &'t str,
     places: &[usize],
 ) -> Result<Option<K>, AllocError>
     requires { ArePlaces text.now places.now }
@@ -141,15 +141,16 @@ impl Pattern {
 }
 
 // The match of the pieces that are left by a table, after what is kept so far.
-fn match_rest<K: Kept>(
+fn match_rest<'t, K: Kept<'t>>(
     cells: &mut Cells,
     alloc: Global,
     kept: K,
     left: &[Piece],
-    rest: &str,
+    rest: &'t str,
 ) -> Result<Option<K>, AllocError>
-    ensures found { IfOk result (λ found. (before : List FieldValue) → K.keeps kept before
-        → KeepsRest K.keeps before (pieces_said left.now) rest.now found) }
+    ensures found { IfOk result (λ found. (done : List PieceValue) (before : List FieldValue)
+        → K.keeps done kept before
+        → KeepsRest K.keeps done before (pieces_said left.now) rest.now found) }
     ensures most { cells.new.filled
         ≤ cells.old.filled + table_cells (pieces_said left.now) rest.now }
 {
@@ -167,11 +168,11 @@ fn match_rest<K: Kept>(
 /// A match from the left. From the first piece on whose share depends on the pieces after it, a table is made.
 // Apart, so that an entry that is passed over costs little.
 #[inline(never)]
-pub(crate) fn match_from_left<K: Kept>(
+pub(crate) fn match_from_left<'t, K: Kept<'t>>(
     cells: &mut Cells,
     alloc: Global,
     pieces: &[Piece],
-    text: &str,
+    text: &'t str,
 ) -> Result<Option<K>, AllocError>
     ensures found { IfOk result (λ found.
         IsKeptResult K.keeps (pieces_said pieces.now) text.now found) }

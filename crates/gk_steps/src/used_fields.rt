@@ -1,14 +1,21 @@
 //! What the fields took that actions use.
-ghost use Rattle.std.specs.Prelude.{◌≡◌, codes, map, option_map, option_and_then};
-ghost use Rattle.gk_steps.specs.Pattern.{pieces_said};
-ghost use Rattle.gk_steps.specs.Matching.{field_value};
+ghost use Rattle.std.specs.Prelude.{◌≡◌, ◌++◌, ◌∷◌, [], codes, map, List, IfOk, IfErr, option_map, option_and_then};
+ghost use Rattle.gk_steps.specs.Pattern.{PieceValue, piece_value, pieces_said};
+ghost use Rattle.gk_steps.specs.Columns.{Takes, values_of};
+ghost use Rattle.gk_steps.specs.Matching.{FieldValue, field_value};
 ghost use Rattle.gk_steps.specs.Finding as spec;
-ghost use Rattle.gk_steps.specs.Finding.{library_value, found_value};
-ghost use Rattle.gk_steps.specs.UsedFields.{said, first_of, AreFirst, IsAdded};
+ghost use Rattle.gk_steps.specs.Finding.{FoundValue, HasCandidateFor, HasUsedFields, IsUseOf, LibraryValue, library_value, found_value};
+ghost use Rattle.gk_steps.specs.Kept.{taken_value};
+ghost use Rattle.gk_steps.specs.UsedFields.{said, first_of, AreFirst, AreJoined, IsAdded, KeepsFirst};
 
-use crate::finding::Found;
+use crate::action::Action;
+use crate::filled_cells::Cells;
+use crate::finding::{Found, Hit};
+use crate::kept::{Kept, Taken, taken_of};
 use crate::library::Library;
 use crate::pattern::{Field, Piece};
+use gk_gherkin::StepType;
+use std::alloc::{AllocError, Global};
 
 /// What the fields took that actions use. Each is none where the pattern has no such field, or where it
 /// is of the other kind.
@@ -26,23 +33,62 @@ pub struct UsedFields<'a> {
     pub text: Option<&'a str>,
 }
 
-/// The first field of each of these names.
+/// What a step's action works with: the action, and what the fields took that actions use, as slices of
+/// the step's text.
+#[derive(Clone, Copy, Debug)]
+pub struct FoundUse<'a> {
+    pub action: Action,
+    pub fields: UsedFields<'a>,
+}
+
+/// What the first field of each of these names took.
 #[derive(Clone, Copy, Debug)]
 pub(crate) struct FirstFields<'a> {
-    pub name: Option<&'a Field>,
-    pub to: Option<&'a Field>,
-    pub step: Option<&'a Field>,
-    pub number: Option<&'a Field>,
-    pub text: Option<&'a Field>,
+    pub name: Option<Taken<'a>>,
+    pub to: Option<Taken<'a>>,
+    pub step: Option<Taken<'a>>,
+    pub number: Option<Taken<'a>>,
+    pub text: Option<Taken<'a>>,
 }
+
+/// Nothing is kept of the others, and no memory is taken.
+impl<'t> Kept<'t> for FirstFields<'t> {
+    ghost keeps = { KeepsFirst };
+
+    #[inline(always)]
+    fn empty(_alloc: Global) -> Self {
+        NO_FIELDS
+    }
+
+    #[inline(always)]
+    fn add(&mut self, _alloc: Global, piece: &Piece, span: &'t str) -> Result<(), AllocError> {
+        *self = with_piece(*self, piece, span);
+        Ok(())
+    }
+
+    #[inline(always)]
+    fn join(&mut self, later: Self) -> Result<(), AllocError> {
+        *self = joined(*self, later);
+        Ok(())
+    }
+}
+
+// Where there are no fields.
+const NO_FIELDS: FirstFields<'static> = FirstFields {
+    name: None,
+    to: None,
+    step: None,
+    number: None,
+    text: None,
+};
 
 // The first field of a name, with one field more, which may have that name.
 #[inline(always)]
-fn first<'a>(so_far: Option<&'a Field>, is_named: bool, field: &'a Field) -> Option<&'a Field>
-    ensures { said result ≡ first_of (said so_far.entry) is_named (field_value field.now) }
+fn first<'a>(so_far: Option<Taken<'a>>, is_named: bool, taken: Taken<'a>) -> Option<Taken<'a>>
+    ensures { said result ≡ first_of (said so_far.entry) is_named (taken_value taken.entry) }
 {
     if so_far.is_none() && is_named {
-        Some(field)
+        Some(taken)
     } else {
         so_far
     }
@@ -50,15 +96,54 @@ fn first<'a>(so_far: Option<&'a Field>, is_named: bool, field: &'a Field) -> Opt
 
 // The first fields, with one field more.
 #[inline(always)]
-fn with_field<'a>(so_far: FirstFields<'a>, name: &str, field: &'a Field) -> FirstFields<'a>
-    ensures { IsAdded name.now (field_value field.now) so_far.entry result }
+fn with_field<'a>(so_far: FirstFields<'a>, name: &str, taken: Taken<'a>) -> FirstFields<'a>
+    ensures { IsAdded name.now (taken_value taken.entry) so_far.entry result }
 {
     FirstFields {
-        name: first(so_far.name, name == "name", field),
-        to: first(so_far.to, name == "to", field),
-        step: first(so_far.step, name == "step", field),
-        number: first(so_far.number, name == "n", field),
-        text: first(so_far.text, name == "text", field),
+        name: first(so_far.name, name == "name", taken),
+        to: first(so_far.to, name == "to", taken),
+        step: first(so_far.step, name == "step", taken),
+        number: first(so_far.number, name == "n", taken),
+        text: first(so_far.text, name == "text", taken),
+    }
+}
+
+// The first fields, with the field of a piece that took a span, where it is one.
+#[inline(always)]
+fn with_piece<'a>(so_far: FirstFields<'a>, piece: &Piece, span: &'a str) -> FirstFields<'a>
+    requires { Takes (piece_value piece.now) span.now }
+    ensures { let p = piece_value piece.now in (ps : List PieceValue) (before : List FieldValue)
+        → KeepsFirst ps so_far.entry before
+        → KeepsFirst (ps ++ p ∷ []) result (before ++ values_of p span.now) }
+{
+    match piece {
+        Piece::Literal(_) => so_far,
+        Piece::Field { name, kind } => { with_field(so_far, name.as_str(), taken_of(*kind, span)) }
+    }
+}
+
+// The first fields, with those of the pieces after these.
+#[inline(always)]
+fn joined<'a>(so_far: FirstFields<'a>, later: FirstFields<'a>) -> FirstFields<'a>
+    ensures { AreJoined so_far.entry later.entry result }
+{
+    FirstFields {
+        name: so_far.name.or(later.name),
+        to: so_far.to.or(later.to),
+        step: so_far.step.or(later.step),
+        number: so_far.number.or(later.number),
+        text: so_far.text.or(later.text),
+    }
+}
+
+// What a field took.
+#[inline(always)]
+fn lent<'a>(field: &'a Field) -> Taken<'a>
+    ensures { taken_value result ≡ field_value field.now }
+{
+    match field {
+        Field::Text(text) => Taken::Text(text),
+        Field::Number(number) => Taken::Number(*number),
     }
 }
 
@@ -68,20 +153,14 @@ fn first_fields<'a>(pieces: &[Piece], fields: &'a [Field]) -> FirstFields<'a>
     ensures { let ps = pieces_said pieces.now in let fs = map field_value fields.now in
         AreFirst (λ name. spec.field_named name ps fs) result }
 {
-    let mut firsts = FirstFields {
-        name: None,
-        to: None,
-        step: None,
-        number: None,
-        text: None,
-    };
+    let mut firsts = NO_FIELDS;
     let mut rest = fields;
     for piece in pieces {
         if let Piece::Field { name, .. } = piece {
             let Some((field, later)) = rest.split_first() else {
                 return firsts;
             };
-            firsts = with_field(firsts, name.as_str(), field);
+            firsts = with_field(firsts, name.as_str(), lent(field));
             rest = later;
         }
     }
@@ -90,23 +169,38 @@ fn first_fields<'a>(pieces: &[Piece], fields: &'a [Field]) -> FirstFields<'a>
 
 // The text that a field took.
 #[inline(always)]
-fn text_in(field: Option<&Field>) -> Option<&str>
-    ensures { option_map (λ t. t.now) result ≡ option_and_then spec.as_text (said field.entry) }
+fn text_in<'a>(taken: Option<Taken<'a>>) -> Option<&'a str>
+    ensures { option_map (λ t. t.now) result ≡ option_and_then spec.as_text (said taken.entry) }
 {
-    match field? {
-        Field::Text(text) => Some(text),
-        Field::Number(_) => None,
+    match taken? {
+        Taken::Text(text) => Some(text),
+        Taken::Number(_) => None,
     }
 }
 
 // The number that a field took.
 #[inline(always)]
-fn number_in(field: Option<&Field>) -> Option<i64>
-    ensures { result ≡ option_and_then spec.as_number (said field.entry) }
+fn number_in(taken: Option<Taken<'_>>) -> Option<i64>
+    ensures { result ≡ option_and_then spec.as_number (said taken.entry) }
 {
-    match field? {
-        Field::Text(_) => None,
-        Field::Number(number) => Some(*number),
+    match taken? {
+        Taken::Text(_) => None,
+        Taken::Number(number) => Some(number),
+    }
+}
+
+// What they took that actions use.
+#[inline(always)]
+fn used_in<'a>(firsts: FirstFields<'a>) -> UsedFields<'a>
+    ensures { (library : LibraryValue) (f : FoundValue)
+        → AreFirst (spec.field_of library f) firsts.entry → HasUsedFields library f result }
+{
+    UsedFields {
+        name: text_in(firsts.name),
+        to: text_in(firsts.to),
+        step: text_in(firsts.step),
+        number: number_in(firsts.number),
+        text: text_in(firsts.text),
     }
 }
 
@@ -137,13 +231,33 @@ impl Library {
         ensures text { option_map (λ t. t.now) result.text
             ≡ spec.text_field (library_value self.now) (found_value found.now) (codes "text") }
     {
-        let firsts = self.first_fields(found);
-        UsedFields {
-            name: text_in(firsts.name),
-            to: text_in(firsts.to),
-            step: text_in(firsts.step),
-            number: number_in(firsts.number),
-            text: text_in(firsts.text),
-        }
+        used_in(self.first_fields(found))
+    }
+
+    /// What `find` finds, as a step's action works with it. No text is copied: what the fields took are
+    /// slices of this text. Memory is taken only where a table is made.
+    /// (behave's documentation: step implementations)
+    #[inline(always)]
+    pub fn find_used<'a>(
+        &self,
+        alloc: Global,
+        step_type: StepType,
+        text: &'a str,
+    ) -> Result<Option<FoundUse<'a>>, AllocError>
+        ensures found { IfOk result (λ used. IsUseOf (library_value self.now)
+            (spec.found (library_value self.now) step_type text.now) used) }
+        // Memory is refused only where the text has the ends of an entry.
+        ensures memory { IfErr result (λ e.
+            HasCandidateFor (library_value self.now) step_type text.now) }
+    {
+        let mut cells = Cells::new();
+        let hit: Option<Hit<FirstFields<'a>>> = self.search(alloc, &mut cells, step_type, text)?;
+        let Some(Hit { entry, kept }) = hit else {
+            return Ok(None);
+        };
+        Ok(Some(FoundUse {
+            action: self.action_at(entry),
+            fields: used_in(kept),
+        }))
     }
 }

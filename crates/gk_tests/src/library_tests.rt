@@ -1,5 +1,5 @@
 use gk_gherkin::StepType;
-use gk_steps::{Found, Library, default_library, read_library};
+use gk_steps::{Found, FoundUse, Library, default_library, read_library};
 use std::alloc::{AllocError, Global};
 use std::test::Fail;
 
@@ -23,6 +23,21 @@ fn looked_up(
 fn shown(alloc: Global, found: Option<Found>) -> Result<String, AllocError> {
     match found {
         Some(found) => format!(in alloc; "{} {:?}", found.entry, found.fields),
+        None => String::from_str(alloc, "none"),
+    }
+}
+
+// What a step's action works with: the action, and the name and the number that fields took.
+fn used(
+    alloc: Global,
+    library: &Library,
+    step_type: StepType,
+    text: &str,
+) -> Result<String, AllocError> {
+    match library.find_used(alloc, step_type, text)? {
+        Some(FoundUse { action, fields }) => {
+            format!(in alloc; "{action:?} {:?} {:?}", fields.name, fields.number)
+        }
         None => String::from_str(alloc, "none"),
     }
 }
@@ -63,5 +78,7 @@ fn the_built_in_library_has_its_entries(rt: HostRuntime) -> Result<(), Fail> {
         found.as_str(),
         "22 [Text(\"n\"), Number(5)] 22 [Text(\"n\"), Number(5)] true"
     );
+    let used = used(rt.alloc(), &library, StepType::Then, text)?;
+    assert_eq!(rt; used.as_str(), "AddNumber Some(\"n\") Some(5)");
     Ok(())
 }

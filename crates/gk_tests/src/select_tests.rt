@@ -108,6 +108,9 @@ fn both_hold(
 fn rules_select_sets_of_tags(rt: HostRuntime) -> Result<(), Fail> {
     let first = read_tags(rt.alloc(), "~@slow,@db")?;
     let second = read_tags(rt.alloc(), "@ui")?;
+    let tags = first.tags(rt.alloc())?;
+    let shown = format!(in rt.alloc(); "{tags:?}")?;
+    assert_eq!(rt; shown.as_str(), "[\"@slow\", \"@db\"]");
     for (set, wanted) in SETS {
         let holds = both_hold(rt.alloc(), &first, &second, set)?;
         assert_eq!(rt; holds, wanted);

@@ -5,7 +5,7 @@ use Rattle.gk_steps.specs.Finding.{NoneBefore, entry_value, found_at}
 use Rattle.gk_steps.proofs.FilledCellsLemmas.{asked, passed_over}
 use Rattle.gk_steps.specs.Kept.{IsKeptResult}
 use Rattle.gk_steps.specs.Pattern.{piece_value}
-use Rattle.gk_steps.proofs.FindingLemmas.{none_more, none_all, first_at, candidate, of_fault}
+use Rattle.gk_steps.proofs.FindingLemmas.{entry_at, none_more, none_all, first_at, candidate, of_fault}
 use Rattle.gk_steps.proofs.KeptLemmas.{kept_some, kept_none}
 use Rattle.gk_steps.proofs.EntryIndexLemmas.{none_skipped, cells_skipped}
 use Rattle.gk_steps.proofs.finding.find_of.Goals as goal
@@ -15,8 +15,16 @@ pub returns-in-Some-clause-found : goal.returns-in-Some-clause-found
 returns-in-Some-clause-found g c =
     let m = kept_some g.K.Kept.keeps (map piece_value c.index-entries-place.result.pattern.pieces.items) c.args.text.now c.in-Some.kept
     (subst (IsKeptResult g.K.Kept.keeps (map piece_value c.index-entries-place.result.pattern.pieces.items) c.args.text.now) c.in-Some.is
-    (subst (λ ps. IsKeptResult g.K.Kept.keeps (map piece_value ps) c.args.text.now c.in_ok-kept.field-0) c.deref.ensures.value c.in_ok-kept.ensures.found)) in
-    (Some (found_at c.loop-place.place m.0), (refl, m.1), first_at c.args.shelf.now.entries.now c.args.step_type c.args.text.now c.loop-place.place c.index-entries-place.result m.0 c.loop-place-test.true c.index-entries-place.is c.if-is_same.ensures m.2 c.loop-place.invariant.0)
+    (subst (λ ps. IsKeptResult g.K.Kept.keeps (map piece_value ps) c.args.text.now c.in_ok-kept.field-0) c.deref.ensures.value c.in_ok-kept.ensures.found)) in (
+      Some (found_at c.loop-place.place m.0),
+      record {
+        place = refl;
+        entry = entry_value c.index-entries-place.result;
+        stands = entry_at c.args.shelf.now.entries.now c.loop-place.place c.index-entries-place.result c.loop-place-test.true c.index-entries-place.is;
+        kept = m.1;
+      },
+      first_at c.args.shelf.now.entries.now c.args.step_type c.args.text.now c.loop-place.place c.index-entries-place.result m.0 c.loop-place-test.true c.index-entries-place.is c.if-is_same.ensures m.2 c.loop-place.invariant.0,
+    )
 
 pub returns-clause-found : goal.returns-clause-found
 returns-clause-found g c = (None, tt, none_all c.args.shelf.now.entries.now c.args.step_type c.args.text.now c.loop-place.place c.loop-place-test.false c.loop-place.invariant.0)

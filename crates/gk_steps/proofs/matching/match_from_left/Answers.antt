@@ -1,22 +1,24 @@
-use Rattle.std.proofs.Common.{rules, ◌≡◌, ◌∷◌, ◌++◌, ◌-◌, length, drop, List, Some, None, [], take, map, ap, subst, sym, ◌∙◌, arith}
+use Rattle.std.proofs.Common.{rules, ◌≡◌, ◌∷◌, ◌++◌, ◌-◌, length, drop, List, Some, None, [], take, map, refl, ap, subst, sym, ◌∙◌, arith}
 use Rattle.std.specs.Str.{chars}
 use Rattle.gk_steps.specs.declared.pattern.Piece.{Piece}
 use Rattle.gk_steps.specs.Pattern.{PieceValue, piece_value}
 use Rattle.gk_steps.specs.Columns.{values_of}
 use Rattle.gk_steps.specs.Leftmost.{IsLeft}
-use Rattle.gk_steps.specs.Kept.{IsKeptResult, KeepsRest}
+use Rattle.gk_steps.specs.Kept.{AreKept, IsKeptResult, KeepsRest}
 use Rattle.gk_steps.proofs.TableRowLemmas.{if_ok}
 use Rattle.gk_steps.proofs.LeftmostLemmas.{left_start, none_left, left_more, left_nothing, left_over}
 use Rattle.gk_steps.proofs.FilledCellsLemmas.{fewer_chars, left_most}
+use Rattle.gk_steps.proofs.KeptLemmas.{done_more, done_all}
 use Rattle.gk_steps.proofs.matching.match_from_left.Goals as goal
 
 pub pieces-init : goal.pieces-init
-pieces-init g c = (c.utf8.text, ([], c.empty-kept.ensures, left_start (map piece_value c.args.pieces.now) c.args.text.now), omega arith, omega arith, search rules)
+pieces-init g c = (c.utf8.text, ([], ([], refl, c.empty-kept.ensures), left_start (map piece_value c.args.pieces.now) c.args.text.now), omega arith, omega arith, search rules)
 
 pub pieces-preserved : goal.pieces-preserved
 pieces-preserved g c =
     let rest = c.pieces.rest.now in
     let before = c.pieces.invariant.1.0 in
+    let done = c.pieces.invariant.1.1.0 in
     let piece = piece_value c.in-Some.piece.now in
     let others = map piece_value c.in-Some.after.now in
     let known : IsLeft (map piece_value c.args.pieces.now) c.args.text.now before (piece ∷ others) rest =
@@ -27,7 +29,11 @@ pieces-preserved g c =
       c.range_from-rest.utf8,
       (
         after,
-        c.in_ok-add-in-At.ensures before c.pieces.invariant.1.1,
+        (
+          done ++ piece ∷ [],
+          done_more done (map piece_value c.pieces.left.now) (map piece_value c.args.pieces.now) others piece c.pieces.invariant.1.1.1 (ap (map piece_value) c.in-Some.ensures.cases.0),
+          c.in_ok-add-in-At.ensures done before c.pieces.invariant.1.1.2,
+        ),
         subst (IsLeft (map piece_value c.args.pieces.now) c.args.text.now after others) (sym c.range_from-rest.ensures.value)
             (left_more (map piece_value c.args.pieces.now) c.args.text.now before after piece others rest c.in-At.place known c.in-At.ensures (ap (λ x. before ++ values_of piece x) taken)),
       ),
@@ -45,16 +51,18 @@ returns-in-Nowhere-clause-found g c =
 pub returns-in-Unknown-clause-found : goal.returns-in-Unknown-clause-found
 returns-in-Unknown-clause-found g c =
     let before = c.pieces.invariant.1.0 in
+    let done = c.pieces.invariant.1.1.0 in
     if_ok c.match_rest.result
-    (λ kept. (before : _) → g.K.Kept.keeps c.pieces.kept before → KeepsRest g.K.Kept.keeps before (map piece_value c.pieces.left.now) c.pieces.rest.now kept)
+    (λ kept. (done : _) (before : _) → g.K.Kept.keeps done c.pieces.kept before → KeepsRest g.K.Kept.keeps done before (map piece_value c.pieces.left.now) c.pieces.rest.now kept)
     (λ kept. IsKeptResult g.K.Kept.keeps (map piece_value c.args.pieces.now) c.args.text.now kept)
-    (λ kept h. let r = h before c.pieces.invariant.1.1 in (r.0, r.1, r.2 (map piece_value c.args.pieces.now) c.args.text.now c.pieces.invariant.1.2)) c.match_rest.ensures.found
+    (λ kept h. let r = h done before c.pieces.invariant.1.1.2 in (r.0, subst (λ ps. AreKept (g.K.Kept.keeps ps) kept r.0) c.pieces.invariant.1.1.1 r.1, r.2 (map piece_value c.args.pieces.now) c.args.text.now c.pieces.invariant.1.2)) c.match_rest.ensures.found
 
 pub returns-then-is_empty-clause-found : goal.returns-then-is_empty-clause-found
 returns-then-is_empty-clause-found g c =
     let before = c.pieces.invariant.1.0 in
     let known = subst (λ (pieces : List Piece). IsLeft (map piece_value c.args.pieces.now) c.args.text.now before (map piece_value pieces) c.pieces.rest.now) (none_left c.pieces.left.now c.in_default.ensures.cases) c.pieces.invariant.1.2 in
-    (Some before, c.pieces.invariant.1.1, left_nothing (map piece_value c.args.pieces.now) c.args.text.now before c.pieces.rest.now known (search rules))
+    let all = done_all c.pieces.invariant.1.1.0 (map piece_value c.pieces.left.now) (map piece_value c.args.pieces.now) c.pieces.invariant.1.1.1 (ap (map piece_value) (none_left c.pieces.left.now c.in_default.ensures.cases)) in
+    (Some before, subst (λ ps. g.K.Kept.keeps ps c.pieces.kept before) all c.pieces.invariant.1.1.2, left_nothing (map piece_value c.args.pieces.now) c.args.text.now before c.pieces.rest.now known (search rules))
 
 pub returns-else-is_empty-clause-found : goal.returns-else-is_empty-clause-found
 returns-else-is_empty-clause-found g c =

@@ -18,9 +18,9 @@ pub returns-in-None-clause-most : goal.returns-in-None-clause-most
 returns-in-None-clause-most g c = rest_most c.args.left.now c.args.rest.now c.in_ok-places.places.items c.deref.result.now c.args.cells.now.filled c.match_pieces.new.cells.filled c.utf8.rest c.in_ok-places.ensures c.deref.ensures.value c.match_pieces.ensures.most
 
 pub returns-in_ok-join-in-Some-clause-found : goal.returns-in_ok-join-in-Some-clause-found
-returns-in_ok-join-in-Some-clause-found g c = λ before is. rest_some g.K.Kept.keeps before (map piece_value c.args.left.now) c.args.rest.now c.in-Some.later c.join.new.self (λ after. c.in_ok-join-in-Some.ensures before after is)
+returns-in_ok-join-in-Some-clause-found g c = λ done before is. rest_some g.K.Kept.keeps done before (map piece_value c.args.left.now) c.args.rest.now c.in-Some.later c.join.new.self (λ after. c.in_ok-join-in-Some.ensures done (map piece_value c.args.left.now) before after is)
     (subst (IsKeptResult g.K.Kept.keeps (map piece_value c.args.left.now) c.args.rest.now) c.in-Some.is c.in_ok-later.ensures.found)
 
 pub returns-in-None-clause-found : goal.returns-in-None-clause-found
-returns-in-None-clause-found g c = λ before is. rest_none g.K.Kept.keeps before (map piece_value c.args.left.now) c.args.rest.now
+returns-in-None-clause-found g c = λ done before is. rest_none g.K.Kept.keeps done before (map piece_value c.args.left.now) c.args.rest.now
     (subst (IsKeptResult g.K.Kept.keeps (map piece_value c.args.left.now) c.args.rest.now) c.in-None.is c.in_ok-later.ensures.found)

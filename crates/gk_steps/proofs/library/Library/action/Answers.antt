@@ -1,0 +1,6 @@
+use Rattle.std.proofs.Common.{map}
+use Rattle.gk_steps.specs.Matching.{field_value}
+use Rattle.gk_steps.proofs.library.Library.action.Goals as goal
+
+pub returns : goal.returns
+returns c = c.action_at.ensures (map field_value c.args.found.now.fields.items)

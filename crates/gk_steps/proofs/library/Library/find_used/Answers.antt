@@ -1,0 +1,13 @@
+use Rattle.std.proofs.Common.{subst}
+use Rattle.gk_steps.specs.Finding as spec
+use Rattle.gk_steps.specs.Finding.{library_value}
+use Rattle.gk_steps.specs.Kept.{IsHit}
+use Rattle.gk_steps.specs.UsedFields.{KeepsFirst}
+use Rattle.gk_steps.proofs.UsedFieldsLemmas.{use_some}
+use Rattle.gk_steps.proofs.library.Library.find_used.Goals as goal
+
+pub returns-clause-found : goal.returns-clause-found
+returns-clause-found c =
+    let library = library_value c.args.self.now in
+    let found = spec.found library c.args.step_type c.args.text.now in
+    use_some library found c.in-Some.field-0 _ (subst (λ hit. IsHit KeepsFirst library hit found) c.in-Some.is c.in_ok-hit.ensures.found) c.action_at.ensures (c.used_in.ensures library)
