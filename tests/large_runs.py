@@ -853,6 +853,14 @@ def tags_of_which_the_last_chooses(count):
 
 
 @growing_run(1000)
+def tags_that_stand_nowhere(count):
+    """Each tag that is named is looked for among as many in the feature."""
+    tags = " ".join(f"@t{number}" for number in range(count))
+    return Run({"a.feature": f"{tags}\n" + driver.feature("Given it passes")}, 1, f"--tags @t{count}: stands nowhere\n",
+               arguments=["--lint", *given("--tags", [f"@t{number}" for number in range(1, count + 1)]), "a.feature"])
+
+
+@growing_run(1000)
 def variables_of_the_run(count):
     steps = ['Then the variable "V0" should be "0"',
              f'And the variable "V{count - 1}" should be "{count - 1}"',

@@ -12,5 +12,5 @@ if exists(':CompilerSet') != 2
 endif
 
 CompilerSet makeprg=gherkin_run\ --lint
-" What is said below a fault names no place; a fault; then what is found; a --line at which nothing is says nothing of a place.
-CompilerSet errorformat=%-G\ \ \ \ %.%#,gherkin_run:\ %f:%l:\ %m,%f:%l:\ %m,%-G%.%#
+" What is said below a fault names no place; a fault; then what is found; a tag of --tags or a --line says nothing of a place.
+CompilerSet errorformat=%-G\ \ \ \ %.%#,%-G--tags\ %.%#,gherkin_run:\ %f:%l:\ %m,%f:%l:\ %m,%-G%.%#

@@ -11,9 +11,9 @@ use Rattle.gk_cli.specs.Suite.{Device}
 pub part_of_lint : (r : Request) (library hooks : List ℕ) (old new : Device) (text : List ℕ) (fault : RunFault) → fault ≡ Write → IsLinted r library hooks text → IsStopped old new text fault → SaysLintFault r library hooks old new fault
 part_of_lint r library hooks old new text fault named linted stopped = subst (SaysLintFault r library hooks old new) (sym named) (text, linted, subst (IsStopped old new text) named stopped)
 
--- A text that grew by four parts.
-pub four_parts : (t u v w x a b c d : List ℕ) → t ≡ [] → u ≡ t ++ a → v ≡ u ++ b → w ≡ v ++ c → x ≡ w ++ d → x ≡ a ++ (b ++ (c ++ d))
-four_parts t u v w x a b c d none first second third fourth =
-    fourth
-    ∙ ap (λ l. l ++ d) (third ∙ ap (λ l. l ++ c) (second ∙ ap (λ l. l ++ b) (first ∙ ap (λ l. l ++ a) none)))
-    ∙ append_assoc (a ++ b) c d ∙ append_assoc a b (c ++ d)
+-- A text that grew by five parts.
+pub five_parts : (t u v w x y a b c d e : List ℕ) → t ≡ [] → u ≡ t ++ a → v ≡ u ++ b → w ≡ v ++ c → x ≡ w ++ d → y ≡ x ++ e → y ≡ a ++ (b ++ (c ++ (d ++ e)))
+five_parts t u v w x y a b c d e none first second third fourth fifth =
+    fifth
+    ∙ ap (λ l. l ++ e) (fourth ∙ ap (λ l. l ++ d) (third ∙ ap (λ l. l ++ c) (second ∙ ap (λ l. l ++ b) (first ∙ ap (λ l. l ++ a) none))))
+    ∙ append_assoc ((a ++ b) ++ c) d e ∙ append_assoc (a ++ b) c (d ++ e) ∙ append_assoc a b (c ++ (d ++ e))

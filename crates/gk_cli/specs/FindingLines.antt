@@ -2,6 +2,7 @@
 use Rattle.std.specs.Prelude.{ℕ, List, ◌++◌, codes, flat_map}
 use Rattle.std.specs.Fmt.{decimal}
 use Rattle.gk_explain.specs.EventLines.{place_text}
+use Rattle.gk_explain.specs.Shown.{shown}
 use Rattle.gk_lint.specs.declared.findings.Finding.{Finding}
 use Rattle.gk_lint.specs.Findings.{finding_text}
 
@@ -12,6 +13,14 @@ finding_line name f = place_text name f.line ++ (finding_text f.kind ++ codes "\
 -- The lines of findings in a file of this name, one after the other.
 abbrev pub finding_lines : List ℕ → List Finding → List ℕ
 finding_lines name findings = flat_map (finding_line name) findings
+
+-- What is written of a tag of `--tags` that stands nowhere: the tag, with what can't be seen as an escape.
+unfoldable pub tag_line : List ℕ → List ℕ
+tag_line tag = codes "--tags " ++ (shown tag ++ codes ": stands nowhere\n")
+
+-- What is written of such tags, one after the other.
+abbrev pub tag_lines : List (List ℕ) → List ℕ
+tag_lines tags = flat_map tag_line tags
 
 -- What is written of a `--line` that chooses nothing.
 abbrev pub idle_line : ℕ → List ℕ

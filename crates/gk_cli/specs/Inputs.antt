@@ -12,8 +12,8 @@ use Rattle.gk_gherkin.specs.ReadFault.{FaultSays, FeatureFault}
 use Rattle.gk_select.specs.Case.{CaseValue}
 use Rattle.gk_select.specs.Expansion.{cases, step_count, step_limit, HasTooManySteps, IsExpandable}
 use Rattle.gk_select.specs.TagGrammar.{Expression}
-use Rattle.gk_select.specs.TagRules.{ReadsTags}
-use Rattle.gk_select.specs.Choice.{chosen_by, is_chosen}
+use Rattle.gk_select.specs.TagRules.{ReadsTags, tag_rule_value}
+use Rattle.gk_select.specs.Choice.{is_chosen}
 use Rattle.gk_steps.specs.LibraryFile.{ReadsLibrary}
 use Rattle.gk_steps.specs.DefaultFile.{default_text}
 use Rattle.gk_steps.specs.Finding.{LibraryValue, library_value}
@@ -159,11 +159,9 @@ pub record IsReading (bytes : List ℕ) (reading : Option FeatureValue) : Type 0
   pub reads : Reads (lines_of bytes) reading
   pub expandable : (f : FeatureValue) → reading ≡ Some f → IsExpandable f
 
--- What is asked for reads so before its sources: the choice among cases, the library and the hooks.
+-- What is asked for reads so before its sources: the rules of tags, the library and the hooks.
 pub record IsReadBefore (r : Request) (before : ReadBefore) : Type 0 where
-  pub rules : List Expression
-  pub tags : AreRules r.tags rules
-  pub choice : chosen_by before.choice ≡ is_chosen rules r.lines
+  pub tags : AreRules r.tags (map tag_rule_value before.rules.items)
   pub library : IsLibrary r.library (library_value before.library)
   pub hooks : AreHooks r.hooks (hooks_value before.hooks)
 

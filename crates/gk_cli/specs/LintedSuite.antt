@@ -4,18 +4,20 @@ use Rattle.gk_gherkin.specs.Feature.{FeatureValue, feature_value}
 use Rattle.gk_gherkin.specs.Hooks.{HookValue, hooks_value}
 use Rattle.gk_gherkin.specs.Lines.{lines_of, IsText}
 use Rattle.gk_select.specs.TagGrammar.{Expression}
+use Rattle.gk_select.specs.TagRules.{tag_rule_value}
 use Rattle.gk_steps.specs.Finding.{LibraryValue, library_value}
 use Rattle.gk_lint.specs.declared.findings.Finding.{Finding}
 use Rattle.gk_lint.specs.Findings.{AreInOrder}
 use Rattle.gk_lint.specs.LibraryUse.{unused_entries}
+use Rattle.gk_lint.specs.NamedTags.{nowhere}
 use Rattle.gk_lint.specs.ScenarioLines.{without_scenario}
 use Rattle.gk_lint.specs.TagUse.{hooks_of_no_tag}
 use Rattle.gk_lint.specs.WrittenSteps.{of_hooks, found_in, used_in}
-use Rattle.gk_cli.specs.declared.inputs.ReadInputs.{ReadInputs}
+use Rattle.gk_cli.specs.declared.inputs.ReadBefore.{ReadBefore}
 use Rattle.gk_cli.specs.declared.linted_sources.LintSoFar.{LintSoFar}
 use Rattle.gk_cli.specs.declared.run_fault.RunFault.{RunFault}
 use Rattle.gk_cli.specs.declared.run_fault.RunFault.TheVariants.{Write, Memory}
-use Rattle.gk_cli.specs.FindingLines.{finding_lines, idle_lines}
+use Rattle.gk_cli.specs.FindingLines.{finding_lines, tag_lines, idle_lines}
 use Rattle.gk_cli.specs.GrowingReport.{IsWritten, IsStopped}
 use Rattle.gk_cli.specs.Inputs.{Request, AreRules, IsLibrary, AreHooks}
 use Rattle.gk_cli.specs.LintedSources.{features_in, used_by, AreLinted}
@@ -27,8 +29,9 @@ abbrev pub library_findings : Option (List ℕ) → List ℕ → List Finding
 library_findings None used = []
 library_findings (Some bytes) used = unused_entries used (lines_of bytes)
 
--- What a lint has read: the entries of the library, the hooks and the features; and what is written of the sources.
+-- What a lint has read: the rules of tags, the entries of the library, the hooks and the features; and what is written of the sources.
 pub record LintRead : Type 0 where
+  pub rules : List Expression
   pub entries : LibraryValue
   pub hooks : List HookValue
   pub features : List FeatureValue
@@ -42,17 +45,16 @@ all_used read = used_in read.entries (of_hooks read.hooks) ++ used_by read.entri
 abbrev pub hook_findings : LintRead → List Finding
 hook_findings read = hooks_of_no_tag read.features read.hooks ++ found_in read.entries (of_hooks read.hooks)
 
--- What is written of what was read, with these names of the library file and of the hooks file: what is found of the library, of the hooks and of the sources, and the lines of `--line` that choose nothing.
+-- What is written of what was read, with these names of the library file and of the hooks file: what is found of the library, of the hooks and of the sources, the tags of `--tags` that stand nowhere, and the lines of `--line` that choose nothing.
 abbrev pub IsTextOf : Request → List ℕ → List ℕ → LintRead → List ℕ → Type 0
 IsTextOf r library hooks read text =
     (ordered : List Finding) × AreInOrder (hook_findings read) ordered
-    × (text ≡ finding_lines library (library_findings r.library (all_used read)) ++ (finding_lines hooks ordered ++ (read.of_sources ++ idle_lines (without_scenario read.features r.lines))))
+    × (text ≡ finding_lines library (library_findings r.library (all_used read)) ++ (finding_lines hooks ordered ++ (read.of_sources ++ (tag_lines (nowhere read.features read.rules) ++ idle_lines (without_scenario read.features r.lines)))))
 
 -- What is asked for reads, and this is all that is found of it, each file's findings in the order of lines.
 pub record IsLinted (r : Request) (library_file hooks_file text : List ℕ) : Type 0 where
-  pub rules : List Expression
-  pub tags : AreRules r.tags rules
   pub read : LintRead
+  pub tags : AreRules r.tags read.rules
   pub library : IsLibrary r.library read.entries
   pub hooks : AreHooks r.hooks read.hooks
   pub readings : List (Option FeatureValue)
@@ -84,6 +86,6 @@ abbrev pub AreTexts : Option (List ℕ) → Type 0
 AreTexts None = Unit {0}
 AreTexts (Some bytes) = IsText bytes
 
--- What was read with these inputs, and what was found of the sources.
-abbrev pub read_of : ReadInputs → LintSoFar → LintRead
-read_of inputs so_far = record { entries = library_value inputs.library; hooks = hooks_value inputs.hooks; features = map feature_value so_far.features.items; of_sources = string_bytes so_far.text }
+-- What was read before the sources, and what was found of these.
+abbrev pub read_of : ReadBefore → LintSoFar → LintRead
+read_of before so_far = record { rules = map tag_rule_value before.rules.items; entries = library_value before.library; hooks = hooks_value before.hooks; features = map feature_value so_far.features.items; of_sources = string_bytes so_far.text }

@@ -1,8 +1,9 @@
 //! The lines in which findings are written.
+ghost use Rattle.std.specs.Prelude.{map};
 ghost use Rattle.gk_report.specs.ReportTexts.{Pushes};
 ghost use Rattle.gk_cli.specs.FindingLines as spec;
 
-use gk_explain::push_place;
+use gk_explain::{push_place, push_shown};
 use gk_lint::Finding;
 use std::alloc::{AllocError, Global};
 
@@ -33,6 +34,26 @@ pub fn push_findings(
 {
     for finding in findings {
         push_finding(out, alloc, name, finding)?;
+    }
+    Ok(())
+}
+
+// Pushes what is written of a tag of `--tags` that stands nowhere.
+fn push_tag_line(out: &mut String, tag: &str) -> Result<(), AllocError>
+    ensures { Pushes out.old (spec.tag_line tag.now) result out.new }
+{
+    out.push_str("--tags ")?;
+    push_shown(out, tag)?;
+    out.push_str(": stands nowhere\n")
+}
+
+/// Pushes a line for each of some tags of `--tags` that stand nowhere. An error comes only where a growth was refused; a
+/// part of it may have been pushed then.
+pub fn push_tag_lines(out: &mut String, tags: &[&str]) -> Result<(), AllocError>
+    ensures { Pushes out.old (spec.tag_lines (map (λ t. t.now) tags.now)) result out.new }
+{
+    for tag in tags {
+        push_tag_line(out, *tag)?;
     }
     Ok(())
 }

@@ -5,7 +5,7 @@ ghost use Rattle.std.specs.List.{AllByRecursion};
 ghost use Rattle.gk_gherkin.specs.Feature.{feature_value, rule_value, texts};
 ghost use Rattle.gk_gherkin.specs.Hooks.{hooks_value};
 ghost use Rattle.gk_select.specs.Case.{case_value};
-ghost use Rattle.gk_select.specs.Choice.{chosen_by};
+ghost use Rattle.gk_select.specs.Choice.{chosen_by, is_chosen};
 ghost use Rattle.gk_select.specs.Expansion.{IsExpandable};
 ghost use Rattle.gk_select.specs.TagRules.{tag_rule_value};
 ghost use Rattle.gk_steps.specs.Finding.{library_value};
@@ -116,6 +116,15 @@ fn copied_lines(alloc: Global, lines: &[u32]) -> Result<Vec<u32>, AllocError>
     let mut copy = Vec::new(alloc);
     copy.extend_from_slice(lines)?;
     Ok(copy)
+}
+
+// The choice by these rules and lines.
+fn choice_by(alloc: Global, rules: Vec<TagRule>, lines: &[u32]) -> Result<Choice, AllocError>
+    ensures { IfOk result (λ choice. chosen_by choice
+        ≡ is_chosen (map tag_rule_value rules.items) lines.now) }
+{
+    let lines = copied_lines(alloc, lines)?;
+    Ok(Choice::new(rules, lines))
 }
 
 fn copied_texts(alloc: Global, from: &[String]) -> Result<Vec<String>, AllocError>
@@ -374,15 +383,17 @@ fn take_sources(
     Ok(features)
 }
 
-// What is read before the sources.
+/// What is read before the sources.
 #[derive(Drop)]
-struct ReadBefore {
-    choice: Choice,
-    library: Library,
-    hooks: HookFile,
+pub struct ReadBefore {
+    pub rules: Vec<TagRule>,
+    pub library: Library,
+    pub hooks: HookFile,
 }
 
-fn read_before(
+/// Reads what a run is asked for, but for the sources: first the texts of tags, then the library, then the hooks. An
+/// error names the first that doesn't read.
+pub fn read_before(
     alloc: Global,
     options: &Options,
     library: Option<&[u8]>,
@@ -397,8 +408,6 @@ fn read_before(
         Ok(rules) => rules,
         Err(fault) => return Err(tags_fault(fault)),
     };
-    let lines = copied_lines(alloc, options.lines.as_slice())?;
-    let choice = Choice::new(rules, lines);
     let library = match read_step_library(alloc, library) {
         Ok(library) => library,
         Err(fault) => return Err(library_fault(fault)),
@@ -408,7 +417,7 @@ fn read_before(
         Err(fault) => return Err(hooks_fault(fault)),
     };
     Ok(ReadBefore {
-        choice,
+        rules,
         library,
         hooks,
     })
@@ -433,7 +442,8 @@ pub fn read_inputs(
         Ok(before) => before,
         Err(fault) => return Err(fault),
     };
-    match read_sources(alloc, &before.choice, sources) {
+    let choice = choice_by(alloc, before.rules, options.lines.as_slice())?;
+    match read_sources(alloc, &choice, sources) {
         Ok(features) => Ok(ReadInputs {
             library: before.library,
             hooks: before.hooks,
@@ -464,7 +474,8 @@ pub fn take_inputs(
         Ok(before) => before,
         Err(fault) => return Err(fault),
     };
-    match take_sources(alloc, &before.choice, files.sources.as_mut_slice()) {
+    let choice = choice_by(alloc, before.rules, options.lines.as_slice())?;
+    match take_sources(alloc, &choice, files.sources.as_mut_slice()) {
         Ok(features) => Ok(ReadInputs {
             library: before.library,
             hooks: before.hooks,

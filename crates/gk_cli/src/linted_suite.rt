@@ -18,15 +18,18 @@ ghost use Rattle.gk_cli.specs.LintedSuite.{library_findings, lint_status, AreTex
 
 use crate::arguments::Options;
 use crate::counted::Counted;
-use crate::finding_lines::{push_findings, push_idle_lines};
+use crate::finding_lines::{push_findings, push_idle_lines, push_tag_lines};
 use crate::growing_report::write_piece;
-use crate::inputs::{ReadInputs, read_inputs};
+use crate::inputs::{ReadBefore, read_before};
 use crate::linted_sources::{LintSoFar, known_text, lint_sources, with_findings};
 use crate::run_fault::RunFault;
 use crate::source::Source;
 use crate::suite_files::{SuiteFiles, bytes_of, name_of};
 use gk_gherkin::Feature;
-use gk_lint::{StepFindings, lines_without_scenario, lint_hook_tags, lint_hooks, lint_library};
+use gk_lint::{
+    StepFindings, lines_without_scenario, lint_hook_tags, lint_hooks, lint_library,
+    tags_that_stand_nowhere,
+};
 use std::alloc::{AllocError, Global};
 use std::io::Write;
 
@@ -56,18 +59,18 @@ fn push_library_findings(
 // use.
 fn findings_of_hooks(
     alloc: Global,
-    inputs: &ReadInputs,
+    before: &ReadBefore,
     features: &[Feature],
 ) -> Result<StepFindings, AllocError>
     ensures found { IfOk result (λ r. AreInOrder
-        (hooks_of_no_tag (map feature_value features.now) (hooks_value inputs.now.hooks)
-        ++ found_in (library_value inputs.now.library) (of_hooks (hooks_value inputs.now.hooks)))
+        (hooks_of_no_tag (map feature_value features.now) (hooks_value before.now.hooks)
+        ++ found_in (library_value before.now.library) (of_hooks (hooks_value before.now.hooks)))
         r.findings.items) }
-    ensures used { IfOk result (λ r. r.used.items ≡ used_in (library_value inputs.now.library)
-        (of_hooks (hooks_value inputs.now.hooks))) }
+    ensures used { IfOk result (λ r. r.used.items ≡ used_in (library_value before.now.library)
+        (of_hooks (hooks_value before.now.hooks))) }
 {
-    let idle = lint_hook_tags(alloc, &inputs.hooks, features)?;
-    let of_steps = lint_hooks(alloc, &inputs.library, &inputs.hooks)?;
+    let idle = lint_hook_tags(alloc, &before.hooks, features)?;
+    let of_steps = lint_hooks(alloc, &before.library, &before.hooks)?;
     with_findings(idle, of_steps)
 }
 
@@ -76,22 +79,22 @@ fn whole_text(
     alloc: Global,
     options: &Options,
     files: &SuiteFiles,
-    inputs: &ReadInputs,
+    before: &ReadBefore,
     so_far: LintSoFar,
 ) -> Result<String, AllocError>
     requires texts { AreTexts (of_files.bytes_of (file_value files.now.library)) }
-    requires used { so_far.used.items ≡ used_by (library_value inputs.now.library)
+    requires used { so_far.used.items ≡ used_by (library_value before.now.library)
         (map feature_value so_far.features.items) }
     ensures { IfOk result (λ text. IsTextOf (request_of_files options.now files.now)
         (library_name files.now) (hooks_name files.now)
-        (read_of inputs.now so_far) (string_bytes text)) }
+        (read_of before.now so_far) (string_bytes text)) }
 {
     let LintSoFar {
         text: of_sources,
         used,
         features,
     } = so_far;
-    let mut of_hooks = findings_of_hooks(alloc, inputs, features.as_slice())?;
+    let mut of_hooks = findings_of_hooks(alloc, before, features.as_slice())?;
     let mut used = used;
     of_hooks.used.append(&mut used)?;
     let mut text = String::new(alloc);
@@ -99,6 +102,8 @@ fn whole_text(
     let hooks = name_of(&files.hooks);
     push_findings(&mut text, alloc, hooks, of_hooks.findings.as_slice())?;
     text.push_str(of_sources.as_str())?;
+    let tags = tags_that_stand_nowhere(alloc, before.rules.as_slice(), features.as_slice())?;
+    push_tag_lines(&mut text, tags.as_slice())?;
     let idle = lines_without_scenario(alloc, options.lines.as_slice(), features.as_slice())?;
     push_idle_lines(&mut text, idle.as_slice())?;
     Ok(text)
@@ -112,13 +117,12 @@ fn read_and_lint(alloc: Global, options: &Options, files: &SuiteFiles) -> Result
 {
     let library = bytes_of(&files.library);
     let hooks = bytes_of(&files.hooks);
-    // The sources are read one after another below, so that only their features are kept.
-    let inputs = match read_inputs(alloc, options, library, hooks, &[]) {
-        Ok(inputs) => inputs,
+    let before = match read_before(alloc, options, library, hooks) {
+        Ok(before) => before,
         Err(fault) => return Err(fault),
     };
-    match lint_sources(alloc, &inputs.library, files.sources.as_slice()) {
-        Ok(so_far) => Ok(whole_text(alloc, options, files, &inputs, so_far)?),
+    match lint_sources(alloc, &before.library, files.sources.as_slice()) {
+        Ok(so_far) => Ok(whole_text(alloc, options, files, &before, so_far)?),
         Err(fault) => Err(fault),
     }
 }
@@ -132,9 +136,10 @@ fn status_of(text: &str) -> u8
 
 /// Reads what is asked for as `run_suite` does, runs nothing, and writes what is found in it: a line
 /// `NAME:LINE: TEXT` for each finding, of the library file first, then of the hooks file, then of each source in
-/// turn, each in the order of its lines; and then a line for each `--line` that chooses no scenario. It finds what of
-/// a file vanishes in silence, steps that can't work for want of an entry, a text or a table, what isn't used, and
-/// scenarios that share a name. Of the options `tags` are read, and `lines` looked for; the others aren't looked at.
+/// turn, each in the order of its lines; and then a line for each tag of `--tags` that stands nowhere, as often as it is
+/// named, and for each `--line` that chooses no scenario. It finds what of a file vanishes in silence, steps that can't
+/// work for want of an entry, a text or a table, what isn't used, and scenarios that share a name. Of the options
+/// `tags` and `lines` are looked for; the others aren't looked at.
 ///
 /// The answer is 0 where nothing was found, and else 1. `RunFault` says when each error comes: at `Write` a
 /// prefix was written, perhaps an empty one, at every other nothing. Nothing is flushed. The writer's

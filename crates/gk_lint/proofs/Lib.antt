@@ -1,4 +1,5 @@
 pub mod Letters
+pub mod AsciiLetters
 pub mod CommonLetters
 pub mod ExchangedLetters
 pub mod OneLetterOff

@@ -1,5 +1,7 @@
 -- What is found in small files, worked by computation.
 use Rattle.std.proofs.Common.{codes, ◌≡◌, List, [], ◌∷◌, ◌++◌, Some, None, refl}
+use Rattle.std.specs.Str.{chars, is_utf8}
+use lib.Utf8
 use Rattle.gk_gherkin.specs.declared.feature.StepType.TheVariants.{Given}
 use Rattle.gk_gherkin.specs.Class.{class, class_of, class_of_words}
 use Rattle.gk_gherkin.specs.DocStrings.{closes}
@@ -9,7 +11,7 @@ use Rattle.gk_lint.specs.declared.findings.FindingKind.TheVariants.{CrAlone, Fil
 use Rattle.gk_lint.specs.declared.keywords.Keyword.TheVariants as keywords
 use Rattle.gk_lint.specs.declared.standing.Standing.TheVariants.{Elsewhere}
 use Rattle.gk_lint.specs.Findings.{at_line}
-use Rattle.gk_lint.specs.Likeness.{same_letters, common_len, differ_at_first, is_one_off, is_exchanged, spelt_heading, spelt_step, like}
+use Rattle.gk_lint.specs.Likeness.{is_other_blank, letter, same_letters, common_len, differ_at_first, is_one_off, is_exchanged, spelt_heading, spelt_step, begun_like, like}
 use Rattle.gk_lint.specs.Standing.{after}
 use Rattle.gk_lint.specs.Misspelt.{misspelt, misspelt_at}
 use Rattle.gk_lint.specs.LineEnds.{cr_alone}
@@ -30,7 +32,7 @@ with_text =
     ∷ []
 
 misspelt_lines : misspelt Elsewhere with_text ≡ at_line 2 (LikeKeyword keywords.Scenario) ∷ at_line 4 (LikeKeyword keywords.When) ∷ []
-unfolding with_text misspelt_at after closes class class_of class_of_words like spelt_heading spelt_step is_one_off is_exchanged differ_at_first common_len same_letters
+unfolding with_text misspelt_at after closes class class_of class_of_words is_utf8 chars lib.Utf8.encode is_other_blank letter like begun_like spelt_heading spelt_step is_one_off is_exchanged differ_at_first common_len same_letters
 misspelt_lines = refl
 
 -- In a description a fence opens nothing, and neither does one after a step that stands outside of a scenario. A step with `And` isn't found there.
@@ -44,7 +46,7 @@ with_fences =
     ∷ []
 
 misspelt_in_description : misspelt Elsewhere with_fences ≡ at_line 2 StepOutside ∷ at_line 4 (LikeKeyword keywords.Rule) ∷ []
-unfolding with_fences misspelt_at after closes class class_of class_of_words like spelt_heading spelt_step is_one_off is_exchanged differ_at_first common_len same_letters
+unfolding with_fences misspelt_at after closes class class_of class_of_words is_utf8 chars lib.Utf8.encode is_other_blank letter like begun_like spelt_heading spelt_step is_one_off is_exchanged differ_at_first common_len same_letters
 misspelt_in_description = refl
 
 -- One line with a carriage return in it, and two lines.

@@ -5,6 +5,7 @@ use Rattle.gk_gherkin.specs.declared.hooks.HookKind.TheVariants.{BeforeTag, Afte
 use Rattle.gk_gherkin.specs.Feature.{Empty, Text, Table, StepValue, ExamplesValue, ScenarioValue, FeatureValue}
 use Rattle.gk_gherkin.specs.Hooks.{HookValue}
 use Rattle.gk_gherkin.specs.Lines.{Lines, line_at}
+use Rattle.gk_select.specs.TagGrammar.{one_term, or_terms, one_factor, and_factors, tagged, negated}
 use Rattle.gk_select.specs.Filling.{filled, filled_from, cell_under}
 use Rattle.gk_steps.specs.declared.action.Action.TheVariants.{FileIs, WriteFiles, FileExists, SetValue, AtCleanup, SkipScenario}
 use Rattle.gk_lint.specs.declared.findings.FindingKind.TheVariants.{NameTwice, OfStep, UnusedEntry, HookOfNoTag}
@@ -20,6 +21,7 @@ use Rattle.gk_lint.specs.LibraryUse.{unused_entries}
 use Rattle.gk_lint.specs.ScenarioNames.{same_names}
 use Rattle.gk_lint.specs.TagUse.{hooks_of_no_tag}
 use Rattle.gk_lint.specs.ScenarioLines.{without_scenario}
+use Rattle.gk_lint.specs.NamedTags.{nowhere}
 
 -- However many rows have a fault, it is named once, and undefined steps come first.
 once : named_once all_faults 3 (NoText ∷ Undefined ∷ NoText ∷ []) ≡ at_line 3 (OfStep Undefined) ∷ at_line 3 (OfStep NoText) ∷ []
@@ -109,6 +111,12 @@ hook tag = record { kind = BeforeTag; tag = tag; line = 7; steps = [] }
 one_idle : hooks_of_no_tag (feature ∷ []) (hook (Some (codes "@f")) ∷ hook (Some (codes "@e")) ∷ hook (Some (codes "@g")) ∷ hook None ∷ []) ≡ at_line 7 HookOfNoTag ∷ []
 unfolding feature scenario part hook
 one_idle = refl
+
+-- Of the tags that two rules name, one stands nowhere and is named by both, and a negated one stands nowhere, too; those of the feature and of Examples stand somewhere.
+named_nowhere : nowhere (feature ∷ []) (one_term (and_factors (tagged (codes "@f")) (one_factor (tagged (codes "@g")))) ∷ or_terms (one_factor (negated (tagged (codes "@h")))) (or_terms (one_factor (tagged (codes "@e"))) (one_term (one_factor (tagged (codes "@g"))))) ∷ [])
+    ≡ codes "@g" ∷ codes "@h" ∷ codes "@g" ∷ []
+unfolding feature scenario part
+named_nowhere = refl
 
 -- The scenario and the rows have lines that choose, and neither the outline's heading nor another line has.
 two_lines : without_scenario (feature ∷ []) (3 ∷ 5 ∷ 8 ∷ 10 ∷ []) ≡ 5 ∷ 10 ∷ []

@@ -16,4 +16,5 @@ pub mod Lookups
 pub mod WrittenSteps
 pub mod LibraryUse
 pub mod TagUse
+pub mod NamedTags
 pub mod ScenarioLines

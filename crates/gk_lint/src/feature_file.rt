@@ -35,7 +35,7 @@ pub fn lint_feature(
     add_cr_alone(&mut findings, text)?;
     add_vanishing(&mut findings, feature)?;
     add_same_names(&mut findings, alloc, feature)?;
-    add_misspelt(&mut findings, text)?;
+    add_misspelt(&mut findings, alloc, text)?;
     in_order(findings)
 }
 

@@ -15,17 +15,21 @@ use crate::likeness::like;
 use crate::standing::{LineKind, Standing, after, begins_with_one_of, line_kind};
 use gk_gherkin::text::trim;
 use gk_gherkin::{BorrowedLine, LIMIT, borrowed_line};
-use std::alloc::AllocError;
+use std::alloc::{AllocError, Global};
 
 // The keywords that steps begin with, before others join them.
 const OPENING_WORDS: [Keyword; 3] = [Keyword::Given, Keyword::When, Keyword::Then];
 
 // Adds what is found at a line of a description.
-fn add_like(findings: &mut Vec<Finding>, line: &BorrowedLine<'_>) -> Result<(), AllocError>
+fn add_like(
+    findings: &mut Vec<Finding>,
+    alloc: Global,
+    line: &BorrowedLine<'_>,
+) -> Result<(), AllocError>
     ensures { OnOk result (findings.new.items ≡ findings.old.items
         ++ spec.likened (borrowed_value line.now) (like (trim (borrowed_value line.now).text))) }
 {
-    if let Some(keyword) = like(trim(line.text)) {
+    if let Some(keyword) = like(alloc, trim(line.text))? {
         findings.push(Finding {
             line: line.place.line,
             kind: FindingKind::LikeKeyword(keyword),
@@ -60,6 +64,7 @@ fn add_step(
 // Adds what is found at a line that stands here, outside of doc strings.
 fn add_of_kind(
     findings: &mut Vec<Finding>,
+    alloc: Global,
     standing: Standing,
     line: &BorrowedLine<'_>,
 ) -> Result<(), AllocError>
@@ -68,7 +73,7 @@ fn add_of_kind(
         (line_kind (borrowed_value line.now))) }
 {
     match line_kind(line) {
-        LineKind::Description => add_like(findings, line),
+        LineKind::Description => add_like(findings, alloc, line),
         LineKind::Step => add_step(findings, standing, line),
         _ => Ok(()),
     }
@@ -78,6 +83,7 @@ fn add_of_kind(
 #[tactic(auto, unfolding(crate::specs::Misspelt::misspelt_at))]
 fn add_at(
     findings: &mut Vec<Finding>,
+    alloc: Global,
     standing: Standing,
     line: &BorrowedLine<'_>,
 ) -> Result<(), AllocError>
@@ -86,13 +92,17 @@ fn add_at(
 {
     match standing {
         Standing::InText(_) => Ok(()),
-        _ => add_of_kind(findings, standing, line),
+        _ => add_of_kind(findings, alloc, standing, line),
     }
 }
 
 /// Adds what is found at the lines of a text. An error comes only where a growth was refused; some of it may have been
 /// added then.
-pub fn add_misspelt(findings: &mut Vec<Finding>, text: &str) -> Result<(), AllocError>
+pub fn add_misspelt(
+    findings: &mut Vec<Finding>,
+    alloc: Global,
+    text: &str,
+) -> Result<(), AllocError>
     requires { length text.now ≤ LIMIT }
     ensures { OnOk result (findings.new.items ≡ findings.old.items
         ++ spec.misspelt Elsewhere (numbered_from 1 (lines text.now))) }
@@ -101,7 +111,7 @@ pub fn add_misspelt(findings: &mut Vec<Finding>, text: &str) -> Result<(), Alloc
     let mut standing = Standing::Elsewhere;
     for part in text.lines() {
         let line = borrowed_line(number, part);
-        add_at(findings, standing, &line)?;
+        add_at(findings, alloc, standing, &line)?;
         standing = after(standing, &line);
         number += 1;
     }

@@ -43,18 +43,6 @@ const IGNORED_TEXT: &str = "doc string that is ignored";
 
 const IGNORED_TABLE: &str = "table that is ignored";
 
-/// The faults that a step can have.
-pub const ALL_FAULTS: [StepFault; 8] = [
-    StepFault::Undefined,
-    StepFault::CleanupWithoutStep,
-    StepFault::NotAllowed,
-    StepFault::NoText,
-    StepFault::NoTable,
-    StepFault::BadTable,
-    StepFault::IgnoredText,
-    StepFault::IgnoredTable,
-];
-
 impl StepFault {
     /// The text of a fault.
     pub fn text(self) -> &'static str
@@ -72,6 +60,18 @@ impl StepFault {
         }
     }
 }
+
+/// The faults that a step can have.
+pub const ALL_FAULTS: [StepFault; 8] = [
+    StepFault::Undefined,
+    StepFault::CleanupWithoutStep,
+    StepFault::NotAllowed,
+    StepFault::NoText,
+    StepFault::NoTable,
+    StepFault::BadTable,
+    StepFault::IgnoredText,
+    StepFault::IgnoredTable,
+];
 
 fn is_same_fault(a: StepFault, b: StepFault) -> bool
     ensures { result ≡ spec.is_same_fault a b }

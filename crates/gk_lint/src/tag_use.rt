@@ -1,9 +1,9 @@
 //! Hooks for tags that stand nowhere.
-ghost use Rattle.std.specs.Prelude.{◌≡◌, ◌++◌, map, OnOk, IfOk};
+ghost use Rattle.std.specs.Prelude.{◌≡◌, ◌++◌, ℕ, List, map, OnOk, IfOk};
 ghost use Rattle.gk_gherkin.specs.Feature.{texts, examples_value, scenario_value, rule_value, feature_value};
 ghost use Rattle.gk_gherkin.specs.Hooks.{hook_value, hooks_value};
 ghost use Rattle.gk_lint.specs.Findings.{AreInOrder};
-ghost use Rattle.gk_lint.specs.TextSets.{in_set};
+ghost use Rattle.gk_lint.specs.TextSets.{in_set, is_one_of};
 ghost use Rattle.gk_lint.specs.TagUse as spec;
 
 use crate::findings::{Finding, FindingKind, add_if, in_order};
@@ -81,6 +81,17 @@ fn tags_in<'a>(alloc: Global, features: &'a [Feature]) -> Result<Vec<&'a str>, A
     Ok(all)
 }
 
+/// The set of all tags that stand in features: above a feature, a rule, a scenario or its Examples. An error comes only
+/// where a growth was refused.
+pub fn set_of_tags<'a>(alloc: Global, features: &'a [Feature]) -> Result<TextSet<'a>, AllocError>
+    ensures { IfOk result (λ set. (tag : List ℕ) →
+        in_set set tag ≡ is_one_of (spec.tags_in (map feature_value features.now)) tag) }
+{
+    let all = tags_in(alloc, features)?;
+    let tags = set_of(alloc, &all)?;
+    Ok(tags)
+}
+
 // Adds what is found of a hook, by which tags stand in the features.
 fn add_idle_hook(
     findings: &mut Vec<Finding>,
@@ -124,8 +135,7 @@ pub fn lint_hook_tags(
         (spec.hooks_of_no_tag (map feature_value features.now) (hooks_value hooks.now))
         findings.items) }
 {
-    let all = tags_in(alloc, features)?;
-    let tags = set_of(alloc, &all)?;
+    let tags = set_of_tags(alloc, features)?;
     let findings = idle_hooks(alloc, &tags, &hooks.hooks)?;
     let ordered = in_order(findings)?;
     Ok(ordered)

@@ -7,6 +7,7 @@ pub mod AlternativeWords
 pub mod TagMachine
 pub mod TagDepths
 pub mod TagShows
+pub mod TagNames
 pub mod TagTextWords
 pub mod TagReading
 pub mod ReadableRows

@@ -3,7 +3,7 @@ use Rattle.std.specs.Prelude.{codes, ◌≡◌, ◌<◌, ℕ, zero, suc, Bool, t
 use Rattle.std.proofs.Common.{refl, sym, ap, ◌∙◌, inl, inr, arith}
 use Rattle.std.specs.List.{list_any}
 use Rattle.gk_select.specs.TagWords.{WordValue, open_word, close_word, not_word, and_word, or_word, tag_word, cut_of, words_of_text, word_said, AreWords, is_of_new_form}
-use Rattle.gk_select.specs.TagGrammar.{Expression, one_term, or_terms, one_factor, and_factors, Factor, tagged, negated, grouped, depth, depth_limit, spelling}
+use Rattle.gk_select.specs.TagGrammar.{Expression, one_term, or_terms, one_factor, and_factors, Factor, tagged, negated, grouped, depth, depth_limit, spelling, tags_in}
 use Rattle.gk_select.specs.TagValues.{holds}
 use Rattle.gk_select.specs.TagRules.{ReadsTags, SpellsNone}
 use Rattle.gk_select.specs.TagMeasures.{Measure, measure_of}
@@ -82,6 +82,10 @@ one_of_three = (inr (record { new_form = refl; says = refl; shallow = omega arit
 never : Says (codes "@a and not @a") (one_term (and_factors (tagged a) (one_factor (negated (tagged a))))) (false ∷ false ∷ false ∷ false ∷ false ∷ false ∷ false ∷ false ∷ [])
 unfolding cut_of
 never = (inr (record { new_form = refl; says = refl; shallow = omega arith }), refl)
+
+-- The tags that an expression names: in the order of its text, a negated one too, and one that stands twice there twice.
+names_in_order : tags_in (or_terms (and_factors (grouped (or_terms (one_factor (tagged b)) (only a))) (one_factor (negated (tagged c)))) (only b)) ≡ b ∷ a ∷ c ∷ b ∷ []
+names_in_order = refl
 
 -- Parentheses are words without blanks round them; blanks, tabs too, stand anywhere between words and at both ends.
 grouped_tag : Says (codes "(@a)") (one_term (one_factor (grouped (only a)))) (false ∷ true ∷ false ∷ false ∷ true ∷ true ∷ false ∷ true ∷ [])

@@ -57,3 +57,18 @@ depth_limit = 100
 -- An expression that these words spell.
 abbrev pub SpeltBy : List WordValue → Type 0
 SpeltBy words = (e : Expression) × (spelling e ≡ words)
+
+-- The tags that an expression names, in the order in which they stand in it, each as often as it does.
+abbrev mutual
+  pub tags_in : Expression → List (List ℕ)
+  tags_in (one_term t) = term_tags t
+  tags_in (or_terms t e) = term_tags t ++ tags_in e
+
+  pub term_tags : Term → List (List ℕ)
+  term_tags (one_factor f) = factor_tags f
+  term_tags (and_factors f t) = factor_tags f ++ term_tags t
+
+  pub factor_tags : Factor → List (List ℕ)
+  factor_tags (tagged tag) = tag ∷ []
+  factor_tags (negated f) = factor_tags f
+  factor_tags (grouped e) = tags_in e

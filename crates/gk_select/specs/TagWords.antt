@@ -76,3 +76,13 @@ word_said word =
 -- The words of a text, each of which may stand in an expression. (Cucumber's tag expressions)
 abbrev pub AreWords : List ℕ → List WordValue → Type 0
 AreWords text words = map word_said (words_of_text text) ≡ map Some words
+
+-- What only the proofs speak of: the tags among words.
+abbrev pub tags_among : List WordValue → List (List ℕ)
+tags_among [] = []
+tags_among (tag_word tag ∷ words) = tag ∷ tags_among words
+tags_among (open_word ∷ words) = tags_among words
+tags_among (close_word ∷ words) = tags_among words
+tags_among (not_word ∷ words) = tags_among words
+tags_among (and_word ∷ words) = tags_among words
+tags_among (or_word ∷ words) = tags_among words

@@ -1,14 +1,15 @@
 //! Rules of tags, asked about a set of tags: the words of an expression are taken from the last to the first.
-ghost use Rattle.std.specs.Prelude.{◌≡◌, ◌-◌, ◌<◌, ◌^◌, map};
+ghost use Rattle.std.specs.Prelude.{◌≡◌, ◌-◌, ◌<◌, ◌^◌, ◌++◌, map, OnOk, IfOk};
 ghost use Rattle.std.specs.List.{list_any};
 ghost use Rattle.std.specs.Str.{bytes_eq};
 ghost use Rattle.gk_gherkin.specs.Feature.{texts};
-ghost use Rattle.gk_select.specs.TagGrammar.{Expression, SpeltBy, spelling};
+ghost use Rattle.gk_select.specs.TagGrammar.{Expression, SpeltBy, spelling, tags_in};
 ghost use Rattle.gk_select.specs.TagTrees.{spelt_once};
 ghost use Rattle.gk_select.specs.TagValues.{holds, seen_before, seen_value, seen_depth};
-ghost use Rattle.gk_select.specs.TagWords.{word_value};
+ghost use Rattle.gk_select.specs.TagWords.{word_value, tags_among};
 
 use crate::tag_words::Word;
+use std::alloc::{AllocError, Global};
 
 /// What is known of the words taken so far.
 #[derive(Clone, Copy, Debug)]
@@ -75,6 +76,19 @@ fn is_among(tag: &str, tags: &[String]) -> bool
     tags.iter().any(|other| tag == other.as_str())
 }
 
+// Pushes the tags among some words.
+fn push_tags<'a>(all: &mut Vec<&'a str>, words: &'a [Word]) -> Result<(), AllocError>
+    ensures { OnOk result (map (λ t. t.now) all.new.items
+        ≡ map (λ t. t.now) all.old.items ++ tags_among (map word_value words.now)) }
+{
+    for word in words {
+        if let Word::Tag(tag) = word {
+            all.push(tag.as_str())?;
+        }
+    }
+    Ok(())
+}
+
 /// An expression of tags, which holds of a set of tags or doesn't.
 #[derive(Debug, Drop)]
 pub struct TagRule {
@@ -107,5 +121,16 @@ impl TagRule {
             seen = seen.before(&words[at], tags);
         }
         seen.value()
+    }
+
+    /// The tags that the rule names, each with its `@`, in the order of its text and as often as they stand
+    /// there, whether negated or not. An error comes only where a growth was refused.
+    pub fn tags(&self, alloc: Global) -> Result<Vec<&str>, AllocError>
+        ensures { IfOk result (λ tags. map (λ t. t.now) tags.items
+            ≡ tags_in (tag_rule_value self.now)) }
+    {
+        let mut tags = Vec::new(alloc);
+        push_tags(&mut tags, self.words.as_slice())?;
+        Ok(tags)
     }
 }

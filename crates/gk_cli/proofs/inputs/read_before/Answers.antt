@@ -1,7 +1,6 @@
-use Rattle.std.proofs.Common.{◌≡◌, ◌∙◌, ap, sym, subst, map}
+use Rattle.std.proofs.Common.{sym, subst, map}
 use Rattle.gk_gherkin.specs.Feature.{texts}
 use Rattle.gk_select.specs.TagRules.{tag_rule_value}
-use Rattle.gk_select.specs.Choice.{is_chosen}
 use Rattle.gk_steps.specs.Finding.{library_value}
 use Rattle.gk_cli.specs.Inputs.{asked, AreRules}
 use Rattle.gk_cli.specs.RunFault.{IsUnread}
@@ -32,11 +31,8 @@ returns-in-Err-read_hook_file-clause-fault c = λ sources.
 pub returns-clause-read : goal.returns-clause-read
 returns-clause-read c =
     let wanted = map tag_rule_value c.in-Ok.rules.items in
-    let lines : c.in_ok-lines.lines.items ≡ c.args.options.now.lines.items = c.in_ok-lines.ensures ∙ c.as_slice-2.ensures.value in
     record {
-      rules = wanted;
       tags = subst (λ ts. AreRules (texts ts) wanted) c.as_slice.ensures.value c.in-Ok.ensures.rules;
-      choice = c.new-choice.ensures ∙ ap (is_chosen wanted) lines;
       library = c.in-Ok-read_step_library.ensures.read;
       hooks = c.in-Ok-read_hook_file.ensures.read;
     }

@@ -1,5 +1,7 @@
-use Rattle.std.proofs.Common.{map, subst}
+use Rattle.std.proofs.Common.{◌∙◌, map, ap, subst}
 use Rattle.gk_gherkin.specs.Hooks.{hooks_value}
+use Rattle.gk_select.specs.Choice.{is_chosen}
+use Rattle.gk_select.specs.TagRules.{tag_rule_value}
 use Rattle.gk_steps.specs.Finding.{library_value}
 use Rattle.gk_run.specs.Chosen.{chosen_value}
 use Rattle.gk_cli.specs.Inputs.{AreRead}
@@ -17,19 +19,22 @@ pub returns-in-Ok-take_sources-clause-read : goal.returns-in-Ok-take_sources-cla
 returns-in-Ok-take_sources-clause-read c =
     let request = request_of_files c.args.options.now c.args.files.now in
     let before = rw (c.bytes_of-library.ensures, c.bytes_of-hooks.ensures) at c.in-Ok.ensures.read in
+    let choice = c.in_ok-choice.ensures ∙ ap (is_chosen (map tag_rule_value c.in-Ok.before.rules.items)) c.as_slice.ensures.value in
     let read = rw (c.as_mut_slice.ensures.value) at c.in-Ok-take_sources.ensures.read in
     record {
-      rules = before.rules;
+      rules = map tag_rule_value c.in-Ok.before.rules.items;
       tags = before.tags;
       library = before.library;
       hooks = before.hooks;
-      features = subst (λ f. AreRead f request.sources (map chosen_value c.in-Ok-take_sources.features.items)) before.choice read;
+      features = subst (λ f. AreRead f request.sources (map chosen_value c.in-Ok-take_sources.features.items)) choice read;
     }
 
 pub returns-in-Err-take_sources-clause-fault : goal.returns-in-Err-take_sources-clause-fault
 returns-in-Err-take_sources-clause-fault c =
     let request = request_of_files c.args.options.now c.args.files.now in
     let before = rw (c.bytes_of-library.ensures, c.bytes_of-hooks.ensures) at c.in-Ok.ensures.read in
+    let rules = map tag_rule_value c.in-Ok.before.rules.items in
+    let choice = c.in_ok-choice.ensures ∙ ap (is_chosen rules) c.as_slice.ensures.value in
     let says = rw (c.as_mut_slice.ensures.value) at c.in-Err-take_sources.ensures.fault in
-    sources_unread request before.rules (library_value c.in-Ok.before.library) (hooks_value c.in-Ok.before.hooks) c.in-Err-take_sources.fault before.tags before.library before.hooks
-    (subst (λ f. SaysSources f request.sources c.in-Err-take_sources.fault) before.choice says)
+    sources_unread request rules (library_value c.in-Ok.before.library) (hooks_value c.in-Ok.before.hooks) c.in-Err-take_sources.fault before.tags before.library before.hooks
+    (subst (λ f. SaysSources f request.sources c.in-Err-take_sources.fault) choice says)

@@ -1,0 +1,4 @@
+Feature: Other
+  @ui
+  Scenario: One
+    Given it passes
