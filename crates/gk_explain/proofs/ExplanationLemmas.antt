@@ -1,9 +1,14 @@
 -- What an event more of a section makes of an explanation.
-use Rattle.std.proofs.Common.{◌≡◌, ◌∙◌, ap, sym}
+use Rattle.std.proofs.Common.{◌≡◌, ◌∙◌, ℕ, List, ap, sym, subst}
+use Rattle.std.specs.Prelude.{OnOk, Result}
+use Rattle.std.proofs.lemmas.Result.{on_ok_weaker}
+use Rattle.gk_steps.specs.Finding.{LibraryValue}
+use Rattle.gk_run.specs.Watching.{Told}
 use Rattle.gk_run.specs.declared.section.Level.{Level}
 use Rattle.gk_run.specs.declared.section.Level.TheVariants as levels
-use Rattle.gk_explain.specs.SectionLines.{SectionValue}
-use Rattle.gk_explain.specs.Explanation.{ExplanationValue, with_section}
+use Rattle.gk_explain.specs.Event.{level_of}
+use Rattle.gk_explain.specs.SectionLines.{SectionValue, after_event}
+use Rattle.gk_explain.specs.Explanation.{ExplanationValue, with_event, with_section}
 
 pub in_run : (e : ExplanationValue) (level : Level) (change : SectionValue → SectionValue) (new : SectionValue) → level ≡ levels.Run → new ≡ change e.run → record e { run = new } ≡ with_section level change e
 in_run e level change new is becomes = ap (λ (new : SectionValue). record e { run = new }) becomes ∙ ap (λ (level : Level). with_section level change e) (sym is)
@@ -16,3 +21,24 @@ in_rule e level change new is becomes = ap (λ (new : SectionValue). record e { 
 
 pub in_scenario : (e : ExplanationValue) (level : Level) (change : SectionValue → SectionValue) (new : SectionValue) → level ≡ levels.Scenario → new ≡ change e.scenario → record e { scenario = new } ≡ with_section level change e
 in_scenario e level change new is becomes = ap (λ (new : SectionValue). record e { scenario = new }) becomes ∙ ap (λ (level : Level). with_section level change e) (sym is)
+
+-- What an event makes of a section, where its file has this name.
+abbrev pub added : ExplanationValue → Told → List ℕ → SectionValue → SectionValue
+added e told source old = after_event e.library (record { hooks = e.names.hooks; source = source }) told old
+
+pub added_by : {T E : Type 0} (result : Result T E) (e : ExplanationValue) (told : Told) (old : SectionValue) (kept : LibraryValue) (source : List ℕ) (new : SectionValue) (put : LibraryValue → ExplanationValue) → (new ≡ after_event e.library e.names told old → put e.library ≡ with_event told e) → kept ≡ e.library → source ≡ e.names.source → OnOk result (new ≡ added e told source old) → OnOk result (put kept ≡ with_event told e)
+added_by result e told old kept source new put step stays named said =
+    subst (λ (library : LibraryValue). OnOk result (put library ≡ with_event told e)) (sym stays)
+    (on_ok_weaker result (λ becomes. step (becomes ∙ ap (λ (source : List ℕ). added e told source old) named)) said)
+
+pub run_added : {T E : Type 0} (result : Result T E) (e : ExplanationValue) (told : Told) (kept : LibraryValue) (source : List ℕ) (new : SectionValue) → level_of told ≡ levels.Run → kept ≡ e.library → source ≡ e.names.source → OnOk result (new ≡ added e told source e.run) → OnOk result (record e { library = kept; run = new } ≡ with_event told e)
+run_added result e told kept source new is = added_by result e told e.run kept source new (λ library. record e { library = library; run = new }) (in_run e (level_of told) (after_event e.library e.names told) new is)
+
+pub feature_added : {T E : Type 0} (result : Result T E) (e : ExplanationValue) (told : Told) (kept : LibraryValue) (source : List ℕ) (new : SectionValue) → level_of told ≡ levels.Feature → kept ≡ e.library → source ≡ e.names.source → OnOk result (new ≡ added e told source e.feature) → OnOk result (record e { library = kept; feature = new } ≡ with_event told e)
+feature_added result e told kept source new is = added_by result e told e.feature kept source new (λ library. record e { library = library; feature = new }) (in_feature e (level_of told) (after_event e.library e.names told) new is)
+
+pub rule_added : {T E : Type 0} (result : Result T E) (e : ExplanationValue) (told : Told) (kept : LibraryValue) (source : List ℕ) (new : SectionValue) → level_of told ≡ levels.Rule → kept ≡ e.library → source ≡ e.names.source → OnOk result (new ≡ added e told source e.rule) → OnOk result (record e { library = kept; rule = new } ≡ with_event told e)
+rule_added result e told kept source new is = added_by result e told e.rule kept source new (λ library. record e { library = library; rule = new }) (in_rule e (level_of told) (after_event e.library e.names told) new is)
+
+pub scenario_added : {T E : Type 0} (result : Result T E) (e : ExplanationValue) (told : Told) (kept : LibraryValue) (source : List ℕ) (new : SectionValue) → level_of told ≡ levels.Scenario → kept ≡ e.library → source ≡ e.names.source → OnOk result (new ≡ added e told source e.scenario) → OnOk result (record e { library = kept; scenario = new } ≡ with_event told e)
+scenario_added result e told kept source new is = added_by result e told e.scenario kept source new (λ library. record e { library = library; scenario = new }) (in_scenario e (level_of told) (after_event e.library e.names told) new is)

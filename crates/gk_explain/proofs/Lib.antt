@@ -1,5 +1,6 @@
 pub mod ShownLemmas
 pub mod DifferencesLemmas
+pub mod DifferingLinesLemmas
 pub mod ExplanationLemmas
 pub mod RegistrationLemmas
 pub mod NearestLinesLemmas

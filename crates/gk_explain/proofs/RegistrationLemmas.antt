@@ -1,10 +1,9 @@
 -- Where the cleanups of a case were registered.
 use Rattle.std.specs.List.{slice_get}
-use Rattle.std.proofs.Common.{◌≡◌, ◌∙◌, ◌-◌, ℕ, zero, suc, Bool, true, false, cond, ◌&&◌, List, [], ◌∷◌, ◌++◌, length, take, map, flat_map, reverse, Option, Some, None, is_some, refl, ap, ap₂, sym, subst, append_assoc, arith}
+use Rattle.std.proofs.Common.{◌≡◌, ◌∙◌, ◌-◌, Bool, true, false, cond, ◌&&◌, List, [], ◌∷◌, ◌++◌, length, map, flat_map, reverse, Option, Some, None, is_some, refl, ap, ap₂, sym, subst, append_assoc, arith}
 use Rattle.std.proofs.lemmas.List.{append-nil, map-append, reverse-append, reverse-reverse, length_push, take_at}
 use Rattle.std.proofs.lemmas.List.Concat.{flat_map-append}
 use Rattle.gk_gherkin.specs.Feature.{BlockValue, StepValue}
-use Rattle.gk_select.specs.Case.{CaseValue}
 use Rattle.gk_steps.specs.declared.action.Action.{Action}
 use Rattle.gk_steps.specs.declared.action.Action.TheVariants as actions
 use Rattle.gk_steps.specs.Finding.{LibraryValue, FoundValue, action_of, found, found_any}
@@ -14,7 +13,7 @@ use Rattle.gk_run.specs.declared.acting.Site.TheVariants as sites
 use Rattle.gk_run.specs.declared.ending.Ending.{Ending}
 use Rattle.gk_run.specs.declared.ending.Ending.TheVariants as endings
 use Rattle.gk_run.specs.declared.results.Mark.{Mark}
-use Rattle.gk_run.specs.declared.results.Mark.TheVariants.{Acted, Undefined, Skipped}
+use Rattle.gk_run.specs.declared.results.Mark.TheVariants.{Undefined, Skipped}
 use Rattle.gk_run.specs.declared.results.Outcome.{Outcome}
 use Rattle.gk_run.specs.declared.results.Outcome.TheVariants as outcomes
 use Rattle.gk_run.specs.declared.results.Reason.TheVariants as reasons
@@ -25,13 +24,12 @@ use Rattle.gk_run.specs.declared.section.Place.{Place}
 use Rattle.gk_run.specs.Acting.{Acted as Result, CleanupValue, Given, act, at_site, done_of, fails, given, is_pass, may_register, registers as registers_found, without_cleanups}
 use Rattle.gk_run.specs.Ending.{ended_of, ending_of, has_passed}
 use Rattle.gk_run.specs.OpenSection.{its_steps}
-use Rattle.gk_run.specs.Run.{Run}
 use Rattle.gk_run.specs.Section.{site_of}
 use Rattle.gk_run.specs.SectionHooks.{after_lists, before_list, begun, walk_each}
 use Rattle.gk_run.specs.Walk.{Walked, looked_up, one_step, stepped, steps_after, walk}
-use Rattle.gk_run.specs.Watching.{Told, of_step, of_cleanup, told_walk, told_steps, told_each, told_in_turn, told_case, in_order, before_of, after_of, steps_of_case}
+use Rattle.gk_run.specs.Watching.{Told, of_step, told_walk, told_steps, told_each, told_in_turn, told_case, in_order, before_of, after_of, steps_of_case}
 use Rattle.gk_explain.specs.declared.registrations.Registration.{Registration}
-use Rattle.gk_explain.specs.Registrations.{PlacedCleanup, is_at_cleanup, found_registers, is_passed, registered_by, last_of, all_but_last, left_to_run, placed_cleanups, cleanup_found, cleanup_of, placed_by, CleanupsAreOfTheirSteps}
+use Rattle.gk_explain.specs.Registrations.{PlacedCleanup, is_at_cleanup, found_registers, is_passed, registered_by, last_of, all_but_last, placed_cleanups, cleanup_found, cleanup_of, placed_by, CleanupsAreOfTheirSteps}
 
 -- A cleanup with its place.
 abbrev Pair : Type 0

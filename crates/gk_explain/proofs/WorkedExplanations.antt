@@ -23,6 +23,7 @@ use Rattle.gk_steps.specs.declared.pattern.FieldKind.TheVariants as kinds
 use Rattle.gk_steps.specs.Pattern.{Literal, FieldPiece}
 use Rattle.gk_steps.specs.Matching.{match_of}
 use Rattle.gk_steps.specs.Finding.{EntryValue, LibraryValue, found}
+use Rattle.gk_explain.specs.Shown.{marked_line, marked_text_with}
 use Rattle.gk_explain.specs.Details.{event_details}
 use Rattle.gk_explain.specs.Nearest.{agreement, is_near}
 use Rattle.gk_explain.specs.Tables.{refused_file}
@@ -140,3 +141,14 @@ not_near_by_a_blank = refl
 -- A row whose name has no byte is the first that can't be written, and the header isn't looked at.
 row_without_name : refused_file (Table ((codes "" ∷ codes "text" ∷ []) ∷ (codes "a" ∷ codes "b" ∷ []) ∷ (codes "" ∷ codes "c" ∷ []) ∷ [])) ≡ ([], codes "c")
 row_without_name = refl
+
+-- Twenty-one lines with the twelfth among those that are shown, and with the thirteenth, which is shown without it.
+line_round_the_middle : marked_text_with (codes "found   ") 12 (codes "a\nb\nc\nd\ne\nf\ng\nh\ni\nj\nk\nl\nm\nn\no\np\nq\nr\ns\nt\nu")
+    ≡ codes "      found    \"a\"\n      found    \"b\"\n      found    \"c\"\n      found    \"d\"\n      found    \"e\"\n      ... 3 more lines ...\n      found    \"i\"\n      found    \"j\"\n      found    \"k\"\n      found    \"l\"\n      found    \"m\"\n      found    \"n\"\n      found    \"o\"\n      ... 2 more lines ...\n      found    \"r\"\n      found    \"s\"\n      found    \"t\"\n      found    \"u\"\n"
+unfolding marked_text_with marked_line digits is_utf8 chars lib.Utf8.encode
+line_round_the_middle = refl
+
+line_of_the_last_nine : marked_text_with (codes "found   ") 13 (codes "a\nb\nc\nd\ne\nf\ng\nh\ni\nj\nk\nl\nm\nn\no\np\nq\nr\ns\nt\nu")
+    ≡ codes "      found    \"a\"\n      found    \"b\"\n      found    \"c\"\n      found    \"d\"\n      found    \"e\"\n      found    \"f\"\n      found    \"g\"\n      found    \"h\"\n      found    \"i\"\n      found    \"j\"\n      ... 2 more lines ...\n      found    \"m\"\n      found    \"n\"\n      found    \"o\"\n      found    \"p\"\n      found    \"q\"\n      found    \"r\"\n      found    \"s\"\n      found    \"t\"\n      found    \"u\"\n"
+unfolding marked_text_with marked_line digits is_utf8 chars lib.Utf8.encode
+line_of_the_last_nine = refl

@@ -22,7 +22,7 @@ use Rattle.gk_explain.specs.declared.details.Kind.TheVariants as kinds
 use Rattle.gk_explain.specs.declared.differences.Position.{Position}
 use Rattle.gk_explain.specs.Differences.{first_difference}
 use Rattle.gk_explain.specs.Nearest.{nearest_told}
-use Rattle.gk_explain.specs.Shown.{shown, marked_text}
+use Rattle.gk_explain.specs.Shown.{shown, marked_text, marked_text_with}
 use Rattle.gk_explain.specs.Tables.{other_table, refused_file}
 
 -- What an action works on.
@@ -72,9 +72,9 @@ expected_number n = codes "      expected " ++ (signed_decimal n ++ line_feed)
 unfoldable pub both : List ℕ → List ℕ → List ℕ
 both expected there = expected_text expected ++ found_below there
 
--- Both, and where they differ first.
+-- Both, with the line among those that are shown in which they differ first, and where they do.
 unfoldable pub compared : List ℕ → List ℕ → List ℕ
-compared expected there = both expected there ++ difference_line (first_difference expected there)
+compared expected there = let p = first_difference expected there in marked_text_with (codes "expected") p.line expected ++ (marked_text_with (codes "found   ") p.line there ++ difference_line p)
 
 -- A text that was expected in another, and the other.
 unfoldable pub lacking : List ℕ → List ℕ → List ℕ

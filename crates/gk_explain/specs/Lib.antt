@@ -6,6 +6,7 @@ pub mod Tables
 pub mod Nearest
 pub mod NearestLines
 pub mod Details
+pub mod DifferingLines
 pub mod Registrations
 pub mod EventLines
 pub mod SectionLines

@@ -1,5 +1,5 @@
 -- Where the cleanups of a section were registered.
-use Rattle.std.specs.Prelude.{◌≡◌, ℕ, ◌-◌, Bool, true, false, cond, ◌&&◌, List, [], ◌∷◌, ◌++◌, length, take, map, flat_map, reverse, Option, Some, None}
+use Rattle.std.specs.Prelude.{◌≡◌, ◌-◌, Bool, true, false, cond, ◌&&◌, List, [], ◌∷◌, ◌++◌, length, take, map, flat_map, reverse, Option, Some, None}
 use Rattle.std.specs.List.{slice_get}
 use Rattle.gk_gherkin.specs.Feature.{BlockValue, StepValue}
 use Rattle.gk_select.specs.Case.{CaseValue}

@@ -1,5 +1,5 @@
 -- Texts as they are shown below an event.
-use Rattle.std.specs.Prelude.{ℕ, ◌-◌, Bool, false, cond, not, ◌&&◌, ◌||◌, ◌==◌, nat_lt, List, ◌++◌, length, take, drop, flat_map, codes, chars, encode_utf8}
+use Rattle.std.specs.Prelude.{ℕ, ◌+◌, ◌-◌, Bool, false, cond, not, ◌&&◌, ◌||◌, ◌==◌, nat_lt, List, ◌++◌, length, take, drop, flat_map, codes, chars, encode_utf8}
 use Rattle.std.specs.Fmt.{decimal, digits}
 use Rattle.std.specs.List.{slice_split}
 
@@ -47,3 +47,20 @@ few_lines mark lines =
 -- A text after a mark, in at most twenty rows.
 unfoldable pub marked_text : List ℕ → List ℕ → List ℕ
 marked_text mark text = few_lines mark (text_lines text)
+
+-- Whether a line, counted from 1, is one of those that are left out of so many: these are more than twenty, and it is none of the first ten and of the last nine.
+abbrev pub is_left_out : ℕ → ℕ → Bool
+is_left_out line count = nat_lt 20 count && (nat_lt 10 line && nat_lt line (count - 8))
+
+-- Lines round one: the first five, it with three on either side, and the last four, each time with how many are left out between.
+abbrev pub lines_round : List ℕ → ℕ → List (List ℕ) → List ℕ
+lines_round mark line lines =
+    marked_lines mark (take 5 lines) ++ (left_out (line - 9) ++ (marked_lines mark (take 7 (drop (line - 4) lines)) ++ (left_out (length lines - (line + 7)) ++ marked_lines mark (drop (length lines - 4) lines))))
+
+-- Lines in at most twenty rows, one of which has to be shown: lines round it where it would be left out.
+abbrev pub few_lines_with : List ℕ → ℕ → List (List ℕ) → List ℕ
+few_lines_with mark line lines = cond (is_left_out line (length lines)) (lines_round mark line lines) (few_lines mark lines)
+
+-- A text after a mark, in at most twenty rows, with this line of it among those that are shown.
+unfoldable pub marked_text_with : List ℕ → ℕ → List ℕ → List ℕ
+marked_text_with mark line text = few_lines_with mark line (text_lines text)

@@ -13,7 +13,7 @@ ghost use Rattle.gk_explain.specs.Event.{event_told};
 use crate::differences::{Position, first_difference};
 use crate::event::{CleanupEvent, Event, StepEvent};
 use crate::nearest_lines::NearestLines;
-use crate::shown::{push_shown, push_text};
+use crate::shown::{push_shown, push_text, push_text_with};
 use crate::tables::{push_table, refused_file};
 use gk_gherkin::Block;
 use gk_run::{Mark, Outcome, Reason};
@@ -146,7 +146,7 @@ fn push_both(alloc: Global, out: &mut String, expected: &str, found: &str) -> Re
     push_text(alloc, out, "found   ", found)
 }
 
-// Pushes both, and where they differ first.
+// Pushes both, with the line in which they differ first, and where they do.
 #[tactic(auto, unfolding(crate::specs::Details::compared))]
 fn push_compared(
     alloc: Global,
@@ -156,8 +156,10 @@ fn push_compared(
 ) -> Result<(), AllocError>
     ensures { Pushes out.old (spec.compared expected.now found.now) result out.new }
 {
-    push_both(alloc, out, expected, found)?;
-    push_position(out, first_difference(expected, found))
+    let first = first_difference(expected, found);
+    push_text_with(alloc, out, "expected", first.line, expected)?;
+    push_text_with(alloc, out, "found   ", first.line, found)?;
+    push_position(out, first)
 }
 
 // Pushes a text that was expected in another, and the other.

@@ -5,6 +5,7 @@
 
 mod details;
 mod differences;
+mod differing_lines;
 mod event;
 mod event_lines;
 mod explainer;
@@ -17,6 +18,7 @@ mod section_lines;
 mod shown;
 mod tables;
 
+pub use differing_lines::differing_lines_are_shown;
 pub use event_lines::push_place;
 pub use explainer::{Explainer, cases_are_explained, cleanups_are_of_their_steps};
 pub use shown::push_shown;

@@ -1,5 +1,5 @@
 //! Texts as they are shown below an event.
-ghost use Rattle.std.specs.Prelude.{◌≡◌, ◌++◌, false, map, codes, IfOk};
+ghost use Rattle.std.specs.Prelude.{◌≡◌, ◌<◌, ◌+◌, ◌++◌, false, length, map, codes, IfOk};
 ghost use Rattle.std.specs.Fmt.{digits};
 ghost use Rattle.gk_report.specs.ReportTexts.{Pushes};
 ghost use Rattle.gk_explain.specs.Shown as spec;
@@ -119,6 +119,54 @@ fn push_few_lines(out: &mut String, mark: &str, lines: &[&str]) -> Result<(), Al
     push_lines(out, mark, last)
 }
 
+// Whether a line, counted from 1, is one of those that are left out of so many.
+fn is_left_out(line: usize, count: usize) -> bool
+    ensures { result ≡ spec.is_left_out line count }
+{
+    count > 20 && line > 10 && line < count - 8
+}
+
+// Pushes lines of a text round one that would be left out, with three on either side of it.
+fn push_lines_round(
+    out: &mut String,
+    mark: &str,
+    line: usize,
+    lines: &[&str],
+) -> Result<(), AllocError>
+    requires above { 10 < line }
+    requires below { line + 8 < length lines.now }
+    ensures { Pushes out.old
+        (spec.lines_round mark.now line (map (λ line. line.now) lines.now)) result out.new }
+{
+    let count = lines.len();
+    let (first, _) = lines.split_at(5);
+    let (_, rest) = lines.split_at(line - 4);
+    let (round, _) = rest.split_at(7);
+    let (_, last) = lines.split_at(count - 4);
+    push_lines(out, mark, first)?;
+    push_left_out(out, line - 9)?;
+    push_lines(out, mark, round)?;
+    push_left_out(out, count - (line + 7))?;
+    push_lines(out, mark, last)
+}
+
+// Pushes lines of a text in at most twenty rows, with this one among those that are shown.
+fn push_few_lines_with(
+    out: &mut String,
+    mark: &str,
+    line: usize,
+    lines: &[&str],
+) -> Result<(), AllocError>
+    ensures { Pushes out.old
+        (spec.few_lines_with mark.now line (map (λ line. line.now) lines.now)) result out.new }
+{
+    if is_left_out(line, lines.len()) {
+        push_lines_round(out, mark, line, lines)
+    } else {
+        push_few_lines(out, mark, lines)
+    }
+}
+
 /// Pushes the lines of a text, each after a mark and between quotes, in at most twenty rows: of more than twenty
 /// lines those in the middle are left out. An error comes only where a growth was refused; some of the rows may have
 /// been pushed then.
@@ -128,4 +176,21 @@ pub fn push_text(alloc: Global, out: &mut String, mark: &str, text: &str) -> Res
 {
     let lines = lines_of(alloc, text)?;
     push_few_lines(out, mark, &lines)
+}
+
+/// Pushes the lines of a text as `push_text` does, with this one, counted from 1, among those that are shown: where it
+/// would be left out, the first five stand there, it with three on either side, and the last four. An error comes
+/// only where a growth was refused; some of the rows may have been pushed then.
+#[tactic(auto, unfolding(crate::specs::Shown::marked_text_with))]
+pub fn push_text_with(
+    alloc: Global,
+    out: &mut String,
+    mark: &str,
+    line: usize,
+    text: &str,
+) -> Result<(), AllocError>
+    ensures { Pushes out.old (spec.marked_text_with mark.now line text.now) result out.new }
+{
+    let lines = lines_of(alloc, text)?;
+    push_few_lines_with(out, mark, line, &lines)
 }

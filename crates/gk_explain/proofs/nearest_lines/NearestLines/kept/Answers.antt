@@ -1,6 +1,4 @@
-use Rattle.std.proofs.Common.{◌≡◌, string_bytes}
 use Rattle.gk_steps.specs.Finding.{library_value}
-use Rattle.gk_explain.specs.Nearest.{nearest_told}
 use Rattle.gk_explain.proofs.NearestLinesLemmas.{kept_line}
 use Rattle.gk_explain.proofs.nearest_lines.NearestLines.kept.Goals as goal
 
