@@ -33,8 +33,9 @@ use Rattle.gk_cli.specs.declared.arguments.Options.{Options}
 use Rattle.gk_cli.specs.declared.arguments.Words.{Words}
 use Rattle.gk_cli.specs.declared.run_fault.RunFault.{RunFault}
 use Rattle.gk_cli.specs.declared.run_fault.RunFault.TheVariants as run
-use Rattle.gherkin_run.specs.Files.{IsFaultOfFiles, IsFileFault, name_of}
-use Rattle.gherkin_run.specs.Program.{AreGiven, AreLeft, AreTaken, IsFaultAs, IsFaultOfGiven, IsFaultOfRun, IsFaultOfVariable, IsFlushedRun, IsGiven, IsNamed, IsRefused, IsRun, IsWithin, SaysCallsOfRun, IsWrittenAs, SaysFaultAs, IsStoppedAs, hooks_name, library_name, SaysProgram, SaysSuite, SaysVariables, contents_given, bytes_given, request_of_files, variables_given, with_variables}
+use Rattle.gherkin_run.specs.Files.{AreRead, IsFaultOfFiles, IsFileFault, Reading, StopsReading, files_in_order, name_of}
+use Rattle.gherkin_run.specs.Program.{AreGiven, AreLeft, AreTaken, IsFaultAs, IsFaultOfGiven, IsFaultOfRun, IsFaultOfVariable, IsFlushedRun, IsGiven, IsNamed, IsRefused, IsRun, IsWithin, SaysCallsOfRun, IsWrittenAs, SaysFaultAs, IsStoppedAs, hooks_name, library_name, names_given, SaysProgram, SaysSuite, SaysVariables, contents_given, bytes_given, request_of_files, variables_given, with_variables}
+use Rattle.gherkin_run.proofs.FilesLemmas.{stops_for_memory}
 use Rattle.gherkin_run.specs.Fault.{IsFaultNamed}
 use Rattle.gherkin_run.specs.FaultListing.{IsListedAs}
 use Rattle.gherkin_run.specs.declared.fault.Fault.{Fault}
@@ -314,11 +315,11 @@ refused_here P f xs i x lt is here =
     let less : i < length (map f xs) = rw length-map lt in
     (i, f x, less, get_or-map f xs i x (f x) lt ∙ ap f (sym is), here)
 
-pub of_variables : (w : Words) (d : Device) (variables : List (String Global × String Global)) (old new : SandboxValue) (fault : Fault) → variables ≡ w.env.items
-    → SaysVariables (map pair_value variables) old new (Err fault) → SaysProgram w d d fault
-of_variables w d variables old new Env same says = subst (λ xs. Any IsRefused (map pair_value xs)) same says
-of_variables w d variables old new Memory same says = inl (untouched d)
-of_variables w d variables old new _ same says = absurd says
+pub of_variables : {S : Type 0} (r : Reading S) (w : Words) (s : S) (d : Device) (variables : List (String Global × String Global)) (old new : SandboxValue) (fault : Fault) → variables ≡ w.env.items
+    → SaysVariables (map pair_value variables) old new (Err fault) → SaysProgram r w s s d d fault
+of_variables r w s d variables old new Env same says = (subst (λ xs. Any IsRefused (map pair_value xs)) same says, refl)
+of_variables r w s d variables old new Memory same says = inl (untouched d, stops_for_memory r s (names_given w) Memory refl)
+of_variables r w s d variables old new _ same says = absurd says
 
 pub calls_of_variables : (d : Device) (variables : List PairValue) (old new : SandboxValue) (fault : Fault) → SaysVariables variables old new (Err fault) → SaysCallsOfRun d d fault
 calls_of_variables d variables old new Env says = untouched d
@@ -327,29 +328,31 @@ calls_of_variables d variables old new _ says = absurd says
 
 -- ---- a fault of a file
 
-from_files : (w : Words) (d : Device) (fault : Fault) → AreTaken (variables_given w) → Any (λ name. IsFileFault (string_bytes name) fault) w.files.items → SaysProgram w d d fault
-from_files w d (CannotRead other) taken h = (inr (inr h), taken)
-from_files w d (TooLong other) taken h = (inr (inr h), taken)
-from_files w d Memory taken h = inl (untouched d)
-from_files w d _ taken h = absurd h.4
+from_files : {S : Type 0} (r : Reading S) (w : Words) (a b : S) (d : Device) (fault : Fault) → AreTaken (variables_given w) → StopsReading r a (names_given w) b fault
+    → Any (λ name. IsFileFault (string_bytes name) fault) w.files.items → SaysProgram r w a b d d fault
+from_files r w a b d (CannotRead other) taken stops h = record { given = inr (inr h); taken = taken; stops = stops }
+from_files r w a b d (TooLong other) taken stops h = record { given = inr (inr h); taken = taken; stops = stops }
+from_files r w a b d Memory taken stops h = inl (untouched d, stops)
+from_files r w a b d _ taken stops h = absurd h.4
 
 no_file : (name : Option (String Global)) → IsSomeAnd name (λ n. ⊥) → ⊥
 no_file None says = says
 no_file (Some n) says = says
 
 -- a fault of the library file or of the hooks file
-from_named : (w : Words) (d : Device) (name : Option (String Global)) (fault : Fault) → ((file : List ℕ) → IsSomeAnd name (λ n. file ≡ string_bytes n) → IsGiven w file) → AreTaken (variables_given w)
-    → IsSomeAnd name (λ n. IsFileFault (string_bytes n) fault) → SaysProgram w d d fault
-from_named w d name (CannotRead other) given taken says = (given (string_bytes other) says, taken)
-from_named w d name (TooLong other) given taken says = (given (string_bytes other) says, taken)
-from_named w d name Memory given taken says = inl (untouched d)
-from_named w d name _ given taken says = absurd (no_file name says)
+from_named : {S : Type 0} (r : Reading S) (w : Words) (a b : S) (d : Device) (name : Option (String Global)) (fault : Fault) → ((file : List ℕ) → IsSomeAnd name (λ n. file ≡ string_bytes n) → IsGiven w file)
+    → AreTaken (variables_given w) → StopsReading r a (names_given w) b fault → IsSomeAnd name (λ n. IsFileFault (string_bytes n) fault) → SaysProgram r w a b d d fault
+from_named r w a b d name (CannotRead other) given taken stops says = record { given = given (string_bytes other) says; taken = taken; stops = stops }
+from_named r w a b d name (TooLong other) given taken stops says = record { given = given (string_bytes other) says; taken = taken; stops = stops }
+from_named r w a b d name Memory given taken stops says = inl (untouched d, stops)
+from_named r w a b d name _ given taken stops says = absurd (no_file name says)
 
 -- a fault of one of the files
-pub from_run_files : (w : Words) (d : Device) (fault : Fault) → AreTaken (variables_given w) → IsFaultOfFiles w.library w.hooks w.files.items fault → SaysProgram w d d fault
-from_run_files w d fault taken (inl h) = from_named w d w.library fault (λ file is. inl is) taken h
-from_run_files w d fault taken (inr (inl h)) = from_named w d w.hooks fault (λ file is. inr (inl is)) taken h
-from_run_files w d fault taken (inr (inr h)) = from_files w d fault taken h
+pub from_run_files : {S : Type 0} (r : Reading S) (w : Words) (a b : S) (d : Device) (fault : Fault) → AreTaken (variables_given w) → StopsReading r a (names_given w) b fault
+    → IsFaultOfFiles w.library w.hooks w.files.items fault → SaysProgram r w a b d d fault
+from_run_files r w a b d fault taken stops (inl h) = from_named r w a b d w.library fault (λ file is. inl is) taken stops h
+from_run_files r w a b d fault taken stops (inr (inl h)) = from_named r w a b d w.hooks fault (λ file is. inr (inl is)) taken stops h
+from_run_files r w a b d fault taken stops (inr (inr h)) = from_files r w a b d fault taken stops h
 
 -- then standard output is not called
 pub calls_of_files : (library hooks : Option (String Global)) (names : List (String Global)) (d : Device) (fault : Fault) → IsFaultOfFiles library hooks names fault → SaysCallsOfRun d d fault
@@ -405,21 +408,21 @@ suite_named : (mode : Mode) (files : FilesValue) (r : Request) (c : Contents) (o
 suite_named mode files r c old new fault (inl says) = fault_as mode files says.0 fault says.1
 suite_named mode files r c old new fault (inr unflushed) = subst IsSuiteFault (sym unflushed.named) tt
 
-of_given : (w : Words) (old new : Device) (fault : Fault) → IsSuiteFault fault → IsFaultOfGiven w old new fault → SaysProgram w old new fault
-of_given w old new (Library name f) is h = h
-of_given w old new (Hooks name f) is h = h
-of_given w old new (Read name f) is h = h
-of_given w old new (TooMany name) is h = h
-of_given w old new BadTags is h = h
-of_given w old new (Unread status lines) is h = h
-of_given w old new Write is h = h
-of_given w old new Memory is h = inr h
-of_given w old new _ is h = absurd is
+of_given : {S : Type 0} (r : Reading S) (w : Words) (a b : S) (old new : Device) (fault : Fault) → IsSuiteFault fault → IsFaultOfGiven r w a b old new fault → SaysProgram r w a b old new fault
+of_given r w a b old new (Library name f) is h = h
+of_given r w a b old new (Hooks name f) is h = h
+of_given r w a b old new (Read name f) is h = h
+of_given r w a b old new (TooMany name) is h = h
+of_given r w a b old new BadTags is h = h
+of_given r w a b old new (Unread status lines) is h = h
+of_given r w a b old new Write is h = h
+of_given r w a b old new Memory is h = inr h
+of_given r w a b old new _ is h = absurd is
 
-pub of_suite : (w : Words) (files : FilesValue) (old new : Device) (fault : Fault) → AreGiven w files → AreTaken (variables_given w)
-    → SaysSuite w.mode files (request_of_files w.options files) (contents_given w) old new fault → SaysProgram w old new fault
-of_suite w files old new fault given taken says =
-    of_given w old new fault (suite_named w.mode files _ _ old new fault says) record { files = files; given = given; taken = taken; says = says }
+pub of_suite : {S : Type 0} (r : Reading S) (w : Words) (a b : S) (files : FilesValue) (old new : Device) (fault : Fault) → AreGiven w files → AreRead r a (files_in_order files) b → AreTaken (variables_given w)
+    → SaysSuite w.mode files (request_of_files w.options files) (contents_given w) old new fault → SaysProgram r w a b old new fault
+of_suite r w a b files old new fault given read taken says =
+    of_given r w a b old new fault (suite_named w.mode files _ _ old new fault says) record { files = files; given = given; read = read; taken = taken; says = says }
 
 -- ---- the run of the files
 
@@ -449,17 +452,19 @@ pub put_in : (w : Words) (start : SandboxValue) (c : Contents) (variables : List
 put_in w start c variables put new same =
     put ∙ ap (λ s. with_variables s.now (map pair_value variables)) new ∙ ap (λ xs. with_variables nothing_yet (map pair_value xs)) same
 
-pub runs : (w : Words) (files : FilesValue) (old new : Device) (c : Contents) (r : Result ℕ Fault) → AreGiven w files → AreTaken (variables_given w) → c ≡ contents_given w
-    → IfOk r (IsFlushedRun w.mode files (request_of_files w.options files) c old new) → IfOk r (IsRun w old new)
-runs w files old new c (Err e) given taken is run = tt
-runs w files old new c (Ok status) given taken is run = record {
+pub runs : {S : Type 0} (r : Reading S) (w : Words) (a b : S) (files : FilesValue) (old new : Device) (c : Contents) (result : Result ℕ Fault) → AreGiven w files → AreRead r a (files_in_order files) b
+    → AreTaken (variables_given w) → c ≡ contents_given w → IfOk result (IsFlushedRun w.mode files (request_of_files w.options files) c old new) → IfOk result (IsRun r w a b old new)
+runs r w a b files old new c (Err e) given read taken is run = tt
+runs r w a b files old new c (Ok status) given read taken is run = record {
   files = files;
   given = given;
+  read = read;
   taken = taken;
   run = subst (λ x. IsFlushedRun w.mode files (request_of_files w.options files) x old new status) is run;
 }
 
-pub fails : (w : Words) (files : FilesValue) (old new : Device) (c : Contents) (r : Result ℕ Fault) → AreGiven w files → AreTaken (variables_given w) → c ≡ contents_given w
-    → IfErr r (SaysSuite w.mode files (request_of_files w.options files) c old new) → IfErr r (SaysProgram w old new)
-fails w files old new c (Err e) given taken is says = of_suite w files old new e given taken (subst (λ x. SaysSuite w.mode files (request_of_files w.options files) x old new e) is says)
-fails w files old new c (Ok status) given taken is says = tt
+pub fails : {S : Type 0} (r : Reading S) (w : Words) (a b : S) (files : FilesValue) (old new : Device) (c : Contents) (result : Result ℕ Fault) → AreGiven w files → AreRead r a (files_in_order files) b
+    → AreTaken (variables_given w) → c ≡ contents_given w → IfErr result (SaysSuite w.mode files (request_of_files w.options files) c old new) → IfErr result (SaysProgram r w a b old new)
+fails r w a b files old new c (Err e) given read taken is says =
+    of_suite r w a b files old new e given read taken (subst (λ x. SaysSuite w.mode files (request_of_files w.options files) x old new e) is says)
+fails r w a b files old new c (Ok status) given read taken is says = tt

@@ -1,7 +1,8 @@
 -- What reading the files returns.
-use Rattle.std.specs.Prelude.{◌≡◌, ◌⊎◌, ◌++◌, List, [], ◌∷◌, ℕ, map, Option, Some, None, Result, Ok, Err, String, Vec, option_map, string_bytes, IsSomeAnd}
+use Rattle.std.specs.Prelude.{◌≡◌, ◌⊎◌, ◌<◌, ◌++◌, List, [], ◌∷◌, ℕ, length, map, Option, Some, None, Result, Ok, Err, String, Vec, option_map, string_bytes, IfSome, IsSomeAnd}
 use Rattle.std.specs.List.{Any}
 use Rattle.std.specs.declared.alloc.Global.{Global}
+use Rattle.gk_gherkin.specs.Lines.{limit}
 use Rattle.gk_cli.specs.Source.{SourceValue}
 use Rattle.gk_cli.specs.SuiteFiles.{FilesValue}
 use Rattle.gk_cli.specs.declared.source.Source.{Source}
@@ -33,6 +34,12 @@ abbrev pub bytes_or_fault : Result (Vec ℕ Global) SourceFault → Result (List
 bytes_or_fault (Ok bytes) = Ok bytes.items
 bytes_or_fault (Err fault) = Err fault
 
+-- Some file gave this answer: where it is known what that file holds, it holds these bytes and no other, or more of them than a source may have. Of other faults nothing is said.
+abbrev pub IsOfSomeFile : {F : Type 0} → (F → Option (List ℕ)) → Result (List ℕ) SourceFault → Type 0
+IsOfSomeFile {F} holds (Ok bytes) = (file : F) × IfSome (holds file) (λ whole. bytes ≡ whole)
+IsOfSomeFile {F} holds (Err reading.TooLong) = (file : F) × IfSome (holds file) (λ whole. limit < length whole)
+IsOfSomeFile holds (Err fault) = Unit {0}
+
 -- The fault of a run for a file of this name that couldn't be read, for this reason.
 abbrev pub IsFaultOfReading : List ℕ → SourceFault → Fault → Type 0
 IsFaultOfReading name reading.Device (CannotRead other) = string_bytes other ≡ name
@@ -40,22 +47,26 @@ IsFaultOfReading name reading.TooLong (TooLong other) = string_bytes other ≡ n
 IsFaultOfReading name reading.Memory Memory = Unit {0}
 IsFaultOfReading name by fault = ⊥
 
+-- What a system is asked and answers: in the first state, to read the file of this name gives this answer, and leaves the second state.
+abbrev pub Reading : Type 0 → Type 1
+Reading S = S → List ℕ → Result (List ℕ) SourceFault → S → Type 0
+
 -- Files are read one after another from a system, each from the state that the one before left; nothing else is read.
-abbrev pub AreRead : {S : Type 0} → (S → List ℕ → Result (List ℕ) SourceFault → S → Type 0) → S → List SourceValue → S → Type 0
+abbrev pub AreRead : {S : Type 0} → Reading S → S → List SourceValue → S → Type 0
 AreRead reads old [] new = old ≡ new
 AreRead {S} reads old (file ∷ files) new = (between : S) × reads old file.name (Ok file.bytes) between × AreRead reads between files new
 
 -- The file of this name was asked for, and could not be read; the fault is its own.
-abbrev pub IsNotRead : {S : Type 0} → (S → List ℕ → Result (List ℕ) SourceFault → S → Type 0) → S → List ℕ → S → Fault → Type 0
+abbrev pub IsNotRead : {S : Type 0} → Reading S → S → List ℕ → S → Fault → Type 0
 IsNotRead reads old name new fault = (by : SourceFault) × reads old name (Err by) new × IsFaultOfReading name by fault
 
 -- The first of the files that are left could not be read; or memory ran out before the next was asked for, or where none is left.
-abbrev pub StopsHere : {S : Type 0} → (S → List ℕ → Result (List ℕ) SourceFault → S → Type 0) → S → List (List ℕ) → S → Fault → Type 0
+abbrev pub StopsHere : {S : Type 0} → Reading S → S → List (List ℕ) → S → Fault → Type 0
 StopsHere reads old [] new fault = (old ≡ new) × (fault ≡ Memory)
 StopsHere reads old (name ∷ names) new fault = IsNotRead reads old name new fault ⊎ (old ≡ new) × (fault ≡ Memory)
 
 -- Some of these files were read, the first in their order, and there reading stops; nothing else is read.
-pub record StopsReading {S : Type 0} (reads : S → List ℕ → Result (List ℕ) SourceFault → S → Type 0) (old : S) (names : List (List ℕ)) (new : S) (fault : Fault) : Type 0 where
+pub record StopsReading {S : Type 0} (reads : Reading S) (old : S) (names : List (List ℕ)) (new : S) (fault : Fault) : Type 0 where
   pub files : List SourceValue
   pub left : List (List ℕ)
   pub between : S

@@ -30,6 +30,7 @@ use Rattle.gk_cli.specs.declared.arguments.WordsFault.TheVariants as words
 use Rattle.gk_cli.specs.declared.run_fault.RunFault.{RunFault}
 use Rattle.gk_cli.specs.declared.run_fault.RunFault.TheVariants as run
 use Rattle.gherkin_run.specs.FaultListing.{IsListedAs}
+use Rattle.gherkin_run.specs.Files.{AreRead, Reading, StopsReading, files_in_order, names_in_order}
 use Rattle.gherkin_run.specs.declared.fault.Fault.{Fault}
 use Rattle.gherkin_run.specs.declared.fault.Fault.TheVariants.{NotUtf8, Usage, Env, CannotRead, TooLong, Library, Hooks, Read, TooMany, BadTags, Write, Memory}
 use Rattle.gherkin_run.specs.declared.program.Asked.{Asked}
@@ -215,7 +216,7 @@ SaysSuite mode files request contents old new fault =
     ((by : RunFault) × IsFaultAs mode files by fault × SaysFaultAs mode files request contents old new by)
     ⊎ FailsToFlush mode files request contents old new fault
 
--- The sources are those of the files that were given, in order, and of the library file and the hooks file.
+-- The sources have the names of the files that were given, in order; a library and hooks are there where a file was given for them, and have its name.
 pub record AreGiven (w : Words) (files : FilesValue) : Type 0 where
   pub sources : map (λ s. s.name) files.sources ≡ map string_bytes w.files.items
   pub library : option_map (λ s. s.name) files.library ≡ option_map string_bytes w.library
@@ -243,10 +244,15 @@ abbrev pub IsRunOfFiles : Manner → FilesValue → Contents → Device → Devi
 IsRunOfFiles manner files contents old new status =
     IsFlushedRun manner.mode files (request_of_files manner.options.now files) contents old new status
 
--- The variables are taken, and what was written and the status are those of one run of the files that were given, with their bytes as they were read.
-pub record IsRun (w : Words) (old new : Device) (status : ℕ) : Type 0 where
+-- The files of the names that were given, in the order in which they are read: the library file, the hooks file, the feature files.
+abbrev pub names_given : Words → List (List ℕ)
+names_given w = names_in_order w.library w.hooks w.files.items
+
+-- The variables are taken; the files that were given were read from the system, in order, and nothing else was; and what was written and the status are those of one run of the bytes that it gave.
+pub record IsRun {S : Type 0} (reads : Reading S) (w : Words) (before after : S) (old new : Device) (status : ℕ) : Type 0 where
   pub files : FilesValue
   pub given : AreGiven w files
+  pub read : AreRead reads before (files_in_order files) after
   pub taken : AreTaken (variables_given w)
   pub run : IsFlushedRun w.mode files (request_of_files w.options files) (contents_given w) old new status
 
@@ -254,49 +260,57 @@ pub record IsRun (w : Words) (old new : Device) (status : ℕ) : Type 0 where
 abbrev pub IsGiven : Words → List ℕ → Type 0
 IsGiven w name = IsSomeAnd w.library (λ file. name ≡ string_bytes file) ⊎ (IsSomeAnd w.hooks (λ file. name ≡ string_bytes file) ⊎ Any (λ file. name ≡ string_bytes file) w.files.items)
 
--- A fault of the run of the files that were given; the variables are taken.
-pub record IsFaultOfGiven (w : Words) (old new : Device) (fault : Fault) : Type 0 where
+-- A fault of the run of the files that were given, with the bytes that the system gave; the variables are taken.
+pub record IsFaultOfGiven {S : Type 0} (reads : Reading S) (w : Words) (before after : S) (old new : Device) (fault : Fault) : Type 0 where
   pub files : FilesValue
   pub given : AreGiven w files
+  pub read : AreRead reads before (files_in_order files) after
   pub taken : AreTaken (variables_given w)
   pub says : SaysSuite w.mode files (request_of_files w.options files) (contents_given w) old new fault
 
--- What each fault says of what was asked for: a bad variable comes before every fault of a file; where memory was refused, nothing was written, or a prefix of what is written of the run was.
-abbrev pub SaysProgram : Words → Device → Device → Fault → Type 0
-SaysProgram w old new NotUtf8 = ⊥
-SaysProgram w old new (Usage e) = ⊥
-SaysProgram w old new Env = Any IsRefused (variables_given w)
-SaysProgram w old new (CannotRead name) = IsGiven w (string_bytes name) × AreTaken (variables_given w)
-SaysProgram w old new (TooLong name) = IsGiven w (string_bytes name) × AreTaken (variables_given w)
-SaysProgram w old new Memory = IsUntouched old new ⊎ IsFaultOfGiven w old new Memory
-SaysProgram w old new fault = IsFaultOfGiven w old new fault
+-- A file that was given is the first that the system didn't give, and this is its fault; no file was read after it. The variables are taken.
+pub record IsFaultOfName {S : Type 0} (reads : Reading S) (w : Words) (before after : S) (name : List ℕ) (fault : Fault) : Type 0 where
+  pub given : IsGiven w name
+  pub taken : AreTaken (variables_given w)
+  pub stops : StopsReading reads before (names_given w) after fault
 
--- What was asked for was done: for help some text was written, with status 0, or there was a run.
-abbrev pub IsDone : Asked → Device → Device → ℕ → Type 0
-IsDone (Help e) old new status = IsHelp old new status
-IsDone (Run w) old new status = IsRun w old new status
+-- What each fault says of what was asked for: at a bad variable the system is as it was; a file that can't be read is the first of them; where memory was refused, nothing was written, and reading stopped, or all files were read, and it is the run's.
+abbrev pub SaysProgram : {S : Type 0} → Reading S → Words → S → S → Device → Device → Fault → Type 0
+SaysProgram reads w before after old new NotUtf8 = ⊥
+SaysProgram reads w before after old new (Usage e) = ⊥
+SaysProgram reads w before after old new Env = Any IsRefused (variables_given w) × (before ≡ after)
+SaysProgram reads w before after old new (CannotRead name) = IsFaultOfName reads w before after (string_bytes name) (CannotRead name)
+SaysProgram reads w before after old new (TooLong name) = IsFaultOfName reads w before after (string_bytes name) (TooLong name)
+SaysProgram reads w before after old new Memory = (IsUntouched old new × StopsReading reads before (names_given w) after Memory) ⊎ IsFaultOfGiven reads w before after old new Memory
+SaysProgram reads w before after old new fault = IsFaultOfGiven reads w before after old new fault
+
+-- What was asked for was done: for help some text was written, with status 0, and the system is as it was; or there was a run.
+abbrev pub IsDone : {S : Type 0} → Reading S → Asked → S → S → Device → Device → ℕ → Type 0
+IsDone reads (Help e) before after old new status = IsHelp old new status × (before ≡ after)
+IsDone reads (Run w) before after old new status = IsRun reads w before after old new status
 
 -- Why what was asked for was not done.
-abbrev pub IsFaultOfAsked : Asked → Device → Device → Fault → Type 0
-IsFaultOfAsked (Help e) old new fault = IsHelpFault fault × SaysCalls old new fault
-IsFaultOfAsked (Run w) old new fault = SaysProgram w old new fault
+abbrev pub IsFaultOfAsked : {S : Type 0} → Reading S → Asked → S → S → Device → Device → Fault → Type 0
+IsFaultOfAsked reads (Help e) before after old new fault = IsHelpFault fault × SaysCalls old new fault × (before ≡ after)
+IsFaultOfAsked reads (Run w) before after old new fault = SaysProgram reads w before after old new fault
 
 -- What these arguments ask for was done.
-abbrev pub IsDoneFor : List Text → Device → Device → ℕ → Type 0
-IsDoneFor arguments old new status = (asked : Asked) × SaysAsked arguments (Ok asked) × IsDone asked old new status
+abbrev pub IsDoneFor : {S : Type 0} → Reading S → List Text → S → S → Device → Device → ℕ → Type 0
+IsDoneFor reads arguments before after old new status =
+    (asked : Asked) × SaysAsked arguments (Ok asked) × IsDone reads asked before after old new status
 
--- These arguments are at fault, and standard output was not called; or what they ask for was not done.
-abbrev pub IsFaultFor : List Text → Device → Device → Fault → Type 0
-IsFaultFor arguments old new fault =
-    (SaysAsked arguments (Err fault) × IsUntouched old new)
-    ⊎ ((asked : Asked) × SaysAsked arguments (Ok asked) × IsFaultOfAsked asked old new fault)
+-- These arguments are at fault, standard output was not called, and the system is as it was; or what they ask for was not done.
+abbrev pub IsFaultFor : {S : Type 0} → Reading S → List Text → S → S → Device → Device → Fault → Type 0
+IsFaultFor reads arguments before after old new fault =
+    (SaysAsked arguments (Err fault) × IsUntouched old new × (before ≡ after))
+    ⊎ ((asked : Asked) × SaysAsked arguments (Ok asked) × IsFaultOfAsked reads asked before after old new fault)
 
 -- What some arguments ask for was done.
-abbrev pub IsDoneForSome : Device → Device → ℕ → Type 0
-IsDoneForSome old new status = (arguments : List Text) × IsDoneFor arguments old new status
+abbrev pub IsDoneForSome : {S : Type 0} → Reading S → S → S → Device → Device → ℕ → Type 0
+IsDoneForSome reads before after old new status = (arguments : List Text) × IsDoneFor reads arguments before after old new status
 
--- The arguments could not be had, and standard output was not called; or this is the fault for some arguments.
-abbrev pub IsFaultForSome : Device → Device → Fault → Type 0
-IsFaultForSome old new fault =
-    (IsArgumentsFault fault × IsUntouched old new)
-    ⊎ ((arguments : List Text) × IsFaultFor arguments old new fault)
+-- The arguments could not be had, standard output was not called, and the system is as it was; or this is the fault for some arguments.
+abbrev pub IsFaultForSome : {S : Type 0} → Reading S → S → S → Device → Device → Fault → Type 0
+IsFaultForSome reads before after old new fault =
+    (IsArgumentsFault fault × IsUntouched old new × (before ≡ after))
+    ⊎ ((arguments : List Text) × IsFaultFor reads arguments before after old new fault)

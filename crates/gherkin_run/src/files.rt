@@ -28,15 +28,18 @@ pub trait System {
         ensures within { IfOk result (λ bytes. vec_len bytes ≤ LIMIT) };
 }
 
-/// The files of the machine that the program runs on. Its `reads` tells nothing apart, so no clause says which
-/// files it was asked for, or what they gave.
+/// The files of the machine that the program runs on. What it answers is what some file holds, as far as a contract
+/// says what a file holds. That this is the file of the name that it is asked for, no clause says: in std `fs::open`
+/// has none, and `Files` no ghost item that could name a file's bytes. Nor does std say of a real file what it holds.
 #[derive(Drop)]
 pub struct Machine<'a, R: Files> {
     pub rt: &'a R,
 }
 
 impl<R: Files> System for Machine<'_, R> {
-    ghost reads = { λ _ _ _ _. Unit {0} };
+    ghost use Rattle.gherkin_run.specs.Files.{IsOfSomeFile};
+
+    ghost reads = { λ _ _ answer _. IsOfSomeFile R.File.remaining answer };
 
     fn read(&mut self, alloc: Global, name: &str) -> Result<Vec<u8>, SourceFault> {
         match fs::open(self.rt, name) {

@@ -12,6 +12,7 @@ mod files;
 mod program;
 
 use fault::Fault;
+use files::Machine;
 use gk_cli::Counted;
 use program::run;
 use std::process::ExitCode;
@@ -37,7 +38,11 @@ fn exit_code(done: &Result<u8, Fault>) -> ExitCode
 }
 
 fn main(rt: HostRuntime) -> ExitCode {
-    let done = run(&rt, &mut Counted::new(rt.stdout()));
+    let done = run(
+        &rt,
+        &mut Machine { rt: &rt },
+        &mut Counted::new(rt.stdout()),
+    );
     if let Err(fault) = &done {
         report(&rt, fault);
     }

@@ -12,7 +12,7 @@ ghost use Rattle.gherkin_run.specs.Program.{SaysAsked, SaysError, IsHelpFault, I
 
 use crate::fault::{Fault, fault_named};
 use crate::fault_listing::fault_listed;
-use crate::files::{Machine, read_run_files};
+use crate::files::{System, read_run_files};
 use gk_cli::{
     Counted, Mode, Options, RunFault, Source, SuiteFiles, Words, WordsFault, explain_suite,
     lint_suite, read_words, report_suite, write_whole,
@@ -20,7 +20,7 @@ use gk_cli::{
 use gk_world::{Sandbox, WorldFault};
 use std::alloc::Global;
 use std::io::Write;
-use std::rt::{Env, Files};
+use std::rt::Env;
 use std::{env, io};
 
 /// What the arguments ask for: help or the version, whose text is clap's own, or a run.
@@ -54,7 +54,8 @@ fn asked_by(alloc: Global, arguments: &[String]) -> Result<Asked, Fault>
     }
 }
 
-// The arguments of the program. One that isn't UTF-8 is `NotUtf8`.
+// The arguments of the program. One that isn't UTF-8 is `NotUtf8`. No clause says that these are the program's own:
+// `env::args` of std has none.
 fn arguments_of<R: Env + AllocGlobal>(rt: &R) -> Result<Vec<String>, Fault>
     ensures { IfErr result IsArgumentsFault }
 {
@@ -263,105 +264,106 @@ fn run_sources<W: Write>(
 
 // What `run_words` does, in a sandbox that is new: puts the variables, reads the files, runs the suite or lists
 // what is found in it.
-fn run_in<R: Files + AllocGlobal, W: Write>(
-    rt: &R,
+fn run_in<S: System, W: Write>(
+    alloc: Global,
+    system: &mut S,
     sandbox: &mut Sandbox,
     words: Words,
     out: &mut Counted<W>,
 ) -> Result<u8, Fault>
     requires room { CountsCanRise out.old }
     requires empty { sandbox.old ≡ new_sandbox }
-    ensures run { IfOk result
-        (IsRun words (device_of W.contents out.old) (device_of W.contents out.new)) }
+    ensures run { IfOk result (IsRun S.reads words system.old system.new
+        (device_of W.contents out.old) (device_of W.contents out.new)) }
     ensures quiet { OnOk result (failures_of out.new ≡ failures_of out.old) }
     ensures flushed { OnOk result (flushes_of out.new ≡ one_more (flushes_of out.old)) }
-    ensures fault { IfErr result
-        (SaysProgram words (device_of W.contents out.old) (device_of W.contents out.new)) }
+    ensures fault { IfErr result (SaysProgram S.reads words system.old system.new
+        (device_of W.contents out.old) (device_of W.contents out.new)) }
     ensures calls { IfErr result
         (SaysCallsOfRun (device_of W.contents out.old) (device_of W.contents out.new)) }
 {
     put_variables(sandbox, words.env.as_slice())?;
-    let mut machine = Machine { rt };
-    let files = read_run_files(
-        rt.alloc(),
-        &mut machine,
-        words.library,
-        words.hooks,
-        words.files,
-    )?;
+    let files = read_run_files(alloc, system, words.library, words.hooks, words.files)?;
     let manner = Manner {
         options: &words.options,
         mode: words.mode,
     };
-    run_sources(rt.alloc(), sandbox, manner, files, out)
+    run_sources(alloc, sandbox, manner, files, out)
 }
 
 /// Runs what is asked for: puts the variables into an empty sandbox, reads the library file, the hooks file and
 /// the files, and runs the suite, or lists what is found in it. The first fault in this order ends it.
-fn run_words<R: Files + AllocGlobal, W: Write>(
-    rt: &R,
+fn run_words<S: System, W: Write>(
+    alloc: Global,
+    system: &mut S,
     words: Words,
     out: &mut Counted<W>,
 ) -> Result<u8, Fault>
     requires room { CountsCanRise out.old }
-    // The files were read under their names, in order, and what was written and the status are
-    // those of one run of them, or of what is found in them.
-    ensures run { IfOk result
-        (IsRun words (device_of W.contents out.old) (device_of W.contents out.new)) }
+    // The files were read from the system under their names, in order, and no other was. What was
+    // written and the status are those of one run of the bytes that it gave, or of what is found
+    // in these.
+    ensures run { IfOk result (IsRun S.reads words system.old system.new
+        (device_of W.contents out.old) (device_of W.contents out.new)) }
     ensures quiet { OnOk result (failures_of out.new ≡ failures_of out.old) }
     ensures flushed { OnOk result (flushes_of out.new ≡ one_more (flushes_of out.old)) }
-    ensures fault { IfErr result
-        (SaysProgram words (device_of W.contents out.old) (device_of W.contents out.new)) }
+    // The first file that the system didn't give is the fault, and no file was read after it.
+    ensures fault { IfErr result (SaysProgram S.reads words system.old system.new
+        (device_of W.contents out.old) (device_of W.contents out.new)) }
     ensures calls { IfErr result
         (SaysCallsOfRun (device_of W.contents out.old) (device_of W.contents out.new)) }
 {
-    let mut sandbox = Sandbox::new(rt.alloc());
-    run_in(rt, &mut sandbox, words, out)
+    let mut sandbox = Sandbox::new(alloc);
+    run_in(alloc, system, &mut sandbox, words, out)
 }
 
 // Does what these arguments ask for.
-fn run_asked<R: Files + AllocGlobal, W: Write>(
-    rt: &R,
+fn run_asked<S: System, W: Write>(
+    alloc: Global,
+    system: &mut S,
     arguments: &[String],
     out: &mut Counted<W>,
 ) -> Result<u8, Fault>
     requires room { CountsCanRise out.old }
-    ensures done { IfOk result (IsDoneFor (map string_bytes arguments.now)
+    ensures done { IfOk result
+        (IsDoneFor S.reads (map string_bytes arguments.now) system.old system.new
         (device_of W.contents out.old) (device_of W.contents out.new)) }
     ensures quiet { OnOk result (failures_of out.new ≡ failures_of out.old) }
     ensures flushed { OnOk result (flushes_of out.new ≡ one_more (flushes_of out.old)) }
-    ensures fault { IfErr result (IsFaultFor (map string_bytes arguments.now)
+    ensures fault { IfErr result
+        (IsFaultFor S.reads (map string_bytes arguments.now) system.old system.new
         (device_of W.contents out.old) (device_of W.contents out.new)) }
     ensures calls { IfErr result
         (SaysCallsOfRun (device_of W.contents out.old) (device_of W.contents out.new)) }
 {
-    match asked_by(rt.alloc(), arguments) {
-        Ok(Asked::Help(text)) => show_help(rt.alloc(), &text, out),
-        Ok(Asked::Run(words)) => run_words(rt, words, out),
+    match asked_by(alloc, arguments) {
+        Ok(Asked::Help(text)) => show_help(alloc, &text, out),
+        Ok(Asked::Run(words)) => run_words(alloc, system, words, out),
         Err(fault) => Err(fault),
     }
 }
 
-/// Runs the program on its arguments. The answer is the status to end with. A fault is that of the
-/// arguments, or says why what they ask for was not done.
-pub fn run<R: Env + Files + AllocGlobal, W: Write>(
+/// Runs the program on its arguments, with the files of this system. The answer is the status to end with. A fault
+/// is that of the arguments, or says why what they ask for was not done. What is proved is said of some arguments.
+pub fn run<R: Env + AllocGlobal, S: System, W: Write>(
     rt: &R,
+    system: &mut S,
     out: &mut Counted<W>,
 ) -> Result<u8, Fault>
     requires room { CountsCanRise out.old }
-    ensures done { IfOk result
-        (IsDoneForSome (device_of W.contents out.old) (device_of W.contents out.new)) }
+    ensures done { IfOk result (IsDoneForSome S.reads system.old system.new
+        (device_of W.contents out.old) (device_of W.contents out.new)) }
     ensures quiet { OnOk result (failures_of out.new ≡ failures_of out.old) }
     ensures flushed { OnOk result (flushes_of out.new ≡ one_more (flushes_of out.old)) }
-    ensures fault { IfErr result
-        (IsFaultForSome (device_of W.contents out.old) (device_of W.contents out.new)) }
+    ensures fault { IfErr result (IsFaultForSome S.reads system.old system.new
+        (device_of W.contents out.old) (device_of W.contents out.new)) }
     // Where standard output isn't at fault, it was not called, or memory was refused after a
     // prefix of what is written of the run.
     ensures calls { IfErr result
         (SaysCallsOfRun (device_of W.contents out.old) (device_of W.contents out.new)) }
 {
     match arguments_of(rt) {
-        Ok(arguments) => run_asked(rt, arguments.as_slice(), out),
+        Ok(arguments) => run_asked(rt.alloc(), system, arguments.as_slice(), out),
         Err(fault) => Err(fault),
     }
 }
