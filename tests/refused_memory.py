@@ -541,8 +541,8 @@ Feature: B ... passed
     And it passes ... passed
   Scenario: second ... memory
     Given the file "f" should not exist ... passed
-    When a file named "f" containing "x" ... passed
-    Then the file "f" should be "x" ... memory
+    When a file named "f" containing "x" ... memory
+    Then the file "f" should be "x" ... untested
     And it passes ... untested
   Scenario: third ... passed
     Given the file "f" should not exist ... passed
@@ -552,7 +552,7 @@ Feature: B ... passed
 
 0 features passed, 0 failed, 0 skipped, 1 memory
 2 scenarios passed, 0 failed, 0 skipped, 1 memory
-10 steps passed, 0 failed, 0 skipped, 0 undefined, 1 untested, 1 memory
+9 steps passed, 0 failed, 0 skipped, 0 undefined, 2 untested, 1 memory
 """,
 }
 
