@@ -39,11 +39,6 @@ pub record ExamplesValue : Type 0 where
   pub header : List (List ℕ)
   pub rows : List RowValue
 
--- A background. (Cucumber's Gherkin reference: background)
-pub record BackgroundValue : Type 0 where
-  pub line : ℕ
-  pub steps : List StepValue
-
 -- A scenario or an outline. (Cucumber's Gherkin reference: example, scenario outline)
 pub record ScenarioValue : Type 0 where
   pub keyword : List ℕ
@@ -52,6 +47,11 @@ pub record ScenarioValue : Type 0 where
   pub tags : List (List ℕ)
   pub steps : List StepValue
   pub examples : List ExamplesValue
+
+-- A background. (Cucumber's Gherkin reference: background)
+pub record BackgroundValue : Type 0 where
+  pub line : ℕ
+  pub steps : List StepValue
 
 -- A rule. (Cucumber's Gherkin reference: rule)
 pub record RuleValue : Type 0 where

@@ -1,22 +1,48 @@
 //! What a feature file says. Tags stand with their `@`, keywords without their colon. Lines are
 //! counted from 1.
 
-/// The type of a step: that of its keyword, or for `And`, `But` and `*` that of the step before it
-/// among the same steps, and `Given` where none is before it. (Cucumber's Gherkin reference: steps)
-#[derive(Clone, Copy, Debug, PartialEq, Eq)]
-pub enum StepType {
-    Given,
-    When,
-    Then,
+/// A feature: its name, the line of its heading, its own tags, its background, the scenarios before
+/// its first rule, and its rules. (Cucumber's Gherkin reference: feature)
+#[derive(Debug, Drop)]
+pub struct Feature {
+    pub name: String,
+    pub line: u32,
+    pub tags: Vec<String>,
+    pub background: Option<Background>,
+    pub scenarios: Vec<Scenario>,
+    pub rules: Vec<Rule>,
 }
 
-/// What stands under a step: nothing, a doc string's text, or a table's cells, row by row.
-/// (Cucumber's Gherkin reference: step arguments)
+/// A rule: its name, the line of its heading, its own tags, its background and its scenarios.
+/// (Cucumber's Gherkin reference: rule)
 #[derive(Debug, Drop)]
-pub enum Block {
-    Empty,
-    Text(String),
-    Table(Vec<Vec<String>>),
+pub struct Rule {
+    pub name: String,
+    pub line: u32,
+    pub tags: Vec<String>,
+    pub background: Option<Background>,
+    pub scenarios: Vec<Scenario>,
+}
+
+/// A scenario or an outline: its keyword as written, its name, the line of its heading, its own
+/// tags, its steps and its examples in order. (Cucumber's Gherkin reference: example, scenario
+/// outline)
+#[derive(Debug, Drop)]
+pub struct Scenario {
+    pub keyword: String,
+    pub name: String,
+    pub line: u32,
+    pub tags: Vec<String>,
+    pub steps: Vec<Step>,
+    pub examples: Vec<Examples>,
+}
+
+/// A background: the line of its heading, and its steps in order. (Cucumber's Gherkin reference:
+/// background)
+#[derive(Debug, Drop)]
+pub struct Background {
+    pub line: u32,
+    pub steps: Vec<Step>,
 }
 
 /// A step: its keyword as written, its type, its text after the keyword, what stands under it, and
@@ -28,6 +54,24 @@ pub struct Step {
     pub text: String,
     pub block: Block,
     pub line: u32,
+}
+
+/// What stands under a step: nothing, a doc string's text, or a table's cells, row by row.
+/// (Cucumber's Gherkin reference: step arguments)
+#[derive(Debug, Drop)]
+pub enum Block {
+    Empty,
+    Text(String),
+    Table(Vec<Vec<String>>),
+}
+
+/// The type of a step: that of its keyword, or for `And`, `But` and `*` that of the step before it
+/// among the same steps, and `Given` where none is before it. (Cucumber's Gherkin reference: steps)
+#[derive(Clone, Copy, Debug, PartialEq, Eq)]
+pub enum StepType {
+    Given,
+    When,
+    Then,
 }
 
 /// A row under the header of examples. (Cucumber's Gherkin reference: examples)
@@ -46,48 +90,4 @@ pub struct Examples {
     pub tags: Vec<String>,
     pub header: Vec<String>,
     pub rows: Vec<Row>,
-}
-
-/// A background: the line of its heading, and its steps in order. (Cucumber's Gherkin reference:
-/// background)
-#[derive(Debug, Drop)]
-pub struct Background {
-    pub line: u32,
-    pub steps: Vec<Step>,
-}
-
-/// A scenario or an outline: its keyword as written, its name, the line of its heading, its own
-/// tags, its steps and its examples in order. (Cucumber's Gherkin reference: example, scenario
-/// outline)
-#[derive(Debug, Drop)]
-pub struct Scenario {
-    pub keyword: String,
-    pub name: String,
-    pub line: u32,
-    pub tags: Vec<String>,
-    pub steps: Vec<Step>,
-    pub examples: Vec<Examples>,
-}
-
-/// A rule: its name, the line of its heading, its own tags, its background and its scenarios.
-/// (Cucumber's Gherkin reference: rule)
-#[derive(Debug, Drop)]
-pub struct Rule {
-    pub name: String,
-    pub line: u32,
-    pub tags: Vec<String>,
-    pub background: Option<Background>,
-    pub scenarios: Vec<Scenario>,
-}
-
-/// A feature: its name, the line of its heading, its own tags, its background, the scenarios before
-/// its first rule, and its rules. (Cucumber's Gherkin reference: feature)
-#[derive(Debug, Drop)]
-pub struct Feature {
-    pub name: String,
-    pub line: u32,
-    pub tags: Vec<String>,
-    pub background: Option<Background>,
-    pub scenarios: Vec<Scenario>,
-    pub rules: Vec<Rule>,
 }

@@ -14,7 +14,7 @@ scenarios_of_rules rules = flat_map (λ (r : RuleValue). r.scenarios) rules
 abbrev pub scenarios_of : FeatureValue → List ScenarioValue
 scenarios_of f = f.scenarios ++ scenarios_of_rules f.rules
 
--- Proof machinery: what is found of scenarios, given which names are those of scenarios before them: each that has the name of one before it.
+-- What is found of scenarios, given which names are those of scenarios before them: each that has the name of one before it.
 abbrev pub named_again : (List ℕ → Bool) → List ScenarioValue → List Finding
 named_again seen [] = []
 named_again seen (s ∷ ss) = found_if (seen s.name) s.line NameTwice ++ named_again (λ name. bytes_eq s.name name || seen name) ss

@@ -10,13 +10,6 @@ use crate::keywords::{Keyword, STEP_WORDS};
 use gk_gherkin::BorrowedLine;
 use gk_gherkin::text::{begins, is_blank, trim};
 
-/// The two fences of doc strings. (Cucumber's Gherkin reference: doc strings)
-#[derive(Clone, Copy)]
-pub enum TextFence {
-    Quotes,
-    Backticks,
-}
-
 /// What a line is, as far as it says where the next one stands.
 #[derive(Clone, Copy)]
 pub enum LineKind {
@@ -32,6 +25,13 @@ pub enum LineKind {
     Description,
     /// Tags or a row.
     Other,
+}
+
+/// The two fences of doc strings. (Cucumber's Gherkin reference: doc strings)
+#[derive(Clone, Copy)]
+pub enum TextFence {
+    Quotes,
+    Backticks,
 }
 
 /// Where a line stands.
