@@ -13,6 +13,8 @@ pub mod TagReading
 pub mod ReadableRows
 pub mod CaseCounts
 pub mod CaseRules
+pub mod RisingLines
+pub mod CaseLines
 pub mod ChosenLines
 pub mod WorkedOutlines
 pub mod WorkedChoices

@@ -60,6 +60,6 @@ or_of first (second ∷ others) = or_terms (one_factor (factor_of first)) (or_of
 abbrev pub alternative_words : AlternativeValue → List WordValue
 alternative_words a = if a.negated then not_word ∷ tag_word a.tag ∷ [] else tag_word a.tag ∷ []
 
--- Words, and those of one more alternative behind them.
+-- What only the proofs speak of: words, and those of one more alternative behind them.
 abbrev pub words_with : List WordValue → AlternativeValue → List WordValue
 words_with words a = if length words == 0 then alternative_words a else words ++ or_word ∷ alternative_words a

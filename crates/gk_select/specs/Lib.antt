@@ -6,6 +6,7 @@ pub mod Inherited
 pub mod Outline
 pub mod Expansion
 pub mod RuleOrder
+pub mod FileOrder
 pub mod Counting
 pub mod TagWords
 pub mod TagGrammar

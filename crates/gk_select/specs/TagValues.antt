@@ -43,18 +43,18 @@ seen_before tags and_word (Held depth) = Held depth
 seen_before tags or_word (Held depth) = Held depth
 seen_before tags (tag_word tag) (Held depth) = Held depth
 
--- What is known once these words are taken.
+-- What only the proofs speak of: what is known once these words are taken.
 abbrev pub seen_of : List (List ℕ) → List WordValue → Seen
 seen_of tags [] = Value false
 seen_of tags (word ∷ words) = seen_before tags word (seen_of tags words)
 
--- The value that is known.
+-- What only the proofs speak of: the value that is known.
 abbrev pub seen_value : Seen → Bool
 seen_value (Value v) = v
 seen_value (Failed depth) = false
 seen_value (Held depth) = true
 
--- How many groups deep words are passed over.
+-- What only the proofs speak of: how many groups deep words are passed over.
 abbrev pub seen_depth : Seen → ℕ
 seen_depth (Value v) = 0
 seen_depth (Failed depth) = depth

@@ -58,19 +58,6 @@ pub fn inherited_in_rule<'a>(feature: &'a Feature, place: u32, rule: &'a Rule) -
     }
 }
 
-/// Pushes copies of the inherited tags.
-pub fn push_inherited_tags(
-    alloc: Global,
-    tags: &mut Vec<String>,
-    inherited: &Inherited<'_>,
-) -> Result<(), AllocError>
-    ensures { Appends string_bytes result tags.old.items tags.new.items
-        (inherited_value inherited.now).tags }
-{
-    push_texts(alloc, tags, inherited.feature_tags)?;
-    push_texts(alloc, tags, inherited.rule_tags)
-}
-
 /// Pushes copies of the inherited steps.
 pub fn push_inherited_steps(
     alloc: Global,
@@ -101,4 +88,17 @@ pub fn after_inherited_steps(
     push_inherited_steps(alloc, &mut steps, inherited)?;
     steps.append(&mut own)?;
     Ok(steps)
+}
+
+/// Pushes copies of the inherited tags.
+pub fn push_inherited_tags(
+    alloc: Global,
+    tags: &mut Vec<String>,
+    inherited: &Inherited<'_>,
+) -> Result<(), AllocError>
+    ensures { Appends string_bytes result tags.old.items tags.new.items
+        (inherited_value inherited.now).tags }
+{
+    push_texts(alloc, tags, inherited.feature_tags)?;
+    push_texts(alloc, tags, inherited.rule_tags)
 }

@@ -8,6 +8,7 @@ mod choice;
 mod copies;
 mod counting;
 mod expansion;
+mod file_order;
 mod filling;
 mod inherited;
 mod outline;
@@ -25,6 +26,7 @@ pub use counting::STEP_LIMIT;
 pub use expansion::{
     expand, into_cases, plain_scenarios_are_cases, read_features_are_expandable, rows_are_cases,
 };
+pub use file_order::cases_are_in_file_order;
 pub use filling::texts_have_one_cut;
 pub use rule_order::cases_fall_into_rules;
 pub use select_fault::SelectFault;
