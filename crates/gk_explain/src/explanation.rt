@@ -110,6 +110,16 @@ impl<'a> Explanation<'a> {
         self.source.push_str(source)
     }
 
+    /// The feature that is open has ended with this result. Errors are those of `end_case`.
+    pub fn end_feature(&mut self, feature: &FeatureResult) -> Result<(), AllocError>
+        ensures { OnOk result (explanation_value self.new
+            ≡ with_feature (feature_row feature.now) (explanation_value self.old)) }
+    {
+        let source = self.source.as_str();
+        self.explained
+            .end(source, Ended::Feature(feature), &mut self.feature)
+    }
+
     /// Adds an event to what is kept of its section. An error comes only where a growth was refused; the section may
     /// have a part of its lines then.
     pub fn add(&mut self, alloc: Global, event: Event<'_>) -> Result<(), AllocError>
@@ -140,7 +150,7 @@ impl<'a> Explanation<'a> {
             .end(source, Ended::Scenario(case), &mut self.scenario)
     }
 
-    /// The rule that is open has ended with this result. Errors are those of a scenario.
+    /// The rule that is open has ended with this result. Errors are those of `end_case`.
     pub fn end_rule(&mut self, rule: &RuleResult) -> Result<(), AllocError>
         ensures { OnOk result (explanation_value self.new
             ≡ with_rule (rule_row rule.now) (explanation_value self.old)) }
@@ -150,17 +160,7 @@ impl<'a> Explanation<'a> {
             .end(source, Ended::Rule(rule), &mut self.rule)
     }
 
-    /// The feature that is open has ended with this result. Errors are those of a scenario.
-    pub fn end_feature(&mut self, feature: &FeatureResult) -> Result<(), AllocError>
-        ensures { OnOk result (explanation_value self.new
-            ≡ with_feature (feature_row feature.now) (explanation_value self.old)) }
-    {
-        let source = self.source.as_str();
-        self.explained
-            .end(source, Ended::Feature(feature), &mut self.feature)
-    }
-
-    /// The run has ended, its own hooks and cleanups so. Errors are those of a scenario.
+    /// The run has ended, its own hooks and cleanups so. Errors are those of `end_case`.
     pub fn end_run(&mut self, around: Status) -> Result<(), AllocError>
         ensures { OnOk result (explanation_value self.new
             ≡ with_run around (explanation_value self.old)) }

@@ -515,12 +515,14 @@ given_by used block = record {
 abbrev pub called : Library → Call → State → Acted
 called library call s = at_site call.action call.site (library_value library) (given_value call.arguments) s
 
--- The same three of an action as it is called.
+-- An action that changes nothing, as it is called, has exactly the outcome of its plain state.
 abbrev pub IsCallExact : Library → Call → State → Outcome → State → Type 0
 IsCallExact library call s outcome new = changes_nothing call.action ≡ true → IsExactly (done_of (called library call s)) outcome new
 
+-- Memory is refused in an action that registers a cleanup, as it is called, only where an entry may match.
 abbrev pub CallNeedsCandidate : Library → Call → Outcome → Type 0
 CallNeedsCandidate library call outcome = call.action ≡ actions.AtCleanup → NeedsCandidate (library_value library) call.arguments.step.now outcome
 
+-- Where memory is refused in an action, as it is called, what it wrote is a first part of the files that it writes.
 abbrev pub CallKeepsAtMemory : Call → SandboxValue → Outcome → SandboxValue → Type 0
 CallKeepsAtMemory call old outcome new = outcome ≡ outcomes.Memory → WritesFirst (files_of call.action (given_value call.arguments) (state_of old.now)) old new

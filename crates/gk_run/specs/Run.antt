@@ -6,7 +6,7 @@ use Rattle.gk_steps.specs.Finding.{LibraryValue, library_value}
 use Rattle.gk_steps.specs.declared.library.Library.{Library}
 use Rattle.gk_run.specs.declared.run.Run as shared
 
--- What stays the same during a run: the step library, the hooks, whether it is a dry run, in which nothing is carried out, and whether the first scenario or feature that is failed or memory stops it. (behave's documentation: `--dry-run`, `--stop`)
+-- What stays the same during a run: the step library, the hooks, whether it is a dry run, in which nothing is carried out, and whether the first scenario, rule or feature that is failed or memory stops it. (behave's documentation: `--dry-run`, `--stop`)
 pub record Run : Type 0 where
   pub library : LibraryValue
   pub hooks : List HookValue

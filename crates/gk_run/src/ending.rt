@@ -93,6 +93,16 @@ pub fn reason_of(mark: Mark) -> Option<Reason>
     }
 }
 
+/// The status of hooks and cleanups that end so.
+pub fn around_status(ending: Ending) -> Status
+    ensures { result ≡ spec.around_status ending }
+{
+    match ending {
+        Ending::Skipped => Status::Passed,
+        _ => verdict_status(ending),
+    }
+}
+
 /// The verdict of a scenario whose hooks, steps and cleanups end so.
 pub fn verdict_status(ending: Ending) -> Status
     ensures { result ≡ spec.verdict_status ending }
@@ -101,18 +111,6 @@ pub fn verdict_status(ending: Ending) -> Status
         Ending::Passed => Status::Passed,
         Ending::Failed => Status::Failed,
         Ending::Skipped => Status::Skipped,
-        Ending::Memory => Status::Memory,
-    }
-}
-
-/// The status of hooks and cleanups that end so.
-pub fn around_status(ending: Ending) -> Status
-    ensures { result ≡ spec.around_status ending }
-{
-    match ending {
-        Ending::Passed => Status::Passed,
-        Ending::Failed => Status::Failed,
-        Ending::Skipped => Status::Passed,
         Ending::Memory => Status::Memory,
     }
 }

@@ -1,8 +1,8 @@
 //! Laws of judged results.
 ghost use Rattle.gk_run.specs.Judged.{OneList, DryRunsAreJudged, UnfinishedDryRunsAreJudged};
 
-/// Judged results in which no case is marked memory are the ones that plain maps give: there is one
-/// such list.
+/// Judged results in which no case, and no hooks and cleanups of a rule, of a feature or of the run,
+/// are marked memory are the ones that plain maps give: there is one such list.
 pub fn without_memory_there_is_one_list()
     ensures { OneList }
 {}

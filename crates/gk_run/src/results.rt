@@ -1,25 +1,27 @@
 //! The results of running.
 
-/// The status of a step, a scenario or a feature. A step has any of them; a scenario or a feature is
-/// never undefined. (behave's documentation: the statuses of steps)
+/// The status of a step, a scenario or a feature, or of the hooks and cleanups of a section. A step has
+/// any of them; a scenario or a feature is never undefined; hooks and cleanups are `Passed`, `Failed` or
+/// `Memory`. An undefined step of a hook counts as failed. The first that fits, from `Memory` over
+/// `Failed` and `Untested` to `Passed` and `Skipped`, is that of a feature. (behave's documentation: the
+/// statuses of steps)
 #[derive(Clone, Copy, Debug, PartialEq, Eq)]
 pub enum Status {
-    /// A step passed; no step of a scenario failed or is undefined; a scenario of a feature passed, and
-    /// none is failed, memory or untested.
+    /// A step passed; each step, hook and cleanup of a scenario passed; a scenario of a feature passed.
     Passed,
-    /// A step's action failed; a step of a scenario failed or is undefined; a scenario of a feature
-    /// failed.
+    /// A step's action failed; a step, a hook or a cleanup of a scenario failed, or a step is undefined; a
+    /// scenario of a feature failed, or its hooks and cleanups did, or those of one of its rules.
     Failed,
     /// A step comes after the one that ended its scenario, or its scenario skipped itself or isn't
-    /// selected; no scenario of a feature passed, and none is failed, memory or untested.
+    /// selected; a scenario skipped itself or isn't selected; no scenario of a feature passed.
     Skipped,
     /// No entry of the library matches a step.
     Undefined,
     /// Memory was refused before a step was reached; a scenario wasn't reached; in a dry run, a step that
-    /// an entry of the library matches, and a scenario; a scenario of a feature is untested, and none is
-    /// failed or memory.
+    /// an entry of the library matches, and a scenario; a scenario of a feature is untested.
     Untested,
-    /// Memory was refused.
+    /// Memory was refused: in a step; in a step, a hook or a cleanup of a scenario; in a scenario of a
+    /// feature, in its hooks and cleanups, or in those of one of its rules.
     Memory,
 }
 

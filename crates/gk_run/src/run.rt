@@ -10,6 +10,6 @@ pub struct Run<'a> {
     pub alloc: Global,
     pub library: &'a Library,
     pub hooks: &'a HookTable<'a>,
-    /// The first case or feature that is failed or memory stops the run.
+    /// The first case, rule or feature that is failed or memory stops the run.
     pub stop: bool,
 }
