@@ -1,5 +1,5 @@
 -- A run whose output is flushed, the program's faults for those of the run, and variables one after another.
-use Rattle.std.proofs.Common.{◌≡◌, ◌≢◌, ◌∙◌, ◌+◌, ◌<◌, ◌≤◌, ◌++◌, ap, sym, subst, refl, inl, inr, arith, suc, zero, ℕ, List, [], ◌∷◌, length, map, take, drop, get_or, Option, Some, None, Result, Ok, Err, add-one}
+use Rattle.std.proofs.Common.{◌≡◌, ◌≢◌, ◌∙◌, ◌+◌, ◌-◌, ◌^◌, ◌<◌, ◌≤◌, ◌++◌, ap, sym, subst, refl, inl, inr, arith, suc, zero, ℕ, List, [], ◌∷◌, length, map, take, drop, get_or, Option, Some, None, Result, Ok, Err, add-one}
 use Rattle.std.specs.Prelude.{IfErr, IfOk, IsSome, IsSomeAnd, String, is_some, option_map, slice_get, string_bytes, unwrap_or}
 use Rattle.std.specs.declared.alloc.Global.{Global}
 use Rattle.std.specs.List.{All, Any}
@@ -15,7 +15,7 @@ use Rattle.gk_world.specs.declared.refusals.WorldFault.{WorldFault}
 use Rattle.gk_world.specs.declared.refusals.WorldFault.TheVariants as world
 use Rattle.gk_select.specs.declared.select_fault.SelectFault.TheVariants as select
 use Rattle.gk_cli.specs.Arguments.{PairValue, pair_value}
-use Rattle.gk_cli.specs.Counted.{CanRise, one_more}
+use Rattle.gk_cli.specs.Counted.{one_more}
 use Rattle.gk_cli.specs.Inputs.{Request}
 use Rattle.gk_cli.specs.Source.{SourceValue, source_value, names_of}
 use Rattle.gk_cli.specs.declared.source.Source.{Source}
@@ -233,11 +233,11 @@ within mode options files c old new (run.Select (Some input) select.Memory) says
 within mode options files c old new run.Write says = tt
 within mode options files c old new run.Memory says = tt
 
-pub fewer : (a b : ℕ) → CanRise a → b ≡ one_more a → a < b
+pub fewer : (a b : ℕ) → a < 2 ^ 64 - 1 → b ≡ one_more a → a < b
 fewer a b room e = omega (arith, e)
 
 pub calls_of_run : (mode : Mode) (r : Request) (c : Contents) (old new : Device) (files : FilesValue) (by : RunFault) (fault : Fault)
-    → CanRise old.failures → IsFaultOfRun files by fault → SaysFaultAs mode files r c old new by → SaysCallsOfRun old new fault
+    → old.failures < 2 ^ 64 - 1 → IsFaultOfRun files by fault → SaysFaultAs mode files r c old new by → SaysCallsOfRun old new fault
 calls_of_run mode r c old new files run.Write Write room is says =
     let why : StopsBy old new run.Write = stopped_by mode files r c old new run.Write says in
     (fewer old.failures new.failures room why.0, (let idle = why.1 in omega arith))
@@ -272,7 +272,7 @@ listed_calls files by old new _ is nothing = absurd is
 
 -- the same, by what is written of the run
 pub calls_as : (mode : Mode) (r : Request) (c : Contents) (old new : Device) (files : FilesValue) (by : RunFault) (fault : Fault)
-    → CanRise old.failures → IsFaultAs mode files by fault → SaysFaultAs mode files r c old new by → SaysCallsOfRun old new fault
+    → old.failures < 2 ^ 64 - 1 → IsFaultAs mode files by fault → SaysFaultAs mode files r c old new by → SaysCallsOfRun old new fault
 calls_as Report r c old new files by fault room is says = calls_of_run Report r c old new files by fault room is says
 calls_as Explanation r c old new files by fault room is says = calls_of_run Explanation r c old new files by fault room is says
 calls_as Findings r c old new files run.Write fault room is says = calls_of_run Findings r c old new files run.Write fault room is says

@@ -2,7 +2,7 @@
 ghost use Rattle.std.specs.Prelude.{◌≡◌, ◌<◌, map, IfOk, IfErr, IsSome, OnOk, Some, option_map, string_bytes, vec_len};
 ghost use Rattle.gk_world.specs.Sandbox.{depth, new_sandbox};
 ghost use Rattle.gk_cli.specs.Arguments.{pair_value};
-ghost use Rattle.gk_cli.specs.Counted.{CountsCanRise, flushes_of, failures_of, one_more};
+ghost use Rattle.gk_cli.specs.Counted.{FailuresCanRise, flushes_of, failures_of, one_more};
 ghost use Rattle.gk_cli.specs.Suite.{device_of};
 ghost use Rattle.gk_cli.specs.Source.{source_value};
 ghost use Rattle.gk_cli.specs.SuiteFiles.{suite_value};
@@ -70,7 +70,7 @@ fn arguments_of<R: Env + AllocGlobal>(rt: &R) -> Result<Vec<String>, Fault>
 
 /// Writes a text, and flushes.
 fn show_text<W: Write>(text: &str, out: &mut Counted<W>) -> Result<u8, Fault>
-    requires room { CountsCanRise out.old }
+    requires room { FailuresCanRise out.old }
     ensures shown { IfOk result
         (IsShown text.now (device_of W.contents out.old) (device_of W.contents out.new)) }
     ensures quiet { OnOk result (failures_of out.new ≡ failures_of out.old) }
@@ -90,7 +90,7 @@ fn show_text<W: Write>(text: &str, out: &mut Counted<W>) -> Result<u8, Fault>
 
 /// Writes clap's text for help, and flushes.
 fn show_help<W: Write>(alloc: Global, text: &clap::Error, out: &mut Counted<W>) -> Result<u8, Fault>
-    requires room { CountsCanRise out.old }
+    requires room { FailuresCanRise out.old }
     ensures well { IfOk result
         (IsHelp (device_of W.contents out.old) (device_of W.contents out.new)) }
     ensures quiet { OnOk result (failures_of out.new ≡ failures_of out.old) }
@@ -205,7 +205,7 @@ fn write_run<W: Write>(
     files: &mut SuiteFiles,
     out: &mut Counted<W>,
 ) -> Result<u8, RunFault>
-    requires room { CountsCanRise out.old }
+    requires room { FailuresCanRise out.old }
     requires outside { depth sandbox.old ≡ 0 }
     // Files whose findings are written keep their bytes; the names stay in any case.
     ensures left { AreLeft manner.entry.mode files.old files.new }
@@ -236,7 +236,7 @@ fn run_sources<W: Write>(
     files: SuiteFiles,
     out: &mut Counted<W>,
 ) -> Result<u8, Fault>
-    requires room { CountsCanRise out.old }
+    requires room { FailuresCanRise out.old }
     requires outside { depth sandbox.old ≡ 0 }
     // What was written and the status are those of one run of these inputs, or of what is found in them.
     ensures run { IfOk result (IsRunOfFiles manner.entry (suite_value files)
@@ -271,7 +271,7 @@ fn run_in<S: System, W: Write>(
     words: Words,
     out: &mut Counted<W>,
 ) -> Result<u8, Fault>
-    requires room { CountsCanRise out.old }
+    requires room { FailuresCanRise out.old }
     requires empty { sandbox.old ≡ new_sandbox }
     ensures run { IfOk result (IsRun S.reads words system.old system.new
         (device_of W.contents out.old) (device_of W.contents out.new)) }
@@ -299,7 +299,7 @@ fn run_words<S: System, W: Write>(
     words: Words,
     out: &mut Counted<W>,
 ) -> Result<u8, Fault>
-    requires room { CountsCanRise out.old }
+    requires room { FailuresCanRise out.old }
     // The files were read from the system under their names, in order, and no other was. What was
     // written and the status are those of one run of the bytes that it gave, or of what is found
     // in these.
@@ -324,7 +324,7 @@ fn run_asked<S: System, W: Write>(
     arguments: &[String],
     out: &mut Counted<W>,
 ) -> Result<u8, Fault>
-    requires room { CountsCanRise out.old }
+    requires room { FailuresCanRise out.old }
     ensures done { IfOk result
         (IsDoneFor S.reads (map string_bytes arguments.now) system.old system.new
         (device_of W.contents out.old) (device_of W.contents out.new)) }
@@ -350,7 +350,7 @@ pub fn run<R: Env + AllocGlobal, S: System, W: Write>(
     system: &mut S,
     out: &mut Counted<W>,
 ) -> Result<u8, Fault>
-    requires room { CountsCanRise out.old }
+    requires room { FailuresCanRise out.old }
     ensures done { IfOk result (IsDoneForSome S.reads system.old system.new
         (device_of W.contents out.old) (device_of W.contents out.new)) }
     ensures quiet { OnOk result (failures_of out.new ≡ failures_of out.old) }

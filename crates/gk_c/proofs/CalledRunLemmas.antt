@@ -8,12 +8,12 @@ use Rattle.gk_world.specs.Sandbox.{SandboxValue, with_env}
 use Rattle.gk_cli.specs.Arguments.{PairValue}
 use Rattle.gk_cli.specs.Inputs.{Request}
 use Rattle.gk_cli.specs.Suite.{Device, JudgedReport, OnlyReport, IsOnlyReport}
-use Rattle.gk_cli.specs.Source.{source_value}
+use Rattle.gk_cli.specs.Source.{borrowed_value}
 use Rattle.gk_cli.specs.declared.run_fault.RunFault.TheVariants.{Read, Library, Hooks, Select, Write, Memory}
 use Rattle.gk_report.specs.declared.report.Format.{Format}
 use Rattle.gk_c.specs.Answer.{IsReport, IsNoReport}
 use Rattle.gk_c.specs.CalledRun.{AreTaken, HasFirstBad, IsAnswer, IsCountable, IsFaultSaid, IsJudgedText, IsNoVariable, IsPlainText, IsRefused, IsRunAnswer, IsRunReport, SaysPut, SaysPutOne, SaysCallFault, SaysRunFault, contents_by, with_variables}
-use Rattle.gk_c.specs.Call.{AreTexts, CallValue, IsReadIn, SaysRead, format_by, given_value, has_line_zero, request_by, request_read, variable_named}
+use Rattle.gk_c.specs.Call.{AreTexts, CallValue, IsReadIn, SaysRead, format_by, has_line_zero, request_by, request_read, variable_named}
 use Rattle.gk_c.specs.CallFault.{line_in, line_of_call, line_of_read, own_line, place_of_call, status_of_call}
 use Rattle.gk_c.specs.declared.answer.Answer.{Answer}
 use Rattle.gk_c.specs.declared.call.Named.{Named}
@@ -116,8 +116,8 @@ request_is call format read is =
 
 line_is : (call : CallValue) (format : Format) (read : ReadCall) (fault : CallFault) → IsReadIn call format read → line_of_read read fault ≡ line_of_call call fault
 line_is call format read fault is =
-    ap (λ l. line_in l (option_map given_value read.hooks) (map source_value read.sources.items) fault) is.library
-    ∙ ap (λ h. line_in call.library h (map source_value read.sources.items) fault) is.hooks
+    ap (λ l. line_in l (option_map borrowed_value read.hooks) (map borrowed_value read.sources.items) fault) is.library
+    ∙ ap (λ h. line_in call.library h (map borrowed_value read.sources.items) fault) is.hooks
     ∙ ap (λ s. line_in call.library call.hooks s fault) is.sources
 
 -- a call with a format, without line 0

@@ -1,3 +1,4 @@
 -- Lemmas.
+mod AnswerLemmas
 mod CallLemmas
 mod CalledRunLemmas

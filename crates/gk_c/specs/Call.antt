@@ -8,11 +8,10 @@ use Rattle.gk_report.specs.declared.report.Format.TheVariants.{Plain, Progress, 
 use Rattle.gk_cli.specs.Arguments.{PairValue}
 use Rattle.gk_cli.specs.declared.arguments.Options.{Options}
 use Rattle.gk_cli.specs.declared.run_fault.RunFault.TheVariants.{Memory}
-use Rattle.gk_cli.specs.declared.source.Source.{Source}
+use Rattle.gk_cli.specs.declared.source.BorrowedSource.{BorrowedSource}
 use Rattle.gk_cli.specs.Inputs.{Request, request_of}
-use Rattle.gk_cli.specs.Source.{SourceValue, source_value}
+use Rattle.gk_cli.specs.Source.{SourceValue, borrowed_value}
 use Rattle.gk_c.specs.declared.call.Call.{Call}
-use Rattle.gk_c.specs.declared.call.GivenFile.{GivenFile}
 use Rattle.gk_c.specs.declared.call.Named.{Named}
 use Rattle.gk_c.specs.declared.call.ReadCall.{ReadCall}
 use Rattle.gk_c.specs.declared.call.Text.{Text}
@@ -121,13 +120,9 @@ pub record AreTexts (call : CallValue) : Type 0 where
 abbrev pub HasFormat : CallValue → Type 0
 HasFormat call = IsSome (format_by call.format)
 
--- Proof machinery, from here on: what a `GivenFile` says.
-abbrev pub given_value : GivenFile → SourceValue
-given_value file = record { name = file.name.now; bytes = file.bytes.now }
-
--- What a `ReadCall` asks for.
+-- Proof machinery, from here on: what a `ReadCall` asks for.
 abbrev pub request_read : ReadCall → Request
-request_read read = request_of read.options (bytes_by (option_map given_value read.library)) (bytes_by (option_map given_value read.hooks)) (map source_value read.sources.items)
+request_read read = request_of read.options (bytes_by (option_map borrowed_value read.library)) (bytes_by (option_map borrowed_value read.hooks)) (map borrowed_value read.sources.items)
 
 -- A text is the bytes, or these aren't UTF-8.
 abbrev pub SaysText : List ℕ → Result (Bor (List ℕ)) CallFault → Type 0
@@ -149,23 +144,22 @@ SaysTexts texts (Err NotUtf8) = Any IsNoText texts
 SaysTexts texts (Err (Run Memory)) = Unit {0}
 SaysTexts texts (Err fault) = ⊥
 
--- A copy of a file, or its name isn't UTF-8.
-abbrev pub SaysSource : SourceValue → Result Source CallFault → Type 0
-SaysSource file (Ok source) = (source_value source ≡ file) × IsUtf8 file.name
+-- A file, or its name isn't UTF-8.
+abbrev pub SaysSource : SourceValue → Result BorrowedSource CallFault → Type 0
+SaysSource file (Ok source) = (borrowed_value source ≡ file) × IsUtf8 file.name
 SaysSource file (Err NotUtf8) = IsNoText file.name
-SaysSource file (Err (Run Memory)) = Unit {0}
 SaysSource file (Err fault) = ⊥
 
--- Copies of files, or the name of one of them isn't UTF-8.
-abbrev pub SaysSources : List SourceValue → Result (Vec Source Global) CallFault → Type 0
-SaysSources files (Ok sources) = (map source_value sources.items ≡ files) × All (λ s. IsUtf8 s.name) files
+-- The files, or the name of one of them isn't UTF-8.
+abbrev pub SaysSources : List SourceValue → Result (Vec BorrowedSource Global) CallFault → Type 0
+SaysSources files (Ok sources) = (map borrowed_value sources.items ≡ files) × All (λ s. IsUtf8 s.name) files
 SaysSources files (Err NotUtf8) = Any (λ s. IsNoText s.name) files
 SaysSources files (Err (Run Memory)) = Unit {0}
 SaysSources files (Err fault) = ⊥
 
 -- The file that may be given, or its name isn't UTF-8.
-abbrev pub SaysGiven : Option SourceValue → Result (Option GivenFile) CallFault → Type 0
-SaysGiven file (Ok read) = (option_map given_value read ≡ file) × HasName file
+abbrev pub SaysGiven : Option SourceValue → Result (Option BorrowedSource) CallFault → Type 0
+SaysGiven file (Ok read) = (option_map borrowed_value read ≡ file) × HasName file
 SaysGiven file (Err NotUtf8) = HasBadName file
 SaysGiven file (Err fault) = ⊥
 
@@ -187,9 +181,9 @@ SaysOptions call format (Err fault) = ⊥
 -- What was read is what the call asks for in a format, with the names of its files.
 pub record IsReadIn (call : CallValue) (format : Format) (read : ReadCall) : Type 0 where
   pub options : AreOptions call format read.options
-  pub library : option_map given_value read.library ≡ call.library
-  pub hooks : option_map given_value read.hooks ≡ call.hooks
-  pub sources : map source_value read.sources.items ≡ call.sources
+  pub library : option_map borrowed_value read.library ≡ call.library
+  pub hooks : option_map borrowed_value read.hooks ≡ call.hooks
+  pub sources : map borrowed_value read.sources.items ≡ call.sources
   pub texts : AreTexts call
 
 -- What a call asks for in a format, or why it can't be read.

@@ -4,12 +4,11 @@ use Rattle.std.specs.Fmt.{decimal}
 use Rattle.gk_gherkin.specs.ReadFault.{line_of_fault, text_of_fault}
 use Rattle.gk_steps.specs.LibraryFault.{library_fault_text, line_of_library_fault}
 use Rattle.gk_cli.specs.RunFault.{status_of_fault}
-use Rattle.gk_cli.specs.Source.{SourceValue, source_value}
+use Rattle.gk_cli.specs.Source.{SourceValue, borrowed_value}
 use Rattle.gk_cli.specs.declared.run_fault.RunFault.{RunFault}
 use Rattle.gk_cli.specs.declared.run_fault.RunFault.TheVariants.{Read, Library, Hooks, Select, Write, Memory}
-use Rattle.gk_cli.specs.declared.source.Source.{Source}
-use Rattle.gk_c.specs.Call.{CallValue, given_value}
-use Rattle.gk_c.specs.declared.call.GivenFile.{GivenFile}
+use Rattle.gk_cli.specs.declared.source.BorrowedSource.{BorrowedSource}
+use Rattle.gk_c.specs.Call.{CallValue}
 use Rattle.gk_c.specs.declared.call.ReadCall.{ReadCall}
 use Rattle.gk_c.specs.FaultPlace.{nowhere, place_of_run}
 use Rattle.gk_c.specs.declared.call_fault.CallFault.{CallFault}
@@ -64,7 +63,7 @@ line_of_call call fault = line_in call.library call.hooks call.sources fault
 
 -- Proof machinery, from here on: the line of a fault of what was read.
 abbrev pub line_of_read : ReadCall → CallFault → List ℕ
-line_of_read read fault = line_in (option_map given_value read.library) (option_map given_value read.hooks) (map source_value read.sources.items) fault
+line_of_read read fault = line_in (option_map borrowed_value read.library) (option_map borrowed_value read.hooks) (map borrowed_value read.sources.items) fault
 
 -- The line of a fault that names no file, refused memory among them.
 abbrev pub own_line : CallFault → List ℕ
@@ -72,12 +71,12 @@ own_line (Run fault) = codes "out of memory"
 own_line fault = line_in None None [] fault
 
 -- The name of a source that was read.
-abbrev pub name_within : List Source → ℕ → Option (List ℕ)
-name_within sources input = name_at (map source_value sources) input
+abbrev pub name_within : List BorrowedSource → ℕ → Option (List ℕ)
+name_within sources input = name_at (map borrowed_value sources) input
 
 -- The name of a file that was read.
-abbrev pub name_given : Option GivenFile → Option (List ℕ)
-name_given file = name_by (option_map given_value file)
+abbrev pub name_given : Option BorrowedSource → Option (List ℕ)
+name_given file = name_by (option_map borrowed_value file)
 
 -- The line of a fault of a run of what was read.
 abbrev pub text_of_run : ReadCall → RunFault → List ℕ

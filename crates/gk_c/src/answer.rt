@@ -23,6 +23,23 @@ pub struct Answer {
     pub has_report: bool,
 }
 
+// How many bytes are copied at once. A page of fresh room is cleared when it is first written: a page at a time, it is
+// filled while the processor still holds it.
+const PAGE: usize = 4096;
+
+// Copies bytes over as many others.
+fn copy_over(from: &[u8], to: &mut [u8])
+    requires { length from.now ≡ length to.old }
+    ensures { to.new ≡ from.now }
+{
+    let mut done = 0;
+    while done < from.len() {
+        let end = done + (from.len() - done).min(PAGE);
+        to[done..end].copy_from_slice(&from[done..end]);
+        done = end;
+    }
+}
+
 /// Writes as much of a text as there is room for over the beginning of the room, and returns the length of the whole
 /// text.
 pub fn put_out(text: &[u8], room: &mut [u8]) -> usize
@@ -30,7 +47,7 @@ pub fn put_out(text: &[u8], room: &mut [u8]) -> usize
     ensures written { room.new ≡ put_over text.now room.old }
 {
     let count = text.len().min(room.len());
-    room[..count].copy_from_slice(&text[..count]);
+    copy_over(&text[..count], &mut room[..count]);
     text.len()
 }
 

@@ -3,7 +3,7 @@ ghost use Rattle.std.specs.Prelude.{◌≡◌, map};
 ghost use Rattle.gk_c.specs.Call.{call_value, format_by, given, source_named, text_value, SaysCopy, SaysGiven, SaysOptions, SaysRead, SaysReadIn, SaysSource, SaysSources, SaysText, SaysTexts};
 
 use crate::call_fault::CallFault;
-use gk_cli::{Options, Source};
+use gk_cli::{BorrowedSource, Options};
 use gk_report::{Format, Style};
 use std::alloc::Global;
 use std::str;
@@ -50,20 +50,13 @@ pub struct Call<'a> {
     pub format: u8,
 }
 
-/// A library file or a hooks file, whose name is a text.
-#[derive(Clone, Copy)]
-pub struct GivenFile<'a> {
-    pub name: &'a str,
-    pub bytes: &'a [u8],
-}
-
 /// What a call asks for, but for its variables.
 #[derive(Drop)]
 pub struct ReadCall<'a> {
     pub options: Options,
-    pub library: Option<GivenFile<'a>>,
-    pub hooks: Option<GivenFile<'a>>,
-    pub sources: Vec<Source>,
+    pub library: Option<BorrowedSource<'a>>,
+    pub hooks: Option<BorrowedSource<'a>>,
+    pub sources: Vec<BorrowedSource<'a>>,
 }
 
 // The format of a number, if there is one.
@@ -87,22 +80,26 @@ pub fn text_from(bytes: &[u8]) -> Result<&str, CallFault>
     }
 }
 
-fn source_from(alloc: Global, file: &Named) -> Result<Source, CallFault>
+// The file, which stays where the caller has it.
+fn source_from<'a>(file: &Named<'a>) -> Result<BorrowedSource<'a>, CallFault>
     ensures { SaysSource (source_named file.now) result }
 {
     let name = text_from(file.name)?;
-    Ok(Source {
-        name: String::from_str(alloc, name)?,
-        bytes: Vec::from_slice(alloc, file.bytes)?,
+    Ok(BorrowedSource {
+        name,
+        bytes: file.bytes,
     })
 }
 
-fn sources_from(alloc: Global, files: &[Named]) -> Result<Vec<Source>, CallFault>
+fn sources_from<'a>(
+    alloc: Global,
+    files: &[Named<'a>],
+) -> Result<Vec<BorrowedSource<'a>>, CallFault>
     ensures { SaysSources (map source_named files.now) result }
 {
     let mut sources = Vec::new(alloc);
     for file in files {
-        match source_from(alloc, file) {
+        match source_from(file) {
             Ok(source) => sources.push(source)?,
             Err(fault) => return Err(fault),
         }
@@ -131,15 +128,11 @@ fn texts_from(alloc: Global, texts: &[Text]) -> Result<Vec<String>, CallFault>
 }
 
 // The library file or the hooks file, where it is given.
-fn given_from<'a>(is_given: bool, file: &Named<'a>) -> Result<Option<GivenFile<'a>>, CallFault>
+fn given_from<'a>(is_given: bool, file: &Named<'a>) -> Result<Option<BorrowedSource<'a>>, CallFault>
     ensures { SaysGiven (given is_given file.now) result }
 {
     if is_given {
-        let name = text_from(file.name)?;
-        Ok(Some(GivenFile {
-            name,
-            bytes: file.bytes,
-        }))
+        Ok(Some(source_from(file)?))
     } else {
         Ok(None)
     }

@@ -3,9 +3,9 @@ ghost use Rattle.std.specs.Prelude.{◌≡◌, ◌++◌, codes, option_map, Some
 ghost use Rattle.std.specs.Fmt.{DisplaysOnOk};
 ghost use Rattle.gk_c.specs.CallFault.{name_given, name_within, own_line, placed_at, place_of_call, status_of_call, text_of_run};
 
-use crate::call::{GivenFile, ReadCall};
+use crate::call::ReadCall;
 use crate::fault_place::{FaultPlace, NOWHERE, place_of};
-use gk_cli::{RunFault, Source};
+use gk_cli::{BorrowedSource, RunFault};
 use gk_select::SelectFault;
 use std::alloc::{AllocError, AllocFailed, Global};
 use std::fmt;
@@ -77,17 +77,17 @@ pub struct NamedFault<'a> {
 }
 
 // The name of the source at a place, if there is one.
-fn source_name(sources: &[Source], input: usize) -> Option<&str>
+fn source_name<'a>(sources: &[BorrowedSource<'a>], input: usize) -> Option<&'a str>
     ensures { option_map (λ name. name.now) result ≡ name_within sources.now input }
 {
     match sources.get(input) {
-        Some(source) => Some(source.name.as_str()),
+        Some(source) => Some(source.name),
         None => None,
     }
 }
 
 // The name of a file that may be given.
-fn file_name<'a>(file: &Option<GivenFile<'a>>) -> Option<&'a str>
+fn file_name<'a>(file: &Option<BorrowedSource<'a>>) -> Option<&'a str>
     ensures { option_map (λ name. name.now) result ≡ name_given file.now }
 {
     match file {

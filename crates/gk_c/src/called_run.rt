@@ -1,26 +1,27 @@
 //! Running what a call asks for, in a world that is new.
-ghost use Rattle.std.specs.Prelude.{◌≡◌, map, IfOk, IfErr, OnOk, option_map};
+ghost use Rattle.std.specs.Prelude.{◌≡◌, [], map, IfOk, IfErr, OnOk, option_map};
 ghost use Rattle.gk_world.specs.Sandbox.{depth, new_sandbox};
-ghost use Rattle.gk_cli.specs.Counted.{CountsCanRise};
 ghost use Rattle.gk_cli.specs.RunFault.{IsUnread};
+ghost use Rattle.gk_cli.specs.Source.{borrowed_value};
 ghost use Rattle.gk_cli.specs.Suite.{device_of, JudgedReport, OnlyReport};
 ghost use Rattle.gk_c.specs.Answer.{IsNoReport, IsReport};
-ghost use Rattle.gk_c.specs.Call.{bytes_by, call_value, given_value, request_read, variable_named};
+ghost use Rattle.gk_c.specs.Call.{bytes_by, call_value, request_read, variable_named};
 ghost use Rattle.gk_c.specs.CallFault.{own_line, place_of_call, status_of_call};
 ghost use Rattle.gk_c.specs.declared.call_fault.CallFault.TheVariants.{Run};
 ghost use Rattle.gk_c.specs.CalledRun.{AreTaken, IsAnswer, IsFaultSaid, IsRunAnswer, SaysPut, SaysPutOne, SaysRunFault, contents_by};
 
 use crate::answer::{Answer, fault_answer, report_answer};
-use crate::call::{Call, GivenFile, Named, ReadCall, read_call, text_from};
+use crate::call::{Call, Named, ReadCall, read_call, text_from};
 use crate::call_fault::{CallFault, line_of_own, line_of_run};
 use crate::fault_place::place_of;
-use gk_cli::{Counted, RunFault, run_suite};
+use gk_cli::{BorrowedSource, Counted, RunFault, run_borrowed_suite};
 use gk_world::{Sandbox, WorldFault};
 use std::alloc::Global;
 use std::io::Write;
 
-fn bytes_of<'a>(file: &Option<GivenFile<'a>>) -> Option<&'a [u8]>
-    ensures { option_map (λ bytes. bytes.now) result ≡ bytes_by (option_map given_value file.now) }
+fn bytes_of<'a>(file: &Option<BorrowedSource<'a>>) -> Option<&'a [u8]>
+    ensures { option_map (λ bytes. bytes.now) result
+        ≡ bytes_by (option_map borrowed_value file.now) }
 {
     match file {
         Some(file) => Some(file.bytes),
@@ -36,7 +37,6 @@ fn run_read<W: Write>(
     read: &ReadCall,
     out: &mut Counted<W>,
 ) -> Result<u8, RunFault>
-    requires room { CountsCanRise out.old }
     requires outside { depth sandbox.old ≡ 0 }
     ensures judged { IfOk result (JudgedReport (request_read read.now) sandbox.old.now
         (device_of W.contents out.old) (device_of W.contents out.new)) }
@@ -46,7 +46,7 @@ fn run_read<W: Write>(
 {
     let library = bytes_of(&read.library);
     let hooks = bytes_of(&read.hooks);
-    match run_suite(
+    match run_borrowed_suite(
         alloc,
         sandbox,
         &read.options,
@@ -94,7 +94,6 @@ fn run_in<W: Write>(
     read: &ReadCall,
     out: &mut Counted<W>,
 ) -> Result<u8, CallFault>
-    requires room { CountsCanRise out.old }
     requires empty { sandbox.old ≡ new_sandbox }
     ensures taken { OnOk result (AreTaken (map variable_named variables.now)) }
     ensures judged { IfOk result (JudgedReport (request_read read.now)
@@ -122,7 +121,6 @@ fn run_fresh<W: Write>(
     read: &ReadCall,
     out: &mut Counted<W>,
 ) -> Result<u8, CallFault>
-    requires room { CountsCanRise out.old }
     ensures taken { OnOk result (AreTaken (map variable_named variables.now)) }
     ensures judged { IfOk result (JudgedReport (request_read read.now)
         (contents_by (map variable_named variables.now))
@@ -182,11 +180,22 @@ fn say_ended(
     }
 }
 
+// A buffer that takes a report as long as the caller's room without growing. Where there is no memory for it, one that
+// grows.
+fn buffer_for(alloc: Global, room: &[u8]) -> Vec<u8>
+    ensures { result.items ≡ [] }
+{
+    match Vec::with_capacity(alloc, room.len()) {
+        Ok(buffer) => buffer,
+        Err(_) => Vec::new(alloc),
+    }
+}
+
 // The answer to a call that was read.
 fn answer_read(alloc: Global, variables: &[Named], read: &ReadCall, room: &mut [u8]) -> Answer
     ensures { IsRunAnswer (map variable_named variables.now) read.now room.old room.new result }
 {
-    let mut out = Counted::new(Vec::new(alloc));
+    let mut out = Counted::new(buffer_for(alloc, room));
     let ended = run_fresh(alloc, variables, read, &mut out);
     say_ended(alloc, read, ended, out.inner().as_slice(), room)
 }

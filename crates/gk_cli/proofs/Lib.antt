@@ -13,6 +13,7 @@ pub mod LintedSourcesLemmas
 pub mod LintedSuiteLemmas
 pub mod AllFaultsLemmas
 pub mod AllFaultsLaw
+pub mod RowOrderLaw
 pub mod WorkedRun
 pub mod WorkedHooksRun
 pub mod WorkedLongRun

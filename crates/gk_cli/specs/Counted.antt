@@ -27,17 +27,9 @@ idle_of c = c.idle
 abbrev pub one_more : ℕ → ℕ
 one_more n = min (n + 1) (2 ^ 64 - 1)
 
--- A count that rises by one, and by no more, is seen to do so: before and after it is below the greatest `u64`, where it stays.
-abbrev pub CanRise : ℕ → Type 0
-CanRise n = n + 1 < 2 ^ 64 - 1
-
--- The failures of a reader or a writer, and its calls that move no byte, can be counted by one more.
-abbrev pub ReadCountsCanRise : {T : Type 0} → Counted T → Type 0
-ReadCountsCanRise c = CanRise (failures_of c) × CanRise (idle_of c)
-
--- So can the flushes of a writer.
-abbrev pub CountsCanRise : {T : Type 0} → Counted T → Type 0
-CountsCanRise c = ReadCountsCanRise c × CanRise (flushes_of c)
+-- The failures are below the greatest `u64`, where a count stays, so that one more of them is seen.
+abbrev pub FailuresCanRise : {T : Type 0} → Counted T → Type 0
+FailuresCanRise c = failures_of c < 2 ^ 64 - 1
 
 -- The device was called once more.
 abbrev pub IsCalledOnce : {T : Type 0} → Counted T → Counted T → Type 0

@@ -21,10 +21,10 @@ encoding_hint = codes "save the file as UTF-8"
 unfoldable pub memory_hint : List ℕ
 memory_hint = codes "divide the files, or spread them over several runs"
 
--- What is to be done about a fault of a feature file or of a hooks file.
+-- What is to be done about a fault of a feature file.
 unfoldable pub read_hint : ReadFault → List ℕ
 read_hint (read_faults.NotUtf8 n) = encoding_hint
-read_hint (read_faults.Unexpected n) = codes "look at the line above, too: a description ends at the first step, and a step has one block"
+read_hint (read_faults.Unexpected n) = codes "write the keyword exactly, and look at the line above, too: a description ends at the first step, and a step has one block"
 read_hint (read_faults.BadTag n) = codes "write an @ before each tag, and a # before remarks"
 read_hint (read_faults.CellCount n) = codes "give each row as many cells as the first; write \\| for a bar inside a cell"
 read_hint (read_faults.UnclosedText n) = codes "close it with a line of the same three characters alone"
@@ -34,6 +34,11 @@ read_hint (read_faults.BadRow n) = codes "close the row with a bar"
 read_hint (read_faults.BadHook n) = codes "write before_ or after_, and then all:, feature:, rule:, scenario: or tag @NAME:, each heading once"
 read_hint read_faults.TooLong = long_file_hint
 read_hint read_faults.Memory = memory_hint
+
+-- What is to be done about a fault of a hooks file: as in a feature file, but for a line that can't stand there.
+unfoldable pub hooks_hint : ReadFault → List ℕ
+hooks_hint (read_faults.Unexpected n) = codes "write each heading as before_all: or after_all:, and below it only steps, each with its keyword"
+hooks_hint fault = read_hint fault
 
 -- What is to be done about a fault of a library file.
 unfoldable pub library_hint : LibraryFault → List ℕ
@@ -57,7 +62,7 @@ select_hint select_faults.Memory = memory_hint
 abbrev pub hint : RunFault → List ℕ
 hint (Read input fault) = read_hint fault
 hint (Library fault) = library_hint fault
-hint (Hooks fault) = read_hint fault
+hint (Hooks fault) = hooks_hint fault
 hint (Select input fault) = select_hint fault
 hint Write = codes "make room, and run again"
 hint Memory = memory_hint

@@ -50,10 +50,14 @@ request_of options library hooks sources = record {
   sources = sources;
 }
 
+-- What options, the bytes of a library file and of a hooks file, and sources ask for.
+abbrev pub asked_of : Options → Option (Bor (List ℕ)) → Option (Bor (List ℕ)) → List SourceValue → Request
+asked_of options library hooks sources =
+    request_of options (option_map (λ (bytes : Bor (List ℕ)). bytes.now) library) (option_map (λ (bytes : Bor (List ℕ)). bytes.now) hooks) sources
+
 -- What a run's arguments ask for.
 abbrev pub asked : Options → Option (Bor (List ℕ)) → Option (Bor (List ℕ)) → List Source → Request
-asked options library hooks sources =
-    request_of options (option_map (λ (bytes : Bor (List ℕ)). bytes.now) library) (option_map (λ (bytes : Bor (List ℕ)). bytes.now) hooks) (map source_value sources)
+asked options library hooks sources = asked_of options library hooks (map source_value sources)
 
 -- The inputs as they read: the library, the hooks, and the sources' features with their cases and the choice among them.
 pub record Inputs : Type 0 where

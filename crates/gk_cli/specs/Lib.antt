@@ -3,9 +3,11 @@ pub mod Arguments
 pub mod Counted
 pub mod Source
 pub mod Inputs
+pub mod BorrowedSuite
 pub mod RunFault
 pub mod SuiteFiles
 pub mod Suite
+pub mod RowOrder
 pub mod GrowingReport
 pub mod WrittenRun
 pub mod ReportedSuite

@@ -17,9 +17,8 @@ use Rattle.gk_steps.specs.LibraryFault.{LibraryFaultSays}
 use Rattle.gk_cli.specs.declared.arguments.Options.{Options}
 use Rattle.gk_cli.specs.declared.run_fault.RunFault.{RunFault}
 use Rattle.gk_cli.specs.declared.run_fault.RunFault.TheVariants.{Read, Library, Hooks, Select, Write, Memory}
-use Rattle.gk_cli.specs.declared.source.Source.{Source}
 use Rattle.gk_cli.specs.Source.{SourceValue}
-use Rattle.gk_cli.specs.Inputs.{Request, asked, AreRules, IsLibrary, HasBadTags, IsFirstUnread, StopsAtSource, HasFault, HasTooMany}
+use Rattle.gk_cli.specs.Inputs.{Request, asked_of, AreRules, IsLibrary, HasBadTags, IsFirstUnread, StopsAtSource, HasFault, HasTooMany}
 
 -- A library file doesn't read, where the texts of tags do.
 pub record StopsAtLibrary (r : Request) (fault : LibraryFault) : Type 0 where
@@ -60,7 +59,7 @@ status_of_fault fault = 3
 
 -- Proof machinery: whatever the sources are, this is why what is asked for doesn't read.
 abbrev pub IsUnreadBefore : Options → Option (Bor (List ℕ)) → Option (Bor (List ℕ)) → RunFault → Type 0
-IsUnreadBefore options library hooks fault = (sources : List Source) → IsUnread (asked options library hooks sources) fault
+IsUnreadBefore options library hooks fault = (sources : List SourceValue) → IsUnread (asked_of options library hooks sources) fault
 
 -- Proof machinery: the same of the texts of tags alone.
 abbrev pub SaysTags : List (List ℕ) → SelectFault → Type 0

@@ -2,6 +2,7 @@
 use Rattle.std.specs.Prelude.{◌≡◌, ◌≤◌, ◌++◌, ℕ, List, [], length, map, take, drop, Option, Some, None, Result, Ok, Err, IsSomeAnd, string_bytes}
 use Rattle.std.specs.Io.KnownBytes.{Consumes}
 use Rattle.gk_cli.specs.Counted.{one_more}
+use Rattle.gk_cli.specs.declared.source.BorrowedSource.{BorrowedSource}
 use Rattle.gk_cli.specs.declared.source.Source.{Source}
 use Rattle.gk_cli.specs.declared.source.SourceFault.{SourceFault}
 use Rattle.gk_cli.specs.declared.source.SourceFault.TheVariants.{Device, TooLong, Memory}
@@ -14,6 +15,10 @@ pub record SourceValue : Type 0 where
 -- What a `Source` says.
 abbrev pub source_value : Source → SourceValue
 source_value s = record { name = string_bytes s.name; bytes = s.bytes.items }
+
+-- What a `BorrowedSource` says.
+abbrev pub borrowed_value : BorrowedSource → SourceValue
+borrowed_value s = record { name = s.name.now; bytes = s.bytes.now }
 
 -- The names of sources, in order.
 abbrev pub names_of : List SourceValue → List (List ℕ)

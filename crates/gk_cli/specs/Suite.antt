@@ -55,7 +55,7 @@ pub record AreJudged (r : Request) (contents : Contents) (results : Results) : T
 abbrev pub JudgedReport : Request → Contents → Device → Device → ℕ → Type 0
 JudgedReport r contents old new answer = (results : Results) × IsReported r.style old new answer results × AreJudged r contents results
 
--- That list is the one that plain maps give; no scenario in it is marked memory; and what is asked for has no other judged list with this status.
+-- That list is the one that plain maps give; nothing in it is marked memory, neither a scenario nor hooks and cleanups; and what is asked for has no other judged list with this status.
 pub record IsOnlyReport (r : Request) (contents : Contents) (old new : Device) (answer : ℕ) : Type 0 where
   pub inputs : Inputs
   pub read : AreInputs r inputs

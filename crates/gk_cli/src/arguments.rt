@@ -62,8 +62,9 @@ pub struct Options {
     /// Steps are looked up in the library, and no step, hook or cleanup runs. (behave's documentation:
     /// command line arguments)
     pub dry_run: bool,
-    /// After a scenario or a feature that failed or was refused memory, later scenarios are untested and
-    /// later features are not begun. (behave's documentation: command line arguments)
+    /// After a scenario, a rule or a feature that failed or was refused memory, later scenarios are
+    /// untested, and later rules and features are not begun. (behave's documentation: command line
+    /// arguments)
     pub stop: bool,
     /// The format of the report, and whether it leaves out what was skipped. (behave's documentation:
     /// command line arguments)

@@ -1,7 +1,7 @@
 //! A reader or a writer whose calls are counted, and writing bytes whole.
 ghost use Rattle.std.specs.Prelude.{◌≡◌, ◌≤◌, ◌+◌, length, OnOk, OnErr};
 ghost use Rattle.std.specs.Io.KnownBytes.{Appends};
-ghost use Rattle.gk_cli.specs.Counted.{inner_of, calls_of, one_more, IsPrefixWritten, HasNotFailed, HasFailedOnce, IsUnflushed, IsNeverIdle, IsIdleOnce, CountsCanRise};
+ghost use Rattle.gk_cli.specs.Counted.{inner_of, calls_of, one_more, IsPrefixWritten, HasNotFailed, HasFailedOnce, IsUnflushed, IsNeverIdle, IsIdleOnce};
 
 use std::io;
 use std::io::{Read, Write};
@@ -171,10 +171,9 @@ pub struct NotWritten;
 
 /// Writes all the bytes, and flushes nothing. Each call offers all that is left, and has at least one byte
 /// taken or is the last, with `NotWritten`; then a prefix of the bytes was written. Where no byte is left, none
-/// is made. A writer that failed isn't asked again. Its counts of failures, idle calls and flushes are below
-/// `u64::MAX - 1`, so that one more of each can be seen. Takes no memory.
+/// is made. A writer that failed isn't asked again. A count of its that has reached `u64::MAX` stays there. Takes
+/// no memory.
 pub fn write_whole<W: Write>(out: &mut Counted<W>, bytes: &[u8]) -> Result<(), NotWritten>
-    requires room { CountsCanRise out.old }
     ensures ok { OnOk result
         (Appends (W.contents (inner_of out.old)) (W.contents (inner_of out.new)) bytes.now) }
     ensures quiet { OnOk result (HasNotFailed out.old out.new) }

@@ -6,7 +6,6 @@ ghost use Rattle.gk_run.specs.Run.{run_of};
 ghost use Rattle.gk_run.specs.Chosen.{chosen_value, IsFormed};
 ghost use Rattle.gk_run.specs.Running.{IsSame};
 ghost use Rattle.gk_run.specs.OpenRun.{IsKept};
-ghost use Rattle.gk_cli.specs.Counted.{CountsCanRise};
 ghost use Rattle.gk_cli.specs.Suite.{device_of};
 ghost use Rattle.gk_cli.specs.ExplainedRun.{IsExplained, IsExplainedUpTo, ExplainsNext, EndsNextExplaining, ExplainsFeatures, EndsExplainingFeatures, IsReadyWritten, IsReadyStopped, IsEndWritten, IsEndStopped};
 
@@ -50,8 +49,6 @@ fn write_ready<W: Write>(
     explainer: &mut Explainer<'_>,
     out: &mut Counted<W>,
 ) -> Result<(), RunFault>
-    requires room { CountsCanRise out.old }
-    ensures room { OnOk result (CountsCanRise out.new) }
     ensures ok { OnOk result (IsReadyWritten
         (device_of W.contents out.old) explainer.old
         (device_of W.contents out.new) explainer.new) }
@@ -73,10 +70,8 @@ fn explain_next<W: Write>(
 ) -> Result<(), RunFault>
     requires innermost { so_far.old.suite.section.layer ≡ depth sandbox.old }
     requires formed { IsFormed feature }
-    requires room { CountsCanRise out.old }
     ensures kept { IsKept so_far.old.suite so_far.new.suite }
     ensures same { IsSame sandbox.old sandbox.new }
-    ensures room { OnOk result (CountsCanRise out.new) }
     ensures ok { OnOk result (ExplainsNext glue.now sandbox.old feature
         (device_of W.contents out.old) so_far.old
         (device_of W.contents out.new) so_far.new) }
@@ -114,10 +109,8 @@ fn explain_features<W: Write>(
 ) -> Result<(), RunFault>
     requires innermost { so_far.old.suite.section.layer ≡ depth sandbox.old }
     requires formed { AllByRecursion IsFormed features.items }
-    requires room { CountsCanRise out.old }
     ensures kept { IsKept so_far.old.suite so_far.new.suite }
     ensures same { IsSame sandbox.old sandbox.new }
-    ensures room { OnOk result (CountsCanRise out.new) }
     ensures ok { OnOk result (ExplainsFeatures glue.now sandbox.old
         (map chosen_value features.items)
         (device_of W.contents out.old) so_far.old
@@ -140,7 +133,6 @@ fn write_end<W: Write>(
     around: Status,
     out: &mut Counted<W>,
 ) -> Result<u8, RunFault>
-    requires room { CountsCanRise out.old }
     ensures ok { IfOk result (IsEndWritten explainer.entry summary.now around
         (device_of W.contents out.old) (device_of W.contents out.new)) }
     ensures err { IfErr result (IsEndStopped explainer.entry summary.now around
@@ -169,7 +161,6 @@ pub fn write_explanation<W: Write>(
     inputs: ReadInputs,
     out: &mut Counted<W>,
 ) -> Result<u8, RunFault>
-    requires room { CountsCanRise out.old }
     requires outside { depth sandbox.old ≡ 0 }
     requires formed { AllByRecursion IsFormed inputs.features.items }
     ensures ok { IfOk result (IsExplained

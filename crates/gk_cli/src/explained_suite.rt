@@ -2,7 +2,7 @@
 ghost use Rattle.std.specs.Prelude.{◌≡◌, IfOk, IfErr, OnOk};
 ghost use Rattle.gk_world.specs.Sandbox.{depth};
 ghost use Rattle.gk_run.specs.Running.{IsSame};
-ghost use Rattle.gk_cli.specs.Counted.{CountsCanRise, HasNotFailed, IsUnflushed, IsNeverIdle};
+ghost use Rattle.gk_cli.specs.Counted.{HasNotFailed, IsUnflushed, IsNeverIdle};
 ghost use Rattle.gk_cli.specs.Suite.{device_of};
 ghost use Rattle.gk_cli.specs.SuiteFiles.{request_of_files, hooks_name, HaveSameNames, AreGivenUp, AreGivenUpInTurn};
 ghost use Rattle.gk_cli.specs.ExplainedSuite.{Explained, SaysExplanationFault};
@@ -27,8 +27,8 @@ use std::io::Write;
 /// The answer is the status of the results, as `run_suite` has it. `RunFault` says when each error comes: at
 /// `Write` and `Memory` a prefix was written, perhaps an empty one, at every other nothing. Whatever is returned,
 /// files, variables, values and layers of the sandbox are as they were, and nothing is flushed. The sources are given
-/// up as in `report_suite`, and the names stay. No layer of the sandbox is open, and the writer's counts of failures,
-/// idle calls and flushes are below `u64::MAX - 1`, so that one more of each can be seen.
+/// up as in `report_suite`, and the names stay. No layer of the sandbox is open. A count of the writer's that has
+/// reached `u64::MAX` stays there.
 pub fn explain_suite<W: Write>(
     alloc: Global,
     sandbox: &mut Sandbox,
@@ -36,7 +36,6 @@ pub fn explain_suite<W: Write>(
     files: &mut SuiteFiles,
     out: &mut Counted<W>,
 ) -> Result<u8, RunFault>
-    requires room { CountsCanRise out.old }
     requires outside { depth sandbox.old ≡ 0 }
 
     // What was written is the explanation of a run that was told event by event, whose results are judged; the

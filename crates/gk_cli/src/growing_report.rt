@@ -4,7 +4,6 @@ ghost use Rattle.gk_run.specs.Results.{feature_row};
 ghost use Rattle.gk_report.specs.Report.{is_empty, part, report};
 ghost use Rattle.gk_cli.specs.Suite.{device_of};
 ghost use Rattle.gk_cli.specs.GrowingReport.{IsWritten, IsStopped};
-ghost use Rattle.gk_cli.specs.Counted.{CountsCanRise};
 ghost use Rattle.gk_cli.specs.declared.run_fault.RunFault.TheVariants as faults;
 
 use crate::counted::{Counted, write_whole};
@@ -17,8 +16,6 @@ use std::io::Write;
 /// Writes a piece of a text, by no more calls than it has bytes. `Write` comes where the writer failed, and
 /// a prefix of it was written.
 pub fn write_piece<W: Write>(out: &mut Counted<W>, text: &str) -> Result<(), RunFault>
-    requires room { CountsCanRise out.old }
-    ensures room { OnOk result (CountsCanRise out.new) }
     ensures ok { OnOk result
         (IsWritten (device_of W.contents out.old) (device_of W.contents out.new) text.now) }
     ensures err { IfErr result
@@ -40,8 +37,6 @@ fn write_part<W: Write>(
     feature: &FeatureResult,
     out: &mut Counted<W>,
 ) -> Result<bool, RunFault>
-    requires room { CountsCanRise out.old }
-    ensures room { OnOk result (CountsCanRise out.new) }
     ensures ok { OnOk result
         (IsWritten (device_of W.contents out.old) (device_of W.contents out.new)
         (part style is_first (feature_row feature.now))) }
@@ -74,7 +69,6 @@ impl GrowingReport {
     ghost use Rattle.std.specs.Prelude.{◌≡◌, ℕ, [], List, OnOk, IfOk, IfErr};
     ghost use Rattle.gk_run.specs.Results.{FeatureRow, feature_row};
     ghost use Rattle.gk_report.specs.Report.{report};
-    ghost use Rattle.gk_cli.specs.Counted.{CountsCanRise};
     ghost use Rattle.gk_cli.specs.Suite.{Device, device_of, IsReported};
     ghost use Rattle.gk_cli.specs.GrowingReport.{so_far, IsStopped, IsGrown, Grows, Stops, style_of, results_with};
 
@@ -85,8 +79,6 @@ impl GrowingReport {
         style: Style,
         out: &mut Counted<W>,
     ) -> Result<GrowingReport, RunFault>
-        requires room { CountsCanRise out.old }
-        ensures room { OnOk result (CountsCanRise out.new) }
         ensures ok { IfOk result (λ g.
             IsGrown (device_of W.contents out.old) (device_of W.contents out.new) g []) }
         ensures style { IfOk result (λ g. style_of g ≡ style) }
@@ -111,8 +103,6 @@ impl GrowingReport {
         feature: FeatureResult,
         out: &mut Counted<W>,
     ) -> Result<(), RunFault>
-        requires room { CountsCanRise out.old }
-        ensures room { OnOk result (CountsCanRise out.new) }
         ensures ok { OnOk result (Grows (device_of W.contents out.old) self.old
             (device_of W.contents out.new) self.new (feature_row feature)) }
         ensures style { style_of self.new ≡ style_of self.old }
@@ -135,7 +125,6 @@ impl GrowingReport {
         around: Status,
         out: &mut Counted<W>,
     ) -> Result<u8, RunFault>
-        requires room { CountsCanRise out.old }
         ensures ok { IfOk result (λ status. (before : Device) (rows : List FeatureRow) →
             IsGrown before (device_of W.contents out.old) self rows →
             IsReported (style_of self) before (device_of W.contents out.new)

@@ -1,5 +1,5 @@
 //! What is to be done about each fault, in one line.
-#![tactic(auto, unfolding(crate::specs::Hints::long_file_hint, crate::specs::Hints::encoding_hint, crate::specs::Hints::memory_hint, crate::specs::Hints::read_hint, crate::specs::Hints::library_hint, crate::specs::Hints::select_hint))]
+#![tactic(auto, unfolding(crate::specs::Hints::long_file_hint, crate::specs::Hints::encoding_hint, crate::specs::Hints::memory_hint, crate::specs::Hints::read_hint, crate::specs::Hints::hooks_hint, crate::specs::Hints::library_hint, crate::specs::Hints::select_hint))]
 
 ghost use Rattle.std.specs.Prelude.{◌≡◌};
 ghost use Rattle.gk_cli.specs.Hints as spec;
@@ -27,14 +27,14 @@ fn memory_hint() -> &'static str
     "divide the files, or spread them over several runs"
 }
 
-// What is to be done about a fault of a feature file or of a hooks file.
+// What is to be done about a fault of a feature file.
 fn read_hint(fault: ReadFault) -> &'static str
     ensures { result.now ≡ spec.read_hint fault }
 {
     match fault {
         ReadFault::NotUtf8 { .. } => encoding_hint(),
         ReadFault::Unexpected { .. } => {
-            "look at the line above, too: a description ends at the first step, and a step has one block"
+            "write the keyword exactly, and look at the line above, too: a description ends at the first step, and a step has one block"
         }
         ReadFault::BadTag { .. } => "write an @ before each tag, and a # before remarks",
         ReadFault::CellCount { .. } => {
@@ -49,6 +49,18 @@ fn read_hint(fault: ReadFault) -> &'static str
         }
         ReadFault::TooLong => long_file_hint(),
         ReadFault::Memory => memory_hint(),
+    }
+}
+
+// What is to be done about a fault of a hooks file.
+fn hooks_hint(fault: ReadFault) -> &'static str
+    ensures { result.now ≡ spec.hooks_hint fault }
+{
+    match fault {
+        ReadFault::Unexpected { .. } => {
+            "write each heading as before_all: or after_all:, and below it only steps, each with its keyword"
+        }
+        _ => read_hint(fault),
     }
 }
 
@@ -91,7 +103,8 @@ pub fn hint(fault: RunFault) -> &'static str
     ensures { result.now ≡ spec.hint fault }
 {
     match fault {
-        RunFault::Read { fault, .. } | RunFault::Hooks(fault) => read_hint(fault),
+        RunFault::Read { fault, .. } => read_hint(fault),
+        RunFault::Hooks(fault) => hooks_hint(fault),
         RunFault::Library(fault) => library_hint(fault),
         RunFault::Select { fault, .. } => select_hint(fault),
         RunFault::Write => "make room, and run again",

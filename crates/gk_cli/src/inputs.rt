@@ -10,16 +10,17 @@ ghost use Rattle.gk_select.specs.Expansion.{IsExpandable};
 ghost use Rattle.gk_select.specs.TagRules.{tag_rule_value};
 ghost use Rattle.gk_steps.specs.Finding.{library_value};
 ghost use Rattle.gk_run.specs.Chosen.{chosen_value, head_value, IsFormed};
-ghost use Rattle.gk_cli.specs.Source.{source_value, names_of, without_bytes, GaveUpInTurn};
+ghost use Rattle.gk_cli.specs.Source.{borrowed_value, source_value, names_of, without_bytes, GaveUpInTurn};
 ghost use Rattle.gk_cli.specs.SuiteFiles.{request_of_files, HaveSameNames, AreGivenUp, AreGivenUpInTurn};
+ghost use Rattle.gk_cli.specs.BorrowedSuite.{asked_borrowed};
 ghost use Rattle.gk_cli.specs.Inputs as spec;
-ghost use Rattle.gk_cli.specs.Inputs.{asked, AreRules, IsLibrary, AreHooks, AreRead, AreInputs, IsReading, IsReadBefore, IsReadOnto, inputs_value};
+ghost use Rattle.gk_cli.specs.Inputs.{asked_of, AreRules, IsLibrary, AreHooks, AreRead, AreInputs, IsReading, IsReadBefore, IsReadOnto, inputs_value};
 ghost use Rattle.gk_cli.specs.RunFault as faults;
 ghost use Rattle.gk_cli.specs.RunFault.{IsUnread, IsUnreadBefore, SaysTags, SaysLibrary, SaysHooks, SaysExpansion, SaysSourceAt, SaysSources, SaysTooMany};
 
 use crate::arguments::Options;
 use crate::run_fault::RunFault;
-use crate::source::Source;
+use crate::source::{BorrowedSource, Source};
 use crate::suite_files::{SuiteFiles, bytes_of};
 use gk_gherkin::{Feature, HookFile, ReadFault, Rule, read_feature, read_hooks};
 use gk_run::{Chosen, RuleHead};
@@ -299,15 +300,15 @@ fn read_onto(
     alloc: Global,
     choice: &Choice,
     input: usize,
-    source: &Source,
+    source: &BorrowedSource<'_>,
     features: &mut Vec<Chosen>,
 ) -> Result<(), RunFault>
-    ensures ok { OnOk result (IsReadOnto (chosen_by choice.now) (source_value source.now)
+    ensures ok { OnOk result (IsReadOnto (chosen_by choice.now) (borrowed_value source.now)
         features.old.items features.new.items) }
-    ensures fault { IfErr result (λ e. SaysSourceAt input source.now.bytes.items e) }
+    ensures fault { IfErr result (λ e. SaysSourceAt input source.now.bytes.now e) }
 {
-    let name = source.name.as_str();
-    match feature_at(alloc, input, source.bytes.as_slice()) {
+    let name = source.name;
+    match feature_at(alloc, input, source.bytes) {
         Ok(Some(feature)) => {
             add_feature(alloc, choice, SourceAt { input, name }, feature, features)
         }
@@ -341,12 +342,16 @@ fn take_onto(
     }
 }
 
-fn read_sources(alloc: Global, choice: &Choice, sources: &[Source]) -> Result<Vec<Chosen>, RunFault>
+fn read_sources(
+    alloc: Global,
+    choice: &Choice,
+    sources: &[BorrowedSource<'_>],
+) -> Result<Vec<Chosen>, RunFault>
     ensures read { IfOk result (λ features. AreRead (chosen_by choice.now)
-        (map source_value sources.now) (map chosen_value features.items)) }
+        (map borrowed_value sources.now) (map chosen_value features.items)) }
     ensures formed { IfOk result (λ features. AllByRecursion IsFormed features.items) }
     ensures fault { IfErr result (λ e. SaysSources (chosen_by choice.now)
-        (map source_value sources.now) e) }
+        (map borrowed_value sources.now) e) }
 {
     let mut features = Vec::new(alloc);
     for (input, source) in sources.iter().enumerate() {
@@ -400,7 +405,7 @@ pub fn read_before(
     hooks: Option<&[u8]>,
 ) -> Result<ReadBefore, RunFault>
     ensures read { IfOk result (λ before. IsReadBefore
-        (asked options.now library.entry hooks.entry []) before) }
+        (asked_of options.now library.entry hooks.entry []) before) }
     ensures fault { IfErr result (λ e. IsUnreadBefore
         options.now library.entry hooks.entry e) }
 {
@@ -430,13 +435,13 @@ pub fn read_inputs(
     options: &Options,
     library: Option<&[u8]>,
     hooks: Option<&[u8]>,
-    sources: &[Source],
+    sources: &[BorrowedSource<'_>],
 ) -> Result<ReadInputs, RunFault>
     ensures read { IfOk result (λ inputs. AreInputs
-        (asked options.now library.entry hooks.entry sources.now) (inputs_value inputs)) }
+        (asked_borrowed options.now library.entry hooks.entry sources.now) (inputs_value inputs)) }
     ensures formed { IfOk result (λ inputs. AllByRecursion IsFormed inputs.features.items) }
     ensures fault { IfErr result (λ e. IsUnread
-        (asked options.now library.entry hooks.entry sources.now) e) }
+        (asked_borrowed options.now library.entry hooks.entry sources.now) e) }
 {
     let before = match read_before(alloc, options, library, hooks) {
         Ok(before) => before,

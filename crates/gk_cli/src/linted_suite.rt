@@ -5,7 +5,7 @@ ghost use Rattle.gk_gherkin.specs.Hooks.{hooks_value};
 ghost use Rattle.gk_report.specs.ReportTexts.{Pushes};
 ghost use Rattle.gk_steps.specs.Finding.{library_value};
 ghost use Rattle.gk_lint.specs.Findings.{AreInOrder};
-ghost use Rattle.gk_cli.specs.Counted.{CountsCanRise, HasNotFailed, IsUnflushed, IsNeverIdle};
+ghost use Rattle.gk_cli.specs.Counted.{HasNotFailed, IsUnflushed, IsNeverIdle};
 ghost use Rattle.gk_cli.specs.SuiteFiles as of_files;
 ghost use Rattle.gk_cli.specs.SuiteFiles.{file_value, request_of_files, library_name, hooks_name};
 ghost use Rattle.gk_cli.specs.FindingLines.{finding_lines};
@@ -142,15 +142,14 @@ fn status_of(text: &str) -> u8
 /// `tags` and `lines` are looked for; the others aren't looked at.
 ///
 /// The answer is 0 where nothing was found, and else 1. `RunFault` says when each error comes: at `Write` a
-/// prefix was written, perhaps an empty one, at every other nothing. Nothing is flushed. The writer's
-/// counts of failures, idle calls and flushes are below `u64::MAX - 1`, so that one more of each can be seen.
+/// prefix was written, perhaps an empty one, at every other nothing. Nothing is flushed. A count of the writer's that
+/// has reached `u64::MAX` stays there.
 pub fn lint_suite<W: Write>(
     alloc: Global,
     options: &Options,
     files: &SuiteFiles,
     out: &mut Counted<W>,
 ) -> Result<u8, RunFault>
-    requires { CountsCanRise out.old }
     // All that is found was written, and nothing else; the status says whether anything was found.
     ensures linted { IfOk result (Linted (request_of_files options.now files.now)
         (library_name files.now) (hooks_name files.now)

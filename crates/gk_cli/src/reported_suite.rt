@@ -2,7 +2,7 @@
 ghost use Rattle.std.specs.Prelude.{IfOk, IfErr, OnOk, ◌≡◌};
 ghost use Rattle.gk_world.specs.Sandbox.{depth};
 ghost use Rattle.gk_run.specs.Running.{IsSame};
-ghost use Rattle.gk_cli.specs.Counted.{CountsCanRise, HasNotFailed, IsUnflushed, IsNeverIdle};
+ghost use Rattle.gk_cli.specs.Counted.{HasNotFailed, IsUnflushed, IsNeverIdle};
 ghost use Rattle.gk_cli.specs.ReportedSuite.{IsReportOf};
 ghost use Rattle.gk_cli.specs.Suite.{device_of, SaysFault};
 ghost use Rattle.gk_cli.specs.SuiteFiles.{request_of_files, HaveSameNames, AreGivenUp, AreGivenUpInTurn};
@@ -33,7 +33,6 @@ pub fn report_suite<W: Write>(
     files: &mut SuiteFiles,
     out: &mut Counted<W>,
 ) -> Result<u8, RunFault>
-    requires room { CountsCanRise out.old }
     requires outside { depth sandbox.old ≡ 0 }
 
     // Whatever is returned, files, variables, values and layers are as they were.

@@ -1,7 +1,7 @@
 //! The sources of a run, and reading one whole.
 ghost use Rattle.std.specs.Prelude.{◌≡◌, ◌≢◌, ◌≤◌, ◌+◌, [], Some, IfOk, IfSome, IsErrOf, vec_len};
 ghost use Rattle.gk_gherkin.specs.Lines.{limit};
-ghost use Rattle.gk_cli.specs.Counted.{inner_of, calls_of, idle_of, HasNotFailed, HasFailedOnce, ReadCountsCanRise};
+ghost use Rattle.gk_cli.specs.Counted.{inner_of, calls_of, idle_of, HasNotFailed, HasFailedOnce};
 ghost use Rattle.gk_cli.specs.Source.{StopsAfter, GivesAtMost, idle_after};
 
 use crate::counted::Counted;
@@ -15,6 +15,13 @@ use thiserror::Error;
 pub struct Source {
     pub name: String,
     pub bytes: Vec<u8>,
+}
+
+/// A source that the caller holds: its name, and its bytes.
+#[derive(Clone, Copy, Debug)]
+pub struct BorrowedSource<'a> {
+    pub name: &'a str,
+    pub bytes: &'a [u8],
 }
 
 /// Why a source could not be read whole.
@@ -36,10 +43,8 @@ const PIECE: usize = 16_384;
 
 /// All the bytes of a reader. Each call but the last gives at least one byte, and the reader is asked for
 /// no byte after number `gk_gherkin::LIMIT` + 1, so one that never ends is `TooLong`. A reader that failed
-/// isn't asked again. Its counts of failures and idle calls are below `u64::MAX - 1`, so that one more of each can
-/// be seen.
+/// isn't asked again. A count of its that has reached `u64::MAX` stays there.
 pub fn read_source<R: Read>(alloc: Global, reader: &mut Counted<R>) -> Result<Vec<u8>, SourceFault>
-    requires room { ReadCountsCanRise reader.old }
     ensures whole { IfOk result (λ v.
         IfSome (R.remaining (inner_of reader.old)) (λ xs. v.items ≡ xs)) }
     ensures within { IfOk result (λ v. vec_len v ≤ limit) }

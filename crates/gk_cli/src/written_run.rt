@@ -10,7 +10,6 @@ ghost use Rattle.gk_run.specs.Running.{IsSame};
 ghost use Rattle.gk_run.specs.OpenRun.{IsKept};
 ghost use Rattle.gk_run.specs.DryRun.{AreDryFeatures};
 ghost use Rattle.gk_cli.specs.Inputs.{inputs_value};
-ghost use Rattle.gk_cli.specs.Counted.{CountsCanRise};
 ghost use Rattle.gk_cli.specs.Suite.{device_of, run_by};
 ghost use Rattle.gk_cli.specs.GrowingReport.{style_of};
 ghost use Rattle.gk_cli.specs.WrittenRun.{RunsNext, EndsRunNext, AreRun, IsDryNext, EndsDryNext, AreWritten, AreWrittenUpTo, IsWhole, IsPrefix, dry_run_of};
@@ -53,10 +52,8 @@ fn run_next<W: Write>(
     feature: Chosen,
     out: &mut Counted<W>,
 ) -> Result<(), RunFault>
-    requires room { CountsCanRise out.old }
     requires innermost { so_far.old.suite.section.layer ≡ depth sandbox.old }
     requires formed { IsFormed feature }
-    ensures room { OnOk result (CountsCanRise out.new) }
     ensures ok { OnOk result (RunsNext glue.now sandbox.old feature
         (device_of W.contents out.old) so_far.old
         (device_of W.contents out.new) so_far.new) }
@@ -81,10 +78,8 @@ fn run_features<W: Write>(
     features: Vec<Chosen>,
     out: &mut Counted<W>,
 ) -> Result<(), RunFault>
-    requires room { CountsCanRise out.old }
     requires innermost { so_far.old.suite.section.layer ≡ depth sandbox.old }
     requires formed { AllByRecursion IsFormed features.items }
-    ensures room { OnOk result (CountsCanRise out.new) }
     ensures ok { OnOk result (AreWritten (AreRun glue.now sandbox.old so_far.old.suite)
         (map chosen_value features.items)
         (device_of W.contents out.old) so_far.old.report
@@ -111,7 +106,6 @@ fn run_all<W: Write>(
     inputs: ReadInputs,
     out: &mut Counted<W>,
 ) -> Result<u8, RunFault>
-    requires room { CountsCanRise out.old }
     requires outside { depth sandbox.old ≡ 0 }
     requires formed { AllByRecursion IsFormed inputs.features.items }
     ensures ok { IfOk result (IsWhole
@@ -159,9 +153,7 @@ fn dry_next<W: Write>(
     report: &mut GrowingReport,
     out: &mut Counted<W>,
 ) -> Result<(), RunFault>
-    requires room { CountsCanRise out.old }
     requires formed { IsFormed feature }
-    ensures room { OnOk result (CountsCanRise out.new) }
     ensures ok { OnOk result (IsDryNext (library_value library.now) (chosen_value feature)
         (device_of W.contents out.old) report.old (device_of W.contents out.new) report.new) }
     ensures err { IfErr result (EndsDryNext (library_value library.now) (chosen_value feature)
@@ -181,9 +173,7 @@ fn dry_features<W: Write>(
     report: &mut GrowingReport,
     out: &mut Counted<W>,
 ) -> Result<(), RunFault>
-    requires room { CountsCanRise out.old }
     requires formed { AllByRecursion IsFormed features.items }
-    ensures room { OnOk result (CountsCanRise out.new) }
     ensures ok { OnOk result (AreWritten (AreDryFeatures (library_value library.now))
         (map chosen_value features.items)
         (device_of W.contents out.old) report.old (device_of W.contents out.new) report.new) }
@@ -205,7 +195,6 @@ fn dry_all<W: Write>(
     inputs: ReadInputs,
     out: &mut Counted<W>,
 ) -> Result<u8, RunFault>
-    requires room { CountsCanRise out.old }
     requires formed { AllByRecursion IsFormed inputs.features.items }
     ensures ok { IfOk result (λ status. (contents : Contents) → IsWhole
         (dry_run_of inputs.library inputs.hooks options.now.stop) contents
@@ -244,7 +233,6 @@ pub fn write_run<W: Write>(
     inputs: ReadInputs,
     out: &mut Counted<W>,
 ) -> Result<u8, RunFault>
-    requires room { CountsCanRise out.old }
     requires outside { depth sandbox.old ≡ 0 }
     requires formed { AllByRecursion IsFormed inputs.features.items }
     ensures ok { IfOk result (IsWhole (run_by options.now (inputs_value inputs)) sandbox.old.now

@@ -1,5 +1,3 @@
-ghost use Rattle.gk_cli.specs.Counted.{CountsCanRise};
-
 use gk_cli::{Counted, write_whole};
 use std::alloc::{AllocError, Global};
 use std::io;
@@ -38,9 +36,7 @@ impl io::Write for Writer {
 }
 
 // A counted writer, to which nothing was written.
-fn counted(alloc: Global, most: usize, fails_at: usize) -> Counted<Writer>
-    ensures { CountsCanRise result }
-{
+fn counted(alloc: Global, most: usize, fails_at: usize) -> Counted<Writer> {
     Counted::new(Writer {
         most,
         fails_at,

@@ -3,8 +3,6 @@
 //! Without arguments it removes a file in a layer, and says what became of it.
 #![tactic(auto)]
 
-ghost use Rattle.gk_cli.specs.Counted.{CountsCanRise};
-
 mod removed_file;
 mod whole_run;
 
@@ -49,9 +47,7 @@ fn show_run<R: Env + Files + Eprint + AllocGlobal, W: Write>(
     feature: &str,
     hooks: Option<&String>,
     out: &mut Counted<W>,
-) -> u8
-    requires room { CountsCanRise out.old }
-{
+) -> u8 {
     let Some(inputs) = read_inputs(rt, feature, hooks) else {
         return not_begun(rt);
     };

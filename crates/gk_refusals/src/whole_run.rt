@@ -1,6 +1,5 @@
 //! A run of a feature file, with the hooks of a file.
 ghost use Rattle.std.specs.Prelude.{◌≡◌};
-ghost use Rattle.gk_cli.specs.Counted.{CountsCanRise};
 ghost use Rattle.gk_world.specs.Sandbox.{depth};
 
 use gk_cli::{Counted, Options, RunFault, Source, read_source, run_suite};
@@ -73,7 +72,6 @@ pub fn run_in<W: Write>(
     inputs: &Inputs,
     out: &mut Counted<W>,
 ) -> Result<u8, RunFault>
-    requires room { CountsCanRise out.old }
     requires outside { depth sandbox.old ≡ 0 }
 {
     let hooks = match &inputs.hooks {

@@ -34,4 +34,4 @@ returns-clause-fault g c =
 pub returns-clause-calls : goal.returns-clause-calls
 returns-clause-calls g c =
     let fault = fault_as_before c.args.manner.mode c.args.files c.write_run.new.files c.in-Err.fault c.fault_as.result c.write_run.ensures.left c.fault_as.ensures in
-    calls_as c.args.manner.mode _ _ _ _ (suite_value c.args.files) c.in-Err.fault c.fault_as.result c.requires.room.0.0 fault c.in-Err.ensures.fault
+    calls_as c.args.manner.mode _ _ _ _ (suite_value c.args.files) c.in-Err.fault c.fault_as.result c.requires.room fault c.in-Err.ensures.fault

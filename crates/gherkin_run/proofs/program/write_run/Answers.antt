@@ -10,23 +10,23 @@ pub returns-in-Report-clause-written : goal.returns-in-Report-clause-written
 returns-in-Report-clause-written g c =
     in_mode c.args.manner.mode Report (suite_value c.args.files.now) (request_of_files c.args.manner.options.now (suite_value c.args.files.now)) c.args.sandbox.now.now (device_of (λ w. g.W.Write.contents w) c.args.out.now) (device_of (λ w. g.W.Write.contents w) c.report_suite.new.out) c.report_suite.result c.in-Report.is c.report_suite.ensures.reported
 
+pub returns-in-Explanation-clause-written : goal.returns-in-Explanation-clause-written
+returns-in-Explanation-clause-written g c =
+    in_mode c.args.manner.mode Explanation (suite_value c.args.files.now) (request_of_files c.args.manner.options.now (suite_value c.args.files.now)) c.args.sandbox.now.now (device_of (λ w. g.W.Write.contents w) c.args.out.now) (device_of (λ w. g.W.Write.contents w) c.explain_suite.new.out) c.explain_suite.result c.in-Explanation.is c.explain_suite.ensures.explained
+
+pub returns-in-Findings-clause-written : goal.returns-in-Findings-clause-written
+returns-in-Findings-clause-written g c =
+    in_mode c.args.manner.mode Findings (suite_value c.args.files.now) (request_of_files c.args.manner.options.now (suite_value c.args.files.now)) c.args.sandbox.now.now (device_of (λ w. g.W.Write.contents w) c.args.out.now) (device_of (λ w. g.W.Write.contents w) c.lint_suite.new.out) c.lint_suite.result c.in-Findings.is c.lint_suite.ensures.linted
+
 pub returns-in-Report-clause-fault : goal.returns-in-Report-clause-fault
 returns-in-Report-clause-fault g c =
     fault_in_mode c.args.manner.mode Report (suite_value c.args.files.now) (request_of_files c.args.manner.options.now (suite_value c.args.files.now)) c.args.sandbox.now.now (device_of (λ w. g.W.Write.contents w) c.args.out.now) (device_of (λ w. g.W.Write.contents w) c.report_suite.new.out) c.report_suite.result c.in-Report.is
     (if_err_by c.report_suite.result (λ by said. of_report (suite_value c.args.files.now) (request_of_files c.args.manner.options.now (suite_value c.args.files.now)) c.args.sandbox.now.now (device_of (λ w. g.W.Write.contents w) c.args.out.now) (device_of (λ w. g.W.Write.contents w) c.report_suite.new.out) by said) c.report_suite.ensures.fault)
 
-pub returns-in-Explanation-clause-written : goal.returns-in-Explanation-clause-written
-returns-in-Explanation-clause-written g c =
-    in_mode c.args.manner.mode Explanation (suite_value c.args.files.now) (request_of_files c.args.manner.options.now (suite_value c.args.files.now)) c.args.sandbox.now.now (device_of (λ w. g.W.Write.contents w) c.args.out.now) (device_of (λ w. g.W.Write.contents w) c.explain_suite.new.out) c.explain_suite.result c.in-Explanation.is c.explain_suite.ensures.explained
-
 pub returns-in-Explanation-clause-fault : goal.returns-in-Explanation-clause-fault
 returns-in-Explanation-clause-fault g c =
     fault_in_mode c.args.manner.mode Explanation (suite_value c.args.files.now) (request_of_files c.args.manner.options.now (suite_value c.args.files.now)) c.args.sandbox.now.now (device_of (λ w. g.W.Write.contents w) c.args.out.now) (device_of (λ w. g.W.Write.contents w) c.explain_suite.new.out) c.explain_suite.result c.in-Explanation.is
     (if_err_by c.explain_suite.result (λ by said. of_explanation (suite_value c.args.files.now) (request_of_files c.args.manner.options.now (suite_value c.args.files.now)) c.args.sandbox.now.now (device_of (λ w. g.W.Write.contents w) c.args.out.now) (device_of (λ w. g.W.Write.contents w) c.explain_suite.new.out) by said) c.explain_suite.ensures.fault)
-
-pub returns-in-Findings-clause-written : goal.returns-in-Findings-clause-written
-returns-in-Findings-clause-written g c =
-    in_mode c.args.manner.mode Findings (suite_value c.args.files.now) (request_of_files c.args.manner.options.now (suite_value c.args.files.now)) c.args.sandbox.now.now (device_of (λ w. g.W.Write.contents w) c.args.out.now) (device_of (λ w. g.W.Write.contents w) c.lint_suite.new.out) c.lint_suite.result c.in-Findings.is c.lint_suite.ensures.linted
 
 pub returns-in-Findings-clause-fault : goal.returns-in-Findings-clause-fault
 returns-in-Findings-clause-fault g c =

@@ -27,7 +27,6 @@ loop-feature-init g c =
     let all = map chosen_value c.args.features.items in
     let device = device_of g.W.Write.contents c.args.out.now in
     record {
-      room = c.requires.room;
       formed = subst (AllByRecursion IsFormed) (sym here) c.requires.formed;
       counted = let l = c.into_iter-feature-iterator.ensures.into_iter_gives.1 in let v = c.args.features.ok.0 in let f = ap length here in omega arith;
       earlier = λ h. h;
@@ -49,7 +48,6 @@ loop-feature-preserved g c =
     subst (λ (stop : Bool). IsExplainedNext (run_of c.args.glue.now.library.now c.args.glue.now.hooks.now stop) (state_of c.loop-feature.sandbox.now) c.loop-feature.so_far.suite.is_open so_far.suite.is_open (chosen_value c.in-Some.feature) there c.loop-feature.so_far new so_far) held.kept.stops c.in_ok-explain_next.ensures.ok in
     let formed = subst (AllByRecursion IsFormed) steps.0 held.formed in
     record {
-      room = c.in_ok-explain_next.ensures.room;
       formed = formed.1;
       counted = let all = ap length steps.0 in omega arith;
       earlier = λ h. held.earlier (and_left c.loop-feature.so_far.suite.is_open (stays_open_by c.args.so_far.now.suite.stop one.row.status) (sym one.opens ∙ h));

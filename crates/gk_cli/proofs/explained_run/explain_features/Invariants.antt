@@ -6,7 +6,6 @@ use Rattle.gk_run.specs.Run.{run_of}
 use Rattle.gk_run.specs.Chosen.{chosen_value, IsFormed}
 use Rattle.gk_run.specs.Running.{IsSame}
 use Rattle.gk_run.specs.OpenRun.{IsKept}
-use Rattle.gk_cli.specs.Counted.{CountsCanRise}
 use Rattle.gk_cli.specs.Suite.{device_of}
 use Rattle.gk_cli.proofs.ExplainedRunLemmas.{Explaining}
 use Rattle.gk_cli.proofs.explained_run.explain_features.Given as goal
@@ -18,7 +17,6 @@ invariant-loop-feature g l = record {
   same : IsSame l.fn.sandbox l.sandbox;
   kept : IsKept l.fn.so_far.suite l.so_far.suite;
   earlier : l.so_far.suite.is_open ≡ true → l.fn.so_far.suite.is_open ≡ true;
-  room : CountsCanRise l.out;
   formed : AllByRecursion IsFormed (into_iter_items l.feature-iterator);
   counted : length (into_iter_items l.feature-iterator) ≡ into_iter_len l.feature-iterator;
 }

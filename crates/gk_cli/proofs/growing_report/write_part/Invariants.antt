@@ -2,16 +2,12 @@ use Rattle.std.proofs.Common.{length}
 use Rattle.gk_run.specs.Results.{feature_row}
 use Rattle.gk_report.specs.Report.{part}
 use Rattle.gk_report.specs.PartPieces.{rest}
-use Rattle.gk_cli.specs.Counted.{CountsCanRise}
 use Rattle.gk_cli.specs.Suite.{device_of}
 use Rattle.gk_cli.proofs.GrowingReportLemmas.{IsWrittenUpTo}
 use Rattle.gk_cli.proofs.growing_report.write_part.Given as goal
 
 abbrev pub invariant-loop-piece : goal.invariant-loop-piece
-invariant-loop-piece g l = record {
-  room : CountsCanRise l.out;
-  written : IsWrittenUpTo (device_of g.W.Write.contents l.initial.out) (device_of g.W.Write.contents l.out) l.is_first l.still_first (part l.fn.style l.is_first (feature_row l.feature)) (rest l.left);
-}
+invariant-loop-piece g l = IsWrittenUpTo (device_of g.W.Write.contents l.initial.out) (device_of g.W.Write.contents l.out) l.is_first l.still_first (part l.fn.style l.is_first (feature_row l.feature)) (rest l.left)
 
 abbrev pub decreases-loop-piece : goal.decreases-loop-piece
 decreases-loop-piece g l = length (rest l.left)

@@ -4,17 +4,19 @@ use Rattle.gk_select.specs.Choice.{is_chosen}
 use Rattle.gk_select.specs.TagRules.{tag_rule_value}
 use Rattle.gk_steps.specs.Finding.{library_value}
 use Rattle.gk_run.specs.Chosen.{chosen_value}
-use Rattle.gk_cli.specs.Inputs.{asked, AreRead}
+use Rattle.gk_cli.specs.BorrowedSuite.{asked_borrowed}
+use Rattle.gk_cli.specs.Inputs.{AreRead}
 use Rattle.gk_cli.specs.RunFault.{SaysSources}
+use Rattle.gk_cli.specs.Source.{borrowed_value}
 use Rattle.gk_cli.proofs.InputsLemmas.{sources_unread}
 use Rattle.gk_cli.proofs.inputs.read_inputs.Goals as goal
 
 pub returns-in-Err-clause-fault : goal.returns-in-Err-clause-fault
-returns-in-Err-clause-fault c = c.in-Err.ensures.fault c.args.sources.now
+returns-in-Err-clause-fault c = c.in-Err.ensures.fault (map borrowed_value c.args.sources.now)
 
 pub returns-in-Ok-read_sources-clause-read : goal.returns-in-Ok-read_sources-clause-read
 returns-in-Ok-read_sources-clause-read c =
-    let request = asked c.args.options.now c.args.library c.args.hooks c.args.sources.now in
+    let request = asked_borrowed c.args.options.now c.args.library c.args.hooks c.args.sources.now in
     let before = c.in-Ok.ensures.read in
     let choice = c.in_ok-choice.ensures ∙ ap (is_chosen (map tag_rule_value c.in-Ok.before.rules.items)) c.as_slice.ensures.value in
     record {
@@ -27,7 +29,7 @@ returns-in-Ok-read_sources-clause-read c =
 
 pub returns-in-Err-read_sources-clause-fault : goal.returns-in-Err-read_sources-clause-fault
 returns-in-Err-read_sources-clause-fault c =
-    let request = asked c.args.options.now c.args.library c.args.hooks c.args.sources.now in
+    let request = asked_borrowed c.args.options.now c.args.library c.args.hooks c.args.sources.now in
     let before = c.in-Ok.ensures.read in
     let rules = map tag_rule_value c.in-Ok.before.rules.items in
     let choice = c.in_ok-choice.ensures ∙ ap (is_chosen rules) c.as_slice.ensures.value in

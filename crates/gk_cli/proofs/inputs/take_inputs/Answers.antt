@@ -6,13 +6,14 @@ use Rattle.gk_steps.specs.Finding.{library_value}
 use Rattle.gk_run.specs.Chosen.{chosen_value}
 use Rattle.gk_cli.specs.Inputs.{AreRead}
 use Rattle.gk_cli.specs.RunFault.{SaysSources}
+use Rattle.gk_cli.specs.Source.{source_value}
 use Rattle.gk_cli.specs.SuiteFiles.{request_of_files}
 use Rattle.gk_cli.proofs.InputsLemmas.{sources_unread}
 use Rattle.gk_cli.proofs.inputs.take_inputs.Goals as goal
 
 pub returns-in-Err-clause-fault : goal.returns-in-Err-clause-fault
 returns-in-Err-clause-fault c =
-    let unread = rw (c.bytes_of-library.ensures, c.bytes_of-hooks.ensures) at c.in-Err.ensures.fault c.args.files.now.sources.items in
+    let unread = rw (c.bytes_of-library.ensures, c.bytes_of-hooks.ensures) at c.in-Err.ensures.fault (map source_value c.args.files.now.sources.items) in
     unread
 
 pub returns-in-Ok-take_sources-clause-read : goal.returns-in-Ok-take_sources-clause-read

@@ -3,6 +3,7 @@ use Rattle.gk_gherkin.specs.Hooks.{hooks_value}
 use Rattle.gk_select.specs.Choice.{is_chosen}
 use Rattle.gk_select.specs.TagRules.{tag_rule_value}
 use Rattle.gk_steps.specs.Finding.{library_value}
+use Rattle.gk_cli.specs.Source.{source_value}
 use Rattle.gk_cli.specs.SuiteFiles.{request_of_files}
 use Rattle.gk_cli.specs.LintedSuite.{read_of}
 use Rattle.gk_cli.proofs.InputsLemmas.{sources_unread}
@@ -25,7 +26,7 @@ returns-in-Ok-lint_sources-clause-linted c =
 
 pub returns-in-Err-clause-fault : goal.returns-in-Err-clause-fault
 returns-in-Err-clause-fault c =
-    let unread = rw (c.bytes_of-library.ensures, c.bytes_of-hooks.ensures) at c.in-Err.ensures.fault c.args.files.now.sources.items in
+    let unread = rw (c.bytes_of-library.ensures, c.bytes_of-hooks.ensures) at c.in-Err.ensures.fault (map source_value c.args.files.now.sources.items) in
     unread
 
 pub returns-clause-fault : goal.returns-clause-fault

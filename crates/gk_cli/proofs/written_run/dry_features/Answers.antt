@@ -21,7 +21,6 @@ loop-feature-init g c =
     record {
       held = subst (λ (left : List ChosenValue). DryRunning library all device report left device report) (sym (ap (map chosen_value) here)) (dry_running_first library all device report);
       style = refl;
-      room = c.requires.room;
       formed = subst (AllByRecursion IsFormed) (sym here) c.requires.formed;
       counted = let l = c.into_iter-feature-iterator.ensures.into_iter_gives.1 in let v = c.args.features.ok.0 in let f = ap length here in omega arith;
     }
@@ -29,7 +28,7 @@ loop-feature-init g c =
 pub dry_next-requires : goal.dry_next-requires
 dry_next-requires g c =
     let all : AllByRecursion IsFormed (c.in-Some.feature ∷ into_iter_items c.next.new.self) = subst (AllByRecursion IsFormed) c.in-Some.ensures.steps.0 c.loop-feature.invariant.formed in
-    record { room = c.loop-feature.invariant.room; formed = all.0 }
+    record { formed = all.0 }
 
 pub loop-feature-preserved : goal.loop-feature-preserved
 loop-feature-preserved g c =
@@ -47,7 +46,6 @@ loop-feature-preserved g c =
     record {
       held = dry_running_next library all old c.args.report.now this left there c.loop-feature.report new c.dry_next.new.report c.in_ok-dry_next.ensures.ok before;
       style = c.dry_next.ensures.style ∙ c.loop-feature.invariant.style;
-      room = c.in_ok-dry_next.ensures.room;
       formed = formed.1;
       counted = omega arith;
     }

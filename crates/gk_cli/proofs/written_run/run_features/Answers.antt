@@ -28,7 +28,6 @@ loop-feature-init g c =
       same = record { contents = refl; saved = refl; marks = refl; recorded = refl };
       kept = record { section = refl; stops = refl };
       earlier = λ h. h;
-      room = c.requires.room;
       formed = subst (AllByRecursion IsFormed) (sym here) c.requires.formed;
       counted = let l = c.into_iter-feature-iterator.ensures.into_iter_gives.1 in let v = c.args.features.ok.0 in let f = ap length here in omega arith;
     }
@@ -68,7 +67,6 @@ loop-feature-preserved g c =
       same = same_through _ _ _ c.loop-feature.invariant.same c.run_next.ensures.same;
       kept = kept_through c.args.so_far.now.suite c.loop-feature.so_far.suite c.run_next.new.so_far.suite c.loop-feature.invariant.kept c.run_next.ensures.kept;
       earlier = λ h. c.loop-feature.invariant.earlier (and_left is_open (stays_open_by c.args.so_far.now.suite.stop one.row.status) (sym one.opens ∙ h));
-      room = c.in_ok-run_next.ensures.room;
       formed = formed.1;
       counted = omega arith;
     }

@@ -1,32 +1,32 @@
 use Rattle.std.proofs.Common.{map, option_map}
-use Rattle.gk_cli.specs.Source.{source_value}
+use Rattle.gk_cli.specs.Source.{borrowed_value}
 use Rattle.gk_cli.specs.Inputs.{request_of, inputs_value}
 use Rattle.gk_cli.specs.Suite.{device_of}
 use Rattle.gk_cli.proofs.SuiteLemmas.{whole_is_judged, whole_is_only, prefix_is_cut_short, unread_is_untouched}
 use Rattle.gk_cli.proofs.GrowingReportLemmas.{untouched}
 use Rattle.gk_cli.proofs.WrittenRunLemmas.{if_ok, if_err, ok_known, either_way}
-use Rattle.gk_cli.proofs.suite.run_suite.Goals as goal
+use Rattle.gk_cli.proofs.borrowed_suite.run_borrowed_suite.Goals as goal
 
 pub returns-in-Ok-clause-reported : goal.returns-in-Ok-clause-reported
 returns-in-Ok-clause-reported g c = if_ok c.write_run.result (λ status whole. (whole.0, whole.2)) c.write_run.ensures.ok
 
 pub returns-in-Ok-clause-judged : goal.returns-in-Ok-clause-judged
 returns-in-Ok-clause-judged g c =
-    let request = request_of c.args.options.now (option_map (λ bytes. bytes.now) c.args.library) (option_map (λ bytes. bytes.now) c.args.hooks) (map source_value c.args.sources.now) in
+    let request = request_of c.args.options.now (option_map (λ bytes. bytes.now) c.args.library) (option_map (λ bytes. bytes.now) c.args.hooks) (map borrowed_value c.args.sources.now) in
     let old = device_of g.W.Write.contents c.args.out.now in
     let new = device_of g.W.Write.contents c.write_run.new.out in
     if_ok c.write_run.result (λ status whole. whole_is_judged request c.args.sandbox.now.now old new (inputs_value c.in-Ok.inputs) status c.in-Ok.ensures.read whole) c.write_run.ensures.ok
 
 pub returns-in-Ok-clause-plain : goal.returns-in-Ok-clause-plain
 returns-in-Ok-clause-plain g c =
-    let request = request_of c.args.options.now (option_map (λ bytes. bytes.now) c.args.library) (option_map (λ bytes. bytes.now) c.args.hooks) (map source_value c.args.sources.now) in
+    let request = request_of c.args.options.now (option_map (λ bytes. bytes.now) c.args.library) (option_map (λ bytes. bytes.now) c.args.hooks) (map borrowed_value c.args.sources.now) in
     let old = device_of g.W.Write.contents c.args.out.now in
     let new = device_of g.W.Write.contents c.write_run.new.out in
     if_ok c.write_run.result (λ status whole. whole_is_only c.inputs_are_unique.ensures c.without_memory_there_is_one_list.ensures request c.args.sandbox.now.now old new (inputs_value c.in-Ok.inputs) status c.in-Ok.ensures.read whole) c.write_run.ensures.ok
 
 pub returns-in-Ok-clause-fault : goal.returns-in-Ok-clause-fault
 returns-in-Ok-clause-fault g c =
-    let request = request_of c.args.options.now (option_map (λ bytes. bytes.now) c.args.library) (option_map (λ bytes. bytes.now) c.args.hooks) (map source_value c.args.sources.now) in
+    let request = request_of c.args.options.now (option_map (λ bytes. bytes.now) c.args.library) (option_map (λ bytes. bytes.now) c.args.hooks) (map borrowed_value c.args.sources.now) in
     let old = device_of g.W.Write.contents c.args.out.now in
     let new = device_of g.W.Write.contents c.write_run.new.out in
     if_err c.write_run.result (λ fault part. prefix_is_cut_short request c.args.sandbox.now.now old new (inputs_value c.in-Ok.inputs) fault c.in-Ok.ensures.read part) c.write_run.ensures.err
@@ -42,6 +42,6 @@ returns-in-Ok-clause-unflushed g c = either_way c.write_run.result (λ status wh
 
 pub returns-in-Err-clause-fault : goal.returns-in-Err-clause-fault
 returns-in-Err-clause-fault g c =
-    let request = request_of c.args.options.now (option_map (λ bytes. bytes.now) c.args.library) (option_map (λ bytes. bytes.now) c.args.hooks) (map source_value c.args.sources.now) in
+    let request = request_of c.args.options.now (option_map (λ bytes. bytes.now) c.args.library) (option_map (λ bytes. bytes.now) c.args.hooks) (map borrowed_value c.args.sources.now) in
     let device = device_of g.W.Write.contents c.args.out.now in
     unread_is_untouched request c.args.sandbox.now.now device device c.in-Err.fault c.in-Err.ensures.fault (untouched device)
