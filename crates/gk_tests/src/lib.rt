@@ -1,6 +1,7 @@
 //! Tests of the public functions of the libraries below a run, with ample memory: at the limits that no clause can forbid to
 //! give up at. What the built program shows, the stored runs of `tests/` compare. The tests stand apart since a crate
-//! with tests is proved twice; those of `gk_cli` are in `gk_cli_tests`, and the stored runs alone try the rest.
+//! with tests is proved twice; those of `gk_run`, `gk_report` and `gk_cli` are in `gk_cli_tests`, and the stored runs alone
+//! try the rest.
 #![tactic(auto)]
 
 #[cfg(test)]
@@ -13,5 +14,7 @@ mod lint_tests;
 mod select_tests;
 #[cfg(test)]
 mod steps_tests;
+#[cfg(test)]
+mod table_tests;
 #[cfg(test)]
 mod world_tests;
