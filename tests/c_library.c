@@ -74,7 +74,9 @@ static void refusals(size_t length, uint8_t status) {
 
 /* A call that is refused with this line, status and place. */
 static void refuses_at(const char *line, uint8_t status, uint8_t input, size_t place, uint32_t number) {
+    long before = blocks;
     gherkin_run(&call, room, LARGEST, &answer);
+    expect(blocks == before, "memory is kept at a fault", number);
     expect(!answer.has_report && answer.status == status && answer.length == strlen(line) && memcmp(room, line, answer.length) == 0, line, 0);
     expect(answer.input == input && answer.source == place && answer.line == number, "another place of the fault", number);
 }
@@ -109,13 +111,14 @@ static void places(void) {
 
 static void hostile(void) {
     static const gherkin_text bad = {(const uint8_t *)"\xff", 1}, good = {(const uint8_t *)"x", 1};
-    gherkin_named variable = {GHERKIN_NO_TEXT, GHERKIN_NO_TEXT};
+    gherkin_named variable = {GHERKIN_NO_TEXT, GHERKIN_NO_TEXT}, two[2] = {source, {bad, GHERKIN_NO_TEXT}};
     gherkin_call before = call;
     uint32_t zero = 0;
     call.format = 3, refuses("unknown format"), call = before;
     call.format = 255, refuses("unknown format"), call = before;
     call.lines = &zero, call.line_count = 1, refuses("line 0"), call = before;
     call.tags = &bad, call.tag_count = 1, refuses("not UTF-8"), call = before;
+    call.sources = two, call.source_count = 2, refuses("not UTF-8"), call = before;
     source.name = bad, refuses("not UTF-8"), source.name = good;
     call.variables = &variable, call.variable_count = 1, refuses("bad variable");
     variable.name = bad, refuses("not UTF-8");

@@ -1,7 +1,7 @@
 #!/usr/bin/env python3
-"""Compares the static library with the program: c_library.py PROGRAM MAIN CALLED ROOM.
+"""Compares the static library with the program: c_library.py PROGRAM ROOM SEED COUNT.
 
-Called by tests/c_library.sh, which says what is compared.
+Called by tests/c_library.sh, which says what is compared, and compiled the programs in ROOM.
 """
 
 import glob
@@ -48,8 +48,9 @@ def changed(source, lines, rng):
 
 
 def main():
-    """Runs the comparisons, and then the calls of tests/c_library.c."""
-    program, embedded, called, room = sys.argv[1:5]
+    """Runs the comparisons, and then the calls of tests/c_library.c and of tests/random_bytes.c."""
+    program, room, seed, count = sys.argv[1:5]
+    embedded, called, randomly = (os.path.join(room, name) for name in ("main", "called", "random"))
     passed = failed = 0
 
     def compare(words, folder, what):
@@ -64,6 +65,8 @@ def main():
     for feature in features:
         name = os.path.relpath(feature, HOME)
         compare([*arguments_of(feature), name], HOME, name)
+    compare(["examples"], HOME, "a folder")
+    compare(["examples/missing.feature"], HOME, "a file that isn't there")
     shown = ended([embedded, "--show", "examples/uneven.feature"], HOME)[2].splitlines()
     with open(os.path.join(HOME, "examples", "uneven.feature"), "rb") as file:
         wanted = file.read().split(b"\n")[int(shown[0].split(b":")[1]) - 1]
@@ -80,12 +83,13 @@ def main():
             file.write(changed(rng.choice(sources), lines, rng))
         words = ["--format", rng.choice(["plain", "progress", "json"]), "changed.feature"]
         compare(words, room, f"changed file {number}")
-    done = subprocess.run([called, os.path.join(HOME, "examples", "paint.feature")], capture_output=True, text=True, check=False)
-    *said, last = done.stdout.splitlines() or ["0 passed, 1 failed"]
-    for line in said:
-        print(line)
-    passed += int(last.split()[0])
-    failed += int(last.split()[2])
+    for command in ([called, os.path.join(HOME, "examples", "paint.feature")], [randomly, seed, count]):
+        done = subprocess.run(command, capture_output=True, text=True, check=False)
+        *said, last = done.stdout.splitlines() or ["0 passed, 1 failed"]
+        for line in said:
+            print(line)
+        passed += int(last.split()[0])
+        failed += int(last.split()[2])
     print(f"{passed} passed, {failed} failed")
     return failed != 0
 

@@ -1,11 +1,12 @@
 #!/bin/sh
-# Calls the static library from C: tests/c_library.sh [PROGRAM [LIBRARY]]
+# Calls the static library from C: tests/c_library.sh [PROGRAM [LIBRARY [SEED COUNT]]]
 #
 # PROGRAM is the built program; without it, the one that ./run runs. LIBRARY is the static library; without it,
 # crates/gk_c/out/libgk_c.a, as `rt lib` leaves it there. Each example is run by examples/c/main.c, and its report,
 # fault and status have to be those of the program. So have those of examples whose bytes were changed at random.
 # Then tests/c_library.c tries rooms of all sizes, calls that have to be refused, and each growth of memory refused in
-# turn. Needs the Rattle toolchain's part that stands for the C library, and a C compiler, cc; says what isn't there.
+# turn, and tests/random_bytes.c calls it COUNT times with random bytes as a feature file, as hooks and as a library, from SEED on
+# (`./test`: 60,000 times; a million take half a minute). Needs the Rattle toolchain's part that stands for the C library, and a C compiler, cc; says what isn't there.
 # Closes with one line 'N passed, M failed'.
 set -eu
 
@@ -27,4 +28,6 @@ fi
 cc -O2 -std=c11 -Wall -Wextra -I"$home/include" -o "$room/main" "$home/examples/c/main.c" "$library" "$kit/c/liblibc_c.a"
 cc -O2 -std=c11 -Wall -Wextra -I"$home/include" -o "$room/called" "$home/tests/c_library.c" "$library" "$kit/c/liblibc_c.a" \
     -Wl,--wrap=malloc,--wrap=realloc,--wrap=free
-python3 "$home/tests/c_library.py" "$program" "$room/main" "$room/called" "$room"
+cc -O2 -std=c11 -Wall -Wextra -I"$home/include" -o "$room/random" "$home/tests/random_bytes.c" "$library" "$kit/c/liblibc_c.a" \
+    -Wl,--wrap=malloc,--wrap=realloc,--wrap=free
+python3 "$home/tests/c_library.py" "$program" "$room" "${3:-1}" "${4:-60000}"

@@ -371,12 +371,9 @@ DEFINITION = re.compile(r"(?:\s*(?:(?:abbrev|unfoldable) )+pub |pub (?!mod\b|use
 
 
 def broken_comments(path):
-    """The definitions of a file of specs/ without a comment above them, or with a broken one. In the part of a file
-    that is proof machinery a comment that begins with 'The same' is that of the definitions after it, too."""
+    """The definitions of a file of specs/ without a comment above them, or with a broken one."""
     lines = read(path).split("\n")
-    is_machinery, before = False, ""
     for number, line in enumerate(lines):
-        is_machinery = is_machinery or line.startswith("-- Proof machinery, from here on")
         found = DEFINITION.match(line)
         if not found:
             continue
@@ -384,10 +381,7 @@ def broken_comments(path):
         while above >= 0 and lines[above].lstrip().startswith("--"):
             comment.insert(0, lines[above].strip()[2:].strip())
             above -= 1
-        if not comment and is_machinery and before.startswith("The same"):
-            continue
-        before = " ".join(comment)
-        trouble = trouble_of(before)
+        trouble = trouble_of(" ".join(comment))
         if trouble:
             yield number + 1, f"{found.group(1)}: {trouble}"
 

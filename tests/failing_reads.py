@@ -22,7 +22,8 @@ FILES = {
 ARGUMENTS = ["--library", "l.steps", "--hooks", "h.hooks", "a.feature", "b.feature"]
 OPEN_REASONS = (errno.EPERM, errno.ENOENT, errno.EIO, errno.ENXIO, errno.EACCES, errno.EBUSY,
                 errno.ENODEV, errno.ENOTDIR, errno.EISDIR, errno.EINVAL, errno.ENFILE, errno.EMFILE,
-                errno.ETXTBSY, errno.ENAMETOOLONG, errno.ELOOP, errno.EOVERFLOW, errno.ESTALE)
+                errno.ETXTBSY, errno.ENAMETOOLONG, errno.ELOOP, errno.EOVERFLOW, errno.ESTALE,
+                errno.EAGAIN, errno.ETIMEDOUT, errno.ENOSPC, errno.EROFS, errno.EDQUOT, errno.EFBIG)
 READ_REASONS = (errno.EIO, errno.EINTR, errno.EAGAIN, errno.EISDIR, errno.ENOMEM)
 OUT_OF_MEMORY = (4, b"", b"gherkin_run: out of memory\n")
 

@@ -100,6 +100,10 @@ twice() {
         "$home/install" --remove "$room/place" && [ -z "$(ls -A "$room/place")" ]
 }
 
+with_the_folder_first() {
+    "$home/install" "$room/place" && "$home/install" "$room/place" --remove && [ -z "$(ls -A "$room/place")" ]
+}
+
 what_others_put_in_stays() {
     "$home/install" "$room/place" && echo mine > "$room/place/bin/mine" && "$home/install" --remove "$room/place" &&
         [ "$(find "$room/place" -mindepth 1 | LC_ALL=C sort | tr '\n' ' ')" = "$room/place/bin $room/place/bin/mine " ]
@@ -285,6 +289,7 @@ holds "without PREFIX into the user's own folder" into_the_own_folder
 holds "beside other files" beside_other_files
 clear
 holds "a second installation replaces the first" twice
+holds "--remove may follow the folder" with_the_folder_first
 clear
 holds "what others put in stays" what_others_put_in_stays
 
@@ -306,6 +311,8 @@ fi
 holds "a failure midway leaves nothing" fails_midway
 holds "an option that isn't known is refused" refuses "there is no option" --prefix="$room/place"
 holds "two folders are refused" refuses "too many arguments" "$room/place" "$room/place"
+holds "two folders are refused with --remove" refuses "too many arguments" "$room/place" --remove "$room/place"
+holds "--remove twice is refused" refuses "there is no option" --remove --remove
 holds "an empty name is refused" refuses "is empty" ""
 holds "no folder is refused without HOME" without_home
 holds "a folder with a line feed is refused" refuses "line feed" "$room/place/a

@@ -267,6 +267,11 @@ def cleaning_leaves_the_program(clone):
     return (status, out, left) == (0, b"", []) and b"removed" in err and clone.run() == (0, b"built here\n", b"")
 
 
+def a_word_of_the_script_stands_alone(clone):
+    answers = [clone.run(word, EXAMPLE) for word in ("--which", "--build", "--clean")]
+    return all(says(answer, 2, b"stands alone") for answer in answers) and is_right(clone.run())
+
+
 def is_running(pid):
     """Whether a process is there, and isn't only to be waited for."""
     try:
@@ -293,7 +298,7 @@ TESTS = [
     a_source_more_or_less_is_a_change, a_change_that_is_not_proved_runs_nothing, a_changed_byte_in_dist_is_refused,
     building_without_the_toolchain_says_so, building_where_nothing_can_be_written_says_so, another_processor_is_named,
     an_older_library_is_named, two_builds_at_once_are_one, an_interrupt_leaves_nothing_half_built,
-    cleaning_leaves_the_program,
+    cleaning_leaves_the_program, a_word_of_the_script_stands_alone,
 ]
 
 

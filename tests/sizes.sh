@@ -6,8 +6,10 @@
 # 4,097, 65,535 to 65,537 and at two random sizes, and the whole report is compared with what the row
 # says: up to 4,097 in all three formats, above in one of them in turn. With `all` each size is tried
 # in all three, in some two minutes; ./test leaves that out. The entries of a library, the
-# fields of a pattern and the hooks of a file end at 4,097, since their cost grows with the square of their
-# number; the alternatives of tags at 60,000, as the system takes no longer argument. PROGRAM is the built program; without it, or
+# fields of a pattern, the hooks of a file, and the `not` and parentheses of an expression end at 4,097, since their cost grows
+# faster than their number, or there is a limit below; what stands in one argument ends where the system takes no longer one: the
+# alternatives of tags and the blanks of an expression at 60,000, its terms at 20,000 with `or` and at 18,000 with `and`.
+# PROGRAM is the built program; without it, or
 # where it is empty, the one that ./run runs. Closes with one line 'N passed, M failed'; a run is one
 # test.
 set -eu

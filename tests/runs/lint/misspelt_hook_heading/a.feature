@@ -1,0 +1,3 @@
+Feature: a
+  Scenario: s
+    Given it passes
