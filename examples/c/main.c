@@ -1,7 +1,8 @@
 /* Runs feature files by the static library: main [OPTION].. FILE..
  *
- * It takes the program's options, each with its value as the next argument, and ends as the program does. With --show it
- * prints the line that a fault is of, too. */
+ * It takes the program's options but for --explain, --lint, --help and --version, each with its value as the next
+ * argument, and at most 63 arguments. Where the command line is right it ends as the program does. With --show it prints
+ * the line that a fault is of, too. */
 #include "gherkin_run.h"
 #include <stdio.h>
 #include <stdlib.h>
@@ -19,14 +20,15 @@ static gherkin_named file_of(const char *name) {
     FILE *file = fopen(name, "rb");
     uint8_t *bytes = malloc(1);
     size_t length = 0, size = 1, got;
-    if (!file || !bytes) {
-        fprintf(stderr, "%s: cannot read\n", name);
-        exit(3);
-    }
-    while ((got = fread(bytes + length, 1, size - length, file)) > 0) {
+    while (file && bytes && (got = fread(bytes + length, 1, size - length, file)) > 0) {
         length += got;
         if (length == size) bytes = realloc(bytes, size *= 2);
-        if (!bytes) exit(4);
+    }
+    if (!bytes) exit(4);
+    /* A folder can be opened, and not read. */
+    if (!file || ferror(file)) {
+        fprintf(stderr, "%s: cannot read\n", name);
+        exit(3);
     }
     fclose(file);
     gherkin_named made = {text_of(name), {bytes, length}};
@@ -44,8 +46,12 @@ static gherkin_named variable_of(const char *text) {
     return made;
 }
 
+/* The number of a format; of another word one that no format has, which the call refuses. */
 static uint8_t format_of(const char *name) {
-    return strcmp(name, "json") == 0 ? GHERKIN_JSON : strcmp(name, "progress") == 0 ? GHERKIN_PROGRESS : GHERKIN_PLAIN;
+    static const char *const names[] = {"plain", "progress", "json"};
+    uint8_t format = GHERKIN_PLAIN;
+    while (format <= GHERKIN_JSON && strcmp(name, names[format]) != 0) format++;
+    return format;
 }
 
 /* Prints the line that a fault is of, where it is of one. */
@@ -84,6 +90,7 @@ int main(int count, char **words) {
         else if (strcmp(word, "--hooks") == 0) call.hooks = file_of(value), call.has_hooks = true;
         else return 2;
     }
+    if (call.source_count == 0) return 2;
     gherkin_answer answer;
     /* Most reports have at most so many bytes, and room that isn't written takes no memory. */
     size_t size = 1 << 16;
@@ -98,7 +105,8 @@ int main(int count, char **words) {
         if (!room) return 4;
         gherkin_run(&call, room, size, &answer);
     }
-    fwrite(room, 1, answer.length, answer.has_report ? stdout : stderr);
+    FILE *to = answer.has_report ? stdout : stderr;
+    if (fwrite(room, 1, answer.length, to) != answer.length || fflush(to) != 0) return 3;
     if (!answer.has_report) fputc('\n', stderr);
     if (shows) show(&call, &answer);
     return answer.status;
