@@ -19,11 +19,12 @@ impl Cells {
         Cells { filled: 0 }
     }
 
-    /// Fills a cell and counts it. No other call fills a cell of a table.
+    /// Fills a cell and counts it. No other call fills a cell of a table. The count never falls.
     pub(crate) fn fill(&mut self, row: &mut Vec<bool>, cell: bool) -> Result<(), AllocError>
         ensures items { row.new.items
             ≡ (if is_ok result then row.old.items ++ cell ∷ [] else row.old.items) }
         ensures most { self.new.filled ≤ self.old.filled + 1 }
+        ensures least { self.old.filled ≤ self.new.filled }
         ensures filled { OnOk result (GoesOnBy 1 self.old.filled self.new.filled) }
     {
         row.push(cell)?;

@@ -63,6 +63,7 @@ pub(crate) fn find_of<'t, K: Kept<'t>>(
         HasCandidate (entries_said shelf.now.entries.now) step_type text.now) }
     ensures most { cells.new.filled ≤ cells.old.filled
         + cells_of_type (entries_said shelf.now.entries.now) step_type text.now }
+    ensures least { cells.old.filled ≤ cells.new.filled }
 {
     let entries = shelf.entries;
     let mut tries: usize = 0;
@@ -132,6 +133,7 @@ impl Library {
             HasCandidateFor (library_value self.now) step_type text.now) }
         ensures most { cells.new.filled
             ≤ cells.old.filled + cells_of_step (library_value self.now) step_type text.now }
+        ensures least { cells.old.filled ≤ cells.new.filled }
     {
         let typed = self.shelf(self.typed);
         if let Some(hit) = find_of(cells, alloc, &typed, Some(step_type), text)? {
@@ -153,6 +155,7 @@ impl Library {
         ensures memory { IfErr result (λ e. HasCandidate (library_value self.now) None text.now) }
         ensures most { cells.new.filled
             ≤ cells.old.filled + cells_of_type (library_value self.now) None text.now }
+        ensures least { cells.old.filled ≤ cells.new.filled }
     {
         let all = self.whole();
         find_of(cells, alloc, &all, None, text)
@@ -178,7 +181,7 @@ impl Library {
         self.find_counting(alloc, &mut cells, step_type, text)
     }
 
-    /// What `find` returns, with the cells that it fills counted.
+    /// What `find` returns, with the cells that it fills counted. The count never falls.
     pub fn find_counting(
         &self,
         alloc: Global,
@@ -194,6 +197,7 @@ impl Library {
         // No more cells are counted than the tables of all entries that are asked have.
         ensures most { cells.new.filled
             ≤ cells.old.filled + cells_of_step (library_value self.now) step_type text.now }
+        ensures least { cells.old.filled ≤ cells.new.filled }
     {
         Ok(found_of(self.search(alloc, cells, step_type, text)?))
     }
@@ -209,7 +213,7 @@ impl Library {
         self.find_any_counting(alloc, &mut cells, text)
     }
 
-    /// What `find_any` returns, with the cells that it fills counted.
+    /// What `find_any` returns, with the cells that it fills counted. The count never falls.
     pub fn find_any_counting(
         &self,
         alloc: Global,
@@ -223,6 +227,7 @@ impl Library {
         // The same of cells.
         ensures most { cells.new.filled
             ≤ cells.old.filled + cells_of_type (library_value self.now) None text.now }
+        ensures least { cells.old.filled ≤ cells.new.filled }
     {
         Ok(found_of(self.search_any(alloc, cells, text)?))
     }
@@ -240,7 +245,7 @@ impl Library {
         Ok(hit.is_some())
     }
 
-    /// What `knows` returns, with the cells that it fills counted.
+    /// What `knows` returns, with the cells that it fills counted. The count never falls.
     pub fn knows_counting(
         &self,
         alloc: Global,
@@ -253,6 +258,7 @@ impl Library {
         // The same of cells.
         ensures most { cells.new.filled
             ≤ cells.old.filled + cells_of_step (library_value self.now) step_type text.now }
+        ensures least { cells.old.filled ≤ cells.new.filled }
         // The same of memory.
         ensures memory { IfErr result (λ e.
             HasCandidateFor (library_value self.now) step_type text.now) }

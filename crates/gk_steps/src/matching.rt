@@ -45,6 +45,7 @@ fn table_of(
     ensures table { IfOk result (λ rows. IsWholeTable pieces.now text.now places.now rows.items) }
     ensures most { cells.new.filled
         ≤ cells.old.filled + (length pieces.now + 1) * length places.now }
+    ensures least { cells.old.filled ≤ cells.new.filled }
     ensures filled { OnOk result
         (GoesOnBy ((length pieces.now + 1) * length places.now) cells.old.filled cells.new.filled) }
 {
@@ -105,6 +106,7 @@ fn match_pieces<'t, K: Kept<'t>>(
         IsKeptResult K.keeps (pieces_said pieces.now) text.now found) }
     ensures most { cells.new.filled
         ≤ cells.old.filled + (length pieces.now + 1) * length places.now }
+    ensures least { cells.old.filled ≤ cells.new.filled }
     ensures filled { OnOk result
         (GoesOnBy ((length pieces.now + 1) * length places.now) cells.old.filled cells.new.filled) }
 {
@@ -153,6 +155,7 @@ fn match_rest<'t, K: Kept<'t>>(
         → KeepsRest K.keeps done before (pieces_said left.now) rest.now found) }
     ensures most { cells.new.filled
         ≤ cells.old.filled + table_cells (pieces_said left.now) rest.now }
+    ensures least { cells.old.filled ≤ cells.new.filled }
 {
     let places = places_of(alloc, rest)?;
     match match_pieces(cells, alloc, left, rest, &places)? {
@@ -178,6 +181,7 @@ pub(crate) fn match_from_left<'t, K: Kept<'t>>(
         IsKeptResult K.keeps (pieces_said pieces.now) text.now found) }
     ensures most { cells.new.filled
         ≤ cells.old.filled + table_cells (pieces_said pieces.now) text.now }
+    ensures least { cells.old.filled ≤ cells.new.filled }
 {
     let mut kept = K::empty(alloc);
     let mut left = pieces;
@@ -216,7 +220,7 @@ impl Pattern {
         self.matches_counting(alloc, &mut cells, text)
     }
 
-    /// The match that `matches` returns, with the cells that it fills counted.
+    /// The match that `matches` returns, with the cells that it fills counted. The count never falls.
     pub fn matches_counting(
         &self,
         alloc: Global,
@@ -231,6 +235,7 @@ impl Pattern {
         // No more cells are counted than one whole table has.
         ensures most { cells.new.filled
             ≤ cells.old.filled + table_cells (pattern_value self.now) text.now }
+        ensures least { cells.old.filled ≤ cells.new.filled }
     {
         if !self.can_match(text) {
             return Ok(None);

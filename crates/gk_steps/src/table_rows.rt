@@ -22,6 +22,7 @@ pub(crate) fn first_row(
     ensures row { (text : List ℕ) → ArePlaces text places.now
         → IfOk result (λ row. IsRow [] text places.now row.items) }
     ensures most { cells.new.filled ≤ cells.old.filled + length places.now }
+    ensures least { cells.old.filled ≤ cells.new.filled }
     ensures filled { OnOk result
         (GoesOnBy (length places.now) cells.old.filled cells.new.filled) }
 {
@@ -36,6 +37,7 @@ pub(crate) fn first_row(
 fn plain_row(cells: &mut Cells, alloc: Global, below: &[bool]) -> Result<Vec<bool>, AllocError>
     ensures row { IfOk result (λ row. IsPlainRow (length below.now) below.now row.items) }
     ensures most { cells.new.filled ≤ cells.old.filled + length below.now }
+    ensures least { cells.old.filled ≤ cells.new.filled }
     ensures filled { OnOk result
         (GoesOnBy (length below.now) cells.old.filled cells.new.filled) }
 {
@@ -61,6 +63,7 @@ fn decimal_row(
         IsNumberRow (length below.now.places.now)
         text.now below.now.places.now below.now.cells.now row.items) }
     ensures most { cells.new.filled ≤ cells.old.filled + length below.now.places.now }
+    ensures least { cells.old.filled ≤ cells.new.filled }
     ensures filled { OnOk result
         (GoesOnBy (length below.now.places.now) cells.old.filled cells.new.filled) }
 {
@@ -91,6 +94,7 @@ pub(crate) fn row_over(
         IsRowOver (piece_value piece.now)
         text.now below.now.places.now below.now.cells.now row.items) }
     ensures most { cells.new.filled ≤ cells.old.filled + length below.now.places.now }
+    ensures least { cells.old.filled ≤ cells.new.filled }
     ensures filled { OnOk result
         (GoesOnBy (length below.now.places.now) cells.old.filled cells.new.filled) }
 {

@@ -40,6 +40,7 @@ loop-place-init g c =
     let start : c.args.cells.now.filled + cells_of_type (map entry_value entries) c.args.step_type c.args.text.now ≤ c.args.cells.now.filled + cells_of_type (map entry_value entries) c.args.step_type c.args.text.now = omega arith in (
       none_skipped entries c.args.step_type c.args.text.now 0 next (λ earlier other less is same. absurd (omega arith)) c.next-place.ensures,
       cells_skipped entries 0 next c.args.step_type c.args.text.now c.args.cells.now.filled c.args.cells.now.filled (omega arith) start,
+      omega arith,
     )
 
 pub loop-place-preserved : goal.loop-place-preserved
@@ -48,7 +49,8 @@ loop-place-preserved g c =
     let place = c.loop-place.place + 1 in
     let next = c.next-place-in-loop-place.result in
     let here : NoneBefore (c.loop-place.place + 1) (map entry_value c.args.shelf.now.entries.now) c.args.step_type c.args.text.now
-    × (c.if-is_same.cells.filled + cells_of_type (map entry_value (drop (c.loop-place.place + 1) c.args.shelf.now.entries.now)) c.args.step_type c.args.text.now ≤ c.args.cells.now.filled + cells_of_type (map entry_value c.args.shelf.now.entries.now) c.args.step_type c.args.text.now) = elim c.if-is_same.branch [
+    × (c.if-is_same.cells.filled + cells_of_type (map entry_value (drop (c.loop-place.place + 1) c.args.shelf.now.entries.now)) c.args.step_type c.args.text.now ≤ c.args.cells.now.filled + cells_of_type (map entry_value c.args.shelf.now.entries.now) c.args.step_type c.args.text.now)
+    × (c.args.cells.now.filled ≤ c.if-is_same.cells.filled) = elim c.if-is_same.branch [
       | then-is_same+then-can_match+in_ok-kept+in-None w ↦ (
         none_more c.args.shelf.now.entries.now c.args.step_type c.args.text.now c.loop-place.place c.index-entries-place.result c.loop-place-test.true c.index-entries-place.is
             (λ same. kept_none g.K.Kept.keeps (map piece_value c.index-entries-place.result.pattern.pieces.items) c.args.text.now
@@ -56,6 +58,7 @@ loop-place-preserved g c =
             (subst (λ ps. IsKeptResult g.K.Kept.keeps (map piece_value ps) c.args.text.now w.in_ok-kept.field-0) w.deref.ensures.value w.in_ok-kept.ensures.found))) c.loop-place.invariant.0,
         subst (λ (cells : Cells). cells.filled + cells_of_type (map entry_value (drop (c.loop-place.place + 1) c.args.shelf.now.entries.now)) c.args.step_type c.args.text.now ≤ c.args.cells.now.filled + cells_of_type (map entry_value c.args.shelf.now.entries.now) c.args.step_type c.args.text.now) (sym w.cells-is)
             (asked c.args.shelf.now.entries.now c.loop-place.place c.index-entries-place.result c.args.step_type c.args.text.now w.deref.result.now c.args.cells.now.filled c.loop-place.cells.filled w.match_from_left.new.cells.filled c.loop-place-test.true c.index-entries-place.is w.if-is_same.ensures w.deref.ensures.value w.match_from_left.ensures.most c.loop-place.invariant.1),
+        subst (λ (cells : Cells). c.args.cells.now.filled ≤ cells.filled) (sym w.cells-is) (omega (arith, c.loop-place.invariant.2, w.match_from_left.ensures.least)),
       )
       | else-is_same w ↦ (
         elim w.else-is_same.branch [
@@ -68,9 +71,11 @@ loop-place-preserved g c =
         ],
         subst (λ (cells : Cells). cells.filled + cells_of_type (map entry_value (drop (c.loop-place.place + 1) c.args.shelf.now.entries.now)) c.args.step_type c.args.text.now ≤ c.args.cells.now.filled + cells_of_type (map entry_value c.args.shelf.now.entries.now) c.args.step_type c.args.text.now) (sym w.cells-is)
             (passed_over c.args.shelf.now.entries.now c.loop-place.place c.index-entries-place.result c.args.step_type c.args.text.now c.args.cells.now.filled c.loop-place.cells.filled c.loop-place-test.true c.index-entries-place.is c.loop-place.invariant.1),
+        subst (λ (cells : Cells). c.args.cells.now.filled ≤ cells.filled) (sym w.cells-is) c.loop-place.invariant.2,
       )
     ] in
     let later : place ≤ next = c.next-place-in-loop-place.ensures.low (omega (arith, c.loop-place-test.true)) in (
       none_skipped entries c.args.step_type c.args.text.now place next here.0 c.next-place-in-loop-place.ensures,
       cells_skipped entries place next c.args.step_type c.args.text.now c.args.cells.now.filled c.if-is_same.cells.filled later here.1,
+      here.2,
     )

@@ -8,6 +8,7 @@ pub loop-column-preserved : goal.loop-column-preserved
 loop-column-preserved c = record {
   row = λ text h. end_more text c.args.places.now c.loop-column.column c.loop-column.row.items c.fill.new.row.items h c.loop-column-test.true c.in_ok-fill.ensures.items (c.loop-column.invariant.row text h);
   most = omega (arith, c.loop-column.invariant.most, c.in_ok-fill.ensures.most);
+  least = omega (arith, c.loop-column.invariant.least, c.in_ok-fill.ensures.least);
   filled = one_more c.args.cells.now.filled c.loop-column.cells.filled c.fill.new.self.filled c.loop-column.column c.loop-column.invariant.filled c.in_ok-fill.ensures.filled;
 }
 

@@ -5,4 +5,4 @@ use Rattle.gk_steps.specs.FilledCells.{GoesOnBy}
 use Rattle.gk_steps.proofs.table_rows.first_row.Given as goal
 
 abbrev pub invariant-loop-column : goal.invariant-loop-column
-invariant-loop-column l = record { row : (text : List ℕ) → ArePlaces text l.places → IsRowTo l.column [] text l.places l.row.items; most : l.cells.filled ≤ l.fn.cells.filled + l.column; filled : GoesOnBy l.column l.fn.cells.filled l.cells.filled }
+invariant-loop-column l = record { row : (text : List ℕ) → ArePlaces text l.places → IsRowTo l.column [] text l.places l.row.items; most : l.cells.filled ≤ l.fn.cells.filled + l.column; least : l.fn.cells.filled ≤ l.cells.filled; filled : GoesOnBy l.column l.fn.cells.filled l.cells.filled }

@@ -13,5 +13,6 @@ loop-column-preserved c = record {
     | else-any w ↦ any_new c.args.below.now c.loop-column.column c.if-any.any (sym w.any-is) (subst (IsAnyBefore c.args.below.now c.loop-column.column) w.if-any.false c.loop-column.invariant.any)
   ];
   most = omega (arith, c.loop-column.invariant.most, c.in_ok-fill.ensures.most);
+  least = omega (arith, c.loop-column.invariant.least, c.in_ok-fill.ensures.least);
   filled = one_more c.args.cells.now.filled c.loop-column.cells.filled c.fill.new.self.filled c.loop-column.column c.loop-column.invariant.filled c.in_ok-fill.ensures.filled;
 }

@@ -26,6 +26,7 @@ pub loop-column-preserved : goal.loop-column-preserved
 loop-column-preserved c = record {
   row = λ ps r. step_more (piece_value c.args.piece.now) ps c.args.text.now c.args.below.now.places.now c.args.below.now.cells.now c.loop-column.column c.advance.result c.is_some-cell.result c.loop-column.row.items c.fill.new.row.items c.utf8.text (text_piece c.args.piece.now) c.requires.places r c.loop-column-test.true c.advance.ensures c.is_some-cell.ensures c.in_ok-fill.ensures.items (c.loop-column.invariant.row ps r);
   most = omega (arith, c.loop-column.invariant.most, c.in_ok-fill.ensures.most);
+  least = omega (arith, c.loop-column.invariant.least, c.in_ok-fill.ensures.least);
   filled = one_more c.args.cells.now.filled c.loop-column.cells.filled c.fill.new.self.filled c.loop-column.column c.loop-column.invariant.filled c.in_ok-fill.ensures.filled;
 }
 
