@@ -36,8 +36,8 @@ looked_more library step steps m is more false h = ap (λ x. row_of_step step x 
 by_look : (library : LibraryValue) (next : Bool) (step : StepValue) (steps : List StepValue) (m : Mark) → IsLookedUp library Untested step m → next ≡ is_memory_mark m → (more : List StepRow) (e : Bool) → AreDrySteps library next steps more e →
     AreDrySteps library false (step ∷ steps) (row_of_step step m ∷ more) e
 by_look library next step steps m (inl is) n more e h =
-    let here = subst (λ (x : Bool). AreDrySteps library x steps more e) (n ∙ ap is_memory_mark is) h in
-    let there : AreDrySteps library false (step ∷ steps) (row_of_step step m ∷ more) true = (0, refl, ap (λ x. row_of_step step x ∷ more) is ∙ ap (λ rs. row_of_step step (Acted outcomes.Memory) ∷ rs) here.0) in
+    let here = subst (λ (x : Bool). AreDrySteps library x steps more e) (n ∙ ap is_memory_mark is.0) h in
+    let there : AreDrySteps library false (step ∷ steps) (row_of_step step m ∷ more) true = (0, refl, ap (λ x. row_of_step step x ∷ more) is.0 ∙ ap (λ rs. row_of_step step (Acted outcomes.Memory) ∷ rs) here.0) in
     subst (λ (x : Bool). AreDrySteps library false (step ∷ steps) (row_of_step step m ∷ more) x) (sym here.1) there
 by_look library next step steps m (inr is) n more e h =
     let none = n ∙ ap is_memory_mark is ∙ no_memory_mark (is_some (found library step.step_type step.text)) in

@@ -144,9 +144,9 @@ by_look : (library : LibraryValue) (s new : State) (cs new_cleanups : List Clean
     AreStepped library endings.Failed s cs (step ∷ steps) (row_of_step step m ∷ more) e last ls
 by_look library s new cs new_cleanups step steps m (inl is) p q more e last ls h =
     let x = steps_after library endings.Failed s cs (step ∷ steps) in
-    let here = subst (λ y. AreStepped library (worse endings.Failed (ending_of y)) new new_cleanups steps more e last ls) is h in
+    let here = subst (λ y. AreStepped library (worse endings.Failed (ending_of y)) new new_cleanups steps more e last ls) is.0 h in
     let there : AreStepsRun x endings.Failed (step ∷ steps) (row_of_step step (Acted outcomes.Memory) ∷ more) endings.Memory last ls = (0, refl, ap (λ rs. row_of_step step (Acted outcomes.Memory) ∷ rs) here.0) in
-    subst (λ y. AreStepped library endings.Failed s cs (step ∷ steps) (row_of_step step y ∷ more) e last ls) (sym is)
+    subst (λ y. AreStepped library endings.Failed s cs (step ∷ steps) (row_of_step step y ∷ more) e last ls) (sym is.0)
     (subst (λ y. AreStepsRun x endings.Failed (step ∷ steps) (row_of_step step (Acted outcomes.Memory) ∷ more) y last ls) (sym here.1) there)
 by_look library s new cs new_cleanups step steps m (inr is) p q more e last ls h =
     let stays = ap (λ y. worse endings.Failed (ending_of y)) is ∙ failed_stays (is_some (found library step.step_type step.text)) in
@@ -164,7 +164,7 @@ one_on library endings.Skipped s new cs new_cleanups step steps m t more e last 
     subst (λ y. AreStepped library endings.Skipped s cs (step ∷ steps) (row_of_step step y ∷ more) e last ls) (sym t.0)
     (still library endings.Skipped s new cs new_cleanups Skipped step steps (map (λ (x : StepValue). Skipped) steps) t.1 t.2 (λ xs. refl) more e last ls here)
 one_on library endings.Memory s new cs new_cleanups step steps m t more e last ls h =
-    (ap (λ x. row_of_step step x ∷ more) t ∙ ap (λ rs. row_of_step step Untested ∷ rs) h.0, h.1)
+    (ap (λ x. row_of_step step x ∷ more) t.0 ∙ ap (λ rs. row_of_step step Untested ∷ rs) h.0, h.1)
 
 -- ---- the loop: whatever the steps that are left come to, all come to, with these rows before theirs
 

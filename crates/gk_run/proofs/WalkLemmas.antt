@@ -1,5 +1,5 @@
 -- What the code's steps make of a walk.
-use Rattle.std.proofs.Common.{Bool, List, None, Some, [], ap, cond, drop, false, get_or, length, map, refl, subst, sym, true, ℕ, ◌++◌, ◌+◌, ◌<◌, ◌∙◌, ◌∷◌, ◌≡◌, ◌≤◌, Option, find}
+use Rattle.std.proofs.Common.{Bool, List, None, Some, [], ap, cond, drop, false, get_or, inl, inr, is_some, length, map, refl, subst, sym, true, ℕ, ◌++◌, ◌+◌, ◌<◌, ◌∙◌, ◌∷◌, ◌≡◌, ◌≤◌, Option, find}
 use Rattle.std.specs.Option.{option_map_or}
 use Rattle.std.proofs.lemmas.Bool.{true≢false}
 use Rattle.std.proofs.lemmas.List.{at_drop_all, at_drop_more}
@@ -8,8 +8,10 @@ use Rattle.gk_gherkin.specs.Feature.{StepValue}
 use Rattle.gk_gherkin.specs.declared.hooks.HookKind.{HookKind}
 use Rattle.gk_gherkin.specs.Hooks.{HookValue, is_for}
 use Rattle.gk_steps.specs.declared.used_fields.FoundUse.{FoundUse}
-use Rattle.gk_steps.specs.Finding.{FoundValue, IsUseOf, LibraryValue}
-use Rattle.gk_world.specs.State.{State}
+use Rattle.gk_steps.specs.Finding.{FoundValue, HasCandidateFor, IsUseOf, LibraryValue, found}
+use Rattle.gk_steps.specs.declared.action.Action.{Action}
+use Rattle.gk_world.specs.Sandbox.{SandboxValue}
+use Rattle.gk_world.specs.State.{State, state_of}
 use Rattle.gk_run.specs.declared.acting.Site.{Site}
 use Rattle.gk_run.specs.declared.acting.Site.TheVariants as sites
 use Rattle.gk_run.specs.declared.ending.Ending.{Ending}
@@ -19,10 +21,10 @@ use Rattle.gk_run.specs.declared.results.Mark.TheVariants.{Acted, Skipped, Undef
 use Rattle.gk_run.specs.declared.results.Outcome.{Outcome}
 use Rattle.gk_run.specs.declared.results.Outcome.TheVariants as outcomes
 use Rattle.gk_run.specs.declared.section.Level.{Level}
-use Rattle.gk_run.specs.Acting.{Acted as ActedValue, CleanupValue, Given, given_by, act, at_site, done_of, IsDone, HasRegistered}
+use Rattle.gk_run.specs.Acting.{Acted as ActedValue, CleanupValue, Given, given, given_by, act, at_site, done_of, files_of, IsDone, HasRegistered, WritesFirst}
 use Rattle.gk_run.proofs.ActingLemmas.{called_is, used_given}
-use Rattle.gk_run.specs.Ending.{ended_of, ending_of, has_passed, worse}
-use Rattle.gk_run.specs.Walk.{IsStepRun, IsWalked, Walked, followed_by, one_step, stepped, walk}
+use Rattle.gk_run.specs.Ending.{ended_of, ending_of, has_passed, is_memory_mark, worse}
+use Rattle.gk_run.specs.Walk.{IsLookedUp, IsStepRun, IsWalked, Walked, followed_by, one_step, step_files, stepped, walk}
 use Rattle.gk_run.specs.Section.{is_place}
 use Rattle.gk_run.specs.SectionHooks.{before_kind, before_list, hook_steps, tag_lists, walk_each}
 use Rattle.gk_run.proofs.EndingLemmas.{ended_append, past, place_before, place_past, worse_assoc, worse_memory, worse_passed}
@@ -306,7 +308,7 @@ steps_found (hook ∷ hooks) kind tag = step_found hook hooks kind tag (is_for h
 -- a step whose action was carried out
 acted_step : (acted : ActedValue) (cleanups new_cleanups : List CleanupValue) (o : Outcome) (new : State) → IsDone (done_of acted) o new → HasRegistered acted cleanups o new_cleanups
     → IsStepRun (record { mark = Acted acted.done.outcome; state = acted.done.state; registered = acted.registered }) cleanups (Acted o) new new_cleanups
-acted_step acted cleanups new_cleanups outcomes.Memory new done registered = record {}
+acted_step acted cleanups new_cleanups outcomes.Memory new done registered = registered
 acted_step acted cleanups new_cleanups outcomes.Passed new done registered = (ap (λ o. Acted o) done.0, done.1, registered)
 acted_step acted cleanups new_cleanups outcomes.Skip new done registered = (ap (λ o. Acted o) done.0, done.1, registered)
 acted_step acted cleanups new_cleanups (outcomes.Failed why) new done registered = (ap (λ o. Acted o) done.0, done.1, registered)
@@ -322,3 +324,22 @@ used_step library site s new cleanups new_cleanups step (Some f) u g o looked h 
     acted_step (act library site f step.block s) cleanups new_cleanups o new
     (subst (λ (a : ActedValue). IsDone (done_of a) o new) is done)
     (subst (λ (a : ActedValue). HasRegistered a cleanups o new_cleanups) is registered)
+
+-- what such a step wrote where memory was refused in its action
+pub used_kept : (library : LibraryValue) (old new : SandboxValue) (step : StepValue) (x : Option FoundValue) (u : FoundUse) (g : Given)
+    → IsUseOf library x (Some u) → g ≡ given_by u.fields step.block
+    → WritesFirst (files_of u.action g (state_of old.now)) old new → WritesFirst (step_files library (state_of old.now) step x) old new
+used_kept library old new step None u g looked h kept = absurd looked
+used_kept library old new step (Some f) u g looked h kept =
+    subst (λ (a : Action). WritesFirst (files_of a (given library f step.block) (state_of old.now)) old new) looked.action
+    (subst (λ (y : Given). WritesFirst (files_of u.action y (state_of old.now)) old new) (h ∙ used_given library f u.fields step.block looked.fields) kept)
+
+only_skipped : (b : Bool) → is_memory_mark (cond b Skipped Undefined) ≡ false
+only_skipped true = refl
+only_skipped false = refl
+
+-- memory is refused while a step is looked up only where its text has the ends of an entry
+pub look_needs : (library : LibraryValue) (step : StepValue) (m : Mark) → IsLookedUp library Skipped step m → m ≡ Acted outcomes.Memory → HasCandidateFor library step.step_type step.text
+look_needs library step m (inl is) memory = is.1
+look_needs library step m (inr is) memory =
+    absurd (true≢false (sym (ap is_memory_mark memory) ∙ ap is_memory_mark is ∙ only_skipped (is_some (found library step.step_type step.text))))

@@ -190,7 +190,7 @@ step_more : (library : LibraryValue) (all ts : List Told) (stood : Ending) (s ne
 step_more library all ts endings.Memory s new cs left step steps m nm t whole = absurd (nm refl)
 step_more library all ts endings.Passed s new cs left step steps m nm t whole = by_step library all ts s new cs left step steps m t whole
 step_more library all ts endings.Failed s new cs left step steps m nm (inl t, p, q) whole =
-    subst (λ x. GoesTold library all (worse endings.Failed (ending_of x)) new steps (ts ++ of_step steps_of_case step x new ∷ [])) (sym t)
+    subst (λ x. GoesTold library all (worse endings.Failed (ending_of x)) new steps (ts ++ of_step steps_of_case step x new ∷ [])) (sym t.0)
     (cut_of all ts (of_step steps_of_case step (looked_up library Skipped step) s) (told_steps library endings.Failed s steps) new whole)
 step_more library all ts endings.Failed s new cs left step steps m nm (inr t, p, q) whole =
     subst (λ x. GoesTold library all (worse endings.Failed (ending_of x)) new steps (ts ++ of_step steps_of_case step x new ∷ [])) (sym t)
@@ -268,7 +268,7 @@ next_shown : (library : LibraryValue) (stood : Ending) (s new : State) (cs left 
     GoesShown (worse stood (ending_of m)) steps (rows ++ row_of_step step m ∷ []) all (told_marks (ts ++ told_next stood (of_step steps_of_case step m new)))
 next_shown library endings.Memory s new cs left step steps all rows ts m t h =
     subst (λ xs. GoesShown endings.Memory steps (rows ++ row_of_step step m ∷ []) all (told_marks xs)) (sym (append-nil ts))
-    (subst (λ x. (rows ++ row_of_step step x ∷ []) ++ rows_of_steps steps [] ≡ rows_of_steps all (told_marks ts)) (sym t) (append_assoc rows (row_of_step step Untested ∷ []) (rows_of_steps steps []) ∙ h))
+    (subst (λ x. (rows ++ row_of_step step x ∷ []) ++ rows_of_steps steps [] ≡ rows_of_steps all (told_marks ts)) (sym t.0) (append_assoc rows (row_of_step step Untested ∷ []) (rows_of_steps steps []) ∙ h))
 next_shown library endings.Passed s new cs left step steps all rows ts m t h = shown_more (worse endings.Passed (ending_of m)) rows step steps all ts m new h
 next_shown library endings.Failed s new cs left step steps all rows ts m t h = shown_more (worse endings.Failed (ending_of m)) rows step steps all ts m new h
 next_shown library endings.Skipped s new cs left step steps all rows ts m t h = shown_more (worse endings.Skipped (ending_of m)) rows step steps all ts m new h

@@ -73,7 +73,7 @@ abbrev pub unless_for : State → Option Reason → State → Done
 unless_for s None new = passes new
 unless_for s (Some why) new = fails s why
 
--- The same of reasons with their tests, of which the first that holds is the reason.
+-- An action fails with the first reason of which the test holds, and else passes and leaves a new state.
 abbrev pub unless : State → List (Bool × Reason) → State → Done
 unless s tests new = unless_for s (first_true tests) new
 
@@ -373,7 +373,7 @@ IsExact library found done outcome new = changes_nothing (action_of (library_val
 abbrev pub NeedsCandidate : LibraryValue → List ℕ → Outcome → Type 0
 NeedsCandidate library text outcome = found_any library text ≡ None → outcome ≡ outcomes.Memory → HasCandidate library None text
 
--- The same of the step that at_cleanup registers.
+-- Where no entry of type `step` matches the step that at_cleanup registers, memory is refused only where that step has the ends of such an entry.
 abbrev pub CleanupNeedsCandidate : Library → Found → Block → Outcome → Type 0
 CleanupNeedsCandidate library found block outcome =
     let l = library_value library in
@@ -446,7 +446,7 @@ pub record IsActedWith (files : List (List ℕ × List ℕ)) (done : Done) (old 
   pub layers : KeepsLayers old new
   pub kept : outcome ≡ outcomes.Memory → WritesFirst files old new
 
--- The same of an action of one change.
+-- An action of one change was carried out in a sandbox, or memory was refused in it and nothing has changed; the open layers stay as they are.
 abbrev pub IsActed : Done → SandboxValue → Outcome → SandboxValue → Type 0
 IsActed = IsActedWith []
 

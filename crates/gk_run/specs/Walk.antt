@@ -2,7 +2,7 @@
 use Rattle.std.specs.Prelude.{true, cond, List, [], ◌∷◌, ◌++◌, map, ◌≡◌, ◌⊎◌, Option, Some, None, is_some, ℕ}
 use Rattle.gk_gherkin.specs.Feature.{StepValue, step_value}
 use Rattle.gk_gherkin.specs.declared.feature.Step.{Step}
-use Rattle.gk_steps.specs.Finding.{LibraryValue, library_value, FoundValue, found}
+use Rattle.gk_steps.specs.Finding.{LibraryValue, library_value, FoundValue, found, action_of, HasCandidateFor}
 use Rattle.gk_world.specs.Sandbox.{SandboxValue}
 use Rattle.gk_world.specs.State.{State, state_of}
 use Rattle.gk_run.specs.declared.acting.Site.{Site}
@@ -17,7 +17,7 @@ use Rattle.gk_run.specs.declared.results.Outcome.TheVariants as outcomes
 use Rattle.gk_run.specs.declared.run.Run as shared
 use Rattle.gk_run.specs.declared.section.Place.{Place}
 use Rattle.gk_run.specs.declared.walk.StepsEnd.{StepsEnd}
-use Rattle.gk_run.specs.Acting.{CleanupValue, act}
+use Rattle.gk_run.specs.Acting.{CleanupValue, act, given, files_of, WritesFirst}
 use Rattle.gk_run.specs.Cleanups.{cleanups_value}
 use Rattle.gk_run.specs.Ending.{ended_of, ending_of, has_passed, status_of_mark, reason_of_mark}
 use Rattle.gk_run.specs.Results.{StepRow, step_row}
@@ -101,9 +101,9 @@ IsWalked w ended new new_cleanups = (ended ≡ ended_of w.marks) × (new ≡ w.s
 
 -- Proof machinery, from here on: what the code's calls do.
 
--- A step was carried out as it should be, or memory was refused in it.
+-- A step was carried out as it should be, or memory was refused in it and no cleanup was registered.
 abbrev pub IsStepRun : Stepped → List CleanupValue → Mark → State → List CleanupValue → Type 0
-IsStepRun this cleanups (Acted outcomes.Memory) new new_cleanups = Unit {0}
+IsStepRun this cleanups (Acted outcomes.Memory) new new_cleanups = new_cleanups ≡ cleanups
 IsStepRun this cleanups mark new new_cleanups = (mark ≡ this.mark) × (new ≡ this.state) × (new_cleanups ≡ cleanups ++ this.registered)
 
 -- How a case ends after its steps, where it stood so before them.
@@ -121,21 +121,40 @@ abbrev pub AreStepped : LibraryValue → Ending → State → List CleanupValue 
 AreStepped library endings.Memory s cleanups steps rows ended new new_cleanups = (rows ≡ rows_of_steps steps []) × (ended ≡ endings.Memory)
 AreStepped library before s cleanups steps rows ended new new_cleanups = AreStepsRun (steps_after library before s cleanups steps) before steps rows ended new new_cleanups
 
--- A step was only looked up, or memory was refused in that.
+-- A step was only looked up, or memory was refused in that; then its text has the ends of an entry.
 abbrev pub IsLookedUp : LibraryValue → Mark → StepValue → Mark → Type 0
-IsLookedUp library matched step mark = (mark ≡ Acted outcomes.Memory) ⊎ (mark ≡ looked_up library matched step)
+IsLookedUp library matched step mark = ((mark ≡ Acted outcomes.Memory) × HasCandidateFor library step.step_type step.text) ⊎ (mark ≡ looked_up library matched step)
 
 -- The next step of a case that stands so.
 abbrev pub IsNext : LibraryValue → Ending → State → List CleanupValue → StepValue → Mark → State → List CleanupValue → Type 0
 IsNext library endings.Passed s cleanups step mark new new_cleanups = IsStepRun (one_step library sites.Step s step) cleanups mark new new_cleanups
 IsNext library endings.Failed s cleanups step mark new new_cleanups = IsLookedUp library Skipped step mark × (new ≡ s) × (new_cleanups ≡ cleanups)
 IsNext library endings.Skipped s cleanups step mark new new_cleanups = (mark ≡ Skipped) × (new ≡ s) × (new_cleanups ≡ cleanups)
-IsNext library endings.Memory s cleanups step mark new new_cleanups = mark ≡ Untested
+IsNext library endings.Memory s cleanups step mark new new_cleanups = (mark ≡ Untested) × (new ≡ s) × (new_cleanups ≡ cleanups)
 
 -- A step was carried out at a site.
 abbrev pub RunsStep : shared.Run → Site → Step → SandboxValue → Cleanups → Mark → SandboxValue → Cleanups → Type 0
 RunsStep run site step old cleanups mark new new_cleanups =
     IsStepRun (one_step (library_value run.library.now) site (state_of old.now) (step_value step)) (cleanups_value cleanups) mark (state_of new.now) (cleanups_value new_cleanups)
+
+-- Where no entry matches a step, memory is refused in it only where its text has the ends of an entry.
+abbrev pub StepNeedsCandidate : shared.Run → Step → Mark → Type 0
+StepNeedsCandidate run step mark =
+    let library = library_value run.library.now in
+    let this = step_value step in
+    found library this.step_type this.text ≡ None → mark ≡ Acted outcomes.Memory → HasCandidateFor library this.step_type this.text
+
+-- The files that a step writes, in order, where its action has more than one change. A step that isn't found has none.
+abbrev pub step_files : LibraryValue → State → StepValue → Option FoundValue → List (List ℕ × List ℕ)
+step_files library s step None = []
+step_files library s step (Some f) = files_of (action_of library f) (given library f step.block) s
+
+-- Where memory was refused in a step, some first changes of its action were made and no others.
+abbrev pub StepKeepsAtMemory : shared.Run → Step → SandboxValue → Mark → SandboxValue → Type 0
+StepKeepsAtMemory run step old mark new =
+    let library = library_value run.library.now in
+    let this = step_value step in
+    mark ≡ Acted outcomes.Memory → WritesFirst (step_files library (state_of old.now) this (found library this.step_type this.text)) old new
 
 -- The steps of a hook were walked through at a place.
 abbrev pub WalksHook : shared.Run → Place → List Step → SandboxValue → Cleanups → Ending → SandboxValue → Cleanups → Type 0

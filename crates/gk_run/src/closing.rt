@@ -2,6 +2,7 @@
 ghost use Rattle.std.specs.Prelude.{◌<◌};
 ghost use Rattle.gk_world.specs.State.{state_of};
 ghost use Rattle.gk_world.specs.Sandbox.{depth, KeepsLayers};
+ghost use Rattle.gk_run.specs.Acting.{carried_out_of, IsExact, KeepsAtMemory};
 ghost use Rattle.gk_run.specs.Cleanups.{cleanup_value, cleanups_value};
 ghost use Rattle.gk_run.specs.Closing.{CleansOne, Cleans, Closes};
 ghost use Rattle.gk_run.specs.Watching.{of_cleanup, TellsCleanups, TellsClosing};
@@ -33,6 +34,11 @@ fn clean_one<O: Observer>(
 ) -> Outcome
     requires in_layer { 0 < depth sandbox.old }
     ensures cleaned { CleansOne run.now cleanup sandbox.old result sandbox.new }
+    ensures exact { IsExact run.now.library.now cleanup.found (carried_out_of
+        run.now.library.now cleanup.found cleanup.block (state_of sandbox.old.now))
+        result (state_of sandbox.new.now) }
+    ensures kept { KeepsAtMemory run.now.library.now cleanup.found cleanup.block
+        sandbox.old result sandbox.new }
     ensures told { O.hears observer.old (of_cleanup level (cleanup_value cleanup)
         result (state_of sandbox.new.now)) observer.new }
     ensures layers { KeepsLayers sandbox.old sandbox.new }

@@ -9,8 +9,8 @@
 pub enum Status {
     /// A step passed; each step, hook and cleanup of a scenario passed; a scenario of a feature passed.
     Passed,
-    /// A step's action failed; a step, a hook or a cleanup of a scenario failed, or a step is undefined; a
-    /// scenario of a feature failed, or its hooks and cleanups did, or those of one of its rules.
+    /// A step's action failed; a step, a hook or a cleanup of a scenario failed, or a step is undefined; in
+    /// a feature a scenario failed, or the feature's hooks and cleanups did, or those of one of its rules.
     Failed,
     /// A step comes after the one that ended its scenario, or its scenario skipped itself or isn't
     /// selected; a scenario skipped itself or isn't selected; no scenario of a feature passed.
@@ -21,7 +21,7 @@ pub enum Status {
     /// an entry of the library matches, and a scenario; a scenario of a feature is untested.
     Untested,
     /// Memory was refused: in a step; in a step, a hook or a cleanup of a scenario; in a scenario of a
-    /// feature, in its hooks and cleanups, or in those of one of its rules.
+    /// feature, in the feature's hooks and cleanups, or in those of one of its rules.
     Memory,
 }
 

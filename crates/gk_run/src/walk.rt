@@ -4,7 +4,7 @@ ghost use Rattle.gk_gherkin.specs.Feature.{step_value};
 ghost use Rattle.gk_steps.specs.Finding.{library_value};
 ghost use Rattle.gk_world.specs.Sandbox.{depth, KeepsLayers};
 ghost use Rattle.gk_run.specs.Results.{step_row};
-ghost use Rattle.gk_run.specs.Walk.{row_of_step, RunsStep, WalksHook, IsLookedUp, TakesNext, RunsSteps};
+ghost use Rattle.gk_run.specs.Walk.{row_of_step, RunsStep, StepNeedsCandidate, StepKeepsAtMemory, WalksHook, IsLookedUp, TakesNext, RunsSteps};
 ghost use Rattle.gk_run.specs.Watching.{TellsHook, TellsNext, TellsSteps};
 
 use crate::acting::{Call, Site, act_by, arguments_by};
@@ -31,6 +31,8 @@ fn run_step(
     requires in_layer { 0 < depth sandbox.old }
     ensures ran { RunsStep run.now site step.now
         sandbox.old cleanups.old result sandbox.new cleanups.new }
+    ensures memory { StepNeedsCandidate run.now step.now result }
+    ensures kept { StepKeepsAtMemory run.now step.now sandbox.old result sandbox.new }
     ensures layers { KeepsLayers sandbox.old sandbox.new }
 {
     match run
@@ -100,6 +102,8 @@ fn next_step(
     requires in_layer { 0 < depth sandbox.old }
     ensures next { TakesNext run.now ending step.now
         sandbox.old cleanups.old result sandbox.new cleanups.new }
+    ensures memory { StepNeedsCandidate run.now step.now result }
+    ensures kept { StepKeepsAtMemory run.now step.now sandbox.old result sandbox.new }
     ensures layers { KeepsLayers sandbox.old sandbox.new }
 {
     match ending {
