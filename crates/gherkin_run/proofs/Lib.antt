@@ -2,3 +2,4 @@
 mod FilesLemmas
 mod FaultListingLemmas
 mod ProgramLemmas
+mod WorkedHelp

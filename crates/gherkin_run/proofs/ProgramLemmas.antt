@@ -1,9 +1,9 @@
--- A run whose output is flushed, the program's faults for those of the run, and variables one after another.
+-- A run whose output is flushed, the program's faults for those of the run, help, and variables one after another.
 use Rattle.std.proofs.Common.{◌≡◌, ◌≢◌, ◌∙◌, ◌+◌, ◌-◌, ◌^◌, ◌<◌, ◌≤◌, ◌++◌, ap, sym, subst, refl, inl, inr, arith, suc, zero, ℕ, List, [], ◌∷◌, length, map, take, drop, get_or, Option, Some, None, Result, Ok, Err, add-one}
-use Rattle.std.specs.Prelude.{IfErr, IfOk, IsSome, IsSomeAnd, String, is_some, option_map, slice_get, string_bytes, unwrap_or}
+use Rattle.std.specs.Prelude.{◌⊎◌, IfErr, IfOk, IsSome, IsSomeAnd, String, is_some, option_map, slice_get, string_bytes, unwrap_or}
 use Rattle.std.specs.declared.alloc.Global.{Global}
 use Rattle.std.specs.List.{All, Any}
-use Rattle.std.specs.Io.KnownBytes.{Appends}
+use Rattle.std.specs.Io.KnownBytes.{Appends, Keeps}
 use Rattle.std.proofs.lemmas.Option.{slice_get-map, slice_get_read, slice_get_within}
 use Rattle.std.proofs.lemmas.List.{append-nil, drop_all, get_or-map, length-map, map_push, take_all}
 use Rattle.std.proofs.lemmas.List.Elements.{All-push}
@@ -34,7 +34,7 @@ use Rattle.gk_cli.specs.declared.arguments.Words.{Words}
 use Rattle.gk_cli.specs.declared.run_fault.RunFault.{RunFault}
 use Rattle.gk_cli.specs.declared.run_fault.RunFault.TheVariants as run
 use Rattle.gherkin_run.specs.Files.{AreRead, IsFaultOfFiles, IsFileFault, Reading, StopsReading, files_in_order, name_of}
-use Rattle.gherkin_run.specs.Program.{AreGiven, AreLeft, AreTaken, IsFaultAs, IsFaultOfGiven, IsFaultOfRun, IsFaultOfVariable, IsFlushedRun, IsGiven, IsNamed, IsRefused, IsRun, IsWithin, SaysCallsOfRun, IsWrittenAs, SaysFaultAs, IsStoppedAs, hooks_name, library_name, names_given, SaysProgram, SaysSuite, SaysVariables, contents_given, bytes_given, request_of_files, variables_given, with_variables}
+use Rattle.gherkin_run.specs.Program.{AreGiven, AreLeft, AreTaken, IsFaultAs, IsFaultOfGiven, IsFaultOfRun, IsFaultOfVariable, IsFlushedRun, IsGiven, IsNamed, IsRefused, IsRun, IsShown, IsTextFault, IsWithin, SaysCalls, SaysCallsOfRun, IsWrittenAs, SaysFaultAs, IsStoppedAs, hooks_name, library_name, names_given, SaysProgram, SaysSuite, SaysVariables, contents_given, bytes_given, request_of_files, variables_given, with_variables}
 use Rattle.gherkin_run.proofs.FilesLemmas.{stops_for_memory}
 use Rattle.gherkin_run.specs.Fault.{IsFaultNamed}
 use Rattle.gherkin_run.specs.FaultListing.{IsListedAs}
@@ -281,6 +281,38 @@ calls_as Findings r c old new files (run.Read input f) fault room is says = list
 calls_as Findings r c old new files (run.Library f) fault room is says = listed_calls files (run.Library f) old new fault is says.1
 calls_as Findings r c old new files (run.Hooks f) fault room is says = listed_calls files (run.Hooks f) old new fault is says.1
 calls_as Findings r c old new files (run.Select input f) fault room is says = listed_calls files (run.Select input f) old new fault is says.1
+
+-- ---- what is shown
+
+-- what was appended stays so
+pub kept : (a b c : Option (List ℕ)) (xs : List ℕ) → Appends a b xs → Keeps b c → Appends a c xs
+kept None b c xs wrote same = tt
+kept (Some x) None c xs wrote same = absurd wrote
+kept (Some x) (Some y) None xs wrote same = absurd same
+kept (Some x) (Some y) (Some z) xs wrote same = same ∙ wrote
+
+-- a text that is shown was appended, by no more calls than it has bytes, each of which moved at least one
+pub shown_whole : (text : List ℕ) (old new : Device) (status : ℕ) → IsShown text old new status
+    → Appends old.bytes new.bytes text × (new.calls ≤ old.calls + length text) × (new.idle ≡ old.idle)
+shown_whole text old new status is = (
+  kept old.bytes is.written.bytes new.bytes text is.is.written is.flushed.written,
+  subst (λ n. n ≤ old.calls + length text) (sym is.flushed.calls) is.is.calls,
+  is.flushed.idle ∙ is.is.busy,
+)
+
+-- a text that is not shown has one of two faults
+pub fault_of_text : (text : List ℕ) (old new : Device) (fault : Fault) → IsTextFault text old new fault → (fault ≡ Write) ⊎ (fault ≡ Memory)
+fault_of_text text old new Write says = inl refl
+fault_of_text text old new Memory says = inr refl
+fault_of_text text old new _ says = absurd says
+
+-- and standard output failed, and moved a byte in each call but one at most, or it was not called
+pub calls_of_text : (text : List ℕ) (old new : Device) (fault : Fault) → old.failures < 2 ^ 64 - 1 → IsTextFault text old new fault → SaysCalls old new fault
+calls_of_text text old new Write room (inl stopped) = (fewer old.failures new.failures room stopped.why.0, (let idle = stopped.why.1 in omega arith))
+calls_of_text text old new Write room (inr unflushed) =
+    (fewer old.failures new.failures room unflushed.failed, (let idle = unflushed.flushed.idle ∙ unflushed.is.busy in omega arith))
+calls_of_text text old new Memory room says = says
+calls_of_text text old new _ room says = absurd says
 
 -- ---- variables
 

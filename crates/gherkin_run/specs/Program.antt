@@ -1,6 +1,6 @@
 -- What the program returns and writes.
 use Rattle.std.specs.Prelude.{◌≡◌, ◌⊎◌, ◌<◌, ◌≤◌, ◌+◌, ℕ, List, [], ◌∷◌, length, map, Option, Some, None, Result, Ok, Err, IsSome, IsSomeAnd, option_map, slice_get, string_bytes}
-use Rattle.std.specs.Io.KnownBytes.{Appends, Keeps}
+use Rattle.std.specs.Io.KnownBytes.{Keeps}
 use Rattle.std.specs.List.{All, Any}
 use Rattle.clap.specs.Words.{IsAmong, Text, kind_of}
 use Rattle.clap.specs.declared.error.Error.{Error}
@@ -16,7 +16,7 @@ use Rattle.gk_cli.specs.Counted.{one_more}
 use Rattle.gk_cli.specs.Inputs.{Request, request_of}
 use Rattle.gk_cli.specs.Source.{SourceValue}
 use Rattle.gk_cli.specs.declared.arguments.Options.{Options}
-use Rattle.gk_cli.specs.GrowingReport.{StopsBy}
+use Rattle.gk_cli.specs.GrowingReport.{IsStopped, IsWritten, StopsBy}
 use Rattle.gk_cli.specs.RunFault.{IsUnread}
 use Rattle.gk_cli.specs.Suite.{CutShort, Device, IsUntouched, JudgedReport, OnlyReport}
 use Rattle.gk_cli.specs.ExplainedSuite.{Explained, ExplainedInPart}
@@ -92,22 +92,41 @@ abbrev pub SaysCallsOfRun : Device → Device → Fault → Type 0
 SaysCallsOfRun old new Memory = IsUntouched old new ⊎ IsCutShortForSome old new
 SaysCallsOfRun old new fault = SaysCalls old new fault
 
--- This text, and nothing else, was appended to standard output, by calls that each moved at least one byte, and the status is 0.
+-- Standard output was flushed once, and took nothing more.
+pub record IsFlushed (old new : Device) : Type 0 where
+  pub written : Keeps old.bytes new.bytes
+  pub calls : new.calls ≡ old.calls
+  pub idle : new.idle ≡ old.idle
+  pub flushes : new.flushes ≡ one_more old.flushes
+
+-- This text, and nothing else, was written to standard output, by calls that each moved at least one byte, and was flushed once. No call failed, and the status is 0.
 pub record IsShown (text : List ℕ) (old new : Device) (status : ℕ) : Type 0 where
-  pub written : Appends old.bytes new.bytes text
-  pub calls : new.calls ≤ old.calls + length text
-  pub busy : new.idle ≡ old.idle
+  pub written : Device
+  pub is : IsWritten old written text
+  pub flushed : IsFlushed written new
+  pub quiet : new.failures ≡ old.failures
   pub well : status ≡ 0
 
--- Some text, and nothing else, was appended, with status 0: what it is, clap decides, and nothing here says.
+-- All of this text was written, and then the flush failed.
+pub record FailsToFlushText (text : List ℕ) (old new : Device) : Type 0 where
+  pub written : Device
+  pub is : IsWritten old written text
+  pub flushed : IsFlushed written new
+  pub failed : new.failures ≡ one_more old.failures
+
+-- Why this text was not shown, and what was written of it: a prefix, as standard output failed, and then nothing was flushed; or all of it, and the flush failed; or nothing, as memory was refused, and standard output was not called.
+abbrev pub IsTextFault : List ℕ → Device → Device → Fault → Type 0
+IsTextFault text old new Write = IsStopped old new text run.Write ⊎ FailsToFlushText text old new
+IsTextFault text old new Memory = IsUntouched old new
+IsTextFault text old new _ = ⊥
+
+-- Some text, and nothing else, was written and flushed, with status 0: what it is, clap decides, and nothing here says.
 abbrev pub IsHelp : Device → Device → ℕ → Type 0
 IsHelp old new status = (text : List ℕ) × IsShown text old new status
 
--- Why help was not written whole.
-abbrev pub IsHelpFault : Fault → Type 0
-IsHelpFault Write = Unit {0}
-IsHelpFault Memory = Unit {0}
-IsHelpFault _ = ⊥
+-- Why help was not shown, and what was written of its text: what that is, clap decides, and nothing here says.
+abbrev pub IsHelpFault : Device → Device → Fault → Type 0
+IsHelpFault old new fault = (text : List ℕ) × IsTextFault text old new fault
 
 -- Contents with some variables put in, in order: of equal names the last counts.
 abbrev pub with_variables : Contents → List PairValue → Contents
@@ -170,13 +189,6 @@ IsFaultAs Findings files run.Write fault = IsFaultOfRun files run.Write fault
 IsFaultAs Findings files run.Memory fault = IsFaultOfRun files run.Memory fault
 IsFaultAs Findings files by fault = IsListedAs files by fault
 IsFaultAs mode files by fault = IsFaultOfRun files by fault
-
--- Standard output was flushed once, and took nothing more.
-pub record IsFlushed (old new : Device) : Type 0 where
-  pub written : Keeps old.bytes new.bytes
-  pub calls : new.calls ≡ old.calls
-  pub idle : new.idle ≡ old.idle
-  pub flushes : new.flushes ≡ one_more old.flushes
 
 -- What is written of a run was, and its status is returned: the report of a judged list, which at each status other than 4 is the one that plain maps give; or the explanation of a run with judged results; or all that is found before a run.
 abbrev pub IsWrittenAs : Mode → FilesValue → Request → Contents → Device → Device → ℕ → Type 0
@@ -284,14 +296,14 @@ SaysProgram reads w before after old new (TooLong name) = IsFaultOfName reads w 
 SaysProgram reads w before after old new Memory = (IsUntouched old new × StopsReading reads before (names_given w) after Memory) ⊎ IsFaultOfGiven reads w before after old new Memory
 SaysProgram reads w before after old new fault = IsFaultOfGiven reads w before after old new fault
 
--- What was asked for was done: for help some text was written, with status 0, and the system is as it was; or there was a run.
+-- What was asked for was done: for help some text was written and flushed, with status 0, and the system is as it was; or there was a run.
 abbrev pub IsDone : {S : Type 0} → Reading S → Asked → S → S → Device → Device → ℕ → Type 0
 IsDone reads (Help e) before after old new status = IsHelp old new status × (before ≡ after)
 IsDone reads (Run w) before after old new status = IsRun reads w before after old new status
 
--- Why what was asked for was not done.
+-- Why what was asked for was not done, and what was written of it.
 abbrev pub IsFaultOfAsked : {S : Type 0} → Reading S → Asked → S → S → Device → Device → Fault → Type 0
-IsFaultOfAsked reads (Help e) before after old new fault = IsHelpFault fault × SaysCalls old new fault × (before ≡ after)
+IsFaultOfAsked reads (Help e) before after old new fault = IsHelpFault old new fault × SaysCalls old new fault × (before ≡ after)
 IsFaultOfAsked reads (Run w) before after old new fault = SaysProgram reads w before after old new fault
 
 -- What these arguments ask for was done.

@@ -8,7 +8,7 @@ ghost use Rattle.gk_cli.specs.Source.{source_value};
 ghost use Rattle.gk_cli.specs.SuiteFiles.{suite_value};
 ghost use Rattle.gk_cli.specs.FaultNotes.{name_at_fault};
 ghost use Rattle.gherkin_run.specs.Fault.{line_of, said_line};
-ghost use Rattle.gherkin_run.specs.Program.{SaysAsked, SaysError, IsHelpFault, IsArgumentsFault, IsFaultOfVariable, SaysVariables, IsWithin, IsNamed, IsFaultOfRun, IsFaultAs, AreLeft, request_of_files, IsRunOfFiles, IsWrittenAs, SaysFaultAs, SaysRun, SaysCalls, SaysCallsOfRun, SaysProgram, IsRun, IsShown, IsHelp, IsDoneFor, IsFaultFor, IsDoneForSome, IsFaultForSome};
+ghost use Rattle.gherkin_run.specs.Program.{SaysAsked, SaysError, IsTextFault, IsHelpFault, IsArgumentsFault, IsFaultOfVariable, SaysVariables, IsWithin, IsNamed, IsFaultOfRun, IsFaultAs, AreLeft, request_of_files, IsRunOfFiles, IsWrittenAs, SaysFaultAs, SaysRun, SaysCalls, SaysCallsOfRun, SaysProgram, IsRun, IsShown, IsHelp, IsDoneFor, IsFaultFor, IsDoneForSome, IsFaultForSome};
 
 use crate::fault::{Fault, fault_named};
 use crate::fault_listing::fault_listed;
@@ -68,14 +68,16 @@ fn arguments_of<R: Env + AllocGlobal>(rt: &R) -> Result<Vec<String>, Fault>
     }
 }
 
-/// Writes a text, and flushes.
+/// Writes a text, and flushes. `Write` comes where a write failed: then a prefix of the text was written, and nothing
+/// was flushed. Or the flush failed: then all of it was written.
 fn show_text<W: Write>(text: &str, out: &mut Counted<W>) -> Result<u8, Fault>
     requires room { FailuresCanRise out.old }
     ensures shown { IfOk result
         (IsShown text.now (device_of W.contents out.old) (device_of W.contents out.new)) }
     ensures quiet { OnOk result (failures_of out.new ≡ failures_of out.old) }
     ensures flushed { OnOk result (flushes_of out.new ≡ one_more (flushes_of out.old)) }
-    ensures fault { IfErr result IsHelpFault }
+    ensures fault { IfErr result (IsTextFault text.now
+        (device_of W.contents out.old) (device_of W.contents out.new)) }
     ensures calls { IfErr result
         (SaysCalls (device_of W.contents out.old) (device_of W.contents out.new)) }
 {
@@ -88,14 +90,15 @@ fn show_text<W: Write>(text: &str, out: &mut Counted<W>) -> Result<u8, Fault>
     }
 }
 
-/// Writes clap's text for help, and flushes.
+/// Writes clap's text for help, and flushes. `Write` is that of `show_text`; at `Memory` standard output was not called.
 fn show_help<W: Write>(alloc: Global, text: &clap::Error, out: &mut Counted<W>) -> Result<u8, Fault>
     requires room { FailuresCanRise out.old }
     ensures well { IfOk result
         (IsHelp (device_of W.contents out.old) (device_of W.contents out.new)) }
     ensures quiet { OnOk result (failures_of out.new ≡ failures_of out.old) }
     ensures flushed { OnOk result (flushes_of out.new ≡ one_more (flushes_of out.old)) }
-    ensures fault { IfErr result IsHelpFault }
+    ensures fault { IfErr result
+        (IsHelpFault (device_of W.contents out.old) (device_of W.contents out.new)) }
     ensures calls { IfErr result
         (SaysCalls (device_of W.contents out.old) (device_of W.contents out.new)) }
 {
