@@ -96,3 +96,61 @@ fn passes_each_flush_on_once(rt: HostRuntime) -> Result<(), Fail> {
     assert_eq!(rt; shown.as_str(), "2 of 0, counted 0 1 2, Ok(\"\")");
     Ok(())
 }
+
+// How many bytes are written, and how many the writer takes a call; in how many calls it takes them.
+const LENGTHS: [(usize, usize, usize); 8] = [
+    (0, usize::MAX, 0),
+    (1, usize::MAX, 1),
+    (65_536, usize::MAX, 1),
+    (65_537, usize::MAX, 1),
+    (1 << 22, usize::MAX, 1),
+    ((1 << 23) + 1, usize::MAX, 1),
+    (1 << 22, 65_536, 64),
+    (200_000, 1, 200_000),
+];
+
+#[test]
+fn offers_all_that_is_left(rt: HostRuntime) -> Result<(), Fail> {
+    for (length, most, calls) in LENGTHS {
+        let bytes = vec![in rt.alloc(); b'a'; length]?;
+        let mut out = counted(rt.alloc(), most, 0);
+        assert_eq!(rt; write_whole(&mut out, &bytes), Ok(()));
+        let writer = out.inner();
+        assert!(rt; writer.bytes == bytes);
+        assert_eq!(rt; (writer.calls, writer.offered), (calls, length));
+        let counts = (out.calls(), out.failures(), out.flushes(), out.idle());
+        assert_eq!(rt; counts, (calls as u64, 0, 0, 0));
+    }
+    Ok(())
+}
+
+// Writes two bytes so often, and flushes once.
+fn flushed_after(alloc: Global, writes: usize, fails_at: usize) -> Result<String, AllocError> {
+    let mut out = counted(alloc, usize::MAX, fails_at);
+    for _ in 0..writes {
+        let _ = write_whole(&mut out, b"ab");
+    }
+    let flushed = out.flush().is_ok();
+    let shown = shown(alloc, &out)?;
+    format!(in alloc; "{flushed}: {shown}")
+}
+
+// How often two bytes are written before a flush, the call that fails, and what becomes of them.
+const FLUSHED: [(usize, usize, &str); 7] = [
+    (0, 0, "true: 1 of 0, counted 0 0 1, Ok(\"\")"),
+    (1, 0, "true: 2 of 2, counted 1 0 1, Ok(\"ab\")"),
+    (2, 0, "true: 3 of 2, counted 2 0 1, Ok(\"abab\")"),
+    (0, 1, "false: 1 of 0, counted 0 1 1, Ok(\"\")"),
+    (1, 2, "false: 2 of 2, counted 1 1 1, Ok(\"ab\")"),
+    (2, 3, "false: 3 of 2, counted 2 1 1, Ok(\"abab\")"),
+    (1, 1, "true: 2 of 2, counted 1 1 1, Ok(\"\")"),
+];
+
+#[test]
+fn passes_a_flush_on_after_writes(rt: HostRuntime) -> Result<(), Fail> {
+    for (writes, fails_at, wanted) in FLUSHED {
+        let found = flushed_after(rt.alloc(), writes, fails_at)?;
+        assert_eq!(rt; found.as_str(), wanted);
+    }
+    Ok(())
+}

@@ -52,7 +52,7 @@ fn read(alloc: Global, left: usize, most: usize, fails_at: usize) -> Result<Stri
 }
 
 // The bytes that the reader has, how many it gives a call, the call that fails, and what becomes of it.
-const READ: [(usize, usize, usize, &str); 8] = [
+const READ: [(usize, usize, usize, &str); 10] = [
     (0, 100, 0, "Ok(0): 1 of 16384, counted 1 0, 0 left"),
     (7, 1, 0, "Ok(7): 8 of 16384, counted 8 0, 0 left"),
     (
@@ -90,6 +90,18 @@ const READ: [(usize, usize, usize, &str); 8] = [
         usize::MAX,
         0,
         "Err(TooLong): 1025 of 16384, counted 1025 0, 1 left",
+    ),
+    (
+        200_000,
+        1,
+        150_000,
+        "Err(Device): 150000 of 16384, counted 150000 1, 50001 left",
+    ),
+    (
+        LIMIT + 2,
+        1,
+        0,
+        "Err(TooLong): 16777217 of 16384, counted 16777217 0, 1 left",
     ),
 ];
 
