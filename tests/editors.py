@@ -34,6 +34,29 @@ SUITE = {
     "quoted.feature": "@a a.feature:1: undefined step\n",
     "in a folder/lost.feature": "Feature: L\n  scenario: Small\n  Scenario: Twice\n  Scenario: Twice\n    Given no such step\n",
     "two.steps": "step it passes => pass\nstep it fails => fail\n",
+    "in a folder/outside.feature": "Feature: O\n  Given it passes\n  Rule: R\n    Then it passes\n    Scenario: S\n"
+                                   "      Given at cleanup the scenario is skipped\n",
+    "too late.hooks": "after_scenario:\n  Given the scenario is skipped\n  And it passes\n  And at cleanup at cleanup it passes\n",
+    "cr.feature": "Feature: C\r  Scenario: S\r    Given it passes\r",
+    "blocks.feature": """Feature: B
+  Scenario: Blocks
+    Given a file named "f" with:
+    And these files:
+    And these files:
+      | name | words |
+    And it passes
+      | a |
+    And it passes
+      ```
+      ```
+    And at cleanup no such step
+  Scenario Outline: No rows
+    Given it passes
+    Examples:
+      | n |
+""",
+    "nowhere.hooks": "before_tag @gone:\n  Given it passes\n",
+    "nothing.feature": "",
 }
 EXPLAINED = ["--explain", "--hooks", "h.hooks", "a.feature", "in a folder/b c.feature"]
 # The arguments of a run, and the places that an editor finds in what it prints.
@@ -49,6 +72,11 @@ RUNS = [
     (["--lint", "--hooks", "bad.hooks", "bad.feature", "quoted.feature"],
      [("bad.hooks", 1), ("bad.feature", 2), ("quoted.feature", 1)]),
     (["--lint", "in a folder/b c.feature"], []),
+    (["--lint", "--hooks", "too late.hooks", "in a folder/outside.feature"],
+     [("too late.hooks", 2), ("too late.hooks", 4)] + [("in a folder/outside.feature", line) for line in (2, 4, 6)]),
+    (["--lint", "cr.feature"], [("cr.feature", 1), ("cr.feature", 1)]),
+    (["--lint", "--hooks", "nowhere.hooks", "blocks.feature", "nothing.feature"],
+     [("nowhere.hooks", 1)] + [("blocks.feature", line) for line in (3, 4, 5, 7, 9, 12, 13)] + [("nothing.feature", 1)]),
 ]
 
 

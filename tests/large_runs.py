@@ -16,6 +16,7 @@ import driver
 PATIENCE = 120  # seconds
 FILE_LIMIT = 16_777_216
 TEXT_LIMIT = 1_048_576
+PIPE = 65_536  # bytes that a pipe holds, as the system makes it
 STEPS_LIMIT = 1_000_000
 TOO_LONG = "longer than 16777216 bytes"
 TOO_MANY = "more than 1000000 steps"
@@ -1009,6 +1010,77 @@ def longest_hooks():
 def hooks_one_byte_too_long():
     return Run({"a.feature": "", "h.hooks": "#" * (FILE_LIMIT + 1)}, 3, "",
                refused("h.hooks", TOO_LONG), arguments=HOOKS)
+
+
+# ---- what is found before a run
+
+ADVICE = {
+    "unexpected line": "write the keyword exactly, and look at the line above, too: a description ends at the first step, "
+                       "and a step has one block",
+    "bad tag": "write an @ before each tag, and a # before remarks",
+    "language not known": "write the keywords in English, and take this comment out",
+    "row without closing bar": "close the row with a bar",
+    "doc string without end": "close it with a line of the same three characters alone",
+    "bad step type": "begin the line with given, when, then or step, in lower case",
+}
+# Files that don't read, but for the last: the fault, its line, and the text.
+FAULTY = (
+    ("unexpected line", 2, "Feature: f\nFeature: number {}\n"),
+    ("bad tag", 1, "@a number {}\nFeature: f\n"),
+    ("language not known", 1, "# language: de\nFeature: number {}\n"),
+    ("row without closing bar", 4, driver.feature("Given it passes", "| {} | x")),
+    ("doc string without end", 4, driver.feature("Given it passes", '"""', "number {}")),
+    (None, 1, driver.feature("Given step {} is undefined")),
+)
+
+
+def listed(name, line, fault, text):
+    """What --lint prints of a file that doesn't read: the fault, the line that it names, and what is to be done."""
+    quoted = text.split("\n")[line - 1]
+    return f"gherkin_run: {name}:{line}: {fault}\n    {quoted}\n    {ADVICE[fault]}\n"
+
+
+@growing_run(700)
+def faults_of_many_files(count):
+    """The listing, on standard error, has more bytes than a pipe holds. Of the files that read it has none."""
+    files, listing = {}, ""
+    for number in range(count):
+        fault, line, text = FAULTY[number % len(FAULTY)]
+        name = f"{number}.feature"
+        files[name] = text.format(number)
+        listing += listed(name, line, fault, files[name]) if fault else ""
+    return Run(files, 3, "", listing, arguments=["--lint", *files])
+
+
+def fault_of_a_long_line(length):
+    """A listing that quotes a line with so many letters, whole, beside the fault of a library."""
+    text = f"Feature: f\nFeature: {'x' * length}\n"
+    files = {"a.feature": text, "l.steps": "dance\n"}
+    listing = listed("l.steps", 1, "bad step type", files["l.steps"]) + listed("a.feature", 2, "unexpected line", text)
+    return Run(files, 3, "", listing, arguments=["--lint", *LIBRARY])
+
+
+@large_run
+def fault_of_a_line_of_a_million_letters():
+    return fault_of_a_long_line(1_000_000)
+
+
+@large_run
+def listing_of_as_many_bytes_as_a_pipe_holds():
+    return fault_of_a_long_line(PIPE - len(fault_of_a_long_line(0).stderr))
+
+
+@large_run
+def listing_of_one_byte_more_than_a_pipe_holds():
+    return fault_of_a_long_line(PIPE + 1 - len(fault_of_a_long_line(0).stderr))
+
+
+@growing_run(2000)
+def many_findings(count):
+    """What is found goes to standard output."""
+    text = "Feature: f\n" + "".join(f"Scenario: s{number}\n" for number in range(count))
+    listing = "".join(f"a.feature:{number + 2}: scenario without steps\n" for number in range(count))
+    return Run({"a.feature": text}, 1, listing, arguments=["--lint", "a.feature"])
 
 
 # ---- texts that could cost more than their length

@@ -1,4 +1,5 @@
-/* Refuses one growth of memory of a program, or limits what it writes to standard output or reads from files.
+/* Refuses one growth of memory of a program, limits what it writes to standard output or reads from files, or
+ * notes which files it opens.
  * Loaded before the C library, by LD_PRELOAD. What it does is in variables of the environment:
  *
  *   REFUSE        the number, from 1, of the growth that is refused. A growth is a call of malloc, calloc or
@@ -11,12 +12,16 @@
  *   WRITE_ERROR   the error of that call, a number of errno; without it the call takes no byte and has none
  *   OPEN_FAILS    the file that can't be opened, named as the program names it
  *   OPEN_ERROR    the error of opening it
+ *   OPEN_LOG      a file to which each name that is opened is appended, a line for each call, in order, whether
+ *                 it can be opened or not
  *   READ_PIECE    how many bytes a call of read gives at most
  *   READ_FAILS    the number, from 1, of the call of read that fails
  *   READ_ERROR    the error of that call; without it the call gives no byte and has none
  *
  * Only the calls of write to standard output, and those of read from files that the program opened, are counted
- * and limited; those after the one that fails are passed on again, so that a program that goes on is seen. */
+ * and limited; those after the one that fails are passed on again, so that a program that goes on is seen. The
+ * loader, and the C library for its own ends, open their files past this library, so these have no line in the
+ * log; a file that the program's runtime opens for itself has one. */
 #include <errno.h>
 #include <fcntl.h>
 #include <stdarg.h>
@@ -91,8 +96,19 @@ ssize_t read(int file, void *bytes, size_t count) {
   return syscall(SYS_read, file, bytes, piece && (size_t)piece < count ? (size_t)piece : count);
 }
 
+/* Appends the name of a file that is opened to the log, where there is one. */
+static void note_opened(const char *name) {
+  const char *log = getenv("OPEN_LOG");
+  if (!log) return;
+  int file = (int)syscall(SYS_openat, AT_FDCWD, log, O_WRONLY | O_CREAT | O_APPEND, 0600);
+  struct iovec line[] = {{(void *)name, strlen(name)}, {"\n", 1}};
+  if (file < 0 || syscall(SYS_writev, file, line, 2) != (long)strlen(name) + 1) _exit(70);
+  close(file);
+}
+
 static int opened(const char *name, int flags, va_list more) {
   const char *failing = getenv("OPEN_FAILS");
+  note_opened(name);
   if (failing && strcmp(failing, name) == 0) {
     errno = (int)number_of("OPEN_ERROR");
     return -1;

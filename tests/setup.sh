@@ -37,7 +37,7 @@ run_example() (
     exec "$program" "$@" "$feature" < /dev/null
 )
 
-# Builds the library that refuses memory and fails writes, for the script of that name.
+# Builds the library of tests/refuse.c, which refuses memory and fails calls, for the script of that name.
 build_shim() {
     if ! command -v cc > /dev/null; then
         echo "tests/$1.sh needs a C compiler, cc, and there is none here"

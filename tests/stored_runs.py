@@ -1,5 +1,5 @@
 #!/usr/bin/env python3
-"""Runs the stored runs and the large runs: stored_runs.py PROGRAM ROOM. Called by tests/runs.sh.
+"""Runs the stored runs, the large runs and those of edge_bytes.py: stored_runs.py PROGRAM ROOM. Called by tests/runs.sh.
 
 A stored run is a folder below tests/runs/ with a file `arguments`. tests/runs/README.md says what
 each of its files means.
@@ -13,6 +13,7 @@ import sys
 import tempfile
 
 import driver
+import edge_bytes
 import large_runs
 
 RUNS = os.path.join(driver.HOME, "tests", "runs")
@@ -134,6 +135,7 @@ def main():
         with Link(folder):
             tests.add(driver.trouble(name, ended(program, folder), wanted(folder)))
     tests.add_all(large_runs.troubles(program, room))
+    tests.add_all(edge_bytes.troubles(program, room))
     return tests.close()
 
 
