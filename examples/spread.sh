@@ -11,7 +11,7 @@
 # order, are the one report, byte for byte, and the script ends with its status. The engine runs a job that is lost
 # again, three times in all. A part's report counts once: it is that of the last try, which has to say how it ended.
 # Where a part stays lost the script prints no report and ends with 3. Where a part has a fault, one run over all files
-# says which fault is the first. A run with --stop is no sum of parts, and is refused. It needs GNU parallel and jq.
+# says which fault is the first. A run with --stop is no sum of parts, and is refused, as are other reports. It needs GNU parallel and jq.
 set -euo pipefail
 
 here=$(dirname -- "$(readlink -f -- "$0")")
@@ -48,7 +48,7 @@ take_words() {
     done
     program=()
     while [ "$#" -gt 0 ] && [ "$1" != -- ]; do
-        [[ $1 != --stop && $1 != --format && $1 != --format=* ]] || refuse "$1 isn't for a suite in parts" 2
+        [[ $1 != --stop && $1 != --format && $1 != --format=* && $1 != --explain && $1 != --lint ]] || refuse "$1 isn't for a suite in parts" 2
         program+=("$1")
         shift
     done

@@ -37,6 +37,9 @@ REFUSED = [
     *([*option, PAINT, *option] for option in (["--library", "x"], ["--hooks", "x"], ["--format", "json"], ["--dry-run"], ["--stop"], ["--no-skipped"])),
     ["--format", "xml", PAINT], ["--env", "A", PAINT], ["--env", "=x", PAINT], ["--tags", "", PAINT], ["--tags", "-@a", PAINT], ["--unknown", PAINT],
     ["none.feature"], ["-"], [PAINT, "--", "--stop"], ["--library", "none.steps", PAINT],
+    # Of two mistakes that of the arguments comes first.
+    ["--env", "=x", "none.feature"], ["--line", "0", "none.feature"], ["--env", "a" * 256 + "=x", "none.feature"],
+    [b"none\xff.feature"], ["--tags", b"@\xff", "none.feature"],
 ]
 # Options and files in any order.
 ORDERS = [

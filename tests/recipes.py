@@ -173,6 +173,8 @@ def page_troubles(program, room):
     yield from again_troubles(folder, again_command)
     yield from run_troubles(folder)
     yield from usage_troubles(folder)
+    yield from refused_troubles(folder)
+    yield from check_troubles(folder)
     yield from sum_troubles(folder, "long.sh", long, whole)
     yield from sum_troubles(folder, "long.sh in small parts", long.replace("examples/recipes/long.sh", "PART=2 examples/recipes/long.sh"), whole)
     killed = "PART=2 examples/recipes/long.sh ./killed"
@@ -235,6 +237,24 @@ def usage_troubles(folder):
         status, printed, fault = shell(folder, f"examples/{script}")
         said = fault.decode()
         yield unless(f"{script} without arguments", (status, printed, said.count("\n")) == (2, b"", 1) and said.startswith(f"usage: examples/{script} "), said)
+
+
+def refused_troubles(folder):
+    """A suite in parts is no run with --stop and has no other report: long.sh refuses these words."""
+    for words in ("--stop", "--format json", "--format=json", "--explain", "--lint"):
+        status, printed, fault = shell(folder, f"ls features/*.feature | examples/recipes/long.sh ./run {words}")
+        wanted = f"long: {words.split()[0]} isn't for a suite in parts\n".encode()
+        yield unless(f"long.sh {words}", (status, printed, fault) == (2, b"", wanted), printed.decode(), fault.decode())
+
+
+def check_troubles(folder):
+    """check.sh prints what failed, and no row that only looks so; an undefined step of a scenario that is skipped ends it with 1."""
+    driver.write(folder, {"like.feature": 'Feature: like\n  Scenario: one\n    Given a file named "log" containing "... failed: x"\n',
+                          "skips.feature": "Feature: skips\n  Scenario: one\n    Given the scenario is skipped\n    And nothing knows this\n"})
+    status, printed, fault = shell(folder, "examples/recipes/check.sh ./run like.feature")
+    yield unless("check.sh of a row like one that failed", status == 0 and printed.count(b"\n") == 3, printed.decode(), fault.decode())
+    status, printed, fault = shell(folder, "examples/recipes/check.sh ./run skips.feature")
+    yield unless("check.sh of a scenario that skips itself", status == 1 and printed.startswith(b"    And nothing knows this ... undefined\n"), printed.decode(), fault.decode())
 
 
 def sum_troubles(folder, name, command, whole):

@@ -205,7 +205,7 @@ compare "a machine that isn't reached" --sshlogin 2/broken,2/two --files 2 -- --
 check "a machine that isn't reached: it wasn't tried" grep -q broken "$room/reached"
 
 # What is refused.
-for word in --stop --format=json; do
+for word in --stop --format=json --explain --lint; do
     keep all "$spread" "$program" "$word" -- *.feature
     check "$word: another status" [ "$status" -eq 2 ]
     check "$word: a report" [ ! -s "$room/all.out" ]

@@ -1,8 +1,8 @@
 /* Runs feature files by the static library: main [OPTION].. FILE..
  *
  * It takes the program's options but for --explain, --lint, --help and --version, each with its value as the next
- * argument, and at most 63 arguments. Where the command line is right it ends as the program does. With --show it prints
- * the line that a fault is of, too. */
+ * argument, without --, and at most 63 arguments. Where the command line is right and each file can be read it ends as the
+ * program does. With --show it prints the line that a fault is of, too. */
 #include "gherkin_run.h"
 #include <stdio.h>
 #include <stdlib.h>

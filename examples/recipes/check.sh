@@ -1,8 +1,8 @@
 #!/bin/sh
-# Runs a suite, and ends with its status: examples/recipes/check.sh PROGRAM [OPTION].. FILE..
+# Runs a suite whose steps are all defined, and ends with its status: examples/recipes/check.sh PROGRAM [OPTION].. FILE..
 #
-# Looks for undefined steps first, and prints them. Where there are none it runs the suite, and prints what failed and the
-# counts.
+# Looks for undefined steps first, prints them, and ends with 1 where there is one. Where there are none it runs the suite, and
+# prints what failed and the counts.
 set -eu
 
 [ $# -ge 2 ] || {
@@ -22,6 +22,6 @@ shift
 }
 status=0
 "$program" --no-skipped "$@" > "$room/report" || status=$?
-grep -E '^(Feature|  [A-Z][A-Za-z ]*): .* \.\.\. (failed|memory)$|\.\.\. failed: |^ *\((rule, line [0-9]+: )?hooks and cleanups\) ' "$room/report" || true
+grep -E '^(Feature|  [A-Z][A-Za-z ]*): .* \.\.\. (failed|memory)$|\.\.\. failed: [a-z ]+$|^ *\((rule, line [0-9]+: )?hooks and cleanups\) ' "$room/report" || true
 tail -n 3 "$room/report"
 exit "$status"

@@ -3,13 +3,22 @@
 #
 # NAMES are the files, one a line. They are run in parts of at most 1,000 files, or $PART, each with the options, and
 # the reports are added up: what is printed, and the status, are those of one run over all files. Where a part has a fault the
-# script ends as that part did, and prints no report; where a part is killed it ends with 3. It needs jq.
+# script ends as that part did, and prints no report; where a part is killed it ends with 3. --stop, --format, --explain and
+# --lint are refused: a run with --stop is no sum of parts. It needs jq.
 set -eu
 
 [ $# -ge 1 ] || {
     echo "usage: examples/recipes/long.sh PROGRAM [OPTION].. < NAMES" >&2
     exit 2
 }
+for word do
+    case $word in
+    --stop | --format | --format=* | --explain | --lint)
+        echo "long: $word isn't for a suite in parts" >&2
+        exit 2
+        ;;
+    esac
+done
 here=$(dirname -- "$(readlink -f -- "$0")")
 room=$(mktemp -d)
 trap 'rm -rf "$room"' EXIT

@@ -9,8 +9,16 @@ from typing import Any, List, Optional, Tuple
 
 from gherkin_run.runs import FORMATS, Fault, run
 
-# The statuses at which a file can't be read or the report can't be written, and at which memory ran out.
-INPUT_OR_OUTPUT, MEMORY = 3, 4
+# The statuses at which the arguments are wrong, at which a file can't be read or the report can't be written, and at which memory
+# ran out.
+ARGUMENTS, INPUT_OR_OUTPUT, MEMORY = 2, 3, 4
+# The bytes that the name and the text of a variable may have.
+LONGEST_NAME, LONGEST_TEXT = 255, 1_048_576
+
+
+def _is_utf8(word: str) -> bool:
+    """Whether an argument is UTF-8: Python hands over other bytes as single surrogates."""
+    return not any("\ud800" <= letter <= "\udfff" for letter in word)
 
 
 def _ended(text: str, status: int) -> int:
@@ -44,6 +52,8 @@ def _variable(text: str) -> Tuple[str, str]:
     name, equals, value = text.partition("=")
     if not equals:
         raise argparse.ArgumentTypeError(f"{text} isn't of the form NAME=TEXT")
+    if not 1 <= len(name.encode()) <= LONGEST_NAME or len(value.encode()) > LONGEST_TEXT:
+        raise argparse.ArgumentTypeError("the name or the text of a variable has a length that isn't taken")
     return name, value
 
 
@@ -72,6 +82,9 @@ def _options() -> argparse.ArgumentParser:
 def main(words: Optional[List[str]] = None) -> int:
     """Runs what the words of a command line ask for, and returns the status. Where they can't be read it exits with 2."""
     words = sys.argv[1:] if words is None else words
+    if not all(map(_is_utf8, words)):
+        print("gherkin_run: not UTF-8", file=sys.stderr)
+        return ARGUMENTS
     options, cut = _options(), words.index("--") if "--" in words else len(words)
     asked = vars(options.parse_intermixed_args(words[:cut]))
     asked["features"] = asked["features"] + words[cut + 1:]

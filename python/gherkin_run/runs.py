@@ -128,16 +128,17 @@ def run(
     may be made in several threads at once.
     """
     request = calls.Request(
-        sources=[_read(file) for file in _files(features)],
         tags=[_bytes(text) for text in ([tags] if isinstance(tags, str) else tags)],
         lines=_lines(lines),
         variables=[(_bytes(name), _bytes(text)) for name, text in (env or {}).items()],
+        format=_format(format),
+        # The files are read in the order in which the program reads them, and after all else.
         library=None if library is None else _read(library),
         hooks=None if hooks is None else _read(hooks),
+        sources=[_read(file) for file in _files(features)],
         dry_run=dry_run,
         stop=stop,
         no_skipped=no_skipped,
-        format=_format(format),
     )
     answer, written = calls.called(request)
     text = written.decode("utf-8")
