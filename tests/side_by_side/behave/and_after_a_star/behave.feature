@@ -1,0 +1,5 @@
+Feature: Star
+  Scenario: One
+    Then it holds
+    * it passes
+    And it holds

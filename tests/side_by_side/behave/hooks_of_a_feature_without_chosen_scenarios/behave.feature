@@ -1,0 +1,4 @@
+Feature: Not chosen
+  @slow
+  Scenario: Slow
+    Given it passes

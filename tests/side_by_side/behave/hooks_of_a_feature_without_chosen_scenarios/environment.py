@@ -1,0 +1,2 @@
+def before_feature(context, feature):
+    assert False
