@@ -3,7 +3,7 @@
 #
 # Each edit of tests/edits/CRATE/ has to be refused by the checker, as those of crates/CRATE/must-fail/ have, which
 # `rt ci` tries. An edit takes half a minute or so, and the first of a crate as long as a proof of the crate, so the gate
-# has those of gk_world, whose proof is the cheapest. These are tried by hand where the
+# has some of gk_world, whose proof is among the cheapest. These are tried by hand where the
 # crate was changed, on a copy of the crates, over what 'rt check' kept there. Without a CRATE, those of all crates are
 # tried. It needs the Rattle toolchain. Closes with one line 'N passed, M failed'; an edit is one test.
 #
