@@ -144,7 +144,7 @@ command_of() {
     grep --max-count=1 --fixed-strings -- "$1" docs/guide/reports.md
 }
 share=$(command_of './run --format json $(ls')
-add=$(command_of 'examples/add_reports.sh report.*.json')
+add=$(command_of 'examples/add_reports.sh report.0.json')
 list=$(command_of "jq -r '.features[]")
 mkdir "$room/suite" "$room/suite/features"
 cp $features "$room/suite/features"
