@@ -240,11 +240,15 @@ def usage_troubles(folder):
 
 
 def refused_troubles(folder):
-    """A suite in parts is no run with --stop and has no other report: long.sh refuses these words."""
+    """A suite in parts is no run with --stop and has no other report: long.sh refuses these words; and check.sh those that it gives itself."""
     for words in ("--stop", "--format json", "--format=json", "--explain", "--lint"):
         status, printed, fault = shell(folder, f"ls features/*.feature | examples/recipes/long.sh ./run {words}")
         wanted = f"long: {words.split()[0]} isn't for a suite in parts\n".encode()
         yield unless(f"long.sh {words}", (status, printed, fault) == (2, b"", wanted), printed.decode(), fault.decode())
+    for words in ("--dry-run", "--no-skipped", "--format json", "--format=json", "--explain", "--lint"):
+        status, printed, fault = shell(folder, f"examples/recipes/check.sh ./run {words} one.feature")
+        wanted = f"check: {words.split()[0]} isn't for this script\n".encode()
+        yield unless(f"check.sh {words}", (status, printed, fault) == (2, b"", wanted), printed.decode(), fault.decode())
 
 
 def check_troubles(folder):

@@ -2,13 +2,23 @@
 # Runs a suite whose steps are all defined, and ends with its status: examples/recipes/check.sh PROGRAM [OPTION].. FILE..
 #
 # Looks for undefined steps first, prints them, and ends with 1 where there is one. Where there are none it runs the suite, and
-# prints what failed and the counts.
+# prints what failed and the counts. --dry-run, --no-skipped, --format, --explain and --lint are refused: the script gives the
+# first two itself, and reads the plain report.
 set -eu
 
 [ $# -ge 2 ] || {
     echo "usage: examples/recipes/check.sh PROGRAM [OPTION].. FILE.." >&2
     exit 2
 }
+for word do
+    case $word in
+    --) break ;;
+    --dry-run | --no-skipped | --format | --format=* | --explain | --lint)
+        echo "check: $word isn't for this script" >&2
+        exit 2
+        ;;
+    esac
+done
 room=$(mktemp -d)
 trap 'rm -rf "$room"' EXIT
 trap 'exit 1' HUP INT TERM
