@@ -224,6 +224,10 @@ def run_troubles(folder):
     yield unless("again.sh after --stop", status == 1 and printed.count(b"Feature: ") == 1, printed.decode(), fault.decode())
     status, printed, fault = again(folder, "", "one.feature")
     yield unless("again.sh of what passed", (status, printed, fault) == (0, b"", b""), printed.decode(), fault.decode())
+    for text in ("", "{}\n{}\n", "Feature: one"):
+        driver.write(folder, {"no.json": text})
+        status, printed, fault = shell(folder, "examples/recipes/again.sh no.json ./run")
+        yield unless(f"again.sh of {text!r}", (status, printed) == (3, b"") and fault != b"", printed.decode(), fault.decode())
 
 
 def again(folder, options, files):
@@ -245,6 +249,8 @@ def refused_troubles(folder):
         status, printed, fault = shell(folder, f"ls features/*.feature | examples/recipes/long.sh ./run {words}")
         wanted = f"long: {words.split()[0]} isn't for a suite in parts\n".encode()
         yield unless(f"long.sh {words}", (status, printed, fault) == (2, b"", wanted), printed.decode(), fault.decode())
+    status, printed, fault = shell(folder, "examples/recipes/long.sh ./run < /dev/null > report.json; ended=$?; cat report.json; exit $ended")
+    yield unless("long.sh without a name", (status, printed, fault) == (2, b"", b"long: no file is given\n"), printed.decode(), fault.decode())
     for words in ("--dry-run", "--no-skipped", "--format json", "--format=json", "--explain", "--lint"):
         status, printed, fault = shell(folder, f"examples/recipes/check.sh ./run {words} one.feature")
         wanted = f"check: {words.split()[0]} isn't for this script\n".encode()

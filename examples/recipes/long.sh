@@ -3,8 +3,8 @@
 #
 # NAMES are the files, one a line. They are run in parts of at most 1,000 files, or $PART, each with the options, and
 # the reports are added up: what is printed, and the status, are those of one run over all files. Where a part has a fault the
-# script ends as that part did, and prints no report; where a part is killed it ends with 3. --stop, --format, --explain and
-# --lint are refused: a run with --stop is no sum of parts. It needs jq.
+# script ends as that part did, and prints no report; where a part is killed it ends with 3, and with 2 where there is no name.
+# --stop, --format, --explain and --lint are refused: a run with --stop is no sum of parts. It needs jq.
 set -eu
 
 [ $# -ge 1 ] || {
@@ -40,5 +40,9 @@ fi
 [ "$ended" -eq 0 ] || {
     echo "long: a part was killed" >&2
     exit 3
+}
+[ "$(ls "$room")" != fault ] || {
+    echo "long: no file is given" >&2
+    exit 2
 }
 "$here/../add_reports.sh" "$room"/part.*
