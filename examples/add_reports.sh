@@ -3,24 +3,29 @@
 #
 # Prints the report that one run over all these files gives, in the order of the reports, and ends with its
 # status. Each run judges its features alone, so what it says of them is what one run would say; only where
-# a run is to --stop it knows nothing of the others. An empty report, or one that is no JSON, is no report: the
-# script then prints none and ends with status 3. It needs jq.
+# a run is to --stop it knows nothing of the others. A file that is empty, is no JSON or has two reports is no report:
+# the script then prints none and ends with status 3. It needs jq.
 set -eu
 
 [ $# -ge 1 ] || {
     echo "usage: examples/add_reports.sh REPORT.." >&2
     exit 2
 }
-sum=$(jq --arg count "$#" --slurp --compact-output --sort-keys '
+# What each of them adds to the sum, a line each.
+parts=$(for report in "$@"; do
+    jq --slurp --compact-output '
+        if map(keys) == [["features", "run", "status", "summary"]] then .[0] | del(.features)
+        else error("a report is missing") end' < "$report" || exit 3
+done) || exit 3
+sum=$(printf '%s\n' "$parts" | jq --slurp --compact-output --sort-keys '
     def worst: if any(. == "memory") then "memory" elif any(. == "failed") then "failed" else "passed" end;
     def plus($more): reduce ($more | paths(numbers)) as $place (.; setpath($place; getpath($place) + ($more | getpath($place))));
 
-    if length != ($count | tonumber) then error("a report is missing") else . end
-    | {
+    {
         run: map(.run) | worst,
         status: map(.status) | max,
         summary: (reduce .[1:][].summary as $more (.[0].summary; plus($more)))
-    }' "$@") || exit 3
+    }') || exit 3
 # The features as they were written: jq has other escapes for some characters. What follows the features has no
 # text of a suite in it, and no bracket but its first.
 printf '{"features":['

@@ -38,7 +38,10 @@ take_words() {
     each=
     while [[ ${1:-} == --* && ${1:-} != -- ]]; do
         case $1 in
-        --jobs) engine+=(--jobs "${2-}") ;;
+        --jobs)
+            [[ ${2-} =~ ^[-+]?[0-9]+%?$ ]] || refuse "--jobs is a number" 2
+            engine+=(--jobs "$2")
+            ;;
         --sshlogin) engine+=(--sshlogin "${2-}" --workdir "$PWD") ;;
         --files) each=${2-} ;;
         *) refuse "$1 isn't known" 2 ;;
@@ -48,7 +51,7 @@ take_words() {
     done
     program=()
     while [ "$#" -gt 0 ] && [ "$1" != -- ]; do
-        [[ $1 != --stop && $1 != --format && $1 != --format=* && $1 != --explain && $1 != --lint ]] || refuse "$1 isn't for a suite in parts" 2
+        [[ ! $1 =~ ^(--stop|--format|--format=.*|--explain|--lint|--help|-h|--version|-V)$ ]] || refuse "$1 isn't for a suite in parts" 2
         program+=("$1")
         shift
     done
@@ -68,6 +71,11 @@ run_parts() {
             sh -c "$job" "$((${#program[@]} + 3))" "${program[@]}" --format json -- {} > "$room/engine" 2>&1 || true
 }
 
+# What a part said last, or where it said nothing, the engine.
+said_last() {
+    tail -n 1 "$room/parts/$part.err" 2> "$room/missing" | grep -a . || tail -n 1 "$room/engine"
+}
+
 # Makes the report of each part, until all files have been counted. Ends the script where a part is lost, or has a fault.
 # A report is one line, with its end.
 take_reports() {
@@ -76,7 +84,7 @@ take_reports() {
     for ((part = 1; counted < ${#files[@]}; part++)); do
         last=$(tail -n 1 "$room/parts/$part" 2> "$room/missing") || true
         [[ $last =~ ^status\ ([0-4]),\ files\ ([1-9][0-9]*)$ ]] ||
-            refuse "part $part is lost, which begins with ${files[$counted]}: $(tail -n 1 "$room/engine")" 3
+            refuse "part $part is lost, which begins with ${files[$counted]}: $(said_last)" 3
         ended=${BASH_REMATCH[1]}
         counted=$((counted + BASH_REMATCH[2]))
         [ "$(wc -l < "$room/parts/$part")" -eq 3 ] || end_with_fault

@@ -79,6 +79,15 @@ def command_lines(program):
         yield "" if same else f"{words} ends with {status}, and not {wanted[0]}: {stderr.decode()}"
 
 
+def long_files(program, room):
+    """A file that is too long beside another fault: the fault that `python3 -m gherkin_run` names is the program's."""
+    driver.write(room, {"long.feature": b"#" * ((1 << 24) + 1)})
+    for words in (["long.feature"], ["--tags", "@a @b", "long.feature"], ["--library", "long.feature", "none"], ["long.feature", "none"], ["none", "long.feature"]):
+        wanted = driver.start(program, words, room)
+        made = driver.start(sys.executable, ["-m", "gherkin_run", *words], room)
+        yield "" if made == wanted else f"{words} gives {made}, and not {wanted}"
+
+
 def failing_outputs(program):
     """An output that takes nothing, or is closed: the status and the line on standard error are the program's."""
     module = [sys.executable, "-m", "gherkin_run"]
@@ -151,7 +160,11 @@ def values():
     yield "" if gherkin_run.run([]).passed else "no feature, and not passed"
     for line in (0, -1, 1 << 32, (1 << 32) + 1):
         yield raises(ValueError, features=PAINT, lines=[line])
+    yield raises(ValueError, features=PAINT, lines=["2"])
     yield raises(ValueError, features=PAINT, format="xml")
+    yield raises(TypeError, features=gherkin_run.Source("number", 5))
+    made = gherkin_run.Source("made", bytearray(b"Feature: made\nScenario: s\nGiven it passes\nScenario: t\nGiven it fails\n"))
+    yield "" if gherkin_run.run(made, lines=2).passed else "a line by itself, or a bytearray, isn't taken"
     yield raises(OSError, features="none.feature")
     many = gherkin_run.Source("many", "Feature: many\n" + "Scenario: a long name\nGiven it passes\n" * 9000)
     text = gherkin_run.run(many).text
@@ -239,7 +252,7 @@ def main():
     tests = driver.Tests(20)
     if said:
         tests.add(said if "isn't" in said else "")
-    parts = [example_runs(program), command_lines(program), failing_outputs(program), changed_runs(program, room), faults(), values(), same_version(program), threads(), refused(room)]
+    parts = [example_runs(program), command_lines(program), long_files(program, room), failing_outputs(program), changed_runs(program, room), faults(), values(), same_version(program), threads(), refused(room)]
     if importlib.util.find_spec("pytest"):
         parts.append(collected(room))
     else:

@@ -245,13 +245,13 @@ def usage_troubles(folder):
 
 def refused_troubles(folder):
     """A suite in parts is no run with --stop and has no other report: long.sh refuses these words; and check.sh those that it gives itself."""
-    for words in ("--stop", "--format json", "--format=json", "--explain", "--lint"):
+    for words in ("--stop", "--format json", "--format=json", "--explain", "--lint", "--help", "--version"):
         status, printed, fault = shell(folder, f"ls features/*.feature | examples/recipes/long.sh ./run {words}")
         wanted = f"long: {words.split()[0]} isn't for a suite in parts\n".encode()
         yield unless(f"long.sh {words}", (status, printed, fault) == (2, b"", wanted), printed.decode(), fault.decode())
     status, printed, fault = shell(folder, "examples/recipes/long.sh ./run < /dev/null > report.json; ended=$?; cat report.json; exit $ended")
     yield unless("long.sh without a name", (status, printed, fault) == (2, b"", b"long: no file is given\n"), printed.decode(), fault.decode())
-    for words in ("--dry-run", "--no-skipped", "--format json", "--format=json", "--explain", "--lint"):
+    for words in ("--dry-run", "--no-skipped", "--format json", "--format=json", "--explain", "--lint", "--help", "--version"):
         status, printed, fault = shell(folder, f"examples/recipes/check.sh ./run {words} one.feature")
         wanted = f"check: {words.split()[0]} isn't for this script\n".encode()
         yield unless(f"check.sh {words}", (status, printed, fault) == (2, b"", wanted), printed.decode(), fault.decode())
@@ -260,7 +260,18 @@ def refused_troubles(folder):
 def check_troubles(folder):
     """check.sh prints what failed, and no row that only looks so; an undefined step of a scenario that is skipped ends it with 1."""
     driver.write(folder, {"like.feature": 'Feature: like\n  Scenario: one\n    Given a file named "log" containing "... failed: x"\n',
-                          "skips.feature": "Feature: skips\n  Scenario: one\n    Given the scenario is skipped\n    And nothing knows this\n"})
+                          "skips.feature": "Feature: skips\n  Scenario: one\n    Given the scenario is skipped\n    And nothing knows this\n",
+                          "null.feature": "Feature: null\n  Scenario: one\0\n    Given it fails\n",
+                          "unknown.feature": "Feature: unknown\n  Scenario: one\n    Given it\0fails\n"})
+    for name, wanted in (("null", b"  Scenario: one\0 ... failed\n    Given it fails ... failed: fail step\n"), ("unknown", b"    Given it\0fails ... undefined\n")):
+        status, printed, fault = shell(folder, f"examples/recipes/check.sh ./run {name}.feature")
+        yield unless(f"check.sh of {name}.feature", status == 1 and wanted in printed and fault == b"", printed.decode(), fault.decode())
+    rows = b"Feature: f ... memory\n  Scenario: s ... memory\n    Given it passes ... memory\n"
+    driver.write(folder, {"said": rows + b"    Then it passes ... untested\n\none\ntwo\nthree\n",
+                          "memory": '#!/bin/sh\n[ "$1" = --dry-run ] || { cat said; exit 4; }\n'})
+    os.chmod(os.path.join(folder, "memory"), 0o755)
+    status, printed, fault = shell(folder, "examples/recipes/check.sh ./memory one.feature")
+    yield unless("check.sh where memory runs out", (status, printed, fault) == (4, rows + b"one\ntwo\nthree\n", b""), printed.decode(), fault.decode())
     status, printed, fault = shell(folder, "examples/recipes/check.sh ./run like.feature")
     yield unless("check.sh of a row like one that failed", status == 0 and printed.count(b"\n") == 3, printed.decode(), fault.decode())
     status, printed, fault = shell(folder, "examples/recipes/check.sh ./run skips.feature")

@@ -205,7 +205,7 @@ compare "a machine that isn't reached" --sshlogin 2/broken,2/two --files 2 -- --
 check "a machine that isn't reached: it wasn't tried" grep -q broken "$room/reached"
 
 # What is refused.
-for word in --stop --format=json --explain --lint; do
+for word in --stop --format=json --explain --lint --help --version; do
     keep all "$spread" "$program" "$word" -- *.feature
     check "$word: another status" [ "$status" -eq 2 ]
     check "$word: a report" [ ! -s "$room/all.out" ]
@@ -214,6 +214,11 @@ for number in 0 x; do
     keep all "$spread" --files $number "$program" -- *.feature
     check "--files $number: another status" [ "$status" -eq 2 ]
 done
+keep all "$spread" --jobs x "$program" -- *.feature
+check "--jobs x: another status" [ "$status" -eq 2 ]
+keep all "$spread" ./nosuch -- *.feature
+check "no program: another status" [ "$status" -eq 3 ]
+check "no program: it isn't named" grep -q 'nosuch: not found$' "$room/all.err"
 keep all "$spread" "$program" *.feature
 check "no --: another status" [ "$status" -eq 2 ]
 

@@ -104,11 +104,20 @@ def stored():
     return found
 
 
+def program_here():
+    """The program that ./run runs, or no name where there is no ./run, as among installed examples."""
+    run = os.path.join(TOP, "run")
+    if not os.path.exists(run):
+        return ""
+    return subprocess.run([run, "--which"], stdout=subprocess.PIPE, check=True).stdout.decode().strip()
+
+
 def main():
     given = [it for it in sys.argv[1:] if it != "--stored"]
     kept = stored() if "--stored" in sys.argv[1:] or not behave_is_here() else None
-    program = os.path.abspath(given[0]) if given else subprocess.run(
-        [os.path.join(TOP, "run"), "--which"], stdout=subprocess.PIPE, check=True).stdout.decode().strip()
+    program = os.path.abspath(given[0]) if given else program_here()
+    if not os.access(program, os.X_OK) or os.path.isdir(program):
+        sys.exit("show.py: name the program, as show.py ~/.local/bin/gherkin_run")
     for suite in suites():
         print(LINE(suite, "behave 1.2.6", "gherkin_run"))
         for name, words in FEATURES.items():

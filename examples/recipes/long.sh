@@ -4,7 +4,7 @@
 # NAMES are the files, one a line. They are run in parts of at most 1,000 files, or $PART, each with the options, and
 # the reports are added up: what is printed, and the status, are those of one run over all files. Where a part has a fault the
 # script ends as that part did, and prints no report; where a part is killed it ends with 3, and with 2 where there is no name.
-# --stop, --format, --explain and --lint are refused: a run with --stop is no sum of parts. It needs jq.
+# --stop, --format, --explain, --lint, --help and --version are refused: a run with --stop is no sum of parts. It needs jq.
 set -eu
 
 [ $# -ge 1 ] || {
@@ -13,7 +13,7 @@ set -eu
 }
 for word do
     case $word in
-    --stop | --format | --format=* | --explain | --lint)
+    --stop | --format | --format=* | --explain | --lint | --help | -h | --version | -V)
         echo "long: $word isn't for a suite in parts" >&2
         exit 2
         ;;
@@ -30,10 +30,11 @@ part='
     number=$(ls "$room" | wc -l)
     status=0
     "$@" > "$room/part.$((1000000 + number))" || status=$?
+    [ "$status" -le 128 ] || exit 255
     [ -s "$room/part.$((1000000 + number))" ] || { echo "$status" > "$room/status"; exit 255; }'
 ended=0
 tr '\n' '\0' | xargs -0 -r -n "${PART:-1000}" sh -c "$part" "$room" "$@" --format json -- 2> "$room/fault" || ended=$?
-grep -v '^xargs: ' "$room/fault" >&2 || true
+grep -av '^xargs: ' "$room/fault" >&2 || true
 if [ -e "$room/status" ]; then
     exit "$(cat "$room/status")"
 fi

@@ -11,6 +11,8 @@ from gherkin_run import library as calls
 
 FORMATS = ("plain", "progress", "json")
 LAST_LINE = (1 << 32) - 1
+# The bytes that a file may have.
+LONGEST_FILE = 16_777_216
 
 
 @dataclasses.dataclass(frozen=True)
@@ -66,25 +68,30 @@ class Fault(Exception):
 
 
 def _bytes(text: Union[str, bytes]) -> bytes:
-    return text if isinstance(text, bytes) else text.encode("utf-8", "surrogateescape")
+    return text.encode("utf-8", "surrogateescape") if isinstance(text, str) else bytes(memoryview(text))
 
 
 def _read(file: File) -> calls.Named:
     if isinstance(file, Source):
         return _bytes(file.name), _bytes(file.text)
+    name = _bytes(os.fspath(file))
     with open(file, "rb") as opened:
-        return _bytes(os.fspath(file)), opened.read()
+        text = opened.read(LONGEST_FILE + 1)
+    if len(text) > LONGEST_FILE:
+        shown = name.decode("utf-8", "surrogateescape")
+        raise Fault(f"{shown}: longer than {LONGEST_FILE} bytes", 3, shown, None)
+    return name, text
 
 
 def _files(features: Union[File, Iterable[File]]) -> List[File]:
     return [features] if isinstance(features, (str, os.PathLike, Source)) else list(features)
 
 
-def _lines(lines: Iterable[int]) -> List[int]:
-    numbers = list(lines)
+def _lines(lines: Union[int, Iterable[int]]) -> List[int]:
+    numbers = [lines] if isinstance(lines, int) else list(lines)
     for number in numbers:
-        if not 1 <= number <= LAST_LINE:
-            raise ValueError(f"a line is a number from 1 to {LAST_LINE}, not {number}")
+        if not isinstance(number, int) or not 1 <= number <= LAST_LINE:
+            raise ValueError(f"a line is a number from 1 to {LAST_LINE}, not {number!r}")
     return numbers
 
 
@@ -110,7 +117,7 @@ def run(
     *,
     format: str = "plain",
     tags: Union[str, Iterable[str]] = (),
-    lines: Iterable[int] = (),
+    lines: Union[int, Iterable[int]] = (),
     env: Optional[Mapping[str, str]] = None,
     dry_run: bool = False,
     stop: bool = False,

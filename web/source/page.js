@@ -68,7 +68,7 @@ function request() {
     const rows = (text) => text.split("\n").filter((it) => it !== "");
     const lines = given.lines.split(/[\s,]+/).filter((it) => it !== "");
     const variables = rows(given.variables).map((it) => [it, it.indexOf("=")]);
-    if (lines.some((it) => !LINE.test(it) || Number(it) > LAST_LINE)) return "Lines are numbers, with blanks between them.";
+    if (lines.some((it) => !LINE.test(it) || Number(it) > LAST_LINE)) return `Lines are numbers up to ${LAST_LINE}, with blanks between them.`;
     if (variables.some(([, at]) => at < 0)) return "A variable is NAME=TEXT, each on a line of its own.";
     return {
         sources: given.files,
