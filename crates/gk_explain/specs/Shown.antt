@@ -7,9 +7,21 @@ use Rattle.std.specs.List.{slice_split}
 abbrev pub is_within : ℕ → ℕ → ℕ → Bool
 is_within first end c = not (nat_lt c first) && nat_lt c end
 
--- Whether a character is seen as nothing, or as a blank that it isn't: control characters, blanks that don't break or have a width of their own, soft hyphens, and marks of no width.
+-- Whether a character is seen as a blank and isn't the one of ASCII: those of Unicode's property White_Space that are no control characters, and the pattern of Braille without a dot. U+00A0 is among those of `is_invisible`.
+abbrev pub is_unicode_space : ℕ → Bool
+is_unicode_space c = (c == 0x1680) || (is_within 0x2000 0x200B c || (is_within 0x2028 0x202A c || ((c == 0x202F) || ((c == 0x205F) || ((c == 0x2800) || (c == 0x3000))))))
+
+-- Whether a character below U+10000 is seen as nothing: those of Unicode's property Default_Ignorable_Code_Point, as marks of no width and variation selectors, and the marks of annotations.
+abbrev pub is_low_ignorable : ℕ → Bool
+is_low_ignorable c = (c == 0xAD) || ((c == 0x34F) || ((c == 0x61C) || (is_within 0x115F 0x1161 c || (is_within 0x17B4 0x17B6 c || (is_within 0x180B 0x1810 c || (is_within 0x200B 0x2010 c || (is_within 0x202A 0x202F c || (is_within 0x2060 0x2070 c || ((c == 0x3164) || (is_within 0xFE00 0xFE10 c || ((c == 0xFEFF) || ((c == 0xFFA0) || is_within 0xFFF0 0xFFFC c))))))))))))
+
+-- The same of those from U+10000 on.
+abbrev pub is_high_ignorable : ℕ → Bool
+is_high_ignorable c = is_within 0x1BCA0 0x1BCA4 c || (is_within 0x1D173 0x1D17B c || is_within 0xE0000 0xE1000 c)
+
+-- Whether a character is seen as nothing, or as a blank that it isn't: control characters and U+00A0, the other blanks of Unicode, and what is ignorable.
 abbrev pub is_invisible : ℕ → Bool
-is_invisible c = nat_lt c 32 || (is_within 127 161 c || ((c == 173) || (is_within 8192 8208 c || (is_within 8232 8240 c || (is_within 8287 8304 c || ((c == 12288) || (c == 65279)))))))
+is_invisible c = nat_lt c 0x20 || (is_within 0x7F 0xA1 c || (is_unicode_space c || (is_low_ignorable c || is_high_ignorable c)))
 
 -- A character as it is shown: a tab, a carriage return and a backslash by a letter, what is invisible by its number, all else as itself.
 abbrev pub shown_char : ℕ → List ℕ

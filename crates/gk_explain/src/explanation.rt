@@ -1,5 +1,6 @@
 //! What is kept of a run to explain it: no event, only its lines, and where cleanups were registered.
-ghost use Rattle.std.specs.Prelude.{◌≡◌, ◌++◌, true, IfOk, OnOk, string_bytes};
+ghost use Rattle.std.specs.Prelude.{◌≡◌, ◌++◌, true, false, IfOk, OnOk, OnErr, string_bytes};
+ghost use Rattle.gk_run.specs.Cases as cases;
 ghost use Rattle.gk_report.specs.ReportTexts.{line_feed, Pushes};
 ghost use Rattle.gk_explain.specs.Headings as headings;
 ghost use Rattle.gk_explain.specs.SectionLines.{section_value, untold};
@@ -62,6 +63,8 @@ impl Explained {
             (headings.listed (headings.heading_of source.now ended.entry)
             (headings.ended_status ended.entry)) result self.new.failures }
         ensures section { OnOk result (section_value section.new ≡ untold) }
+        ensures free { cases.is_bad (headings.ended_status ended.entry) ≡ false →
+            OnErr result ⊥ }
     {
         if is_bad(ended_status(ended)) {
             self.add(source, ended, section.lines())?;

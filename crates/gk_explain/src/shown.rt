@@ -12,18 +12,57 @@ fn is_within(first: u32, end: u32, code: u32) -> bool
     code >= first && code < end
 }
 
+// Whether a character is seen as a blank, and isn't the one of ASCII.
+fn is_unicode_space(code: u32) -> bool
+    ensures { result ≡ spec.is_unicode_space code }
+{
+    code == 0x1680
+        || is_within(0x2000, 0x200B, code)
+        || is_within(0x2028, 0x202A, code)
+        || code == 0x202F
+        || code == 0x205F
+        || code == 0x2800
+        || code == 0x3000
+}
+
+// Whether a character below U+10000 is seen as nothing, by Unicode's property Default_Ignorable_Code_Point.
+fn is_low_ignorable(code: u32) -> bool
+    ensures { result ≡ spec.is_low_ignorable code }
+{
+    code == 0xAD
+        || code == 0x34F
+        || code == 0x61C
+        || is_within(0x115F, 0x1161, code)
+        || is_within(0x17B4, 0x17B6, code)
+        || is_within(0x180B, 0x1810, code)
+        || is_within(0x200B, 0x2010, code)
+        || is_within(0x202A, 0x202F, code)
+        || is_within(0x2060, 0x2070, code)
+        || code == 0x3164
+        || is_within(0xFE00, 0xFE10, code)
+        || code == 0xFEFF
+        || code == 0xFFA0
+        || is_within(0xFFF0, 0xFFFC, code)
+}
+
+// Whether a character from U+10000 on is seen as nothing, by the property above.
+fn is_high_ignorable(code: u32) -> bool
+    ensures { result ≡ spec.is_high_ignorable code }
+{
+    is_within(0x1BCA0, 0x1BCA4, code)
+        || is_within(0x1D173, 0x1D17B, code)
+        || is_within(0xE0000, 0xE1000, code)
+}
+
 // Whether a character is seen as nothing, or as a blank that it isn't.
 fn is_invisible(code: u32) -> bool
     ensures { result ≡ spec.is_invisible code }
 {
-    code < 32
-        || is_within(127, 161, code)
-        || code == 173
-        || is_within(8192, 8208, code)
-        || is_within(8232, 8240, code)
-        || is_within(8287, 8304, code)
-        || code == 12288
-        || code == 65279
+    code < 0x20
+        || is_within(0x7F, 0xA1, code)
+        || is_unicode_space(code)
+        || is_low_ignorable(code)
+        || is_high_ignorable(code)
 }
 
 // Pushes the number of a character, in hexadecimal.
