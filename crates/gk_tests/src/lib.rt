@@ -1,7 +1,7 @@
-//! Tests of the public functions of the libraries below a run, with ample memory: at the limits that no clause can forbid to
-//! give up at. What the built program shows, the stored runs of `tests/` compare. The tests stand apart since a crate
-//! with tests is proved twice; those of `gk_run`, `gk_report` and `gk_cli` are in `gk_cli_tests`, and the stored runs alone
-//! try the rest.
+//! Tests of the public functions of the libraries, with ample memory: at the limits that no clause can forbid to
+//! give up at, and of `gk_run` over a case and a feature alone, with a feature's part by `gk_report`. What the built program
+//! shows, the stored runs of `tests/` compare. The tests stand apart since a crate with tests is proved twice; those of `gk_cli`
+//! are in `gk_cli_tests`, and the stored runs alone try the rest.
 #![tactic(auto)]
 
 #[cfg(test)]
@@ -10,6 +10,8 @@ mod gherkin_tests;
 mod library_tests;
 #[cfg(test)]
 mod lint_tests;
+#[cfg(test)]
+mod run_tests;
 #[cfg(test)]
 mod select_tests;
 #[cfg(test)]

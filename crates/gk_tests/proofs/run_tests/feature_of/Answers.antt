@@ -2,7 +2,7 @@ use Rattle.std.proofs.Common.{option_map, subst}
 use Rattle.gk_gherkin.specs.Lines.{lines_of}
 use Rattle.gk_gherkin.specs.Feature.{feature_value}
 use Rattle.gk_gherkin.specs.Grammar.{Reads}
-use Rattle.gk_cli_tests.proofs.run_tests.feature_of.Goals as goal
+use Rattle.gk_tests.proofs.run_tests.feature_of.Goals as goal
 
 pub returns-in-Ok-Some : goal.returns-in-Ok-Some
 returns-in-Ok-Some c =

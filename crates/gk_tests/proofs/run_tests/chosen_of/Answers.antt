@@ -5,8 +5,8 @@ use Rattle.gk_select.specs.declared.case.Case.{Case}
 use Rattle.gk_select.specs.Case.{CaseValue}
 use Rattle.gk_select.specs.Expansion.{cases}
 use Rattle.gk_select.specs.RuleOrder.{FallIntoRules}
-use Rattle.gk_cli_tests.proofs.ChosenLemmas.{rules_said}
-use Rattle.gk_cli_tests.proofs.run_tests.chosen_of.Goals as goal
+use Rattle.gk_tests.proofs.ChosenLemmas.{rules_said}
+use Rattle.gk_tests.proofs.run_tests.chosen_of.Goals as goal
 
 pub returns : goal.returns
 returns c =

@@ -1,5 +1,5 @@
 use Rattle.std.proofs.Common.{◌≡◌, ◌+◌, length}
-use Rattle.gk_cli_tests.proofs.run_tests.heads_of.Given as goal
+use Rattle.gk_tests.proofs.run_tests.heads_of.Given as goal
 
 -- the headings so far, and the rules that are left
 abbrev pub invariant-loop-rule : goal.invariant-loop-rule

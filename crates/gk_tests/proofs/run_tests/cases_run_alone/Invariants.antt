@@ -1,5 +1,5 @@
 use Rattle.std.proofs.Common.{◌≡◌, []}
-use Rattle.gk_cli_tests.proofs.run_tests.cases_run_alone.Given as goal
+use Rattle.gk_tests.proofs.run_tests.cases_run_alone.Given as goal
 
 -- no layer is open
 abbrev pub invariant-loop-case : goal.invariant-loop-case

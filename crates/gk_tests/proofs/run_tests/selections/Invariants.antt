@@ -1,5 +1,5 @@
 use Rattle.std.proofs.Common.{◌≡◌, length}
-use Rattle.gk_cli_tests.proofs.run_tests.selections.Given as goal
+use Rattle.gk_tests.proofs.run_tests.selections.Given as goal
 
 -- one choice for each case so far
 abbrev pub invariant-loop-case : goal.invariant-loop-case
