@@ -100,6 +100,13 @@ twice() {
         "$home/install" --remove "$room/place" && [ -z "$(ls -A "$room/place")" ]
 }
 
+# Where all folders were there before, the list has none of them.
+over_empty_folders() {
+    "$home/install" "$room/place" && find "$room/place" -type f -delete && "$home/install" "$room/place" &&
+        echo old > "$room/place/bin/gherkin_run" && "$home/install" "$room/place" && it_is_all_there "$room/place" &&
+        "$home/install" --remove "$room/place" && [ -z "$(find "$room/place" -type f)" ]
+}
+
 with_the_folder_first() {
     "$home/install" "$room/place" && "$home/install" "$room/place" --remove && [ -z "$(ls -A "$room/place")" ]
 }
@@ -291,11 +298,17 @@ clear
 holds "a second installation replaces the first" twice
 holds "--remove may follow the folder" with_the_folder_first
 clear
+holds "a second installation where only folders were" over_empty_folders
+clear
 holds "what others put in stays" what_others_put_in_stays
 
-for path in bin bin/gherkin_run share/man share/gherkin_run share/doc/gherkin_run/examples/first.feature; do
+for path in bin bin/gherkin_run share/man share/gherkin_run share/gherkin_run/installed share/doc/gherkin_run/examples/first.feature; do
     in_the_way "$path"
 done
+clear
+mkdir -p "$room/place/share/gherkin_run"
+echo "folder bin" > "$room/place/share/gherkin_run/installed"
+holds "a list that another one made is no installation" refuses "there is no installation" --remove "$room/place"
 clear
 ln -s nowhere "$room/place/share"
 holds "a link in the way is refused" refuses "is in the way" "$room/place"

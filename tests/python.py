@@ -40,6 +40,7 @@ REFUSED = [
     # Of two mistakes that of the arguments comes first.
     ["--env", "=x", "none.feature"], ["--line", "0", "none.feature"], ["--env", "a" * 256 + "=x", "none.feature"],
     [b"none\xff.feature"], ["--tags", b"@\xff", "none.feature"],
+    ["--tags=--", PAINT], ["--library=--", PAINT], ["--hooks=--", PAINT], ["--env=--", PAINT], ["--format=--", PAINT], ["--line=--", PAINT],
 ]
 # Options and files in any order.
 ORDERS = [
@@ -160,7 +161,8 @@ def values():
     yield "" if gherkin_run.run([]).passed else "no feature, and not passed"
     for line in (0, -1, 1 << 32, (1 << 32) + 1):
         yield raises(ValueError, features=PAINT, lines=[line])
-    yield raises(ValueError, features=PAINT, lines=["2"])
+    for lines in (["2"], "2", 2.5, [2.5], None):
+        yield raises(ValueError, features=PAINT, lines=lines)
     yield raises(ValueError, features=PAINT, format="xml")
     yield raises(TypeError, features=gherkin_run.Source("number", 5))
     made = gherkin_run.Source("made", bytearray(b"Feature: made\nScenario: s\nGiven it passes\nScenario: t\nGiven it fails\n"))

@@ -2,8 +2,8 @@
 # Runs once more what failed: examples/recipes/again.sh REPORT PROGRAM [OPTION]..
 #
 # REPORT is the JSON report of the run in which it failed. Each file of it with something that failed is run by itself,
-# with the options and the lines of those scenarios, and of all those of a rule whose hooks and cleanups failed; whole where
-# the feature's own did. Where those of the run did, each file of the report is run whole. Ends with the greatest status,
+# with the options and the lines of those scenarios, and of all those that it has of a rule whose hooks and cleanups failed; whole
+# where it has none of that rule, and where the feature's own did. Where those of the run did, each file of the report is run whole. Ends with the greatest status,
 # or with the report's, where there is nothing in it to run. An empty report, or one that is no JSON, is no report: the script
 # then runs nothing and ends with 3. It needs jq.
 set -eu
@@ -22,7 +22,8 @@ runs=$(jq --raw-output --slurp '
     | (.rules // []) as $rules
     | [range($rules | length) | select($rules[.].around | is_bad) | [$rules[.].line, $rules[. + 1].line // infinite]] as $parts
     | [.scenarios[] | select((.status | is_bad) or (.line as $line | any($parts[]; .[0] < $line and $line < .[1]))) | .line] as $lines
-    | if $all or (.around | is_bad) then ["--", .source]
+    | [.scenarios[].line] as $told
+    | if $all or (.around | is_bad) or any($parts[]; . as $part | all($told[]; . < $part[0] or $part[1] < .)) then ["--", .source]
       elif $lines == [] then empty
       else [$lines[] | "--line", tostring] + ["--", .source] end
     | "again \"$@\" " + @sh' "$report") || exit 3

@@ -33,7 +33,15 @@ def _ended(text: str, status: int) -> int:
 
 
 class _Parser(argparse.ArgumentParser):
-    """A parser whose help may fail to be written."""
+    """A parser whose help may fail to be written, and whose options take any value."""
+
+    def _get_values(self, action: Any, arg_strings: List[str]) -> Any:
+        # Of `--option=--` argparse would drop the value.
+        if action.option_strings and arg_strings == ["--"]:
+            value = self._get_value(action, "--")
+            self._check_value(action, value)
+            return value
+        return super()._get_values(action, arg_strings)
 
     def print_help(self, file: Any = None) -> None:
         self.exit(_ended(self.format_help(), 0))

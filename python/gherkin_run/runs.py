@@ -88,7 +88,7 @@ def _files(features: Union[File, Iterable[File]]) -> List[File]:
 
 
 def _lines(lines: Union[int, Iterable[int]]) -> List[int]:
-    numbers = [lines] if isinstance(lines, int) else list(lines)
+    numbers = list(lines) if isinstance(lines, Iterable) else [lines]
     for number in numbers:
         if not isinstance(number, int) or not 1 <= number <= LAST_LINE:
             raise ValueError(f"a line is a number from 1 to {LAST_LINE}, not {number!r}")

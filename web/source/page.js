@@ -4,7 +4,7 @@ const EXAMPLES = JSON.parse($("examples").textContent);
 const FIELDS = ["library", "hooks", "tags", "lines", "variables", "format"];
 const FLAGS = ["dryRun", "stop", "noSkipped"];
 const PAUSE = 150; // milliseconds after the last key
-const LINE = /^[0-9]+$/;
+const LINE = /^[+]?[0-9]+$/;
 const LAST_LINE = 4294967295;
 
 let worker;
