@@ -227,7 +227,7 @@ def run_troubles(folder):
     driver.write(folder, {"after.hooks": "after_rule:\n  Then it fails\n",
                           "skips.feature": "Feature: s\n  Rule: one\n    Scenario: a\n      Given the scenario is skipped\n  Rule: two\n    Scenario: b\n      Given it passes\n"})
     status, printed, fault = again(folder, "--no-skipped --hooks after.hooks", "skips.feature")
-    yield unless("again.sh of a rule whose scenarios aren't told", status == 1 and printed.count(b"(rule, line ") == 2, printed.decode(), fault.decode())
+    yield unless("again.sh of a rule whose scenarios aren't listed", status == 1 and printed.count(b"(rule, line ") == 2, printed.decode(), fault.decode())
     for text in ("", "{}\n{}\n", "Feature: one"):
         driver.write(folder, {"no.json": text})
         status, printed, fault = shell(folder, "examples/recipes/again.sh no.json ./run")

@@ -22,8 +22,8 @@ runs=$(jq --raw-output --slurp '
     | (.rules // []) as $rules
     | [range($rules | length) | select($rules[.].around | is_bad) | [$rules[.].line, $rules[. + 1].line // infinite]] as $parts
     | [.scenarios[] | select((.status | is_bad) or (.line as $line | any($parts[]; .[0] < $line and $line < .[1]))) | .line] as $lines
-    | [.scenarios[].line] as $told
-    | if $all or (.around | is_bad) or any($parts[]; . as $part | all($told[]; . < $part[0] or $part[1] < .)) then ["--", .source]
+    | [.scenarios[].line] as $listed
+    | if $all or (.around | is_bad) or any($parts[]; . as $part | all($listed[]; . < $part[0] or $part[1] < .)) then ["--", .source]
       elif $lines == [] then empty
       else [$lines[] | "--line", tostring] + ["--", .source] end
     | "again \"$@\" " + @sh' "$report") || exit 3
