@@ -3,8 +3,8 @@
 #
 # Prints the report that one run over all these files gives, in the order of the reports, and ends with its
 # status. Each run judges its features alone, so what it says of them is what one run would say; only where
-# a run is to --stop it knows nothing of the others. A file that is empty, is no JSON or has two reports is no report:
-# the script then prints none and ends with status 3. It needs jq.
+# a run is to --stop it knows nothing of the others. A file that isn't one report as the program printed it,
+# on one line, is no report: the script then prints none and ends with status 3. It needs jq.
 set -eu
 
 [ $# -ge 1 ] || {
@@ -13,6 +13,10 @@ set -eu
 }
 # What each of them adds to the sum, a line each.
 parts=$(for report in "$@"; do
+    [ "$(head -c 13 < "$report")" = '{"features":[' ] && [ "$(wc -l < "$report")" -le 1 ] || {
+        echo "add_reports: $report is no report as the program printed it" >&2
+        exit 3
+    }
     jq --slurp --compact-output '
         if map(keys) == [["features", "run", "status", "summary"]] then .[0] | del(.features)
         else error("a report is missing") end' < "$report" || exit 3

@@ -158,6 +158,7 @@ def values():
     report = gherkin_run.run(PAINT, format="json")
     yield "" if report.data == json.loads(report.text) and not report.passed else "other data than the text's"
     yield "" if gherkin_run.run(PAINT).data is None else "data of a plain report"
+    yield "" if gherkin_run.run(os.fsencode(PAINT)).text == gherkin_run.run(PAINT).text else "a path of bytes isn't taken"
     yield "" if gherkin_run.run([]).passed else "no feature, and not passed"
     for line in (0, -1, 1 << 32, (1 << 32) + 1):
         yield raises(ValueError, features=PAINT, lines=[line])

@@ -173,7 +173,8 @@ run "$room/json" --format json examples/first.feature
 head -c 100 "$room/json" > "$room/cut"
 cat "$room/json" "$room/json" > "$room/two"
 echo '{}' > "$room/other"
-for broken in empty cut two other; do
+jq . "$room/json" > "$room/in_lines"
+for broken in empty cut two other in_lines; do
     status=0
     examples/add_reports.sh "$room/json" "$room/$broken" > "$room/sum" 2> "$room/fault" || status=$?
     check "a report that is $broken: another status" [ "$status" -eq 3 ]

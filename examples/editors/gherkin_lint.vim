@@ -1,5 +1,5 @@
 " The program's findings as Vim's compiler: put this file into ~/.vim/compiler/, and say
-"     :compiler gherkin_lint
+"     :compiler! gherkin_lint
 "     :make login.feature
 " Each fault and each line that is found is then a line of the quickfix list.
 if exists('current_compiler')

@@ -1,5 +1,5 @@
 " The program as Vim's compiler: put this file into ~/.vim/compiler/, and say
-"     :compiler gherkin_run
+"     :compiler! gherkin_run
 "     :make --explain login.feature
 " Each fault, each explained scenario and each event that failed is then a line of the quickfix list.
 if exists('current_compiler')

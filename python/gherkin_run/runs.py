@@ -24,7 +24,7 @@ class Source:
 
 
 # A file's path, which is opened, or a file that isn't on the disk.
-File = Union[str, "os.PathLike[str]", Source]
+File = Union[str, bytes, "os.PathLike[str]", Source]
 
 
 @dataclasses.dataclass(frozen=True)
@@ -68,7 +68,12 @@ class Fault(Exception):
 
 
 def _bytes(text: Union[str, bytes]) -> bytes:
-    return text.encode("utf-8", "surrogateescape") if isinstance(text, str) else bytes(memoryview(text))
+    if isinstance(text, str):
+        return text.encode("utf-8", "surrogateescape")
+    try:
+        return bytes(memoryview(text))
+    except TypeError:
+        raise TypeError(f"a name or a text is str or bytes, not {text!r}") from None
 
 
 def _read(file: File) -> calls.Named:
@@ -84,7 +89,7 @@ def _read(file: File) -> calls.Named:
 
 
 def _files(features: Union[File, Iterable[File]]) -> List[File]:
-    return [features] if isinstance(features, (str, os.PathLike, Source)) else list(features)
+    return [features] if isinstance(features, (str, bytes, os.PathLike, Source)) else list(features)
 
 
 def _lines(lines: Union[int, Iterable[int]]) -> List[int]:
