@@ -19,7 +19,10 @@ parts=$(for report in "$@"; do
     }
     jq --slurp --compact-output '
         if map(keys) == [["features", "run", "status", "summary"]] then .[0] | del(.features)
-        else error("a report is missing") end' < "$report" || exit 3
+        else error("it is no report") end' < "$report" || {
+        echo "add_reports: $report is no report" >&2
+        exit 3
+    }
 done) || exit 3
 sum=$(printf '%s\n' "$parts" | jq --slurp --compact-output --sort-keys '
     def worst: if any(. == "memory") then "memory" elif any(. == "failed") then "failed" else "passed" end;

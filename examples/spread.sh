@@ -39,7 +39,8 @@ take_words() {
     while [[ ${1:-} == --* && ${1:-} != -- ]]; do
         case $1 in
         --jobs)
-            [[ ${2-} =~ ^[-+]?[0-9]+%?$ ]] || refuse "--jobs is a number" 2
+            [ "$#" -ge 2 ] || refuse "--jobs has no value" 2
+            [[ $2 =~ ^[1-9][0-9]*$ ]] || refuse "--jobs is a number from 1 on" 2
             engine+=(--jobs "$2")
             ;;
         --sshlogin) engine+=(--sshlogin "${2-}" --workdir "$PWD") ;;
@@ -51,7 +52,9 @@ take_words() {
     done
     program=()
     while [ "$#" -gt 0 ] && [ "$1" != -- ]; do
-        [[ ! $1 =~ ^(--stop|--format|--format=.*|--explain|--lint|--help|-h|--version|-V)$ ]] || refuse "$1 isn't for a suite in parts" 2
+        case $1 in
+        --stop | --format | --format=* | --explain | --lint | --help | --version | -[hV]*) refuse "$1 isn't for a suite in parts" 2 ;;
+        esac
         program+=("$1")
         shift
     done
@@ -73,7 +76,7 @@ run_parts() {
 
 # What a part said last, or where it said nothing, the engine.
 said_last() {
-    tail -n 1 "$room/parts/$part.err" 2> "$room/missing" | grep -a . || tail -n 1 "$room/engine"
+    { grep -a . "$room/parts/$part.err" 2> "$room/missing" || grep -a . "$room/engine"; } | tail -n 1
 }
 
 # Makes the report of each part, until all files have been counted. Ends the script where a part is lost, or has a fault.

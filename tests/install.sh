@@ -310,6 +310,10 @@ mkdir -p "$room/place/share/gherkin_run"
 echo "folder bin" > "$room/place/share/gherkin_run/installed"
 holds "a list that another one made is no installation" refuses "there is no installation" --remove "$room/place"
 clear
+mkdir -p "$room/place/share/gherkin_run"
+ln -s nowhere "$room/place/share/gherkin_run/installed"
+holds "a link in place of the list is refused" refuses "is in the way" "$room/place"
+clear
 ln -s nowhere "$room/place/share"
 holds "a link in the way is refused" refuses "is in the way" "$room/place"
 clear

@@ -38,6 +38,7 @@ REFUSED = [
     ["--format", "xml", PAINT], ["--env", "A", PAINT], ["--env", "=x", PAINT], ["--tags", "", PAINT], ["--tags", "-@a", PAINT], ["--unknown", PAINT],
     ["none.feature"], ["-"], [PAINT, "--", "--stop"], ["--library", "none.steps", PAINT],
     # Of two mistakes that of the arguments comes first.
+    ["/proc/self/mem"], ["--library", "/proc/self/mem", PAINT],
     ["--env", "=x", "none.feature"], ["--line", "0", "none.feature"], ["--env", "a" * 256 + "=x", "none.feature"],
     [b"none\xff.feature"], ["--tags", b"@\xff", "none.feature"],
     ["--tags=--", PAINT], ["--library=--", PAINT], ["--hooks=--", PAINT], ["--env=--", PAINT], ["--format=--", PAINT], ["--line=--", PAINT],
@@ -162,7 +163,7 @@ def values():
     yield "" if gherkin_run.run([]).passed else "no feature, and not passed"
     for line in (0, -1, 1 << 32, (1 << 32) + 1):
         yield raises(ValueError, features=PAINT, lines=[line])
-    for lines in (["2"], "2", 2.5, [2.5], None):
+    for lines in (["2"], "2", "", 2.5, [2.5], None, True, [True]):
         yield raises(ValueError, features=PAINT, lines=lines)
     yield raises(ValueError, features=PAINT, format="xml")
     yield raises(TypeError, features=gherkin_run.Source("number", 5))

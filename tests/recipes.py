@@ -228,7 +228,7 @@ def run_troubles(folder):
                           "skips.feature": "Feature: s\n  Rule: one\n    Scenario: a\n      Given the scenario is skipped\n  Rule: two\n    Scenario: b\n      Given it passes\n"})
     status, printed, fault = again(folder, "--no-skipped --hooks after.hooks", "skips.feature")
     yield unless("again.sh of a rule whose scenarios aren't listed", status == 1 and printed.count(b"(rule, line ") == 2, printed.decode(), fault.decode())
-    for text in ("", "{}\n{}\n", "Feature: one"):
+    for text in ("", "{}\n{}\n", '{"features":[]}', "Feature: one"):
         driver.write(folder, {"no.json": text})
         status, printed, fault = shell(folder, "examples/recipes/again.sh no.json ./run")
         yield unless(f"again.sh of {text!r}", (status, printed) == (3, b"") and fault != b"", printed.decode(), fault.decode())
@@ -249,13 +249,13 @@ def usage_troubles(folder):
 
 def refused_troubles(folder):
     """A suite in parts is no run with --stop and has no other report: long.sh refuses these words; and check.sh those that it gives itself."""
-    for words in ("--stop", "--format json", "--format=json", "--explain", "--lint", "--help", "--version"):
+    for words in ("--stop", "--format json", "--format=json", "--explain", "--lint", "--help", "--version", "-hV"):
         status, printed, fault = shell(folder, f"ls features/*.feature | examples/recipes/long.sh ./run {words}")
         wanted = f"long: {words.split()[0]} isn't for a suite in parts\n".encode()
         yield unless(f"long.sh {words}", (status, printed, fault) == (2, b"", wanted), printed.decode(), fault.decode())
     status, printed, fault = shell(folder, "examples/recipes/long.sh ./run < /dev/null > report.json; ended=$?; cat report.json; exit $ended")
     yield unless("long.sh without a name", (status, printed, fault) == (2, b"", b"long: no file is given\n"), printed.decode(), fault.decode())
-    for words in ("--dry-run", "--no-skipped", "--format json", "--format=json", "--explain", "--lint", "--help", "--version"):
+    for words in ("--dry-run", "--no-skipped", "--format json", "--format=json", "--explain", "--lint", "--help", "--version", "-Vh"):
         status, printed, fault = shell(folder, f"examples/recipes/check.sh ./run {words} one.feature")
         wanted = f"check: {words.split()[0]} isn't for this script\n".encode()
         yield unless(f"check.sh {words}", (status, printed, fault) == (2, b"", wanted), printed.decode(), fault.decode())

@@ -123,7 +123,7 @@ case " $* " in
 *" 14.feature "*)
     echo started >> "$ROOM/starts"
     if [ "$(wc -l < "$ROOM/starts")" -le "$TIMES" ]; then
-        "$PROGRAM" "$@" | head -c 200
+        "$PROGRAM" "$@" 2> /dev/null | head -c 200
         [ "$DIES" != job ] || kill -9 "$PPID"
         kill -9 "$$"
     fi
@@ -158,7 +158,7 @@ case " $* " in
 *" 14.feature "*)
     echo started >> "$ROOM/starts"
     if [ "$CUT" = yes ]; then
-        "$PROGRAM" "$@" | head -c 200
+        "$PROGRAM" "$@" 2> /dev/null | head -c 200
         echo "gherkin_run: out of memory" >&2
     else
         "$PROGRAM" "$@" | sed 's/"status":0,"summary"/"status":4,"summary"/'
@@ -205,7 +205,7 @@ compare "a machine that isn't reached" --sshlogin 2/broken,2/two --files 2 -- --
 check "a machine that isn't reached: it wasn't tried" grep -q broken "$room/reached"
 
 # What is refused.
-for word in --stop --format=json --explain --lint --help --version; do
+for word in --stop --format=json --explain --lint --help --version -hV; do
     keep all "$spread" "$program" "$word" -- *.feature
     check "$word: another status" [ "$status" -eq 2 ]
     check "$word: a report" [ ! -s "$room/all.out" ]

@@ -115,9 +115,10 @@ def program_here():
 def main():
     given = [it for it in sys.argv[1:] if it != "--stored"]
     kept = stored() if "--stored" in sys.argv[1:] or not behave_is_here() else None
-    program = os.path.abspath(given[0]) if given else program_here()
-    if not os.access(program, os.X_OK) or os.path.isdir(program):
-        sys.exit("show.py: name the program, as show.py ~/.local/bin/gherkin_run")
+    program = shutil.which(given[0] if given else program_here())
+    if not program:
+        sys.exit("show.py: name a program that can be run, as in show.py ~/.local/bin/gherkin_run")
+    program = os.path.abspath(program)
     for suite in suites():
         print(LINE(suite, "behave 1.2.6", "gherkin_run"))
         for name, words in FEATURES.items():

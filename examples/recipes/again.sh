@@ -4,8 +4,8 @@
 # REPORT is the JSON report of the run in which it failed. Each file of it with something that failed is run by itself,
 # with the options and the lines of those scenarios, and of all those that it has of a rule whose hooks and cleanups failed; whole
 # where it has none of that rule, and where the feature's own did. Where those of the run did, each file of the report is run whole. Ends with the greatest status,
-# or with the report's, where there is nothing in it to run. An empty report, or one that is no JSON, is no report: the script
-# then runs nothing and ends with 3. It needs jq.
+# or with the report's, where there is nothing in it to run. Where the file isn't one report the script runs nothing and ends
+# with 3. It needs jq.
 set -eu
 
 [ $# -ge 2 ] || {
@@ -16,7 +16,7 @@ report=$1
 shift
 runs=$(jq --raw-output --slurp '
     def is_bad: . == "failed" or . == "memory";
-    if length != 1 then error("a report is missing") else .[0] end
+    if map(keys) == [["features", "run", "status", "summary"]] then .[0] else error("it is no report") end
     | (.run != "passed") as $all
     | .features[]
     | (.rules // []) as $rules

@@ -13,7 +13,7 @@ set -eu
 for word do
     case $word in
     --) break ;;
-    --dry-run | --no-skipped | --format | --format=* | --explain | --lint | --help | -h | --version | -V)
+    --dry-run | --no-skipped | --format | --format=* | --explain | --lint | --help | --version | -[hV]*)
         echo "check: $word isn't for this script" >&2
         exit 2
         ;;

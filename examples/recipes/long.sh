@@ -13,7 +13,7 @@ set -eu
 }
 for word do
     case $word in
-    --stop | --format | --format=* | --explain | --lint | --help | -h | --version | -V)
+    --stop | --format | --format=* | --explain | --lint | --help | --version | -[hV]*)
         echo "long: $word isn't for a suite in parts" >&2
         exit 2
         ;;

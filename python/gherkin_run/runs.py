@@ -20,7 +20,7 @@ class Source:
     """A file that isn't on the disk: its name, by which reports and faults call it, and what it holds."""
 
     name: str
-    text: Union[str, bytes]
+    text: Union[str, bytes, bytearray]
 
 
 # A file's path, which is opened, or a file that isn't on the disk.
@@ -67,7 +67,7 @@ class Fault(Exception):
         return Fault, (str(self), self.status, self.file, self.line)
 
 
-def _bytes(text: Union[str, bytes]) -> bytes:
+def _bytes(text: Union[str, bytes, bytearray]) -> bytes:
     if isinstance(text, str):
         return text.encode("utf-8", "surrogateescape")
     try:
@@ -80,8 +80,13 @@ def _read(file: File) -> calls.Named:
     if isinstance(file, Source):
         return _bytes(file.name), _bytes(file.text)
     name = _bytes(os.fspath(file))
-    with open(file, "rb") as opened:
-        text = opened.read(LONGEST_FILE + 1)
+    try:
+        with open(file, "rb") as opened:
+            text = opened.read(LONGEST_FILE + 1)
+    except OSError as error:
+        # A read that fails names no file.
+        error.filename = error.filename or name.decode("utf-8", "surrogateescape")
+        raise
     if len(text) > LONGEST_FILE:
         shown = name.decode("utf-8", "surrogateescape")
         raise Fault(f"{shown}: longer than {LONGEST_FILE} bytes", 3, shown, None)
@@ -93,9 +98,9 @@ def _files(features: Union[File, Iterable[File]]) -> List[File]:
 
 
 def _lines(lines: Union[int, Iterable[int]]) -> List[int]:
-    numbers = list(lines) if isinstance(lines, Iterable) else [lines]
+    numbers = list(lines) if isinstance(lines, Iterable) and not isinstance(lines, str) else [lines]
     for number in numbers:
-        if not isinstance(number, int) or not 1 <= number <= LAST_LINE:
+        if not isinstance(number, int) or isinstance(number, bool) or not 1 <= number <= LAST_LINE:
             raise ValueError(f"a line is a number from 1 to {LAST_LINE}, not {number!r}")
     return numbers
 
@@ -132,7 +137,7 @@ def run(
 
     A file is a path, which is opened, or a `Source`. Without a library the steps are those of the built-in
     one, and without a hooks file there are no hooks. The others are the program's options: `format` is `plain`,
-    `progress` or `json`, `tags` are the texts of `--tags`, `lines` the numbers of `--line`, and `env` has the
+    `progress` or `json`, `tags` is a text of `--tags` or several, `lines` a number of `--line` or several, and `env` has the
     variables of `--env`.
 
     Raises `Fault` where there is no report, `OSError` where a file can't be opened or read, and `ValueError` where
