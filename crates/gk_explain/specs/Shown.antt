@@ -11,11 +11,11 @@ is_within first end c = not (nat_lt c first) && nat_lt c end
 abbrev pub is_unicode_space : ℕ → Bool
 is_unicode_space c = (c == 0x1680) || (is_within 0x2000 0x200B c || (is_within 0x2028 0x202A c || ((c == 0x202F) || ((c == 0x205F) || ((c == 0x2800) || (c == 0x3000))))))
 
--- Whether a character below U+10000 is seen as nothing, or as a blank: those of Unicode's property Default_Ignorable_Code_Point, as marks of no width and variation selectors, and the marks of annotations.
+-- Whether a character below U+10000 is seen as nothing: those of Unicode's property Default_Ignorable_Code_Point, as marks of no width and variation selectors, and the marks of annotations.
 abbrev pub is_low_ignorable : ℕ → Bool
 is_low_ignorable c = (c == 0xAD) || ((c == 0x34F) || ((c == 0x61C) || (is_within 0x115F 0x1161 c || (is_within 0x17B4 0x17B6 c || (is_within 0x180B 0x1810 c || (is_within 0x200B 0x2010 c || (is_within 0x202A 0x202F c || (is_within 0x2060 0x2070 c || ((c == 0x3164) || (is_within 0xFE00 0xFE10 c || ((c == 0xFEFF) || ((c == 0xFFA0) || is_within 0xFFF0 0xFFFC c))))))))))))
 
--- The same of those from U+10000 on, all of which have that property.
+-- The same of those from U+10000 on.
 abbrev pub is_high_ignorable : ℕ → Bool
 is_high_ignorable c = is_within 0x1BCA0 0x1BCA4 c || (is_within 0x1D173 0x1D17B c || is_within 0xE0000 0xE1000 c)
 

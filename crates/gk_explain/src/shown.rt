@@ -12,7 +12,7 @@ fn is_within(first: u32, end: u32, code: u32) -> bool
     code >= first && code < end
 }
 
-// Whether a character is seen as a blank, and is neither the one of ASCII nor U+00A0.
+// Whether a character is seen as a blank, and isn't the one of ASCII.
 fn is_unicode_space(code: u32) -> bool
     ensures { result ≡ spec.is_unicode_space code }
 {
@@ -25,7 +25,7 @@ fn is_unicode_space(code: u32) -> bool
         || code == 0x3000
 }
 
-// Whether a character below U+10000 is ignorable, by Unicode's property Default_Ignorable_Code_Point, or marks an annotation.
+// Whether a character below U+10000 is seen as nothing, by Unicode's property Default_Ignorable_Code_Point.
 fn is_low_ignorable(code: u32) -> bool
     ensures { result ≡ spec.is_low_ignorable code }
 {
@@ -45,7 +45,7 @@ fn is_low_ignorable(code: u32) -> bool
         || is_within(0xFFF0, 0xFFFC, code)
 }
 
-// Whether a character from U+10000 on is ignorable, by the same property.
+// Whether a character from U+10000 on is seen as nothing, by the property above.
 fn is_high_ignorable(code: u32) -> bool
     ensures { result ≡ spec.is_high_ignorable code }
 {
