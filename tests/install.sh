@@ -107,6 +107,17 @@ over_empty_folders() {
         "$home/install" --remove "$room/place" && [ -z "$(find "$room/place" -type f)" ]
 }
 
+# Who stands in a folder of the installation still stands in it after the next one.
+under_somebodys_feet() (
+    "$home/install" "$room/place" && cd "$room/place/share/doc/gherkin_run" && "$home/install" "$room/place" &&
+        "$room/place/bin/gherkin_run" examples/first.feature > "$room/report" && cmp "$room/report" examples/first.report
+)
+
+# A relative folder is none where the current one is gone.
+from_a_folder_that_is_gone() (
+    mkdir "$room/gone" && cd "$room/gone" && rmdir "$room/gone" && refuses "is gone" elsewhere
+)
+
 with_the_folder_first() {
     "$home/install" "$room/place" && "$home/install" "$room/place" --remove && [ -z "$(ls -A "$room/place")" ]
 }
@@ -299,6 +310,10 @@ holds "a second installation replaces the first" twice
 holds "--remove may follow the folder" with_the_folder_first
 clear
 holds "a second installation where only folders were" over_empty_folders
+clear
+holds "a second installation keeps its folders" under_somebodys_feet
+clear
+holds "a relative folder is refused where the current one is gone" from_a_folder_that_is_gone
 clear
 holds "what others put in stays" what_others_put_in_stays
 

@@ -2,10 +2,10 @@
 # Runs once more what failed: examples/recipes/again.sh REPORT PROGRAM [OPTION]..
 #
 # REPORT is the JSON report of the run in which it failed. Each file of it with something that failed is run by itself,
-# with the options and the lines of those scenarios, and of all those that it has of a rule whose hooks and cleanups failed; whole
-# where it has none of that rule, and where the feature's own did. Where those of the run did, each file of the report is run whole. Ends with the greatest status,
-# or with the report's, where there is nothing in it to run. Where the file isn't one report the script runs nothing and ends
-# with 3. It needs jq.
+# with the options and the lines of those scenarios, and of all those that it has of a rule whose hooks and cleanups failed;
+# whole where it has none of that rule, and where the feature's own did. Where those of the run did, each file of the report
+# is run whole. Ends with the greatest status, or with the report's, where there is nothing in it to run. Where the file isn't
+# one report the script runs nothing and ends with 3. It needs jq.
 set -eu
 
 [ $# -ge 2 ] || {
