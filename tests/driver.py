@@ -7,7 +7,9 @@ makes and removes. Each test has a trouble, a text that says what is wrong, or n
 import concurrent.futures
 import os
 import resource
+import select
 import subprocess
+import time
 
 HOME = os.path.dirname(os.path.dirname(os.path.realpath(__file__)))
 EXAMPLES = os.path.join(HOME, "examples")
@@ -78,13 +80,53 @@ def start(program, arguments, folder=HOME, environment=None, *, patience=PATIENC
 
     Answers its status, and what was read of its standard output and standard error. The status of
     a run that doesn't end is a text. `before` is called in the new process, before the program."""
+    end = time.monotonic() + patience
+    with subprocess.Popen([program, *arguments], cwd=folder, stdin=subprocess.DEVNULL, stdout=stdout,
+                          stderr=stderr, env=environment, preexec_fn=before) as process:
+        read = read_until(end, [it for it in (process.stdout, process.stderr) if it])
+        if read is None or not ends_until(end, process):
+            process.kill()
+            return f"not ended after {patience} seconds", b"", b""
+    out = read.pop(0) if process.stdout else b""
+    return process.returncode, out, read.pop(0) if process.stderr else b""
+
+
+# `subprocess.run` with a time limit takes as long as a short run does.
+
+def read_until(end, pipes):
+    """The bytes of each pipe, if all are closed before a time."""
+    parts, ready = {it.fileno(): [] for it in pipes}, select.poll()
+    for descriptor in parts:
+        ready.register(descriptor, select.POLLIN)
+    left = len(parts)
+    while left:
+        found = ready.poll(milliseconds_to(end))
+        if not found:
+            return None
+        for descriptor, _ in found:
+            part = os.read(descriptor, 1 << 16)
+            if part:
+                parts[descriptor].append(part)
+            else:
+                ready.unregister(descriptor)
+                left -= 1
+    return [b"".join(it) for it in parts.values()]
+
+
+def ends_until(end, process):
+    """Whether a process ends before a time."""
+    descriptor = os.pidfd_open(process.pid)
     try:
-        done = subprocess.run([program, *arguments], cwd=folder, stdin=subprocess.DEVNULL,
-                              stdout=stdout, stderr=stderr, env=environment, preexec_fn=before,
-                              timeout=patience, check=False)
-    except subprocess.TimeoutExpired:
-        return f"not ended after {patience} seconds", b"", b""
-    return done.returncode, done.stdout or b"", done.stderr or b""
+        ready = select.poll()
+        ready.register(descriptor, select.POLLIN)
+        return bool(ready.poll(milliseconds_to(end)))
+    finally:
+        os.close(descriptor)
+
+
+def milliseconds_to(end):
+    """How long it is to a time."""
+    return max(0, 1000 * (end - time.monotonic()))
 
 
 def limited(room, **limits):
@@ -93,16 +135,21 @@ def limited(room, **limits):
             "LD_PRELOAD": os.path.join(room, "refuse.so")}
 
 
+def processors():
+    """How many processors there are to run on."""
+    return len(os.sched_getaffinity(0))
+
+
 def on_all_processors(work, items):
     """What `work` answers for each item, in order. Several items are worked on at a time."""
-    with concurrent.futures.ThreadPoolExecutor(os.cpu_count()) as pool:
+    with concurrent.futures.ThreadPoolExecutor(processors()) as pool:
         yield from pool.map(work, items)
 
 
 def in_processes(work, items):
     """The same in processes of their own, for work whose time Python itself takes. `work`, the items and
     the answers are handed over as copies."""
-    with concurrent.futures.ProcessPoolExecutor(os.cpu_count()) as pool:
+    with concurrent.futures.ProcessPoolExecutor(processors()) as pool:
         yield from pool.map(work, items)
 
 

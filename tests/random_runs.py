@@ -704,7 +704,7 @@ def main():
     seed, number = int(sys.argv[4]), int(sys.argv[5])
     comparison = Comparison(program, room, kept)
     tests, runs = driver.Tests(), 0
-    for count, trouble in driver.on_all_processors(comparison.compared, range(seed, seed + number)):
+    for count, trouble in driver.in_processes(comparison.compared, range(seed, seed + number)):
         runs += count
         tests.add(trouble)
     print(f"{runs} runs of {number} suites")
