@@ -121,7 +121,7 @@ hears_all (t ∷ ts) old new a h uncut =
 pub explained_by_its_events : CasesAreExplained
 explained_by_its_events run section c row old new told uncut none =
     let events = told.1 in
-    let ended = told.2 uncut in
+    let ended = told.2.0 uncut in
     let at = at_order levels.Scenario _ (are_happened levels.Scenario events.refusing events.cut (told_case run section c) (are_case run section c)) in
     let ts = in_order (told_happened events.refusing events.cut (told_case run section c)) in
     let all = hears_all ts old told.0 at events.told ended.0 in

@@ -1,8 +1,12 @@
 -- What is left of a text to be shown.
-use Rattle.std.proofs.Common.{◌≡◌, ◌∙◌, ◌-◌, ℕ, true, nat_lt, List, [], ◌∷◌, ◌++◌, length, take, drop, map, flat_map, chars, IsUtf8, encode_utf8, ap, ap₂, sym, append_assoc}
+use Rattle.std.proofs.Common.{◌≡◌, ◌∙◌, ◌-◌, ◌≤◌, ◌<◌, ◌⊎◌, inl, inr, ⊎_elim, ◌||◌, ◌==◌, ℕ, true, false, nat_lt, List, [], ◌∷◌, ◌++◌, length, take, drop, map, flat_map, chars, IsUtf8, encode_utf8, ap, ap₂, sym, refl, append_assoc, arith}
+use Rattle.std.specs.List.{list_any}
+use Rattle.std.proofs.lemmas.Bool.{cases_lt, or_parts, or_from, and_left, and_right, not_from_true, ltb-false, lt-ltb, le-ltb, eqb-false, ne_eqb, cond-false, cond-true}
 use Rattle.std.proofs.lemmas.List.{take-map, drop-map, length-map}
-use Rattle.std.proofs.lemmas.Str.{chars-nil, chars_past_char}
-use Rattle.gk_explain.specs.Shown.{marked_lines, left_out, few_lines}
+use Rattle.std.proofs.lemmas.List.Folds.{list_any-append}
+use Rattle.std.proofs.lemmas.Str.{chars-nil, chars-encodes, chars_past_char, encode_ascii}
+use lib.Utf8.{encode, encodes, next}
+use Rattle.gk_explain.specs.Shown.{is_control, is_suspect, escaped_char, escaped, marked_lines, left_out, few_lines}
 
 -- Of a text without bytes nothing is shown.
 pub shown_none : (show : ℕ → List ℕ) (text : List ℕ) → length text ≡ 0 → flat_map show (chars text) ≡ []
@@ -22,3 +26,55 @@ many_lines f mark before lines first last many is_first is_last =
     append_assoc _ (left_out (length lines - 19)) _ ∙ append_assoc before _ _
     ∙ ap (λ (rows : List ℕ). before ++ rows)
     (ap₂ (λ some others. marked_lines mark some ++ (left_out (length lines - 19) ++ marked_lines mark others)) (ap (map f) is_first ∙ sym (take-map f 10 lines)) (ap (map f) is_last ∙ sym (drop-map f (length lines - 9) lines)) ∙ sym few)
+
+-- A byte that isn't suspect.
+not_suspect : (b : ℕ) → is_suspect b ≡ false → (0x20 ≤ b) × ((b ≡ 0x7F → ⊥) × (b ≡ 0xC2 → ⊥))
+not_suspect b none =
+    let outer = or_parts (nat_lt b 0x20) ((b == 0x7F) || (b == 0xC2)) none in
+    let inner = or_parts (b == 0x7F) (b == 0xC2) outer.1 in
+    (ltb-false b 0x20 outer.0, (eqb-false b 0x7F inner.0, eqb-false b 0xC2 inner.1))
+
+no_control : (c : ℕ) → 0x20 ≤ c → (c < 0x7F) ⊎ (0xA0 ≤ c) → is_control c ≡ false
+no_control c from (inl below) = or_from _ _ (le-ltb c 0x20 from) (and_left _ _ (not_from_true _ (lt-ltb c 0x7F below)))
+no_control c from (inr above) = or_from _ _ (le-ltb c 0x20 from) (and_right _ _ (le-ltb c 0xA0 above))
+
+-- A character that is no control character is escaped as itself.
+itself : (c : ℕ) → 0x20 ≤ c → (c < 0x7F) ⊎ (0xA0 ≤ c) → escaped_char c ≡ encode_utf8 c
+itself c from beside =
+    cond-false _ _ _ (ne_eqb c 9 (λ e. omega (arith, e, from)))
+    ∙ cond-false _ _ _ (ne_eqb c 10 (λ e. omega (arith, e, from)))
+    ∙ cond-false _ _ _ (ne_eqb c 13 (λ e. omega (arith, e, from)))
+    ∙ cond-false _ _ _ (no_control c from beside)
+
+-- The bytes of a character from U+0080 to U+009F: the first is 0xC2.
+two_bytes : (c : ℕ) → 128 ≤ c → c < 0xA0 → encode c ≡ 0xC2 ∷ next c ∷ []
+unfolding encode
+two_bytes c from below =
+    cond-false _ _ _ (le-ltb c 128 from) ∙ cond-true _ _ _ (lt-ltb c 2048 (omega (arith, below)))
+    ∙ ap (λ (b : ℕ). b ∷ next c ∷ []) (omega (arith, from, below))
+
+-- So is one none of whose bytes is suspect.
+plain_char : (c : ℕ) → list_any is_suspect (encode c) ≡ false → escaped_char c ≡ encode c
+plain_char c none = ⊎_elim
+    (λ low.
+    let byte = not_suspect c (or_parts (is_suspect c) false (sym (ap (list_any is_suspect) (encode_ascii c low)) ∙ none)).0 in
+    itself c byte.0 (inl (omega (arith, low, byte.1.0))))
+    (λ high. ⊎_elim
+    (λ (below : c < 0xA0).
+    absurd ((not_suspect 0xC2 (or_parts (is_suspect 0xC2) (list_any is_suspect (next c ∷ [])) (sym (ap (list_any is_suspect) (two_bytes c high below)) ∙ none)).0).1.1 refl))
+    (λ above. itself c (omega (arith, above)) (inr above))
+    (cases_lt c 0xA0))
+    (cases_lt c 128)
+
+plain_chars : (cs : List ℕ) → list_any is_suspect (encodes cs) ≡ false → flat_map escaped_char cs ≡ encodes cs
+plain_chars [] none = refl
+plain_chars (c ∷ cs) none =
+    let parts = or_parts (list_any is_suspect (encode c)) (list_any is_suspect (encodes cs)) (sym (list_any-append is_suspect (encode c) (encodes cs)) ∙ none) in
+    ap₂ (λ (some others : List ℕ). some ++ others) (plain_char c parts.0) (plain_chars cs parts.1)
+
+-- A text none of whose bytes is suspect is escaped as itself.
+pub plain_text : (text : List ℕ) → IsUtf8 text → list_any is_suspect text ≡ false → text ≡ escaped text
+unfolding escaped
+plain_text text utf8 none =
+    let all : chars text ≡ utf8.0 = ap chars (sym utf8.1.1) ∙ chars-encodes utf8.0 utf8.1.0 in
+    sym (ap (flat_map escaped_char) all ∙ plain_chars utf8.0 (ap (list_any is_suspect) utf8.1.1 ∙ none) ∙ utf8.1.1)

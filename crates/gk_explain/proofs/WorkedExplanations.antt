@@ -16,14 +16,14 @@ use Rattle.gk_run.specs.declared.section.Part.TheVariants as parts
 use Rattle.gk_run.specs.Acting.{CleanupValue}
 use Rattle.gk_run.specs.Results.{CaseRow, FeatureRow}
 use Rattle.gk_run.specs.Watching.{Told, of_step, of_cleanup}
-use Rattle.gk_report.specs.ReportTexts.{status_text, reason_text, one_line}
+use Rattle.gk_report.specs.ReportTexts.{status_text, reason_text}
 use Rattle.gk_report.specs.PlainReport.{status_line}
 use Rattle.gk_steps.specs.declared.action.Action.TheVariants as actions
 use Rattle.gk_steps.specs.declared.pattern.FieldKind.TheVariants as kinds
 use Rattle.gk_steps.specs.Pattern.{Literal, FieldPiece}
 use Rattle.gk_steps.specs.Matching.{match_of}
 use Rattle.gk_steps.specs.Finding.{EntryValue, LibraryValue, found}
-use Rattle.gk_explain.specs.Shown.{marked_line, marked_text_with}
+use Rattle.gk_explain.specs.Shown.{marked_line, marked_text_with, escaped}
 use Rattle.gk_explain.specs.Details.{event_details}
 use Rattle.gk_explain.specs.Nearest.{agreement, is_near}
 use Rattle.gk_explain.specs.Tables.{refused_file}
@@ -65,12 +65,12 @@ of_scenario s cleanup =
 -- Where it failed it is explained.
 failed_is_explained : (s : State) (cleanup : CleanupValue) → (with_case (scenario statuses.Failed) (of_scenario s cleanup)).ready
     ≡ codes "f:6: Scenario: s ... failed\n  h:2: before: Given a ... passed\n  f:7: When b\\nc ... passed\n  f:8: Then d ... failed: differs\n  f:10: And e ... skipped\n  h:4: after: When g ... undefined\n  cleanup ... memory\n\n"
-unfolding found event_details digits status_text reason_text one_line status_line line_of_step line_of_cleanup place_text case_heading explanation_text
+unfolding found chars lib.Utf8.encode event_details digits status_text reason_text escaped status_line line_of_step line_of_cleanup place_text case_heading explanation_text
 failed_is_explained s cleanup = refl
 
 -- Where it passed nothing is said of it.
 passed_is_not : (s : State) (cleanup : CleanupValue) → with_case (scenario statuses.Passed) (of_scenario s cleanup) ≡ begun
-unfolding found event_details digits status_text reason_text one_line status_line line_of_step line_of_cleanup place_text case_heading explanation_text
+unfolding found chars lib.Utf8.encode event_details digits status_text reason_text escaped status_line line_of_step line_of_cleanup place_text case_heading explanation_text
 passed_is_not s cleanup = refl
 
 -- A library with an entry that registers a cleanup, and one that passes.
@@ -90,7 +90,7 @@ with_cleanups s cleanup =
 -- Its cleanups have the places of the steps that registered them, the last first.
 cleanups_have_places : (s : State) (cleanup : CleanupValue) → (with_case (scenario statuses.Failed) (with_cleanups s cleanup)).ready
     ≡ codes "f:6: Scenario: s ... failed\n  h:2: before: Given later ok ... passed\n  f:7: Given later ok ... passed\n  f:8: Given later no ... failed: no such step\n  f:9: Given ok ... skipped\n  f:7: cleanup ... passed\n  h:2: cleanup ... failed: fail step\n\n"
-unfolding found match_of is_utf8 chars lib.Utf8.encode event_details digits status_text reason_text one_line status_line line_of_step line_of_cleanup place_text case_heading explanation_text
+unfolding found match_of is_utf8 chars lib.Utf8.encode event_details digits status_text reason_text escaped status_line line_of_step line_of_cleanup place_text case_heading explanation_text
 cleanups_have_places s cleanup = refl
 
 -- Hooks and cleanups of a rule, a feature and a run, with one event in each, of which the rule's passed.
@@ -106,11 +106,11 @@ ended s rule = with_run statuses.Failed (with_feature (feature statuses.Memory) 
 
 sections_are_explained : (s : State) → (ended s statuses.Passed).ready
     ≡ codes "f:1: Feature: n (hooks and cleanups) ... memory\n  h:2: before: Given b ... passed\n\nRun: (hooks and cleanups) ... failed\n  h:1: before: Given a ... passed\n\n"
-unfolding found event_details digits status_text reason_text one_line status_line line_of_step line_of_cleanup place_text rule_heading feature_heading around_text run_heading explanation_text
+unfolding found chars lib.Utf8.encode event_details digits status_text reason_text escaped status_line line_of_step line_of_cleanup place_text rule_heading feature_heading around_text run_heading explanation_text
 sections_are_explained s = refl
 
 sections_are_listed : (s : State) → (ended s statuses.Failed).failures ≡ codes "f:5: Rule: (hooks and cleanups)\nf:1: Feature: n (hooks and cleanups)\nRun: (hooks and cleanups)\n"
-unfolding found event_details digits status_text reason_text one_line status_line line_of_step line_of_cleanup place_text rule_heading feature_heading around_text run_heading explanation_text
+unfolding found chars lib.Utf8.encode event_details digits status_text reason_text escaped status_line line_of_step line_of_cleanup place_text rule_heading feature_heading around_text run_heading explanation_text
 sections_are_listed s = refl
 
 -- An entry for steps of each type, with a field between two literals.

@@ -11,12 +11,12 @@ use Rattle.gk_run.specs.declared.section.Place.{Place}
 use Rattle.gk_run.specs.Ending.{status_of_mark, reason_of_mark}
 use Rattle.gk_run.specs.Watching.{Told, of_step, of_cleanup}
 use Rattle.gk_steps.specs.Finding.{LibraryValue}
-use Rattle.gk_report.specs.ReportTexts.{one_line}
 use Rattle.gk_report.specs.PlainReport.{status_line, step_verdict}
 use Rattle.gk_explain.specs.declared.event_lines.Names.{Names}
 use Rattle.gk_explain.specs.declared.registrations.Registration.{Registration}
 use Rattle.gk_explain.specs.Details.{event_details}
 use Rattle.gk_explain.specs.Registrations.{last_of}
+use Rattle.gk_explain.specs.Shown.{escaped}
 
 -- The names of the hooks file and of the feature file that steps stand in.
 pub record NamesValue : Type 0 where
@@ -41,7 +41,7 @@ part_text parts.After = codes "after: "
 
 -- A place in a file: its name, and a line.
 unfoldable pub place_text : List ℕ → ℕ → List ℕ
-place_text file line = one_line file ++ codes ":" ++ decimal line ++ codes ": "
+place_text file line = escaped file ++ codes ":" ++ decimal line ++ codes ": "
 
 -- The status of what became of a step, with the reason of one that failed.
 abbrev pub mark_text : Mark → List ℕ
@@ -59,7 +59,7 @@ line_of_cleanup names at outcome = status_line (codes "  " ++ registered_text na
 -- The line of a step.
 unfoldable pub line_of_step : NamesValue → Place → StepValue → Mark → List ℕ
 line_of_step names place step mark =
-    status_line (codes "  " ++ place_text (file_of names place.part) step.line ++ part_text place.part ++ step.keyword ++ codes " " ++ one_line step.text) (mark_text mark)
+    status_line (codes "  " ++ place_text (file_of names place.part) step.line ++ part_text place.part ++ step.keyword ++ codes " " ++ escaped step.text) (mark_text mark)
 
 -- The line of an event of a section in which these cleanups are registered and still to run: a cleanup that runs is the last of them.
 abbrev pub event_line : NamesValue → List Registration → Told → List ℕ

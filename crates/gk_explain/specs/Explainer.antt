@@ -2,11 +2,13 @@
 use Rattle.std.specs.Prelude.{◌≡◌, Bool, false}
 use Rattle.gk_select.specs.Case.{CaseValue}
 use Rattle.gk_world.specs.State.{State}
+use Rattle.gk_run.specs.declared.results.Status.{Status}
+use Rattle.gk_run.specs.Cases.{is_bad}
 use Rattle.gk_run.specs.Results.{CaseRow}
 use Rattle.gk_run.specs.Run.{Run}
 use Rattle.gk_run.specs.Running.{reached_row}
 use Rattle.gk_run.specs.Section.{Cut}
-use Rattle.gk_run.specs.Watching.{Told, Ended, in_order, told_happened, told_case, IsCaseTold}
+use Rattle.gk_run.specs.Watching.{Told, Ended, of_case, of_rule, in_order, told_happened, told_case, IsCaseTold}
 use Rattle.gk_explain.specs.declared.explainer.Explainer.{Explainer}
 use Rattle.gk_explain.specs.SectionLines.{SectionValue, untold, after_events}
 use Rattle.gk_explain.specs.Explanation.{ExplanationValue, explanation_value, with_event, with_ended, with_case_of}
@@ -27,9 +29,18 @@ Becomes old change new = is_cut new ≡ false → (is_cut old ≡ false) × (sai
 abbrev pub Hears : Explainer → Told → Explainer → Type 0
 Hears old told new = Becomes old (with_event told) new
 
+-- What ends and is neither failed nor refused memory cuts no explainer: memory is asked for only if there is something to explain.
+abbrev pub IsCutOnlyByBad : Status → Explainer → Explainer → Type 0
+IsCutOnlyByBad status old new = is_bad status ≡ false → is_cut new ≡ is_cut old
+
+-- How a scenario, or the hooks and cleanups of a rule, ended.
+abbrev pub told_status : Ended → Status
+told_status (of_case c) = c.status
+told_status (of_rule r) = r.around
+
 -- It was told that a scenario or a rule has ended.
 abbrev pub Ends : Explainer → Ended → Explainer → Type 0
-Ends old ended new = Becomes old (with_ended ended) new
+Ends old ended new = Becomes old (with_ended ended) new × IsCutOnlyByBad (told_status ended) old new
 
 -- What is kept of a case after its events, these cut at one, in order.
 abbrev pub case_told : Explainer → Run → State → CaseValue → Cut → State → SectionValue

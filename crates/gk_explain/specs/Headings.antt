@@ -3,15 +3,16 @@ use Rattle.std.specs.Prelude.{ℕ, cond, List, [], ◌∷◌, ◌++◌, codes}
 use Rattle.gk_run.specs.declared.results.Status.{Status}
 use Rattle.gk_run.specs.Results.{CaseRow, RuleRow, FeatureRow, case_row, rule_row, feature_row}
 use Rattle.gk_run.specs.Cases.{is_bad}
-use Rattle.gk_report.specs.ReportTexts.{status_text, one_line, line_feed}
+use Rattle.gk_report.specs.ReportTexts.{status_text, line_feed}
 use Rattle.gk_report.specs.PlainReport.{status_line}
 use Rattle.gk_explain.specs.declared.headings.Ended.{Ended}
 use Rattle.gk_explain.specs.declared.headings.Ended.TheVariants as variants
 use Rattle.gk_explain.specs.EventLines.{place_text}
+use Rattle.gk_explain.specs.Shown.{escaped}
 
 -- The heading of a scenario of a file.
 unfoldable pub case_heading : List ℕ → CaseRow → List ℕ
-case_heading source c = place_text source c.line ++ c.keyword ++ codes ": " ++ one_line c.name
+case_heading source c = place_text source c.line ++ c.keyword ++ codes ": " ++ escaped c.name
 
 -- The heading of the hooks and cleanups of a rule of a file.
 unfoldable pub rule_heading : List ℕ → RuleRow → List ℕ
@@ -23,7 +24,7 @@ around_text = codes " (hooks and cleanups)"
 
 -- The heading of the hooks and cleanups of the feature of a file.
 unfoldable pub feature_heading : List ℕ → FeatureRow → List ℕ
-feature_heading source f = place_text source f.line ++ codes "Feature: " ++ one_line f.name ++ around_text
+feature_heading source f = place_text source f.line ++ codes "Feature: " ++ escaped f.name ++ around_text
 
 -- The heading of the hooks and cleanups of the run.
 unfoldable pub run_heading : List ℕ

@@ -7,11 +7,15 @@ use Rattle.std.specs.List.{slice_split}
 abbrev pub is_within : ℕ → ℕ → ℕ → Bool
 is_within first end c = not (nat_lt c first) && nat_lt c end
 
--- Whether a character is seen as a blank and isn't the one of ASCII: those of Unicode's property White_Space that are no control characters, and the pattern of Braille without a dot. U+00A0 is among those of `is_invisible`.
-abbrev pub is_unicode_space : ℕ → Bool
-is_unicode_space c = (c == 0x1680) || (is_within 0x2000 0x200B c || (is_within 0x2028 0x202A c || ((c == 0x202F) || ((c == 0x205F) || ((c == 0x2800) || (c == 0x3000))))))
+-- Whether a character is a control character: one of Unicode's general category Cc.
+abbrev pub is_control : ℕ → Bool
+is_control c = nat_lt c 0x20 || is_within 0x7F 0xA0 c
 
--- Whether a character below U+10000 is seen as nothing: those of Unicode's property Default_Ignorable_Code_Point, as marks of no width and variation selectors, and the marks of annotations.
+-- Whether a character looks like a space and isn't the one of ASCII: those of Unicode's property White_Space that are no control characters, and the pattern of Braille without a dot.
+abbrev pub is_unicode_space : ℕ → Bool
+is_unicode_space c = (c == 0xA0) || ((c == 0x1680) || (is_within 0x2000 0x200B c || (is_within 0x2028 0x202A c || ((c == 0x202F) || ((c == 0x205F) || ((c == 0x2800) || (c == 0x3000)))))))
+
+-- Whether a character below U+10000 is seen as nothing: those of Unicode's property Default_Ignorable_Code_Point, such as marks of no width and variation selectors, and the marks of annotations.
 abbrev pub is_low_ignorable : ℕ → Bool
 is_low_ignorable c = (c == 0xAD) || ((c == 0x34F) || ((c == 0x61C) || (is_within 0x115F 0x1161 c || (is_within 0x17B4 0x17B6 c || (is_within 0x180B 0x1810 c || (is_within 0x200B 0x2010 c || (is_within 0x202A 0x202F c || (is_within 0x2060 0x2070 c || ((c == 0x3164) || (is_within 0xFE00 0xFE10 c || ((c == 0xFEFF) || ((c == 0xFFA0) || is_within 0xFFF0 0xFFFC c))))))))))))
 
@@ -19,19 +23,35 @@ is_low_ignorable c = (c == 0xAD) || ((c == 0x34F) || ((c == 0x61C) || (is_within
 abbrev pub is_high_ignorable : ℕ → Bool
 is_high_ignorable c = is_within 0x1BCA0 0x1BCA4 c || (is_within 0x1D173 0x1D17B c || is_within 0xE0000 0xE1000 c)
 
--- Whether a character is seen as nothing, or as a blank that it isn't: control characters and U+00A0, the other blanks of Unicode, and what is ignorable.
-abbrev pub is_invisible : ℕ → Bool
-is_invisible c = nat_lt c 0x20 || (is_within 0x7F 0xA1 c || (is_unicode_space c || (is_low_ignorable c || is_high_ignorable c)))
+-- Whether a character is seen as nothing, or as a space that it isn't, and is no control character.
+abbrev pub is_disguised : ℕ → Bool
+is_disguised c = is_unicode_space c || (is_low_ignorable c || is_high_ignorable c)
 
--- A character as it is shown: a tab, a carriage return and a backslash by a letter, what is invisible by its number, all else as itself.
-abbrev pub shown_char : ℕ → List ℕ
-shown_char c =
+-- A character by its number, in hexadecimal.
+abbrev pub numbered : ℕ → List ℕ
+numbered c = codes "\\u{" ++ digits 16 false c ++ codes "}"
+
+-- A character whose control characters are escaped: a tab, a line feed and a carriage return by a letter, the others by their number, any other character as itself.
+abbrev pub escaped_char : ℕ → List ℕ
+escaped_char c =
     cond (c == 9) (codes "\\t")
+    (cond (c == 10) (codes "\\n")
     (cond (c == 13) (codes "\\r")
-    (cond (c == 92) (codes "\\\\")
-    (cond (is_invisible c) (codes "\\u{" ++ digits 16 false c ++ codes "}") (encode_utf8 c))))
+    (cond (is_control c) (numbered c) (encode_utf8 c))))
 
--- A text as it is shown, character by character.
+-- A name or a text on one line, with its control characters escaped: it can't end the line, nor command a terminal.
+unfoldable pub escaped : List ℕ → List ℕ
+escaped text = flat_map escaped_char (chars text)
+
+-- Whether a byte is a control character's, or may be: from U+0080 on they begin with 0xC2. No public contract needs it.
+abbrev pub is_suspect : ℕ → Bool
+is_suspect b = nat_lt b 0x20 || ((b == 0x7F) || (b == 0xC2))
+
+-- A character as it is shown between quotes: a backslash twice, what is disguised by its number, any other as above.
+abbrev pub shown_char : ℕ → List ℕ
+shown_char c = cond (c == 92) (codes "\\\\") (cond (is_disguised c) (numbered c) (escaped_char c))
+
+-- A text as it is shown between quotes, character by character.
 abbrev pub shown : List ℕ → List ℕ
 shown text = flat_map shown_char (chars text)
 

@@ -8,8 +8,9 @@ ghost use Rattle.gk_explain.specs.EventLines.{names_value, mark_text};
 
 use crate::event::Event;
 use crate::registrations::Registration;
+use crate::shown::push_escaped;
 use gk_gherkin::Step;
-use gk_report::{push_ending, push_one_line};
+use gk_report::push_ending;
 use gk_run::{Mark, Outcome, Part, Place, reason_of, status_of};
 use std::alloc::AllocError;
 
@@ -26,7 +27,7 @@ pub struct Names<'a> {
 pub fn push_place(out: &mut String, file: &str, line: u32) -> Result<(), AllocError>
     ensures { Pushes out.old (spec.place_text file.now line) result out.new }
 {
-    push_one_line(out, file)?;
+    push_escaped(out, file)?;
     write!(out, ":{line}: ")?;
     Ok(())
 }
@@ -76,7 +77,7 @@ fn push_step_line(
     out.push_str(part_text(place.part))?;
     out.push_str(step.keyword.as_str())?;
     out.push_str(" ")?;
-    push_one_line(out, step.text.as_str())?;
+    push_escaped(out, step.text.as_str())?;
     push_mark(out, mark)
 }
 

@@ -6,7 +6,7 @@ ghost use Rattle.gk_explain.specs.Registrations.{CleanupsAreOfTheirSteps};
 ghost use Rattle.gk_explain.specs.Headings.{failures_text};
 ghost use Rattle.gk_explain.specs.Explanation.{nothing_said, with_source, with_feature, with_run, with_taken};
 ghost use Rattle.gk_explain.specs.Explainer as spec;
-ghost use Rattle.gk_explain.specs.Explainer.{said, Becomes, Hears, Ends, CasesAreExplained};
+ghost use Rattle.gk_explain.specs.Explainer.{said, Becomes, Hears, Ends, CasesAreExplained, IsCutOnlyByBad};
 
 use crate::event::{CleanupEvent, Event, StepEvent};
 use crate::explanation::Explanation;
@@ -75,9 +75,11 @@ impl<'a> Explainer<'a> {
     }
 
     /// A feature has ended with this result, after its events. What failed of its own hooks and cleanups is
-    /// ready then, too. Where a growth is refused, the explainer is cut.
+    /// ready then, too. If a growth is refused, the explainer is cut; none is asked for unless they failed or were
+    /// refused memory.
     pub fn end_feature(&mut self, feature: &FeatureResult)
-        ensures { Becomes self.old (with_feature (feature_row feature.now)) self.new }
+        ensures becomes { Becomes self.old (with_feature (feature_row feature.now)) self.new }
+        ensures kept { IsCutOnlyByBad feature.now.around self.old self.new }
     {
         if self.cut {
             return;
@@ -87,9 +89,11 @@ impl<'a> Explainer<'a> {
     }
 
     /// The run has ended, after all events, `around` being how its own hooks and cleanups ended. What failed
-    /// of them is ready then, too. Where a growth is refused, the explainer is cut.
+    /// of them is ready then, too. If a growth is refused, the explainer is cut; none is asked for unless they failed
+    /// or were refused memory.
     pub fn end_run(&mut self, around: Status)
-        ensures { Becomes self.old (with_run around) self.new }
+        ensures becomes { Becomes self.old (with_run around) self.new }
+        ensures kept { IsCutOnlyByBad around self.old self.new }
     {
         if self.cut {
             return;

@@ -115,8 +115,9 @@ impl<'a> Explanation<'a> {
 
     /// The feature that is open has ended with this result. Errors are those of `end_case`.
     pub fn end_feature(&mut self, feature: &FeatureResult) -> Result<(), AllocError>
-        ensures { OnOk result (explanation_value self.new
+        ensures ended { OnOk result (explanation_value self.new
             ≡ with_feature (feature_row feature.now) (explanation_value self.old)) }
+        ensures free { cases.is_bad feature.now.around ≡ false → OnErr result ⊥ }
     {
         let source = self.source.as_str();
         self.explained
@@ -145,8 +146,9 @@ impl<'a> Explanation<'a> {
     /// The scenario that is open has ended with this result. An error comes only where a growth was refused; a part of
     /// its explanation may be ready then.
     pub fn end_case(&mut self, case: &CaseResult) -> Result<(), AllocError>
-        ensures { OnOk result (explanation_value self.new
+        ensures ended { OnOk result (explanation_value self.new
             ≡ with_case (case_row case.now) (explanation_value self.old)) }
+        ensures free { cases.is_bad case.now.status ≡ false → OnErr result ⊥ }
     {
         let source = self.source.as_str();
         self.explained
@@ -155,8 +157,9 @@ impl<'a> Explanation<'a> {
 
     /// The rule that is open has ended with this result. Errors are those of `end_case`.
     pub fn end_rule(&mut self, rule: &RuleResult) -> Result<(), AllocError>
-        ensures { OnOk result (explanation_value self.new
+        ensures ended { OnOk result (explanation_value self.new
             ≡ with_rule (rule_row rule.now) (explanation_value self.old)) }
+        ensures free { cases.is_bad rule.now.around ≡ false → OnErr result ⊥ }
     {
         let source = self.source.as_str();
         self.explained
@@ -165,8 +168,9 @@ impl<'a> Explanation<'a> {
 
     /// The run has ended, its own hooks and cleanups so. Errors are those of `end_case`.
     pub fn end_run(&mut self, around: Status) -> Result<(), AllocError>
-        ensures { OnOk result (explanation_value self.new
+        ensures ended { OnOk result (explanation_value self.new
             ≡ with_run around (explanation_value self.old)) }
+        ensures free { cases.is_bad around ≡ false → OnErr result ⊥ }
     {
         let source = self.source.as_str();
         self.explained

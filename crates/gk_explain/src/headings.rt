@@ -5,7 +5,8 @@ ghost use Rattle.gk_report.specs.ReportTexts.{Pushes};
 ghost use Rattle.gk_explain.specs.Headings as spec;
 
 use crate::event_lines::push_place;
-use gk_report::{push_ending, push_one_line};
+use crate::shown::push_escaped;
+use gk_report::push_ending;
 use gk_run::{CaseResult, FeatureResult, RuleResult, Status};
 use std::alloc::AllocError;
 
@@ -38,7 +39,7 @@ fn push_case_heading(out: &mut String, source: &str, case: &CaseResult) -> Resul
     push_place(out, source, case.line)?;
     out.push_str(case.keyword.as_str())?;
     out.push_str(": ")?;
-    push_one_line(out, case.name.as_str())
+    push_escaped(out, case.name.as_str())
 }
 
 // Pushes the heading of the hooks and cleanups of a rule of a file.
@@ -70,7 +71,7 @@ fn push_feature_heading(
 {
     push_place(out, source, feature.line)?;
     out.push_str("Feature: ")?;
-    push_one_line(out, feature.name.as_str())?;
+    push_escaped(out, feature.name.as_str())?;
     push_around(out)
 }
 

@@ -1,6 +1,6 @@
 //! Texts as they are shown below an event.
-ghost use Rattle.std.specs.Prelude.{◌≡◌, ◌<◌, ◌+◌, ◌++◌, false, length, map, codes, IfOk};
-ghost use Rattle.std.specs.Fmt.{digits};
+ghost use Rattle.std.specs.Prelude.{◌≡◌, ◌<◌, ◌+◌, length, map, IfOk};
+ghost use Rattle.std.specs.List.{list_any};
 ghost use Rattle.gk_report.specs.ReportTexts.{Pushes};
 ghost use Rattle.gk_explain.specs.Shown as spec;
 
@@ -12,11 +12,19 @@ fn is_within(first: u32, end: u32, code: u32) -> bool
     code >= first && code < end
 }
 
-// Whether a character is seen as a blank, and isn't the one of ASCII.
+// Whether a character is a control character, by Unicode's general category Cc.
+fn is_control(code: u32) -> bool
+    ensures { result ≡ spec.is_control code }
+{
+    code < 0x20 || is_within(0x7F, 0xA0, code)
+}
+
+// Whether a character looks like a space and isn't the one of ASCII.
 fn is_unicode_space(code: u32) -> bool
     ensures { result ≡ spec.is_unicode_space code }
 {
-    code == 0x1680
+    code == 0xA0
+        || code == 0x1680
         || is_within(0x2000, 0x200B, code)
         || is_within(0x2028, 0x202A, code)
         || code == 0x202F
@@ -54,37 +62,32 @@ fn is_high_ignorable(code: u32) -> bool
         || is_within(0xE0000, 0xE1000, code)
 }
 
-// Whether a character is seen as nothing, or as a blank that it isn't.
-fn is_invisible(code: u32) -> bool
-    ensures { result ≡ spec.is_invisible code }
+// Whether a character is seen as nothing, or as a space that it isn't, and is no control character.
+fn is_disguised(code: u32) -> bool
+    ensures { result ≡ spec.is_disguised code }
 {
-    code < 0x20
-        || is_within(0x7F, 0xA1, code)
-        || is_unicode_space(code)
-        || is_low_ignorable(code)
-        || is_high_ignorable(code)
+    is_unicode_space(code) || is_low_ignorable(code) || is_high_ignorable(code)
 }
 
 // Pushes the number of a character, in hexadecimal.
 fn push_number(out: &mut String, code: u32) -> Result<(), AllocError>
-    ensures { Pushes out.old (codes "\\u{" ++ digits 16 false code ++ codes "}") result out.new }
+    ensures { Pushes out.old (spec.numbered code) result out.new }
 {
     out.push_str("\\u{")?;
     write!(out, "{code:x}")?;
     out.push_str("}")
 }
 
-/// Pushes a character as it is shown. An error comes only where a growth was refused; a part of it may have been
-/// pushed then.
-pub fn push_char(out: &mut String, c: char) -> Result<(), AllocError>
-    ensures { Pushes out.old (spec.shown_char c) result out.new }
+// Pushes a character, or the escape of a control character.
+fn push_escaped_char(out: &mut String, c: char) -> Result<(), AllocError>
+    ensures { Pushes out.old (spec.escaped_char c) result out.new }
 {
     match c {
         '\t' => out.push_str("\\t"),
+        '\n' => out.push_str("\\n"),
         '\r' => out.push_str("\\r"),
-        '\\' => out.push_str("\\\\"),
         _ => {
-            if is_invisible(c as u32) {
+            if is_control(c as u32) {
                 push_number(out, c as u32)
             } else {
                 out.push(c)
@@ -93,8 +96,57 @@ pub fn push_char(out: &mut String, c: char) -> Result<(), AllocError>
     }
 }
 
-/// Pushes a text as it is shown: what can't be seen stands there as an escape. An error comes only where a growth
-/// was refused; a part of it may have been pushed then.
+// Whether a byte is of a control character, or may be: those from U+0080 on begin with 0xC2.
+fn is_suspect(byte: u8) -> bool
+    ensures { result ≡ spec.is_suspect byte }
+{
+    byte < 0x20 || byte == 0x7F || byte == 0xC2
+}
+
+fn has_suspect(text: &str) -> bool
+    ensures { result ≡ list_any spec.is_suspect text.now }
+{
+    text.as_bytes().iter().any(|byte| is_suspect(*byte))
+}
+
+// Pushes the characters of a text, each as it is or escaped.
+fn push_escaped_chars(out: &mut String, text: &str) -> Result<(), AllocError>
+    ensures { Pushes out.old (spec.escaped text.now) result out.new }
+{
+    for c in text.chars() {
+        push_escaped_char(out, c)?;
+    }
+    Ok(())
+}
+
+/// Appends a name or a text on one line, with its control characters escaped. An error comes only if a growth was
+/// refused; a part of it may have been appended then.
+pub fn push_escaped(out: &mut String, text: &str) -> Result<(), AllocError>
+    ensures { Pushes out.old (spec.escaped text.now) result out.new }
+{
+    if has_suspect(text) {
+        push_escaped_chars(out, text)
+    } else {
+        out.push_str(text)
+    }
+}
+
+/// Appends a character as it is shown between quotes. An error comes only if a growth was refused; a part of it may
+/// have been appended then.
+pub fn push_char(out: &mut String, c: char) -> Result<(), AllocError>
+    ensures { Pushes out.old (spec.shown_char c) result out.new }
+{
+    if c == '\\' {
+        out.push_str("\\\\")
+    } else if is_disguised(c as u32) {
+        push_number(out, c as u32)
+    } else {
+        push_escaped_char(out, c)
+    }
+}
+
+/// Appends a text as it is shown between quotes, with an escape for what can't be seen. An error comes only if a
+/// growth was refused; a part of it may have been appended then.
 pub fn push_shown(out: &mut String, text: &str) -> Result<(), AllocError>
     ensures { Pushes out.old (spec.shown text.now) result out.new }
 {

@@ -23,7 +23,7 @@ returns-in_ok-write_ready-in-Ok-clause-ok g c =
       opens = c.in-Ok.ensures.next;
       text = let e = said c.end_feature.new.self in e.ready;
       explained = told_feature run (state_of c.args.sandbox.now.now) c.args.so_far.now.suite.is_open (chosen_value c.args.feature) (feature_row c.in-Ok.result)
-          old c.begin_feature.new.self c.feature_watched.new.observer c.end_feature.new.self c.write_ready.new.explainer begins c.in-Ok.ensures.told c.end_feature.ensures ready.uncut ready.taken;
+          old c.begin_feature.new.self c.feature_watched.new.observer c.end_feature.new.self c.write_ready.new.explainer begins c.in-Ok.ensures.told c.end_feature.ensures.becomes ready.uncut ready.taken;
       written = ready.written;
       counted = c.add.ensures.added;
     }
@@ -39,7 +39,7 @@ returns-in_err-write_ready-in-Ok-clause-err g c =
     subst (EndsNextExplaining c.args.glue.now c.args.sandbox.now c.args.feature before c.args.so_far.now new) (sym same)
     (next_stopped run (state_of c.args.sandbox.now.now) c.args.so_far.now.suite.is_open (chosen_value c.args.feature) (feature_row c.in-Ok.result)
     old c.begin_feature.new.self c.feature_watched.new.observer c.end_feature.new.self c.write_ready.new.explainer before new c.in_err-write_ready-in-Ok.field-0.0
-    c.in-Ok.ensures.row begins c.in-Ok.ensures.told c.end_feature.ensures c.in_err-write_ready-in-Ok.ensures.err))
+    c.in-Ok.ensures.row begins c.in-Ok.ensures.told c.end_feature.ensures.becomes c.in_err-write_ready-in-Ok.ensures.err))
 
 pub returns-in-Err-clause-err : goal.returns-in-Err-clause-err
 returns-in-Err-clause-err g c = inl (refl, refl)

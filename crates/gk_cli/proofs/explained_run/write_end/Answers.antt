@@ -13,7 +13,7 @@ returns-clause-ok g c =
     λ rows counted.
     let old = device_of g.W.Write.contents c.args.out.now in
     let new = device_of g.W.Write.contents c.write_piece.new.out in
-    let ended = c.end_run.ensures c.in_ok-text.ensures.uncut in
+    let ended = c.end_run.ensures.becomes c.in_ok-text.ensures.uncut in
     let e : ExplanationValue = with_run c.args.around (said c.args.explainer) in
     let ready = c.in_ok-text.ensures.text ∙ ap (λ (x : ExplanationValue). x.ready) ended.1 in
     let failures = c.as_str.ensures.value ∙ c.in_ok-failures.ensures.text ∙ ap (λ (x : ExplanationValue). failures_text x.failures) (c.in_ok-text.ensures.left ∙ ap (λ (x : ExplanationValue). record x { ready = [] }) ended.1) in

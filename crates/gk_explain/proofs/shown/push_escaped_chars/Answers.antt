@@ -1,0 +1,17 @@
+use Rattle.std.proofs.Common.{sym, ◌∙◌, append_assoc, append-nil}
+use Rattle.std.proofs.lemmas.Str.{IsUtf8-past_char}
+use Rattle.gk_explain.specs.Shown.{escaped_char, escaped}
+use Rattle.gk_explain.proofs.ShownLemmas.{shown_none, shown_first}
+use Rattle.gk_explain.proofs.shown.push_escaped_chars.Goals as goal
+
+pub loop-c-preserved : goal.loop-c-preserved
+unfolding escaped
+loop-c-preserved c =
+    let held = c.loop-c.invariant in
+    let parts = c.in-Some.ensures.steps.0 in
+    let first = shown_first escaped_char _ _ c.in-Some.c held.0 parts in
+    (IsUtf8-past_char _ _ c.in-Some.c held.0 parts, rw (c.in_ok-push_escaped_char.ensures, append_assoc) (rw first at held.1))
+
+pub returns : goal.returns
+unfolding escaped
+returns c = sym (append-nil _) ∙ rw (shown_none escaped_char _ c.in-None.ensures.steps.0.0) at c.loop-c.invariant.1
