@@ -2,7 +2,8 @@
 
 The bytes are 1 to 32 and 127. The program takes each name and each argument as it is given. What has to
 come out is worked out here, by these rules, and not taken from the program: a fault has a name as it is
-given; progress, an explanation and a finding have a line feed of it as `\\n`; JSON has it with JSON's escapes.
+given; progress has a line feed of it as `\\n`; an explanation and a finding have each control character of it
+escaped; JSON has it with JSON's escapes.
 
 In each folder stands a file `a`, too. A name without its first or its last byte is mostly that of this file.
 """
@@ -18,6 +19,8 @@ PASSES = "Given it passes"
 PASSING = driver.feature(PASSES)
 FAILS = "Given it fails"
 FAILING = driver.feature(FAILS)
+# The escapes of control characters that have a letter in an explanation.
+SHOWN = {9: "\\t", 10: "\\n", 13: "\\r"}
 # The escapes of JSON that have a letter; the other bytes below a blank have a number.
 LETTERS = {8: "b", 9: "t", 10: "n", 12: "f", 13: "r"}
 TRY_HELP = "\nFor more information, try '--help'.\n"
@@ -37,6 +40,14 @@ def edged(byte, text):
 def one_line(text):
     """A text as it stands in a line of what is printed."""
     return text.replace("\n", "\\n")
+
+
+def shown(text):
+    """A text as it is in a line of an explanation or of a finding."""
+    def escaped(character):
+        code = ord(character)
+        return SHOWN.get(code, f"\\u{{{code:x}}}") if code < 32 or code == 127 else character
+    return "".join(escaped(it) for it in text)
 
 
 def in_json(text):
@@ -63,11 +74,11 @@ def feature_files(name):
 
 def places(name):
     """Runs that print places in files of this name."""
-    shown = one_line(name)
-    explanation = (f"{shown}:2: Scenario: s ... failed\n  {shown}:3: {FAILS} ... failed: fail step\n\n"
-                   f"{shown}:2: Scenario: s\n\n" + closing((0, 1), (0, 1), (0, 1)))
+    place = shown(name)
+    explanation = (f"{place}:2: Scenario: s ... failed\n  {place}:3: {FAILS} ... failed: fail step\n\n"
+                   f"{place}:2: Scenario: s\n\n" + closing((0, 1), (0, 1), (0, 1)))
     yield Run({"a": PASSING, name: FAILING}, 1, explanation, arguments=["--explain", name])
-    found = f"{shown}:1: feature without scenarios\n"
+    found = f"{place}:1: feature without scenarios\n"
     yield Run({"a": PASSING, name: "Feature: f\n"}, 1, found, arguments=["--lint", name])
 
 
