@@ -14,6 +14,7 @@ Fails where
 - README.md has more than 120 lines;
 - a fault text or a reason of the program has no entry in docs/FAULTS.md, or an entry has no such text;
 - examples/default.steps isn't the built-in library;
+- a picture of docs/pictures/ isn't the one that its script draws;
 - a page at the top or of docs/ has a word of WORDS; elsewhere such words are counted only.
 """
 
@@ -466,6 +467,20 @@ def hint_differences():
             yield f"docs/FAULTS.md has no cell that begins with `{hint}`"
 
 
+# ---- pictures
+
+# Each picture's script. One draws what the program prints, one the figures of bench/README.md.
+PICTURES = {"failing_run.svg": "docs/pictures/failing_run.py", "peers.svg": "bench/chart"}
+
+
+def picture_differences(program):
+    """Pictures that are missing, or that their scripts draw in another way."""
+    for name, script in PICTURES.items():
+        drawn = subprocess.run([sys.executable, os.path.join(HOME, script), program], stdout=subprocess.PIPE, text=True, check=True).stdout
+        if drawn != read(f"docs/pictures/{name}"):
+            yield f"docs/pictures/{name} isn't what {script} draws"
+
+
 # ---- the built-in library
 
 def library_difference():
@@ -543,6 +558,7 @@ def main():
     tests.check("the length of README.md", [f"{length} lines"] if length > README_LINES else [])
     tests.check("entries of docs/FAULTS.md", fault_differences())
     tests.check("hints of docs/FAULTS.md", hint_differences())
+    tests.check("pictures", picture_differences(program))
     tests.check("the built-in library", library_difference())
     faults, elsewhere = counted_words()
     tests.check("words in pages", [f"{path}:{number}: {text}" for path, number, text in faults])
