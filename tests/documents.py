@@ -442,7 +442,7 @@ def fault_texts():
             and (" " in it or it in REASONS_OF_ONE_WORD or it.startswith("bad"))}
 
 
-# What is to be done about each fault, in the last column of docs/FAULTS.md.
+# What is to be done about each fault: its fix in docs/FAULTS.md begins so.
 HINTS = "crates/gk_cli/src/hints.rt"
 
 # Reasons that are one word; other single words in the code are keywords and names.
@@ -451,20 +451,20 @@ REASONS_OF_ONE_WORD = {"absent", "present", "differs"}
 
 def fault_differences():
     """Texts of the code without an entry in docs/FAULTS.md, and entries for texts that the code lacks."""
-    page, texts = read("docs/FAULTS.md"), fault_texts()
-    listed = set(re.findall(r"^\| `([^`]+)` \|", page, re.MULTILINE))
-    for text in sorted(texts - set(re.findall(r"`([^`]+)`", page))):
+    headings, texts = re.findall(r"^### `.*", read("docs/FAULTS.md"), re.MULTILINE), fault_texts()
+    listed = set(re.findall(r"`([^`]+)`", " ".join(headings)))
+    for text in sorted(texts - listed):
         yield f"docs/FAULTS.md has no entry for `{text}`"
     for text in sorted(listed - texts - STATUSES):
         yield f"docs/FAULTS.md has an entry for `{text}`, which the program doesn't print"
 
 
 def hint_differences():
-    """Hints of the code that begin no cell of docs/FAULTS.md."""
-    page = re.sub(r"\[([^]]*)\]\([^)]*\)", r"\1", read("docs/FAULTS.md")).replace("`", "")
-    for hint in re.findall(r'"([^"]+)"', re.sub(r"//.*", "", read(HINTS))):
-        if f"| {hint}" not in page:
-            yield f"docs/FAULTS.md has no cell that begins with `{hint}`"
+    """Hints of the code that begin no fix of docs/FAULTS.md."""
+    page = re.sub(r"\[([^]]*)\]\([^)]*\)", r"\1", read("docs/FAULTS.md")).replace("`", "").replace("\n", " ")
+    for hint in re.findall(r'"([^"]+)"', re.sub(r"//.*", "", read(HINTS)).replace("\\\\", "\\")):
+        if f"**Fix:** {hint}" not in page:
+            yield f"docs/FAULTS.md has no fix that begins with `{hint}`"
 
 
 # ---- pictures
