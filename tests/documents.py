@@ -11,7 +11,7 @@ Fails where
 - a file of examples/ that a document shows isn't that file;
 - a definition of specs/ has no comment above it, or a broken one;
 - two crates have modules of the same name;
-- README.md has more than 120 lines;
+- README.md has more than 120 lines, or a page for users is hard to read (prose.py says how that is counted);
 - a fault text or a reason of the program has no entry in docs/FAULTS.md, or an entry has no such text;
 - examples/default.steps isn't the built-in library;
 - a picture of docs/pictures/ isn't the one that its script draws;
@@ -23,10 +23,14 @@ import re
 import subprocess
 import sys
 
+import prose
+
 HOME = os.path.dirname(os.path.dirname(os.path.realpath(__file__)))
 # Words that Rust's own documentation doesn't use so.
 WORDS = re.compile(r"\b(front|fronts|behind|tells|told|want of memory)\b", re.IGNORECASE)
 README_LINES = 120
+# Pages for users that aren't held against prose.py yet.
+UNREAD = {f"docs/guide/{it}.md" for it in ("from_c", "from_python", "in_your_browser", "installing", "recipes", "machines", "editors", "pytest")}
 # The endings of files that pages name.
 SOURCES = (".rt", ".antt", ".py", ".sh", ".awk", ".c", ".feature", ".steps", ".edit", ".arguments", ".report", ".status", ".fault")
 
@@ -548,6 +552,9 @@ def main():
         tests.check(f"examples in {page}", lines_of(page, example_differences(page)))
         for number, difference in run_differences(page, program, room):
             tests.check(f"{page}:{number}", [difference] if difference else [])
+    for page in sorted({"README.md", "docs/FAULTS.md", *GUIDE} - UNREAD):
+        text = read(page)
+        tests.check(f"how {page} reads", lines_of(page, prose.hard_to_read(page, text, without_blocks(text))))
     tests.check("files of docs/guide/", shown_twice())
     tests.check("must-fail edits", edit_differences())
     for path in FILES:
