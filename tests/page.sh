@@ -4,8 +4,9 @@
 # PROGRAM is the built program; without it, the one that ./run runs. MODULE is what web/build/capture_module.sh kept of the
 # proved library; where it is given, and wasm-opt is the one that made web/gherkin_run.wasm, that file is made anew and compared.
 # web/try.html has to be what its parts make. Then tests/page.py runs the examples and some changed ones by the module in
-# Node, and the examples, a hostile input and a run that is stopped on the page, in headless Chromium. Says what isn't there. With
-# PICTURES in the environment, a folder, it leaves pictures of the page there. Closes with one line 'N passed, M failed'.
+# Node, and uses the page by mouse and keyboard in headless Chromium: examples, links, files, runs that last, markup. Says
+# which of them are missing. With PICTURES in the environment, a folder, it leaves pictures of the page there; with TIMES,
+# it says how long each part takes. Closes with one line 'N passed, M failed'.
 set -eu
 
 . "$(dirname -- "$(readlink -f -- "$0")")/setup.sh"

@@ -5,8 +5,10 @@ It has the page and the scripts of web/source, the WebAssembly module, and the f
 """
 
 import base64
+import hashlib
 import json
 import os
+import re
 import sys
 
 HOME = os.path.dirname(os.path.dirname(os.path.dirname(os.path.realpath(__file__))))
@@ -55,21 +57,35 @@ def examples():
     return json.dumps(found, ensure_ascii=False).replace("<", "\\u003c")
 
 
-def main():
-    """Puts the parts together."""
-    with open(sys.argv[1], "rb") as file:
-        module = base64.b64encode(file.read()).decode()
-    caller = read("web", "source", "gherkin_run.js").replace("export ", "")
-    parts = {"module": module, "worker": "\n" + caller + read("web", "source", "worker.js"), "examples": examples(),
-             "page": read("web", "source", "page.js")}
-    page = read("web", "source", "page.html")
+def filled(page, parts):
+    """The page with each part in its place."""
     for name, text in parts.items():
         if "</script" in text or page.count("{%s}" % name) != 1:
             sys.exit(f"make_page.py: {name} doesn't fit into the page")
     for name, text in parts.items():
         before, after = page.split("{%s}" % name)
         page = before + text + after
-    sys.stdout.buffer.write(page.encode("utf-8"))
+    return page
+
+
+def hashes_of(page):
+    """The hashes by which the page's policy allows its one style sheet and its one script, and no others."""
+    found = {}
+    for name in ("style", "script"):
+        text, = re.findall(f"<{name}>(.*?)</{name}>", page, re.DOTALL)
+        found[f"{name}_hash"] = "sha256-" + base64.b64encode(hashlib.sha256(text.encode()).digest()).decode()
+    return found
+
+
+def main():
+    """Puts the parts together."""
+    with open(sys.argv[1], "rb") as file:
+        module = base64.b64encode(file.read()).decode()
+    caller = read("web", "source", "gherkin_run.js").replace("export ", "")
+    page = filled(read("web", "source", "page.html"), {"page": read("web", "source", "page.js")})
+    page = filled(page, hashes_of(page))
+    parts = {"module": module, "worker": "\n" + caller + read("web", "source", "worker.js"), "examples": examples()}
+    sys.stdout.buffer.write(filled(page, parts).encode("utf-8"))
 
 
 if __name__ == "__main__":
