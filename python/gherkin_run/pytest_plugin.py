@@ -92,6 +92,13 @@ class Outcome(NamedTuple):
         if self.run != "passed":
             yield f"{HOOKS} ... {self.run}"
 
+    def place(self) -> str:
+        """Returns the place of the first step that failed, or else of the scenario, and what happened there."""
+        for step in self.scenario["steps"]:
+            if step["status"] in ("failed", "undefined", "memory"):
+                return f"{self.feature['source']}:{step['line']}: {described(step)}"
+        return f"{self.feature['source']}:{self.scenario['line']}: {self.verdict()}"
+
 
 def described(step: StepData) -> str:
     """Returns the status of a step, with its reason."""
@@ -109,7 +116,7 @@ def outcomes(report: ReportData) -> Iterator[Outcome]:
 
 
 class ScenarioFailed(Exception):
-    """A scenario that failed, or hooks or cleanups around it. The message is its plain report."""
+    """A scenario that failed, or hooks or cleanups around it. The message is its plain report and the place."""
 
 
 def pytest_addoption(parser: pytest.Parser) -> None:
@@ -131,6 +138,16 @@ def pytest_collection_finish(session: pytest.Session) -> None:
     for item in session.items:
         if isinstance(item, Scenario):
             item.file.chosen.append(item.line)
+
+
+def pytest_runtest_makereport(item: pytest.Item, call: pytest.CallInfo[None]) -> Optional[pytest.TestReport]:
+    if not isinstance(item, Scenario):
+        return None
+    report = pytest.TestReport.from_item_and_call(item, call)
+    if isinstance(report.longrepr, tuple):
+        # The report of a skipped test has the place of the call that skips it.
+        report.longrepr = (as_id(str(item.path)), item.line, report.longrepr[2])
+    return report
 
 
 class FeatureFile(pytest.File):
@@ -181,7 +198,7 @@ class Scenario(pytest.Item):
         if verdict == "skipped":
             pytest.skip("the scenario skipped itself")
         if verdict != "passed":
-            raise ScenarioFailed("\n".join(map(printable, outcome.lines())))
+            raise ScenarioFailed("\n".join(map(printable, [*outcome.lines(), "", outcome.place()])))
 
     def repr_failure(self, excinfo: Any, style: Any = None) -> Any:
         if isinstance(excinfo.value, (ScenarioFailed, FaultError)):
@@ -190,4 +207,4 @@ class Scenario(pytest.Item):
 
     def reportinfo(self) -> Any:
         # pytest writes :: for the periods of a text that ends the test's id, so this text has the file's name in front.
-        return self.path, self.line - 1, f"{as_id(self.path.name)}: {self.name}"
+        return as_id(str(self.path)), self.line - 1, f"{as_id(self.path.name)}: {self.name}"
