@@ -8,6 +8,7 @@ import ctypes
 import os
 import random
 import re
+import resource
 import shutil
 import subprocess
 import sys
@@ -18,10 +19,12 @@ HOME = driver.HOME
 HEADER = os.path.join(HOME, "include", "gherkin_run.h")
 CHANGED = 300
 PREFIX = b"gherkin_run: "
-# Counts of arguments around powers of two, and a large one.
+# Counts of arguments around powers of two, and more files than may be open at once.
+BAD_WORDS = [], ["--stop"], ["--line"], ["ten", "--line"], ["--env", "AB", "ten"], ["--unknown", "8", "ten"], ["-x", "ten"]
+OPEN_FILES = 256
 COUNTS = 63, 64, 65, 66, 127, 129, 1000
-GOOD_LINES = "5", "010", "+5", "007", "4294967295"
-BAD_LINES = "-1", "0", "4294967298", "18446744073709551618", "", "+", "5+", "5x", " 5", "0x5"
+GOOD_LINES = "8", "010", "+10", "4294967295"
+BAD_LINES = "-1", "0", "4294967304", "18446744073709551624", "", "+", "8+", "8x", " 8", "0x8"
 ENVIRONMENT = {"ASAN_OPTIONS": "detect_leaks=0"}
 
 
@@ -63,11 +66,10 @@ class Comparisons(driver.Tests):
         wanted, got = ended([self.program, *words], folder), ended([self.main, *words], folder)
         self.add(driver.trouble(what, got, wanted))
 
-    def refuse(self, words, what):
+    def refuse(self, words):
         """Expects both to refuse a command line and to print no report."""
         for name in self.program, self.main:
-            status, out, _ = ended([name, *words], HOME)
-            self.add(driver.trouble(f"{what}, {name}", (status, out), (2, b"")))
+            self.add(driver.trouble(f"{name} {words}", ended([name, *words], self.room)[:2], (2, b"")))
 
     def examples(self):
         """Runs the examples, and names that can't be read."""
@@ -76,24 +78,34 @@ class Comparisons(driver.Tests):
         self.compare(["examples"], "a folder")
         self.compare(["examples/missing.feature"], "a missing file")
 
-    def shown_line(self):
-        """Shows the line that a fault is in."""
-        status, _, said = ended([self.main, "--show", "examples/uneven.feature"], HOME)
-        fault, *shown = said.splitlines()
-        wanted = driver.read(os.path.join(HOME, "examples", "uneven.feature")).split(b"\n")[int(fault.split(b":")[1]) - 1]
-        self.add((status, shown) != (3, [wanted]) and f"--show: status {status}, and it shows {shown}")
+    def shown_lines(self):
+        """Shows the line that a fault is in, of each kind of file, and none for a fault without a line."""
+        driver.write(self.room, {"good": "Feature: f\n", "bad.feature": "Feature: f\n\n\tFeature: g", "bad.hooks": "\n@never\n",
+                                 "bad.library": "given a => pass\ngiven b => none\n", "large": "\n" * 16777217})
+        for words, shown in (
+            (["good", "bad.feature"], "\tFeature: g\n"),
+            (["--hooks", "bad.hooks", "good"], "@never\n"),
+            (["--library", "bad.library", "good"], "given b => none\n"),
+            (["large"], ""),
+            (["--tags", "and", "good"], ""),
+        ):
+            wanted = ended([self.program, *words], self.room)
+            got = ended([self.main, "--show", *words], self.room)
+            self.add(driver.trouble(f"--show {words}", got, (*wanted[:2], wanted[2] + shown.encode())))
 
     def command_lines(self):
         """Tries numbers of lines, and many arguments."""
-        paint = "examples/paint.feature"
+        scenarios = "Scenario: line 8\nGiven it passes\nScenario: line 10\nGiven it fails\n"
+        driver.write(self.room, {"ten": "Feature: f" + "\n" * 7 + scenarios})
         for line in GOOD_LINES:
-            self.compare(["--line", line, paint], f"line {line}")
-        for line in BAD_LINES:
-            self.refuse(["--line", line, paint], f"line {line!r}")
+            self.compare(["--line", line, "ten"], f"line {line}", self.room)
+        for words in [*(["--line", line, "ten"] for line in BAD_LINES), *BAD_WORDS]:
+            self.refuse(words)
         for count in COUNTS:
-            self.compare([paint] * count, f"{count} files")
-            for option in (["--line", "5"], ["--tags", "not @a"], ["--env", "A=b"]):
-                self.compare([*option * (count // 2), *[paint] * (count % 2 or 2)], f"{count} words of {option[0]}")
+            self.compare(["ten"] * count, f"{count} files", self.room)
+            for option in (["--line", "8"], ["--tags", "not @a"], ["--env", "A=b"]):
+                words = [*option * (count // 2), *["ten"] * (count % 2 or 2)]
+                self.compare(words, f"{count} words, {option[0]}", self.room)
 
     def texts(self):
         """Prints a report longer than the example's first room, and one with a zero byte."""
@@ -155,9 +167,10 @@ class Comparisons(driver.Tests):
 def main():
     """Runs the comparisons, and then the calls of tests/c_library.c and of tests/random_bytes.c."""
     program, room, seed, count = sys.argv[1:5]
+    resource.setrlimit(resource.RLIMIT_NOFILE, (OPEN_FILES, OPEN_FILES))
     tests = Comparisons(program, room)
     tests.examples()
-    tests.shown_line()
+    tests.shown_lines()
     tests.command_lines()
     tests.texts()
     tests.changed_files()

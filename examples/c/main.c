@@ -66,7 +66,7 @@ static gherkin_named variable_of(const char *text) {
 static uint32_t line_of(const char *text) {
     char *end;
     unsigned long number = strtoul(text, &end, 10);
-    if (end == text || text[strspn(text, "+0123456789")] || *end || number > UINT32_MAX) refuse("bad line");
+    if (text[strspn(text, "+0123456789")] || *end || number > UINT32_MAX) refuse("bad line");
     return (uint32_t)number;
 }
 
@@ -85,7 +85,7 @@ static bool takes_word(command *asked, const char *word) {
     else if (strcmp(word, "--dry-run") == 0) call->dry_run = true;
     else if (strcmp(word, "--stop") == 0) call->stop = true;
     else if (strcmp(word, "--no-skipped") == 0) call->no_skipped = true;
-    else if (strncmp(word, "--", 2) != 0) asked->sources[call->source_count++] = file_of(word);
+    else if (word[0] != '-') asked->sources[call->source_count++] = file_of(word);
     else return false;
     return true;
 }
