@@ -176,6 +176,8 @@ def faults(python, room):
         status, text = fault(*words, below=below)
         yield differs(f"the status at {name}", status, 2)
         yield from lacks("a fault", text, f"\n{name}:2: unexpected line\n")
+    driver.write(fault.folder, {"long.feature": b"#" * ((1 << 24) + 1)})
+    yield from lacks("a file that is too long", fault("long.feature")[1], "\nlong.feature: longer than 16777216 bytes\n")
     files = {**SUITE, **PYTHON_TEST, "pytest.ini": f"{SETTINGS}gherkin_library = none.steps\n"}
     lost = Pytest(python, os.path.join(room, "lost"), files)
     yield from lacks("a missing library file", lost()[1], f"No such file or directory: '{lost.folder}/none.steps'\n")

@@ -22,6 +22,7 @@ import typing
 import driver
 import gherkin_run
 import plugin
+import python_pages
 from c_library import changed
 
 CHANGED = 300
@@ -444,7 +445,8 @@ def main():
         tests.add(said if "isn't" in said else "")
     parts = [example_runs(program), command_lines(program), long_files(program, room), failing_outputs(program), changed_runs(program, room),
              faults(), values(), reports(), types(), checked_types(room), same_version(program), threads(), nuls(), unloaded(room),
-             waiting(room), refused(room), plugin.tests(room), left_over(temporary)]
+             waiting(room), refused(room), plugin.tests(room), python_pages.tests(room, plugin.interpreter()),
+             left_over(temporary)]
     for part in parts:
         tests.add_all(part)
     return tests.close()
