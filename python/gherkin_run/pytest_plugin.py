@@ -206,5 +206,5 @@ class Scenario(pytest.Item):
         return super().repr_failure(excinfo, style)
 
     def reportinfo(self) -> Any:
-        # pytest writes :: for the periods of a text that ends the test's id, so this text has the file's name in front.
+        # pytest replaces each period by :: in a text that ends the test's id, so this text begins with the file's name.
         return as_id(str(self.path)), self.line - 1, f"{as_id(self.path.name)}: {self.name}"
