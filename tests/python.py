@@ -398,9 +398,10 @@ def waiting(room):
             status, stderr = ends(process)
         yield "" if (begun, status, stderr) == (b"in", wanted, b"") else f"after Ctrl-C the command ends with {status}: {stderr.decode()}"
     read, write = os.pipe()
-    done = subprocess.run([sys.executable, __file__, "beside", str(write)], env=environment, stdin=read, capture_output=True, pass_fds=[write],
-                          timeout=driver.PATIENCE, check=False)
-    yield "" if done.stdout == b"inreleased\n" else f"a call doesn't let other threads run: {done.stdout.decode()}{done.stderr.decode()}"
+    with subprocess.Popen([sys.executable, __file__, "beside", str(write)], env=environment, stdin=read, stdout=subprocess.PIPE,
+                          stderr=subprocess.PIPE, pass_fds=[write]) as process:
+        status, stderr = ends(process)
+    yield "" if (status, stderr) == (0, b"") else f"a call doesn't let other threads run: {status}, {stderr.decode()}"
 
 
 def ends(process):
@@ -413,15 +414,14 @@ def ends(process):
 
 
 def beside(pipe):
-    """Makes a call that waits for its standard input, to which only another thread of this process writes."""
+    """Makes a call that waits for its standard input, to which another thread of this process writes."""
     def write():
-        time.sleep(0.3)
+        time.sleep(0.2)
         os.write(pipe, b"x")
 
     thread = threading.Thread(target=write)
     thread.start()
     gherkin_run.run([])
-    print("held" if thread.is_alive() else "released")
     thread.join()
 
 
