@@ -129,17 +129,31 @@ class Comparisons(driver.Tests):
             words = ["--format", rng.choice(["plain", "progress", "json"]), "changed.feature"]
             self.compare(words, f"changed file {number}", self.room)
 
+    def compile(self, compiler, name, text, *words):
+        """Compiles a text that includes the header, and expects no warning."""
+        if not shutil.which(compiler):
+            print(f"include/gherkin_run.h isn't compiled by {compiler}, which is missing")
+            return
+        driver.write(self.room, {name: f'#include "gherkin_run.h"\n{text}'})
+        strict = ["-Wall", "-Wextra", "-Wpedantic", "-Werror", "-fsyntax-only", f"-I{os.path.dirname(HEADER)}"]
+        status, _, said = ended([compiler, *strict, *words, name], self.room)
+        self.add(status != 0 and f"{compiler} {name}: {said.decode()}")
+
     def header(self):
-        """Compiles the header without a warning, in C and in C++."""
+        """Compiles the header in C and in C++."""
         body = "int main(void) { gherkin_call call = GHERKIN_CALL; return call.format; }\n"
-        strict = ["-Wall", "-Wextra", "-Wpedantic", "-Werror", f"-I{os.path.dirname(HEADER)}", "-fsyntax-only"]
-        for compiler, suffix, words in (("cc", "c", ["-std=c11"]), ("c++", "cc", ["-std=c++11", "-Wold-style-cast"])):
-            if not shutil.which(compiler):
-                print(f"include/gherkin_run.h isn't compiled by {compiler}, which is missing")
-                continue
-            driver.write(self.room, {f"header.{suffix}": f'#include "gherkin_run.h"\n{body}'})
-            status, _, said = ended([compiler, *words, *strict, f"header.{suffix}"], self.room)
-            self.add(status != 0 and f"{compiler}: {said.decode()}")
+        self.compile("cc", "header.c", body, "-std=c11")
+        self.compile("c++", "header.cc", body, "-std=c++11", "-Wold-style-cast")
+
+    def page(self):
+        """Compares what the program of docs/guide/from_c.md prints, and compiles the page's other piece of C."""
+        text = driver.read(os.path.join(HOME, "docs", "guide", "from_c.md")).decode()
+        printed = re.search(r"^```text\n\$ ./bakery\n(.*?)^```$", text, re.MULTILINE | re.DOTALL)[1]
+        got = ended([os.path.join(self.room, "bakery")], HOME)
+        self.add(driver.trouble("docs/guide/from_c.md", got, (1, printed.encode(), b"")))
+        piece = re.search(r"^```c\n(.*?)^```$", text, re.MULTILINE | re.DOTALL)[1]
+        head = "int f(gherkin_call call, uint8_t *room, size_t size, gherkin_answer answer)"
+        self.compile("cc", "piece.c", f"#include <stdlib.h>\n{head} {{\n{piece}return 0; }}\n", "-std=c11")
 
     def shared_library(self):
         """Loads the shared library by its versioned name, and from Python. Making it left nothing in TMPDIR."""
@@ -175,6 +189,7 @@ def main():
     tests.texts()
     tests.changed_files()
     tests.header()
+    tests.page()
     tests.shared_library()
     tests.calls(os.path.join(room, "c_library"), os.path.join(HOME, "examples", "paint.feature"))
     tests.calls(os.path.join(room, "random_bytes"), seed, count)

@@ -6,9 +6,9 @@
 # program: on the examples, on changed ones, with many arguments, with long reports. tests/c_library.c tries rooms of all
 # sizes, null pointers, calls that have to be refused, and each growth of memory refused. tests/random_bytes.c makes
 # COUNT calls with random bytes as a feature file, as hooks and as a library, from SEED on (`./test`: 60,000; a million
-# take half a minute). The header has to compile without a warning, in C++ too, and the shared library has to load by its
-# versioned name. Needs the Rattle toolchain and a C compiler, cc; says which of its tools are missing. Closes with one
-# line 'N passed, M failed'.
+# take half a minute). The header has to compile without a warning, in C++ too; the shared library has to load by its
+# versioned name; and docs/guide/from_c.md has to show what its program prints. Needs the Rattle toolchain and a C
+# compiler, cc; says which of them is missing. Closes with one line 'N passed, M failed'.
 set -eu
 
 . "$(dirname -- "$(readlink -f -- "$0")")/setup.sh"
@@ -45,5 +45,7 @@ for name in c_library random_bytes; do
 done
 mkdir "$room/temporary"
 TMPDIR=$room/temporary "$home/tools/shared_library.sh" "$room/libgherkin_run.so" "$library"
+sed -n '/^```c bakery.c$/,/^```$/{/^```/!p}' "$home/docs/guide/from_c.md" > "$room/bakery.c"
+compile -o "$room/bakery" "$room/bakery.c" "$library" "$kit/c/liblibc_c.a"
 compile -o "$room/shared" "$home/examples/c/main.c" "$room/libgherkin_run.so"
 python3 "$home/tests/c_library.py" "$program" "$room" "${3:-1}" "${4:-60000}"

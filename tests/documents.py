@@ -30,7 +30,7 @@ HOME = os.path.dirname(os.path.dirname(os.path.realpath(__file__)))
 WORDS = re.compile(r"\b(front|fronts|behind|tells|told|want of memory)\b", re.IGNORECASE)
 README_LINES = 120
 # Pages for users that aren't held against prose.py yet.
-UNREAD = {f"docs/guide/{it}.md" for it in ("from_c", "from_python", "in_your_browser", "installing", "recipes", "machines", "editors", "pytest")}
+UNREAD = {f"docs/guide/{it}.md" for it in ("from_python", "in_your_browser", "installing", "recipes", "machines", "editors", "pytest")}
 # The endings of files that pages name.
 SOURCES = (".rt", ".antt", ".py", ".sh", ".awk", ".c", ".feature", ".steps", ".edit", ".arguments", ".report", ".status", ".fault")
 
