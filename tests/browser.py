@@ -1,6 +1,7 @@
 """Headless Chromium, driven over the pipe of its DevTools protocol."""
 
 import base64
+import fcntl
 import json
 import os
 import shutil
@@ -27,8 +28,8 @@ def start(program, profile):
     ours, theirs = os.pipe(), os.pipe()
 
     def before():
-        kept = [os.dup(ours[0]), os.dup(theirs[1])]
-        for place, file in zip((3, 4), [os.dup2(it, 10 + n) for n, it in enumerate(kept)]):
+        # Chromium reads from 3 and writes to 4; the copies are out of their way.
+        for place, file in zip((3, 4), [fcntl.fcntl(it, fcntl.F_DUPFD, 100) for it in (ours[0], theirs[1])]):
             os.dup2(file, place)
 
     command = [program, *WORDS, f"--user-data-dir={profile}", "about:blank"]
@@ -46,6 +47,7 @@ class Browser:
         self.process, self.read_from, self.write_to = start(program, profile)
         # A browser that hangs is killed, so no call waits for it forever.
         self.watch = threading.Timer(20 * PATIENCE, self.process.kill)
+        self.watch.daemon = True
         self.watch.start()
         self.number, self.session, self.events, self.rest = 0, None, [], bytearray()
 

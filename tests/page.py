@@ -9,6 +9,7 @@ import collections
 import json
 import os
 import random
+import re
 import shutil
 import subprocess
 import sys
@@ -132,7 +133,7 @@ def in_node(program, room):
     command = ["node", os.path.join(driver.HOME, "tests", "page.mjs"), os.path.join(WEB, "source", "gherkin_run.js"),
                os.path.join(WEB, "gherkin_run.wasm"), os.path.join(room, "cases.json")]
     done = subprocess.run(command, capture_output=True, timeout=4 * PATIENCE, check=False)
-    answers, refused = json.loads(done.stdout) if done.returncode == 0 else ([], [])
+    answers, refused, wrong = json.loads(done.stdout) if done.returncode == 0 else ([], [], [])
     yield unless(len(answers) == len(cases), f"Node ends with {done.returncode}: {done.stderr.decode()}")
     for (name, _, wanted), answer in zip(cases, answers):
         found = (answer["status"], answer["hasReport"], base64.b64decode(answer["text"]))
@@ -147,6 +148,23 @@ def in_node(program, room):
     yield unless({it["status"] for it in refused} >= {4, cases[0][2][0]}, "no memory was refused in Node, or always")
     if answers:
         print(f"1,000 scenarios take {answers[-1]['time']:.0f} ms in Node")
+    yield from wrong_lines(wrong)
+    yield from guide_in_node(room)
+
+
+def wrong_lines(found):
+    """What Node gives for some lines: the fault of the program for 0, and an exception for what is no line."""
+    yield unless(found == ["line 0", "Feature: f ... skipped", *["RangeError"] * (len(found) - 2)] and len(found) == 9, f"lines in Node: {found}")
+
+
+def guide_in_node(room):
+    """The program that the guide shows prints what it says."""
+    page = driver.read(os.path.join(driver.HOME, "docs", "guide", "in_your_browser.md")).decode()
+    code, = re.findall("^```js\n(.*?)^```$", page, re.DOTALL | re.MULTILINE)
+    driver.write(room, {"run.js": code, "package.json": '{"type": "module"}', "gherkin_run.js": driver.read(os.path.join(WEB, "source", "gherkin_run.js")),
+                        "gherkin_run.wasm": driver.read(os.path.join(WEB, "gherkin_run.wasm"))})
+    done = subprocess.run(["node", "run.js"], cwd=room, capture_output=True, timeout=PATIENCE, check=False)
+    yield unless((done.returncode, done.stdout.split(b" ")[0]) == (0, b"0") and b"1 feature passed" in done.stdout, f"the guide's program: {done}")
 
 
 # ---- what a user does on the page, and sees there
@@ -230,6 +248,17 @@ def example(page):
         page.open_example(name)
         found, wanted = page.shown(), wanted_of(page.program, arguments)
         yield unless(found == wanted, f"{name} on the page: {found}, and not {wanted}")
+
+
+def guide(page):
+    """What the guide's page begins with."""
+    page.load()
+    yield unless((page.names(), page.text("status")) == ([FIRST], "Failed, status 1"), f"the guide's first step: {page.text('status')}")
+    text = page.inputs()["files"][0][1]
+    yield unless(text.endswith("| blue   |\n"), f"the first example ends with {text[-20:]}")
+    page.fill("#files .text", text[:-10] + text[-10:].replace("blue", "red"))
+    page.settle()
+    yield unless(page.text("status") == "Nothing failed, status 0", f"the guide's second step: {page.text('status')}")
 
 
 def verdict(page):
@@ -319,8 +348,10 @@ def wrong_link(page):
         found = page.value("[inputs().files[0][0], document.getElementById('notice').textContent]")
         yield unless(found == [FIRST, "The link in the address can't be used. The page shows its example."], f"the link {fragment} shows {found}")
     page.load()
-    wanted = page.shown()
     yield unless(page.text("notice") == "", "the page says something of a link without one")
+    page.type("#files .text", SMALL)
+    page.settle()
+    wanted = page.shown()
     for fragment in fragments:
         page.value(f"document.getElementById('notice').textContent = ''; location.hash = {json.dumps(fragment)}")
         said = page.browser.wait("document.getElementById('notice').textContent === \"The link in the address can't be used. The fields are as they were.\"", 5)
@@ -572,7 +603,7 @@ def scrolled(page):
 
 def elements(page):
     """How many elements of each kind the page has, apart from its feature files and the report's pieces."""
-    return page.value("(() => { const found = {}; for (const it of document.querySelectorAll('*')) if (!it.closest('.file, #report > div')) "
+    return page.value("(() => { const found = {}; for (const it of document.querySelectorAll('*')) if (!it.closest('.file') && !it.matches('#report > div')) "
                       "found[it.tagName] = (found[it.tagName] ?? 0) + 1; return found; })()")
 
 
@@ -665,7 +696,7 @@ def contrast(page):
     page.browser.ask("Emulation.setEmulatedMedia", features=[])
 
 
-CHECKS = [example, verdict, link, copied, address, wrong_link, later_link, long_link, example_key, removed, added, wrong_field, order, label, stopped,
+CHECKS = [example, guide, verdict, link, copied, address, wrong_link, later_link, long_link, example_key, removed, added, wrong_field, order, label, stopped,
           run_again, long_report, scrolled, markup, layout, contrast, quiet, locked]
 
 

@@ -4,7 +4,14 @@ const INPUTS = [null, "library", "hooks", "source"];
 // Most reports have at most so many bytes, and so many for each of the sources.
 const FIRST_ROOM = 1 << 18;
 const ROOM_FOR_EACH = 8;
+const LAST_LINE = 4294967295;
 const SIZES = { call: 136, named: 32, text: 16, line: 4, answer: 24 };
+
+// Returns a line, or throws if it doesn't fit into 32 bits.
+function checkedLine(value) {
+    if (!Number.isInteger(value) || value < 0 || value > LAST_LINE) throw new RangeError(`not a line number: ${value}`);
+    return value;
+}
 
 // One instance of the module, and its memory.
 export class Instance {
@@ -57,7 +64,7 @@ export class Instance {
         const named = (place, value) => this.putNamed(place, value);
         this.putList(at, sources, SIZES.named, named);
         this.putList(at + 16, tags, SIZES.text, (place, value) => this.putText(place, value));
-        this.putList(at + 32, lines, SIZES.line, (place, value) => this.view(place, 4).setUint32(0, value, true));
+        this.putList(at + 32, lines, SIZES.line, (place, value) => this.view(place, 4).setUint32(0, checkedLine(value), true));
         this.putList(at + 48, variables, SIZES.named, named);
         this.putNamed(at + 64, library ?? ["", ""]);
         this.putNamed(at + 96, hooks ?? ["", ""]);
