@@ -243,6 +243,26 @@ def controls(python, room):
                      r"\n::error::fault\u{1b}.feature:2: unexpected line", r"SKIPPED [1] \n: :error: :evil\u{1b}[1m.feature:2: ")
 
 
+def installed(python, room):
+    """A wheel has the whole package, and pytest finds the plugin of an installed one."""
+    build = "from setuptools import build_meta; import wheel; build_meta.build_wheel(\"..\")"
+    if driver.start(python, ["-c", "import setuptools, wheel"])[0]:
+        print(f"no wheel is built: {python} has no setuptools or no wheel")
+        return
+    shutil.copytree(os.path.join(driver.HOME, "python"), os.path.join(room, "wheel", "python"))
+    status, _, stderr = driver.start(python, ["-c", build], os.path.join(room, "wheel", "python"))
+    found = [it for it in os.listdir(os.path.join(room, "wheel")) if it.endswith(".whl")]
+    yield differs(f"wheels, after {stderr.decode()}", (status, found), (0, [f"gherkin_run-{gherkin_run.__version__}-py3-none-any.whl"]))
+    site = os.path.join(room, "wheel", "site")
+    shutil.unpack_archive(os.path.join(room, "wheel", found[0]), site, "zip")
+    files = sorted(os.listdir(os.path.join(driver.HOME, "python", "gherkin_run")))
+    yield differs("files of the wheel", sorted(os.listdir(os.path.join(site, "gherkin_run"))), [it for it in files if it != "__pycache__"])
+    pytest = Pytest(python, os.path.join(room, "installed"), SUITE)
+    path = {"PYTHONPATH": site}
+    status, stdout, _ = driver.start(python, ["-m", "pytest", "-q", "good.feature"], pytest.folder, {**os.environ, **path})
+    yield differs("the installed plugin", (status, b"3 passed" in stdout), (0, True))
+
+
 def together(python):
     """Scenarios that run together have the outcomes that they have alone."""
     status, stdout, stderr = driver.start(python, [__file__, "alone"], patience=300)
@@ -305,7 +325,7 @@ def tests(room):
         print("the pytest plugin isn't tested: there is no python3 with pytest")
         return
     folder = os.path.join(room, "pytest")
-    for part in (suite, faults, hooks, settings, costs, controls):
+    for part in (suite, faults, hooks, settings, costs, controls, installed):
         yield from part(python, folder)
     yield from together(python)
 
