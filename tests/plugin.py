@@ -2,7 +2,7 @@
 """Tests the pytest plugin of python/: each function yields a trouble for each test, empty if it passed.
 
 tests/python.py calls `tests`, which runs pytest in folders below a room. `plugin.py alone` compares the outcomes of scenarios
-that run together with those of each one alone; it is a process of its own, since only another Python may have pytest.
+that run together with those of each one alone; it runs in another process, since perhaps only another Python has pytest.
 """
 
 import collections
@@ -95,6 +95,19 @@ sys.addaudithook(audit)
 
 def pytest_sessionfinish(session):
     print("calls", calls, "opened", len(opened))
+"""
+# Keeps the last test from the choice, and adds it when the choice is finished.
+LATE = """\
+import pytest
+
+late = []
+
+def pytest_collection_modifyitems(items):
+    late.append(items.pop())
+
+@pytest.hookimpl(trylast=True)
+def pytest_collection_finish(session):
+    session.items.extend(late)
 """
 CONTROLS = "\0\a\b\v\f\x1b\x7f\x85\x9b\u061c\u200e\u200f\u2028\u2029\u202a\u202e\u2066\u2069"
 SHOWN = r"\u{0}\u{7}\u{8}\u{b}\u{c}\u{1b}\u{7f}\u{85}\u{9b}\u{61c}\u{200e}\u{200f}\u{2028}\u{2029}\u{202a}\u{202e}\u{2066}\u{2069}"
@@ -229,6 +242,13 @@ def costs(python, room):
         yield from lacks(f"pytest {words}", pytest(*words)[1], wanted)
 
 
+def late(python, room):
+    """A test that isn't in pytest's choice has its own outcome all the same."""
+    pytest = Pytest(python, os.path.join(room, "late"), {**SUITE, "conftest.py": LATE})
+    for name, wanted in (("good.feature", ["passed"] * 3), ("bad.feature", ["failure", "skipped", "failure"])):
+        yield differs(f"results of {name}", list(pytest.results(name).values()), wanted)
+
+
 def controls(python, room):
     """Control characters of names, texts and paths are escaped wherever pytest prints them."""
     pytest = Pytest(python, os.path.join(room, "evil"), EVIL)
@@ -325,7 +345,7 @@ def tests(room):
         print("the pytest plugin isn't tested: there is no python3 with pytest")
         return
     folder = os.path.join(room, "pytest")
-    for part in (suite, faults, hooks, settings, costs, controls, installed):
+    for part in (suite, faults, hooks, settings, costs, late, controls, installed):
         yield from part(python, folder)
     yield from together(python)
 

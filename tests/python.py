@@ -30,13 +30,13 @@ RUNS = 200
 PREFIX = b"gherkin_run: "
 PAINT = os.path.join(driver.EXAMPLES, "paint.feature")
 PACKAGE = os.path.join(driver.HOME, "python")
-# Arguments that are wrong, and those of files that can't be read.
+# Wrong arguments, and names of files that can't be read.
 REFUSED = [
     *(["--line", line, PAINT] for line in ("0", "-1", "4294967296", "x", "1_0", " 1", "")), ["--line"], [], ["--stop"], ["--"],
     *([*option, PAINT, *option] for option in (["--library", "x"], ["--hooks", "x"], ["--format", "json"], ["--dry-run"], ["--stop"], ["--no-skipped"])),
     ["--format", "xml", PAINT], ["--env", "A", PAINT], ["--env", "=x", PAINT], ["--tags", "", PAINT], ["--tags", "-@a", PAINT], ["--unknown", PAINT],
     ["none.feature"], ["-"], [PAINT, "--", "--stop"], ["--library", "none.steps", PAINT],
-    # Of two mistakes that of the arguments comes first.
+    # A mistake in the arguments comes before one in a file.
     ["/proc/self/mem"], ["--library", "/proc/self/mem", PAINT],
     ["--env", "=x", "none.feature"], ["--line", "0", "none.feature"], ["--env", "a" * 256 + "=x", "none.feature"],
     [b"none\xff.feature"], ["--tags", b"@\xff", "none.feature"],
@@ -58,7 +58,7 @@ void gherkin_run(const gherkin_call *call, uint8_t *room, size_t room_length, gh
 
 size_t gherkin_run_version(uint8_t *room, size_t room_length) { (void)room, (void)room_length; return 0; }
 """
-# A program that uses the types, and what mypy has to refuse in it.
+# A program that uses the types. mypy has to refuse the lines that say so.
 TYPED = """
 from gherkin_run import Fault, FaultError, Report, ReportData, RunFailedError, Source, __version__, run, version
 
@@ -94,7 +94,7 @@ ORDERS = [
 
 
 def called(**options):
-    """What a run gives, as the program would end: its status, standard output and standard error."""
+    """Returns the end of a run as the program's: its status, standard output and standard error."""
     try:
         report = gherkin_run.run(**options)
     except gherkin_run.Fault as fault:
@@ -103,20 +103,20 @@ def called(**options):
 
 
 def ended(program, arguments, folder):
-    """The same of the program."""
+    """Returns the end of a run of the program."""
     status, stdout, stderr = driver.start(program, arguments, folder)
     return status, stdout, stderr.removeprefix(PREFIX)
 
 
 def example_runs(program):
-    """Each example by `python3 -m gherkin_run`, and by the program."""
+    """Compares `python3 -m gherkin_run` with the program on each example."""
     for arguments in driver.examples():
         wanted = driver.start(program, arguments)
         yield driver.trouble(arguments[-1], driver.start(sys.executable, ["-m", "gherkin_run", *arguments]), wanted)
 
 
 def command_lines(program):
-    """Arguments by `python3 -m gherkin_run` and by the program: the status is the same, and what standard output has."""
+    """Compares the status and the standard output of `python3 -m gherkin_run` with the program's, for wrong arguments."""
     for words in [*REFUSED, *ORDERS]:
         wanted = driver.start(program, words)
         status, stdout, stderr = driver.start(sys.executable, ["-m", "gherkin_run", *words])
@@ -125,7 +125,7 @@ def command_lines(program):
 
 
 def long_files(program, room):
-    """A file that is too long beside another fault: the fault that `python3 -m gherkin_run` names is the program's."""
+    """Compares which fault is named if a file is too long and there is another fault."""
     driver.write(room, {"long.feature": b"#" * ((1 << 24) + 1)})
     for words in (["long.feature"], ["--tags", "@a @b", "long.feature"], ["--library", "long.feature", "none"], ["long.feature", "none"], ["none", "long.feature"]):
         wanted = driver.start(program, words, room)
@@ -134,7 +134,7 @@ def long_files(program, room):
 
 
 def failing_outputs(program):
-    """An output that takes nothing, or is closed: the status and the line on standard error are the program's."""
+    """Compares the status and the message if the output is full or closed."""
     module = [sys.executable, "-m", "gherkin_run"]
     for words in ([PAINT], ["--help"]):
         for output in ("/dev/full", "&-"):
@@ -145,7 +145,7 @@ def failing_outputs(program):
 
 
 def changed_runs(program, room):
-    """Features with random changes, by the package and by the program."""
+    """Compares the package with the program on features with random changes."""
     sources = [driver.read(os.path.join(driver.EXAMPLES, it)) for it in sorted(os.listdir(driver.EXAMPLES)) if it.endswith(".feature")]
     lines = [line for source in sources for line in source.split(b"\n")]
     rng = random.Random(7)
@@ -158,7 +158,7 @@ def changed_runs(program, room):
 
 
 def fault_of(**options):
-    """The parts of the fault of a run."""
+    """Returns the parts of a run's fault."""
     try:
         gherkin_run.run(**options)
     except gherkin_run.Fault as fault:
@@ -168,7 +168,7 @@ def fault_of(**options):
 
 
 def faults():
-    """What a fault says: its text, status, file, line and reason."""
+    """Tries the text, status, file, line and reason of faults."""
     good = gherkin_run.Source("a", "Feature: a\n")
     bad = gherkin_run.Source("b:7: c", "Feature: F\n\nFeature: G\n")
     steps = gherkin_run.Source("s:1", "\ngiven a => none\n")
@@ -189,7 +189,7 @@ def faults():
 
 
 def raises(kind, make=gherkin_run.run, **options):
-    """A trouble unless a call raises this kind of exception."""
+    """Returns a trouble unless a call raises this kind of exception."""
     try:
         make(**options)
     except kind:
@@ -198,7 +198,7 @@ def raises(kind, make=gherkin_run.run, **options):
 
 
 def values():
-    """Other results, and values that no run takes."""
+    """Tries arguments that a run takes, and arguments that it refuses."""
     yield "" if gherkin_run.run(os.fsencode(PAINT)).text == gherkin_run.run(PAINT).text else "a path of bytes isn't taken"
     yield "" if gherkin_run.run([]).passed else "no feature, and not passed"
     for line in (0, -1, 1 << 32, (1 << 32) + 1):
@@ -227,7 +227,7 @@ def values():
 
 
 def reports():
-    """Reports as values: their data, their hashes, and what `check` raises."""
+    """Tries reports: their data, their hashes, and the error of `check`."""
     report = gherkin_run.run(PAINT, format="json")
     yield "" if report.data == json.loads(report.text) and not report.passed else "other data than the text's"
     plain = gherkin_run.run(PAINT)
@@ -253,7 +253,7 @@ def reports():
 
 
 def misfits(value, kind, place="data"):
-    """The places in JSON data that aren't of their type, a TypedDict, a list of some or a Literal."""
+    """Yields the places in JSON data that don't fit a type."""
     if typing.is_typeddict(kind) if hasattr(typing, "is_typeddict") else hasattr(kind, "__required_keys__"):
         keys = typing.get_type_hints(kind)
         if not kind.__required_keys__ <= value.keys() <= keys.keys():
@@ -268,7 +268,7 @@ def misfits(value, kind, place="data"):
 
 
 def types():
-    """The types of JSON data fit the reports of the examples, and of one with rules that has each status but memory."""
+    """Compares the types of JSON data with the reports of the examples and of a feature with rules."""
     sources = [it for it in (os.path.join(driver.HOME, words[-1]) for words in driver.examples()) if not fault_of(features=it)]
     rules = "Feature: f\nScenario: s\nGiven it is undefined\nGiven it passes\nRule: r\nScenario: t\nGiven it fails\nScenario: u\nGiven the scenario is skipped\n"
     made = gherkin_run.Source("rules", rules)
@@ -278,7 +278,7 @@ def types():
 
 
 def checked_types(room):
-    """What mypy says of the package, and of a program that uses it."""
+    """Runs mypy on the package and on a program that uses it."""
     if not shutil.which("mypy"):
         print("the types of the package aren't checked: there is no mypy")
         return
@@ -296,7 +296,7 @@ def checked_types(room):
 
 
 def same_version(program):
-    """The version of the library is the one that the program says, before the toolchain that it names."""
+    """Compares the version of the shared library with the program's."""
     status, stdout, stderr = driver.start(program, ["--version"])
     said = stdout.decode().strip()
     wanted = f"gherkin_run {gherkin_run.version()}, proved with "
@@ -304,7 +304,7 @@ def same_version(program):
 
 
 def threads():
-    """Many runs at once, each of another number of scenarios."""
+    """Runs different features in several threads."""
     def one(number):
         count = number % 40
         report = gherkin_run.run(gherkin_run.Source("t", "Feature: t\n" + "Scenario: s\nGiven it passes\n" * count), format="json")
@@ -315,7 +315,7 @@ def threads():
 
 
 def refused_here(path):
-    """Each growth in turn, in the process that has the refusing library: a line for each other end, then how many there were."""
+    """Refuses one growth after another. Prints a line for each wrong end, and then the number of growths."""
     library = ctypes.CDLL(os.environ["GHERKIN_RUN_LIBRARY"])
     library.refuse.argtypes = [ctypes.c_long]
     library.growths_made.restype = library.blocks_left.restype = ctypes.c_long
@@ -333,7 +333,7 @@ def refused_here(path):
 
 
 def refused(room):
-    """Runs that with the library of tests/python.c, where it was built."""
+    """Runs that with the library of tests/python.c, if it was built."""
     library = os.path.join(room, "refusing.so")
     if not os.path.exists(library):
         return
@@ -346,7 +346,7 @@ def refused(room):
 
 
 def nuls():
-    """NUL bytes in names and texts of a run come back whole."""
+    """Tries names and texts with a NUL byte, which have to come back whole."""
     source = gherkin_run.Source("a\0b", 'Feature: x\0y\nScenario: s\0\nGiven the variable "v\0" should be "1\0"\n')
     report = gherkin_run.run(source, env={"v\0": "1\0"}, format="json")
     feature = report.data["features"][0]
@@ -362,7 +362,7 @@ def nuls():
 
 
 def unloaded(room):
-    """A library that can't be loaded, or lacks a function: importing the package works, and a call raises `ImportError`."""
+    """Tries shared libraries that can't be loaded: the package can be imported, and a call raises `ImportError`."""
     driver.write(room, {"text.so": "no library"})
     script = "import gherkin_run, sys\nprint(gherkin_run.__version__)\ntry: gherkin_run.run(sys.argv[1])\nexcept ImportError as error: print(error)"
     for path, reason in (("/none.so", "/none.so: cannot open shared object file: No such file or directory"),
@@ -378,7 +378,7 @@ def unloaded(room):
 
 
 def waiting(room):
-    """Calls that wait: Ctrl-C ends the command at once, and other threads go on."""
+    """Tries calls that wait: Ctrl-C ends the command at once, and other threads run."""
     if not shutil.which("cc"):
         print("no call waits: there is no C compiler, cc")
         return
@@ -405,7 +405,7 @@ def waiting(room):
 
 
 def ends(process):
-    """The status of a process that ends within 10 seconds, and what it writes to standard error."""
+    """Returns the status of a process and its standard error. Kills it after 10 seconds."""
     try:
         return process.wait(10), process.stderr.read()
     except subprocess.TimeoutExpired:
@@ -426,13 +426,13 @@ def beside(pipe):
 
 
 def left_over(folder):
-    """What runs left in the folder for temporary files."""
+    """Looks for files that runs have left in the folder for temporary files."""
     left = os.listdir(folder)
     yield f"left in TMPDIR: {left}" if left else ""
 
 
 def main():
-    """Runs all of them."""
+    """Runs all tests."""
     if sys.argv[1] == "refused":
         return refused_here(sys.argv[2])
     if sys.argv[1] == "beside":

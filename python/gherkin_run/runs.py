@@ -135,7 +135,8 @@ def _files(features: Union[File, Iterable[File]]) -> List[File]:
 
 
 def _tags(tags: Union[str, Iterable[str], None]) -> List[bytes]:
-    return [_bytes(text) for text in ([tags] if isinstance(tags, str) else () if tags is None else tags)]
+    texts = [tags] if isinstance(tags, str) else tags
+    return [_bytes(text) for text in texts or ()]
 
 
 def _line(number: object) -> int:
@@ -192,9 +193,9 @@ def run(
     hooks file there are no hooks. The other arguments are the program's options: `tags` is a text of `--tags` or
     several, `lines` a number of `--line` or several, and `env` has the variables of `--env`.
 
-    Raises `FaultError` if there is no report, `OSError` if a file can't be opened or read, `ImportError` if the shared
-    library can't be loaded, and `ValueError` or `TypeError` for an argument that no run takes. A run keeps nothing, so
-    several threads may run at once.
+    Raises `FaultError` if there is no report, and `OSError` if a file can't be opened or read. A wrong argument raises
+    `TypeError` or `ValueError`, a shared library that can't be loaded `ImportError`. A run keeps nothing, so several
+    threads may run at once.
     """
     request = calls.Request(
         tags=_tags(tags),
