@@ -193,7 +193,7 @@ def faults(python, room):
     yield from lacks("a file that is too long", fault("long.feature")[1], "\nlong.feature: longer than 16777216 bytes\n")
     files = {**SUITE, **PYTHON_TEST, "pytest.ini": f"{SETTINGS}gherkin_library = none.steps\n"}
     lost = Pytest(python, os.path.join(room, "lost"), files)
-    yield from lacks("a missing library file", lost()[1], f"No such file or directory: '{lost.folder}/none.steps'\n")
+    yield from lacks("a missing library file", lost()[1], f"\n[Errno 2] No such file or directory: '{lost.folder}/none.steps'\n")
     yield differs("tests of Python without that file", lost("test_python.py")[0], 0)
     files["pytest.ini"] = f"{SETTINGS}gherkin_library = bad.feature\n"
     wrong = Pytest(python, os.path.join(room, "wrong"), files)
@@ -201,7 +201,7 @@ def faults(python, room):
     unloaded = {"GHERKIN_RUN_LIBRARY": "/none.so"}
     status, text = wrong(environment=unloaded)
     yield differs("the status without the shared library", status, 2)
-    yield from lacks("a missing shared library", text, "cannot load the library of gherkin_run: /none.so: cannot open shared object file")
+    yield from lacks("a missing shared library", text, "\ncannot load the library of gherkin_run: /none.so: cannot open shared object file")
     yield differs("tests of Python without it", wrong("test_python.py", environment=unloaded)[0], 0)
 
 
