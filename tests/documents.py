@@ -29,6 +29,8 @@ HOME = os.path.dirname(os.path.dirname(os.path.realpath(__file__)))
 # Words that Rust's own documentation doesn't use so.
 WORDS = re.compile(r"\b(front|fronts|behind|tells|told|want of memory)\b", re.IGNORECASE)
 README_LINES = 120
+# Folders that checking and building make. A fresh clone has none of them.
+BUILT = ("out", "__pycache__")
 # Pages for users that aren't held against prose.py yet.
 UNREAD = {f"docs/guide/{it}.md" for it in ("from_python", "in_your_browser", "installing", "recipes", "machines", "editors", "pytest")}
 # The endings of files that pages name.
@@ -44,7 +46,7 @@ def repository_files():
     """All files of the repository but what is built."""
     found = []
     for folder, folders, names in os.walk(HOME):
-        folders[:] = sorted(it for it in folders if it not in (".git", "out", "__pycache__"))
+        folders[:] = sorted(it for it in folders if it not in (".git", *BUILT))
         found += [os.path.relpath(os.path.join(folder, it), HOME) for it in sorted(names)]
     return found
 
@@ -138,8 +140,12 @@ def members():
 
 
 def path_is_there(name, page):
-    """Whether a name with a slash or a file's ending is there: from the top, from the page, or in a crate."""
+    """Whether a name with a slash or a file's ending is there: from the top, from the page, or in a crate.
+
+    Of what is built only the folder may be named, so that a page passes in a fresh clone, too."""
     name = name.rstrip("/")
+    if any(it in BUILT for it in name.split("/")):
+        return name in BUILT
     bases = [HOME, os.path.join(HOME, "crates"), os.path.dirname(os.path.join(HOME, page))]
     bases += [os.path.join(HOME, "crates", crate) for crate in CRATES]
     if any(os.path.exists(os.path.join(base, name)) for base in bases):

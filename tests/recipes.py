@@ -60,10 +60,10 @@ def environment_of(folder, **more):
 
 
 def shell(folder, command, **more):
-    """Runs a command of a shell. Returns its status, and what it printed on the two streams, with what it left behind."""
+    """Runs a command of a shell. Returns its status, and what it printed on the two streams, with what it left over."""
     status, printed, fault = driver.start("sh", ["-c", command], folder, environment_of(folder, **more))
     left = os.listdir(os.path.join(folder, "temporary"))
-    return status, printed, fault + (f"left behind: {left}\n".encode() if left else b"")
+    return status, printed, fault + (f"left over: {left}\n".encode() if left else b"")
 
 
 def one_run(program, folder, *options):
@@ -387,7 +387,7 @@ def missing_troubles(program, room):
 
 
 def signal_troubles(program, room):
-    """A script that is ended by a signal leaves nothing behind."""
+    """A script that is ended by a signal leaves nothing."""
     folder = folder_of(program, room, "signals")
     driver.write(folder, {"slow": '#!/bin/sh\necho $$ >> begun\nsleep 1\nexec ./run "$@"\n', "names": "features/passes.feature\n"})
     os.chmod(os.path.join(folder, "slow"), 0o755)
@@ -398,7 +398,7 @@ def signal_troubles(program, room):
 
 
 def ended_by(number, folder, words):
-    """Sends a signal to a script that has begun. Returns its status, and what it left behind."""
+    """Sends a signal to a script that has begun. Returns its status, and what it left over."""
     if os.path.exists(os.path.join(folder, "begun")):
         os.remove(os.path.join(folder, "begun"))
     script, *others = words.split()

@@ -114,10 +114,10 @@ def left_in(place, temporary="temporary"):
 
 
 def spread(place, *words, folder=None, **environment):
-    """Runs the script. Returns its status and what it printed; what it left behind is a part of that."""
+    """Runs the script. Returns its status and what it printed; what it left over is a part of that."""
     ended = driver.start(SPREAD, words, folder or suite(), environment_of(place, **environment))
     left = left_in(place)
-    return (*ended[:2], ended[2] + f"left behind: {left}\n".encode()) if left else ended
+    return (*ended[:2], ended[2] + f"left over: {left}\n".encode()) if left else ended
 
 
 def suite():
@@ -342,7 +342,7 @@ def of_another_parallel(_):
 # ---- ended by a signal
 
 def of_signal(case):
-    """A script that is ended by a signal ends its jobs, and leaves nothing behind."""
+    """A script that is ended by a signal ends its jobs, and leaves nothing."""
     number, machines = case
     name = f"ended by {number.name}" + (" on a machine" if machines else "")
     place = place_of(name, waiting=WAITING, ssh=SSH)

@@ -2,7 +2,7 @@
 # Compares suites that examples/spread.sh runs in parts with one run over all their files: tests/spread.sh [PROGRAM]
 #
 # The bytes, the faults and the status have to be the same: with parts of all sizes, with jobs that are killed, on several machines, with
-# words and names that a shell or GNU parallel would expand, and with variables in the environment. Nothing may be left behind, also
+# words and names that a shell or GNU parallel would expand, and with variables in the environment. Nothing may be left over, also
 # when a signal ends the script. A command in place of ssh runs here what it is given. PROGRAM is the built program; without it, the one
 # that ./run runs. It needs GNU parallel, jq and bash, and says which is missing. Closes with one line 'N passed, M failed'.
 set -eu
