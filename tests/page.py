@@ -23,30 +23,99 @@ CHANGED = 300
 PATIENCE = 60  # seconds
 PREFIX = b"gherkin_run: "
 WEB = os.path.join(driver.HOME, "web")
+GUIDE = os.path.join(driver.HOME, "docs", "guide", "in_your_browser.md")
 PAGE = "file://" + os.path.join(WEB, "try.html")
 FIRST = "examples/paint.feature"
-MARKUP = "</textarea></pre><script>document.title = 'taken'</script> <img src=x onerror=\"document.title = 'taken'\"> &amp; {page} ${1} \\u003c"
+MARKUP = "</textarea></pre><script>document.title = 'taken'</script> " \
+         "<img src=x onerror=\"document.title = 'taken'\"> &amp; {page} ${1} \\u003c"
 SMALL = driver.feature("Given it passes")
 # Something in each field of the page.
-FULL = {"files": [["ä \"1\".feature", "Feature: ü <&> \U0001f600\n  Scenario: s\n\tGiven the lamp\n"], ["b.feature", "Feature: b\n"]],
-        "library": "step the lamp => pass\n", "libraryName": "my.steps", "hooks": "before_all:\n  Given the lamp\n", "hooksName": "my.hooks",
-        "tags": "~@a\n@b,~@c", "lines": "1 2, 3", "variables": "A=1\nB==\n", "format": "json", "dryRun": True, "stop": True, "noSkipped": True}
-POLICY = "default-src 'none'; style-src 'sha256-?'; script-src 'sha256-?' 'wasm-unsafe-eval'; worker-src blob:; form-action 'none'; base-uri 'none'"
+FULL = {"files": [["ä \"1\".feature", "Feature: ü <&> \U0001f600\n  Scenario: s\n\tGiven the lamp\n"],
+                  ["b.feature", "Feature: b\n"]],
+        "library": "step the lamp => pass\n", "libraryName": "my.steps",
+        "hooks": "before_all:\n  Given the lamp\n", "hooksName": "my.hooks",
+        "tags": "~@a\n@b,~@c", "lines": "1 2, 3", "variables": "A=1\nB==\n",
+        "format": "json", "dryRun": True, "stop": True, "noSkipped": True}
+AT_FIRST = "The link in the address can't be used. The page shows its example."
+LATER = "The link in the address can't be used. The fields are as they were."
+POLICY = "default-src 'none'; style-src 'sha256-?'; script-src 'sha256-?' 'wasm-unsafe-eval'; worker-src blob:; " \
+         "form-action 'none'; base-uri 'none'"
 CONTROLS = {"textbox", "combobox", "button", "checkbox", "DisclosureTriangle", "region", "form"}
-# Pairs of a text's selector and its contrast with the background. The largest backgrounds are opaque.
+# Pairs of an element that is seen, and the contrast of its text with its background.
 CONTRAST = """(() => {
     const canvas = document.createElement("canvas").getContext("2d", { willReadFrequently: true });
-    const rgb = (color) => { canvas.clearRect(0, 0, 1, 1); canvas.fillStyle = color; canvas.fillRect(0, 0, 1, 1);
-        return [...canvas.getImageData(0, 0, 1, 1).data]; };
+    const rgb = (color) => {
+        canvas.clearRect(0, 0, 1, 1);
+        canvas.fillStyle = color;
+        canvas.fillRect(0, 0, 1, 1);
+        return [...canvas.getImageData(0, 0, 1, 1).data];
+    };
     const part = (it) => it / 255 <= 0.04045 ? it / 255 / 12.92 : ((it / 255 + 0.055) / 1.055) ** 2.4;
     const light = (it) => 0.2126 * part(it[0]) + 0.7152 * part(it[1]) + 0.0722 * part(it[2]);
-    const behind = (it) => rgb(getComputedStyle(it).backgroundColor)[3] === 255 || !it.parentElement ? rgb(getComputedStyle(it).backgroundColor)
-        : behind(it.parentElement);
-    return [...document.querySelectorAll("body *")].filter((it) => it.checkVisibility() && it.tagName !== "SCRIPT").map((it) => {
+    const own = (it) => rgb(getComputedStyle(it).backgroundColor);
+    const behind = (it) => own(it)[3] === 255 || !it.parentElement ? own(it) : behind(it.parentElement);
+    return [...document.querySelectorAll("body *")].filter((it) => it.checkVisibility()).map((it) => {
         const both = [light(rgb(getComputedStyle(it).color)), light(behind(it))].sort((one, other) => other - one);
         return [it.id || it.className || it.tagName, (both[0] + 0.05) / (both[1] + 0.05)];
     });
 })()"""
+# How many elements of each kind there are, apart from the feature files and the pieces of the report.
+ELEMENTS = """(() => {
+    const found = {};
+    for (const it of document.querySelectorAll("*")) {
+        if (!it.closest(".file") && !it.matches("#report > div")) found[it.tagName] = (found[it.tagName] ?? 0) + 1;
+    }
+    return found;
+})()"""
+# What the policy has to refuse, each an expression that gives something if it isn't refused.
+REFUSED = {
+    "an inline script": """(() => {
+        const it = document.createElement("script");
+        it.textContent = "window.taken = 1";
+        document.body.append(it);
+        return window.taken;
+    })()""",
+    "an inline handler": """(() => {
+        const it = document.createElement("a");
+        it.setAttribute("onclick", "window.taken = 1");
+        document.body.append(it);
+        it.click();
+        return window.taken;
+    })()""",
+    "an inline style": """(() => {
+        const it = document.createElement("a");
+        it.setAttribute("style", "color: red");
+        return it.style.color || undefined;
+    })()""",
+    "a text as code": """new Promise((done) => {
+        setTimeout("window.taken = 1", 0);
+        setTimeout(() => done(window.taken), 50);
+    })""",
+    "a request": "fetch('data:,taken').then((it) => it.text(), () => undefined)",
+}
+
+
+def same(what, found, wanted):
+    """No trouble if both are equal, otherwise both of them."""
+    if found == wanted:
+        return ""
+    found, wanted = (driver.shown(str(it).encode("utf-8", "backslashreplace")) for it in (found, wanted))
+    return f"{what}: {found}\n    and not {wanted}"
+
+
+def holds(what, condition):
+    """No trouble if a condition holds."""
+    return "" if condition else what
+
+
+def long_feature(steps, rows):
+    """A feature with a scenario for each row, whose report has some 50 bytes for each step of each row."""
+    return "Feature: long\nBackground:\n" + "Given a file named \"a\" containing \"b\"\n" * steps \
+        + "Scenario Outline: row <n>\nThen it passes\nExamples:\n| n |\n" + "| 1 |\n" * rows
+
+
+LASTS_A_SECOND = long_feature(30, 9990)
+LASTS_LONG = long_feature(99, 9990)
 
 
 def wanted_of(program, arguments, folder=driver.HOME):
@@ -54,21 +123,6 @@ def wanted_of(program, arguments, folder=driver.HOME):
     status, stdout, stderr = driver.start(program, arguments, folder)
     text = stderr.removeprefix(PREFIX).removesuffix(b"\n")
     return (status, False, text) if stderr else (status, True, stdout)
-
-
-def unless(held, found):
-    """No trouble if a condition holds, otherwise what was found."""
-    return "" if held else found
-
-
-def long_feature(steps, rows):
-    """A feature with a scenario for each row, whose report has some 60 bytes for each step of each row."""
-    return "Feature: long\nBackground:\n" + "Given a file named \"a\" containing \"b\"\n" * steps + "Scenario Outline: row <n>\nThen it passes\n" \
-           "Examples:\n| n |\n" + "| 1 |\n" * rows
-
-
-LASTS_A_SECOND = long_feature(30, 9990)
-LASTS_LONG = long_feature(99, 9990)
 
 
 # ---- Node
@@ -104,12 +158,8 @@ def request_of(arguments):
     return made
 
 
-def node_cases(program, room):
-    """Names, requests and what has to come out: each example, some changed features, and large ones."""
-    cases = [(arguments[-1], request_of(arguments), wanted_of(program, arguments)) for arguments in driver.examples()]
-    # The first is run with refused memory, too.
-    cases.sort(key=lambda it: not it[0].endswith("paint.feature"))
-    sources = [driver.read(os.path.join(driver.HOME, name)) for name, _, _ in cases]
+def changed_cases(program, room, sources):
+    """Some changed features: names, requests, and what has to come out."""
     lines = [line for source in sources for line in source.split(b"\n")]
     rng = random.Random(9)
     for number in range(CHANGED):
@@ -117,13 +167,26 @@ def node_cases(program, room):
         form = rng.choice(["plain", "progress", "json"])
         driver.write(room, {"changed.feature": text})
         wanted = wanted_of(program, ["--format", form, "changed.feature"], room)
-        cases.append((f"changed file {number}", {"sources": [[encoded("changed.feature"), encoded(text)]], "format": form}, wanted))
+        request = {"sources": [[encoded("changed.feature"), encoded(text)]], "format": form}
+        yield f"changed file {number}", request, wanted
+
+
+def large_cases(program, room):
+    """The same of large features. The last ones are warm, so that their time can be told."""
     large = "Feature: large\n" + "Scenario: one of many\nGiven a file named \"a\" containing \"b\"\n" * 1000
     for name, text, runs in (("long.feature", long_feature(99, 999), 1), ("large.feature", large, 5)):
         driver.write(room, {name: text})
         wanted = wanted_of(program, [name], room)
-        cases += [(f"{name}, run {n}", {"sources": [[encoded(name), encoded(text)]]}, wanted) for n in range(runs)]
-    return cases
+        yield from [(name, {"sources": [[encoded(name), encoded(text)]]}, wanted)] * runs
+
+
+def node_cases(program, room):
+    """Each example, some changed features, and large ones."""
+    cases = [(arguments[-1], request_of(arguments), wanted_of(program, arguments)) for arguments in driver.examples()]
+    # The first is run with refused memory, too.
+    cases.sort(key=lambda it: it[0] != FIRST)
+    sources = [driver.read(os.path.join(driver.HOME, name)) for name, _, _ in cases]
+    return [*cases, *changed_cases(program, room, sources), *large_cases(program, room)]
 
 
 def in_node(program, room):
@@ -133,38 +196,38 @@ def in_node(program, room):
     command = ["node", os.path.join(driver.HOME, "tests", "page.mjs"), os.path.join(WEB, "source", "gherkin_run.js"),
                os.path.join(WEB, "gherkin_run.wasm"), os.path.join(room, "cases.json")]
     done = subprocess.run(command, capture_output=True, timeout=4 * PATIENCE, check=False)
-    answers, refused, wrong = json.loads(done.stdout) if done.returncode == 0 else ([], [], [])
-    yield unless(len(answers) == len(cases), f"Node ends with {done.returncode}: {done.stderr.decode()}")
+    answers, refused, lines = json.loads(done.stdout) if done.returncode == 0 else ([], [], [])
+    yield same(f"Node says {done.stderr.decode()}", (done.returncode, len(answers)), (0, len(cases)))
     for (name, _, wanted), answer in zip(cases, answers):
-        found = (answer["status"], answer["hasReport"], base64.b64decode(answer["text"]))
-        yield unless(found == wanted, f"{name} in Node: {driver.shown(str(found).encode())}, and not {driver.shown(str(wanted).encode())}")
-    # Where memory is refused: the whole report, one with a mark of memory, or the fault; and each of the first and the last is met.
-    for answer in refused:
-        text = base64.b64decode(answer["text"])
-        same = (answer["status"], answer["hasReport"], text) == cases[0][2]
-        marked = answer["status"] == 4 and answer["hasReport"] and b"memory" in text
-        fault = answer["status"] == 4 and not answer["hasReport"] and text == b"out of memory"
-        yield unless(same or marked or fault, f"with refused memory in Node: {answer}")
-    yield unless({it["status"] for it in refused} >= {4, cases[0][2][0]}, "no memory was refused in Node, or always")
+        yield same(f"{name} in Node", (answer["status"], answer["hasReport"], base64.b64decode(answer["text"])), wanted)
+    yield from without_memory(refused, cases[0][2])
+    yield same("lines in Node", lines, ["line 0", "Feature: f ... skipped", *["RangeError"] * 7])
+    yield from guide_in_node(room)
     if answers:
         print(f"1,000 scenarios take {answers[-1]['time']:.0f} ms in Node")
-    yield from wrong_lines(wrong)
-    yield from guide_in_node(room)
 
 
-def wrong_lines(found):
-    """What Node gives for some lines: the fault of the program for 0, and an exception for what is no line."""
-    yield unless(found == ["line 0", "Feature: f ... skipped", *["RangeError"] * (len(found) - 2)] and len(found) == 9, f"lines in Node: {found}")
+def without_memory(refused, wanted):
+    """When memory is refused: the whole report, one with a mark of memory, or the fault. The first and the last occur."""
+    for answer in refused:
+        text = base64.b64decode(answer["text"])
+        whole = (answer["status"], answer["hasReport"], text) == wanted
+        marked = answer["status"] == 4 and answer["hasReport"] and b"memory" in text
+        fault = answer["status"] == 4 and not answer["hasReport"] and text == b"out of memory"
+        yield holds(f"with refused memory in Node: {answer}", whole or marked or fault)
+    yield holds("no memory was refused in Node, or always", {it["status"] for it in refused} >= {4, wanted[0]})
 
 
 def guide_in_node(room):
-    """The program that the guide shows prints what it says."""
-    page = driver.read(os.path.join(driver.HOME, "docs", "guide", "in_your_browser.md")).decode()
-    code, = re.findall("^```js\n(.*?)^```$", page, re.DOTALL | re.MULTILINE)
-    driver.write(room, {"run.js": code, "package.json": '{"type": "module"}', "gherkin_run.js": driver.read(os.path.join(WEB, "source", "gherkin_run.js")),
-                        "gherkin_run.wasm": driver.read(os.path.join(WEB, "gherkin_run.wasm"))})
+    """The program that the guide shows runs."""
+    code, = re.findall("^```js\n(.*?)^```$", driver.read(GUIDE).decode(), re.DOTALL | re.MULTILINE)
+    parts = {"gherkin_run.js": os.path.join(WEB, "source", "gherkin_run.js"),
+             "gherkin_run.wasm": os.path.join(WEB, "gherkin_run.wasm")}
+    driver.write(room, {name: driver.read(path) for name, path in parts.items()})
+    driver.write(room, {"run.js": code, "package.json": '{"type": "module"}'})
     done = subprocess.run(["node", "run.js"], cwd=room, capture_output=True, timeout=PATIENCE, check=False)
-    yield unless((done.returncode, done.stdout.split(b" ")[0]) == (0, b"0") and b"1 feature passed" in done.stdout, f"the guide's program: {done}")
+    good = done.returncode == 0 and done.stdout.startswith(b"0 made.feature") and b"1 scenario passed" in done.stdout
+    yield holds(f"the guide's program gives {done}", good)
 
 
 # ---- what a user does on the page, and sees there
@@ -186,38 +249,51 @@ class Page:
         """Waits until a run is over. Returns whether one was in time."""
         return self.browser.wait("['done', 'failed', 'stopped'].includes(document.body.dataset.state)")
 
-    def text(self, name):
+    def state(self, state, patience=5):
+        """Waits for a state of the page. Returns whether it came in time."""
+        return self.browser.wait(f"document.body.dataset.state === '{state}'", patience)
+
+    def one(self, selector, rest):
+        """The value of an expression on the first element of a selector."""
+        return self.value(f"document.querySelector({json.dumps(selector)}).{rest}")
+
+    def text(self, selector):
         """What an element shows."""
-        return self.value(f"document.getElementById('{name}').textContent")
+        return self.one(selector, "textContent")
+
+    def says(self, selector, text, patience=5):
+        """Waits for a text of an element. Returns whether it came in time."""
+        return self.browser.wait(f"document.querySelector('{selector}').textContent === {json.dumps(text)}", patience)
 
     def shown(self):
         """What the page shows once its run is over: the status, whether it is a report, and the text."""
         if not self.settle():
             return "no run ended"
-        state, status, fault, text = self.value("[document.body.dataset.state, document.body.dataset.status, "
-                                                "document.getElementById('report').dataset.fault, document.getElementById('report').textContent]")
-        return (int(status), fault == "false", text.encode()) if state == "done" else (state, self.text("status"), text)
+        state, status, fault = self.value("[document.body.dataset.state, document.body.dataset.status, $('report').dataset.fault]")
+        text = self.text("#report")
+        return (int(status), fault == "false", text.encode()) if state == "done" else (state, self.text("#status"), text)
 
     def wanted(self, text, *options):
-        """What the program says of a feature of the name that the page's first file has."""
-        name = self.value("document.querySelector('#files .name').value")
+        """What the program says of a feature with the name of the page's first file."""
+        name = self.names()[0]
         driver.write(os.path.join(self.room, os.path.dirname(name)), {os.path.basename(name): text})
         return wanted_of(self.program, [*options, name], self.room)
 
     def fill(self, selector, text):
-        """Puts a text into a field, as somebody who pastes it."""
-        self.value("(() => { const it = document.querySelector(%s); it.value = %s; it.dispatchEvent(new Event('input', { bubbles: true })); })()"
-                   % (json.dumps(selector), json.dumps(text)))
+        """Puts a text into a field at once."""
+        self.value("(() => { const it = document.querySelector(%s); it.value = %s; "
+                   "it.dispatchEvent(new Event('input', { bubbles: true })); })()" % (json.dumps(selector), json.dumps(text)))
 
     def type(self, selector, text):
-        """Types a text over that of a field."""
-        self.value(f"for (let it = document.querySelector({json.dumps(selector)}); it; it = it.parentElement) if (it.tagName === 'DETAILS') it.open = true")
+        """Types a text over that of a field, which is opened before."""
+        self.value("(() => { const part = document.querySelector(%s).closest('details'); "
+                   "if (part) part.open = true; })()" % json.dumps(selector))
         self.focus(selector)
         self.browser.type(text)
 
     def open_example(self, name):
         """Chooses an example, and opens it."""
-        self.value(f"document.getElementById('example').value = {json.dumps(name)}")
+        self.value(f"$('example').value = {json.dumps(name)}")
         self.click("#open")
 
     def inputs(self):
@@ -233,9 +309,14 @@ class Page:
         return self.value("(() => { const it = document.activeElement; return it === document.body ? 'nothing' "
                           ": it.id || it.getAttribute('aria-label') || it.textContent.trim(); })()")
 
+    def tree(self, *roles):
+        """The nodes of these roles that a screen reader meets."""
+        nodes = self.browser.ask("Accessibility.getFullAXTree")["nodes"]
+        return [it for it in nodes if not it.get("ignored") and it["role"]["value"] in roles]
+
 
 def link_to(given):
-    """The fragment of a link to these inputs, or to a text in their place."""
+    """The fragment of a link to these inputs, or to these bytes in place of them."""
     data = given if isinstance(given, bytes) else json.dumps(given).encode()
     return "#" + base64.urlsafe_b64encode(data).decode().rstrip("=")
 
@@ -244,132 +325,148 @@ def example(page):
     """Each example, opened from the list, gives what the program gives."""
     page.load()
     for arguments in driver.examples():
-        name = os.path.basename(arguments[-1])
-        page.open_example(name)
-        found, wanted = page.shown(), wanted_of(page.program, arguments)
-        yield unless(found == wanted, f"{name} on the page: {found}, and not {wanted}")
+        page.open_example(os.path.basename(arguments[-1]))
+        yield same(f"{arguments[-1]} on the page", page.shown(), wanted_of(page.program, arguments))
 
 
 def guide(page):
-    """What the guide's page begins with."""
+    """The guide's page begins with this."""
     page.load()
-    yield unless((page.names(), page.text("status")) == ([FIRST], "Failed, status 1"), f"the guide's first step: {page.text('status')}")
+    yield same("the guide's first step", (page.names(), page.text("#status")), ([FIRST], "Failed, status 1"))
     text = page.inputs()["files"][0][1]
-    yield unless(text.endswith("| blue   |\n"), f"the first example ends with {text[-20:]}")
+    yield holds(f"the first example ends with {text[-20:]}", text.endswith("| blue   |\n"))
     page.fill("#files .text", text[:-10] + text[-10:].replace("blue", "red"))
     page.settle()
-    yield unless(page.text("status") == "Nothing failed, status 0", f"the guide's second step: {page.text('status')}")
+    yield same("the guide's second step", page.text("#status"), "Nothing failed, status 0")
+    yield same("the delays of the page", page.value("[PAUSE, SLOW]"), [150, 300])
 
 
 def verdict(page):
-    """The status says in words how the run ended, and the time is no part of it, so it isn't read out each time."""
+    """The status says in words how a run ended. The time isn't a part of it: it would be read out each time."""
     page.load()
-    cases = [("Given it passes", "Nothing failed, status 0", "good"), ("Given it fails", "Failed, status 1", "bad"), ("Given it passes\n\"\"\"", "Fault, status 3", "bad")]
-    for step, status, kind in cases:
+    cases = (("Given it passes", "Nothing failed, status 0", "good", "false"), ("Given it fails", "Failed, status 1", "bad", "false"),
+             ("Given it passes\n\"\"\"", "Fault, status 3", "bad", "true"))
+    for step, *wanted in cases:
         page.fill("#files .text", driver.feature(step))
         page.settle()
-        found = page.value("[document.getElementById('status').textContent, document.getElementById('status').className]")
-        yield unless(found == [status, kind], f"'{step}' on the page: {found}, and not {status}")
-    yield unless(page.text("time").endswith(" ms"), f"the page says no time: {page.text('time')}")
+        found = [page.text("#status"), page.one("#status", "className"), page.one("#report", "dataset.fault")]
+        yield same(f"'{step}' on the page", found, wanted)
+    yield holds(f"the page says no time: {page.text('#time')}", re.fullmatch(r"[0-9]+\.[0-9] ms", page.text("#time")))
     page.value("ended({ number: asked, answer: { hasReport: true, status: 4, text: 'memory' }, time: 1 })")
-    yield unless(page.text("status") == "Memory ran out, status 4", f"out of memory on the page: {page.text('status')}")
+    yield same("out of memory on the page", page.text("#status"), "Memory ran out, status 4")
 
 
 # ---- links
 
 def link(page):
-    """A link holds all inputs, and stays said and in the address until they change."""
+    """A link holds all inputs, and stays in the address, and what is said of it too, until they change."""
     page.load()
-    before = page.value("history.length")
     page.value(f"show({json.dumps(FULL)})")
     page.settle()
+    before = page.value("history.length")
     page.click("#link")
-    page.browser.wait("document.getElementById('notice').textContent.endsWith('.')")
+    page.browser.wait("$('notice').textContent.startsWith('The link is ')")
     address = page.value("location.href")
     page.click("button[type=submit]")
     page.settle()
     time.sleep(0.3)
-    yield unless(page.text("notice").startswith("The link is "), f"a run overwrites what is said of the link: '{page.text('notice')}'")
-    yield unless(page.value("location.href") == address, "a run changes the address")
+    yield holds("a run overwrites what is said of the link", page.text("#notice").startswith("The link is "))
+    yield same("the address after a run", page.value("location.href"), address)
+    yield same("the length of the browser's history", page.value("history.length"), before)
     page.load("#" + address.split("#")[1])
-    yield unless(page.inputs() == FULL, f"a link holds other inputs: {page.inputs()}")
-    yield unless(page.value("history.length") <= before + 2, "a link makes an entry of the browser's history")
-    yield unless(page.value("[...document.querySelectorAll('details')].every((it) => it.open)"), "fields that a link fills aren't open")
+    yield same("the inputs of a link", page.inputs(), FULL)
+    yield holds("fields that a link fills aren't open", page.value("[...document.querySelectorAll('details')].every((it) => it.open)"))
     page.load(link_to({"files": [["a.feature", SMALL]]}))
-    yield unless(page.shown() == page.wanted(SMALL) and page.text("notice") == "", "a link to a file alone isn't taken")
-    yield unless(page.inputs()["libraryName"] == "own.steps" and page.inputs()["format"] == "plain", "a link to a file alone leaves fields empty")
+    yield same("a link to a file alone", (page.shown(), page.text("#notice")), (page.wanted(SMALL), ""))
+    names = {"libraryName": "own.steps", "hooksName": "own.hooks", "format": "plain"}
+    wanted = {name: names.get(name, type(value)()) for name, value in FULL.items()}
+    yield same("the other fields then", page.inputs(), {**wanted, "files": [["a.feature", SMALL]]})
+    page.value(f"location.hash = {json.dumps(link_to(FULL))}")
+    page.browser.wait("inputs().format === 'json'", 5)
+    page.value(f"location.hash = {json.dumps(link_to({'files': [['b.feature', '']]}))}")
+    page.browser.wait("inputs().format === 'plain'", 5)
+    yield same("a link to a file alone after one to all", page.inputs(), {**wanted, "files": [["b.feature", ""]]})
 
 
 def copied(page):
-    """The link is copied if the browser allows it, and otherwise said to be in the address alone."""
+    """The link is copied if the browser allows it. Otherwise it is only in the address, and the page says so."""
     for setting, said in (("granted", "The link is copied, and in the address."), ("denied", "The link is in the address.")):
         page.load()
-        page.browser.ask("Browser.setPermission", permission={"name": "clipboard-write", "allowWithoutSanitization": False}, setting=setting)
+        for name in ("clipboard-write", "clipboard-read"):
+            permission = {"name": name, "allowWithoutSanitization": False}
+            page.browser.ask("Browser.setPermission", permission=permission, setting=setting if name == "clipboard-write" else "granted")
         page.click("#link")
-        yield unless(page.browser.wait(f"document.getElementById('notice').textContent === {json.dumps(said)}", 5),
-                     f"with copying {setting}: '{page.text('notice')}', and not '{said}'")
+        yield holds(f"with copying {setting}: '{page.text('#notice')}', and not '{said}'", page.says("#notice", said))
+        if setting == "granted":
+            yield same("the copied link", page.value("navigator.clipboard.readText()"), page.value("location.href"))
 
 
 def address(page):
     """Each change of the inputs takes the link out of the address, and what is said of it."""
     changes = {
-        "a typed text": lambda: page.type("#files .text", "x"), "a name": lambda: page.type("#files .name", "x"),
-        "a box": lambda: page.click("#dryRun"), "the list of formats": lambda: (page.focus("#format"), page.press("ArrowUp")),
-        "a new file": lambda: page.click("#add"), "a removed file": lambda: page.click(".remove"),
-        "an example": lambda: page.click("#open"), "Undo": lambda: page.click("#undo"),
+        "a typed text": lambda: page.type("#files .text", "x"),
+        "a name": lambda: page.type("#files .name", "x"),
+        "a box": lambda: page.click("#dryRun"),
+        "the list of formats": lambda: (page.focus("#format"), page.press("ArrowUp")),
+        "a new file": lambda: page.click("#add"),
+        "a removed file": lambda: page.click(".remove"),
+        "an example": lambda: page.click("#open"),
+        "Undo": lambda: page.click("#undo"),
     }
     page.load(link_to(FULL))
     for name, change in changes.items():
         page.click("#link")
-        page.browser.wait("location.hash !== '' && document.getElementById('notice').textContent !== ''", 5)
+        page.browser.wait("location.hash !== '' && $('notice').textContent !== ''", 5)
         change()
-        found = page.value("[location.href, document.getElementById('notice').textContent]")
-        yield unless(found == [PAGE, ""], f"{name} leaves the link in the address: {found[0][:200]} '{found[1]}'")
+        yield same(f"the address and the notice after {name}", page.value("[location.href, $('notice').textContent]"), [PAGE, ""])
         time.sleep(0.2)
 
 
 def wrong_fragments():
     """Fragments of links that can't be used."""
+    good = ["a.feature", SMALL]
     yield from ("#%22%3Cscript%3E", "#x", "#" + "é", link_to(b"\xff"), link_to(b"{"), link_to(b"{}")[:-1])
-    files = [["a.feature", SMALL]]
-    yield from map(link_to, (None, 1, True, "text", [], {}, {"files": None}, {"files": "ab"}, {"files": {}}, {"files": {"0": files[0], "length": 1}}))
-    yield from (link_to({"files": it}) for it in ([], ["ab"], [[]], [["a"]], [["a", "b", "c"]], [["a", {}]], [[{}, "b"]], [["a", 1]], [["a", None]],
-                                                  [{"0": "a", "1": "b", "length": 2}], [*files, None]))
-    yield from (link_to({"files": files, name: {}}) for name in FULL if name != "files")
-    yield from (link_to({"files": files, name: it}) for name in ("tags", "stop") for it in ([], None, 1, "true" if name == "stop" else True))
-    yield from (link_to({"files": files, "format": it}) for it in ("", "xml", MARKUP))
+    yield from map(link_to, (None, 1, True, "text", [], {}))
+    yield link_to(json.dumps({"files": [good]}).encode().replace(b"Feature", b"\xff"))
+    for files in (None, "ab", {}, {"0": good, "length": 1}, [], ["ab"], [[]], [["a"]], [["a", "b", "c"]], [["a", {}]], [[{}, "b"]],
+                  [["a", 1]], [["a", None]], [{"0": "a", "1": "b", "length": 2}], [good, None]):
+        yield link_to({"files": files})
+    yield from (link_to({"files": [good], name: {}}) for name in FULL if name != "files")
+    for name, value in (("tags", []), ("tags", None), ("tags", 1), ("tags", True), ("stop", []), ("stop", None), ("stop", 1),
+                        ("stop", "true"), ("format", ""), ("format", "xml"), ("format", MARKUP)):
+        yield link_to({"files": [good], name: value})
 
 
 def wrong_link(page):
-    """A link that can't be used says so. At first the page shows its example, and later what it showed."""
+    """A link that can't be used says so. The page then shows its example, or leaves the fields as they were."""
     fragments = list(wrong_fragments())
     for fragment in fragments[::5]:
         page.load(fragment)
-        found = page.value("[inputs().files[0][0], document.getElementById('notice').textContent]")
-        yield unless(found == [FIRST, "The link in the address can't be used. The page shows its example."], f"the link {fragment} shows {found}")
+        yield same(f"the link {fragment}", [page.names(), page.text("#notice")], [[FIRST], AT_FIRST])
     page.load()
-    yield unless(page.text("notice") == "", "the page says something of a link without one")
+    yield same("the notice without a link", page.text("#notice"), "")
     page.type("#files .text", SMALL)
     page.settle()
     wanted = page.shown()
     for fragment in fragments:
-        page.value(f"document.getElementById('notice').textContent = ''; location.hash = {json.dumps(fragment)}")
-        said = page.browser.wait("document.getElementById('notice').textContent === \"The link in the address can't be used. The fields are as they were.\"", 5)
-        yield unless(said and page.shown() == wanted, f"the link {fragment}, opened later, says '{page.text('notice')}' and shows {page.shown()}")
+        page.value(f"$('notice').textContent = ''; location.hash = {json.dumps(fragment)}")
+        yield holds(f"the link {fragment}, opened later, says '{page.text('#notice')}'", page.says("#notice", LATER))
+        yield same(f"the link {fragment}, opened later", page.shown(), wanted)
 
 
 def later_link(page):
-    """A link that is opened on the page takes the place of what was typed, and Undo brings that back."""
+    """A link that is opened on the page replaces what was typed, and Undo brings that back."""
     page.load()
     page.type("#files .text", "Feature: typed\n")
     page.settle()
     typed = page.inputs()
-    page.value(f"location.hash = {json.dumps(link_to(FULL))}")
-    yield unless(page.browser.wait("inputs().format === 'json'", 5) and page.inputs() == FULL, "a link that is opened later isn't shown")
+    page.value(f"$('notice').textContent = 'old'; location.hash = {json.dumps(link_to(FULL))}")
+    page.browser.wait("inputs().format === 'json'", 5)
+    yield same("a link that is opened later", (page.inputs(), page.text("#notice")), (FULL, ""))
     page.click("#undo")
-    yield unless(page.inputs() == typed, f"Undo doesn't bring back what was typed before a link: {page.inputs()}")
+    yield same("Undo after a link", page.inputs(), typed)
     page.click("#undo")
-    yield unless(page.inputs() == FULL, "Undo doesn't bring back what it replaced")
+    yield same("Undo after Undo", page.inputs(), FULL)
 
 
 def long_link(page):
@@ -377,11 +474,12 @@ def long_link(page):
     page.load()
     page.fill("#files .text", "#" * 740000)
     page.click("#link")
-    yield unless(page.text("notice").startswith("The link is ") and len(page.value("location.hash")) > 980000, "no link to 740,000 bytes")
+    good = page.text("#notice").startswith("The link is ") and len(page.value("location.hash")) > 980000
+    yield holds(f"a link to 740,000 bytes: '{page.text('#notice')}'", good)
     page.fill("#files .text", "#" * 760000)
     page.click("#link")
-    said = "These inputs are too long for a link: it would have 1013"
-    yield unless(page.text("notice").startswith(said) and page.value("location.hash") == "", f"a link to 760,000 bytes: '{page.text('notice')[:200]}'")
+    good = page.text("#notice").startswith("These inputs are too long for a link: it would have 1013") and page.value("location.hash") == ""
+    yield holds(f"a link to 760,000 bytes: '{page.text('#notice')}'", good)
 
 
 # ---- the keyboard, and what is typed
@@ -389,131 +487,123 @@ def long_link(page):
 def example_key(page):
     """A key on the list of examples leaves what was typed. Open replaces it, and Undo brings it back."""
     page.load()
-    yield unless(page.value("document.getElementById('undo').hidden"), "Undo is offered before there is anything to undo")
+    yield holds("Undo is offered before there is anything to undo", page.one("#undo", "hidden"))
     page.type("#files .text", SMALL)
     page.settle()
     typed = page.inputs()
     page.focus("#example")
     for key in ("ArrowDown", "ArrowDown", "ArrowUp"):
         page.press(key)
-    chosen = page.value("document.getElementById('example').value")
+    chosen = page.one("#example", "value")
     time.sleep(0.3)
-    yield unless(chosen != "paint.feature", "an arrow key on the list of examples does nothing")
-    yield unless(page.inputs() == typed and page.shown() == page.wanted(SMALL), f"an arrow key on the list of examples discards typed text: {page.inputs()}")
+    yield holds("an arrow key on the list of examples does nothing", chosen != "paint.feature")
+    yield same("an arrow key on the list of examples", (page.inputs(), page.shown()), (typed, page.wanted(SMALL)))
     page.press("Tab")
     page.press("Enter")
     page.settle()
-    yield unless(page.names()[-1] == f"examples/{chosen}" and page.focused() == "open", f"Open shows {page.names()} and focuses {page.focused()}")
+    yield same("Open", (page.names()[-1], page.focused()), (f"examples/{chosen}", "open"))
     page.press("Tab")
     page.press(" ")
-    yield unless(page.inputs() == typed and page.focused() == "undo", f"Undo shows {page.inputs()} and focuses {page.focused()}")
-    yield unless(page.shown() == page.wanted(SMALL), "Undo runs nothing")
+    yield same("Undo", (page.inputs(), page.focused(), page.shown()), (typed, "undo", page.wanted(SMALL)))
 
 
 def removed(page):
-    """After a removal the focus is in the next file, or the one before; Undo brings the file back."""
+    """After a removal the focus is in the next file, or the one before. Undo brings the file back."""
     page.load()
     page.open_example("progress.feature")
     before = page.inputs()
+    names = page.names()
     for place, left, focus in ((1, [0, 2], "Feature file 2"), (2, [0, 1], "Feature file 2"), (0, [1, 2], "Feature file 1")):
         page.focus(f".file:nth-child({place + 1}) .remove")
         page.press(" ")
-        found = (page.names(), page.focused())
-        yield unless(found == ([before["files"][it][0] for it in left], focus), f"file {place + 1} removed: {found}")
+        yield same(f"file {place + 1} removed", (page.names(), page.focused()), ([names[it] for it in left], focus))
         page.click("#undo")
-        yield unless(page.inputs() == before, f"Undo doesn't bring back file {place + 1}")
+        yield same(f"file {place + 1} brought back", page.inputs(), before)
     for _ in range(2):
         page.click(".remove")
-    yield unless((page.focused(), page.value("document.querySelector('.remove').hidden")) == ("Feature file", True), f"the last file: {page.focused()}")
-    text = before["files"][2][1]
-    driver.write(os.path.join(page.room, "examples"), {"progress.feature": text})
-    page.browser.wait("document.getElementById('report').textContent.startsWith('examples/progress')", 5)
-    yield unless(page.shown() == wanted_of(page.program, ["--format", "progress", before["files"][2][0]], page.room), f"after removals: {page.shown()}")
+    yield same("the last file", (page.names(), page.focused(), page.one(".remove", "hidden")), (names[2:], "Feature file", True))
+    page.browser.wait("$('report').textContent.startsWith('examples/progress')", 5)
+    yield same("the last file runs", page.shown(), page.wanted(before["files"][2][1], "--format", "progress"))
 
 
 def added(page):
-    """An added file is empty, has the focus and a name of its own."""
+    """An added file is empty, has the focus, and a name that no other file has."""
     page.load()
-    names = []
-    for number in range(3):
+    for number in (2, 3, 4):
         page.focus("#add")
         page.press("Enter")
-        names.append(page.names()[-1])
-        yield unless(page.focused() == f"Feature file {number + 2}", f"an added file has no focus: {page.focused()}")
-    yield unless(names == ["file2.feature", "file3.feature", "file4.feature"], f"added files are called {names}")
+        found = (page.inputs()["files"][-1], page.focused())
+        yield same("an added file", found, ([f"file{number}.feature", ""], f"Feature file {number}"))
     page.click(".file:nth-child(2) .remove")
     page.click("#add")
     page.click(".file:nth-child(1) .remove")
     page.click("#add")
-    yield unless(page.names() == ["file3.feature", "file4.feature", "file5.feature", "file6.feature"], f"Add after Remove gives {page.names()}")
+    yield same("Add after Remove", page.names(), [f"file{number}.feature" for number in (3, 4, 5, 6)])
     page.browser.type(SMALL)
     for number in (1, 2, 3):
         page.fill(f".file:nth-child({number}) .text", SMALL)
-    page.browser.wait("document.getElementById('report').textContent.includes('4 features')", 5)
-    yield unless(b"4 features passed" in page.shown()[2], f"four added files: {page.shown()}")
+    good = page.browser.wait("$('report').textContent.includes('4 features passed')", 5)
+    yield holds(f"four added files: {page.shown()}", good)
 
 
 def wrong_field(page):
     """A wrong line or variable is said in the report and at its field, until it is right."""
-    cases = (("lines", "1 4x 2", '"4x" is not a line number: lines are whole numbers from 1 to 4294967295.', "2 3"),
-             ("lines", "0", '"0" is not a line number: lines are whole numbers from 1 to 4294967295.', "+2,4294967295"),
-             ("lines", "4294967296", '"4294967296" is not a line number: lines are whole numbers from 1 to 4294967295.', ""),
-             ("variables", "A=1\nB\u0007", '"B\\u0007" is not a variable: it needs a name, "=" and a text.', "A=1\nB="))
-    for field, wrong, said, right in cases:
+    line = '"{}" is not a line number: lines are whole numbers from 1 to 4294967295.'
+    variable = '"{}" is not a variable: it needs a name, "=" and a text.'
+    cases = (("lines", "1 4x 2", line.format("4x"), "2 3", ["--line=2", "--line=3"]),
+             ("lines", "0", line.format("0"), "+2,4294967295", ["--line=2", "--line=4294967295"]),
+             ("lines", "4294967296", line.format("4294967296"), "", []),
+             ("variables", "A=1\nB\u0007", variable.format("B\\u0007"), "A=1\nB=C=", ["--env=A=1", "--env=B=C="]))
+    text = "Feature: f\n  Scenario: s\n    Then the variable \"B\" should be \"C=\"\n  Scenario: t\n    Given it fails\n"
+    for field, wrong, said, right, options in cases:
         page.load()
+        page.fill("#files .text", text)
         page.type("#" + field, wrong)
-        page.browser.wait("document.body.dataset.state === 'failed'", 5)
-        state = f"[document.getElementById('{field}').getAttribute('aria-invalid'), document.getElementById('{field}Wrong').textContent]"
-        found = (page.shown(), page.value(state), page.value("document.getElementById('report').dataset.fault"))
-        yield unless(found == (("failed", "Not run", said), ["true", said], "true"), f"{field} '{wrong}': {found}")
-        yield unless(described(page, field) == said, f"{field} '{wrong}' is described by '{described(page, field)}'")
+        page.state("failed")
+        found = (page.shown(), page.one("#report", "dataset.fault"), page.one("#" + field, "ariaInvalid"), page.text(f"#{field}Wrong"))
+        yield same(f"{field} '{wrong}'", found, (("failed", "Not run", said), "true", "true", said))
+        read_out = [it.get("description", {}).get("value") for it in page.tree("textbox")
+                    if it["name"]["value"].lower().startswith(field)]
+        yield same(f"what is read out at the {field}", read_out, [said])
         page.fill("#" + field, right)
-        options = [it for line in right.replace(",", " ").split() for it in ("--line", line)] if field == "lines" else ["--env=A=1", "--env=B="]
-        wanted = page.wanted(driver.read(os.path.join(driver.HOME, FIRST)), *options)
-        found = (page.shown(), page.value(state))
-        yield unless(found == (wanted, ["false", ""]), f"{field} '{right}': {found}, and not {wanted}")
-
-
-def described(page, field):
-    """The description of a field that a screen reader reads out."""
-    return next(it.get("description", {}).get("value") for it in tree(page) if ["focused", True] in
-                [[one["name"], one["value"].get("value")] for one in it.get("properties", [])] and it["role"]["value"] == "textbox"
-                and page.focused() == field)
+        found = (page.shown(), page.one("#" + field, "ariaInvalid"), page.text(f"#{field}Wrong"))
+        yield same(f"{field} '{right}'", found, (page.wanted(text, *options), "false", ""))
 
 
 def order(page):
     """The Tab key reaches each control, in the order in which the page is read, and none twice."""
     page.load()
-    page.value("document.getElementById('example').value = 'kitchen.feature'; document.getElementById('open').click()")
+    page.value("$('example').value = 'kitchen.feature'; $('open').click()")
     page.settle()
     found = []
     while len(found) < 40:
         page.press("Tab")
-        if page.value("document.activeElement === document.body"):
+        if page.focused() == "nothing":
             break
         found.append(page.focused())
-    wanted = ["example", "open", "undo", "link", "Name of feature file", "Feature file", "add", "Run", "halt", "report", "format", "dryRun", "stop",
-              "noSkipped", "Own steps, in place of the built-in steps", "libraryName", "library", "Hooks", "Tags, lines and variables"]
-    yield unless(found == wanted, f"the Tab key reaches {found}")
-    places = page.value("['#example', '#files .text', '#add', '#format', '#library'].map((it) => document.querySelector(it).getBoundingClientRect().top)")
-    yield unless(places == sorted(places), f"the controls are seen in another order: {places}")
-
-
-def tree(page):
-    """The nodes of the page that a screen reader meets."""
-    return [it for it in page.browser.ask("Accessibility.getFullAXTree")["nodes"] if not it.get("ignored")]
+    wanted = ["example", "open", "undo", "link", "Name of feature file", "Feature file", "add", "Run", "halt", "report", "format", "dryRun",
+              "stop", "noSkipped", "Own steps, in place of the built-in steps", "libraryName", "library", "Hooks", "Tags, lines and variables"]
+    yield same("the Tab key", found, wanted)
+    tops = [page.one(it, "getBoundingClientRect().top") for it in ("h1", "#example", "#files .text", "#add", "#format", "#library", "footer")]
+    yield same("the places of the controls", tops, sorted(tops))
 
 
 def label(page):
-    """Each control has a name for those who can't see it, and no two of them the same."""
+    """Each control has a name for a screen reader, and no two of them the same."""
     page.load(link_to(FULL))
-    names = [it["name"]["value"] for it in tree(page) if it["role"]["value"] in CONTROLS]
-    twice = [name for name, count in collections.Counter(names).items() if count > 1]
-    yield unless(len(names) >= 28 and "" not in names and not twice, f"controls without a name, or with the same: {sorted(names)}")
-    live = {it["name"]["value"] if it["name"]["value"] else it["nodeId"] for it in tree(page) if it["role"]["value"] == "status"}
-    yield unless(len(live) == 2, f"{len(live)} parts of the page are read out when they change, and not 2")
-    fields = page.value("[...document.querySelectorAll('input, textarea, select')].filter((it) => !it.labels.length && !it.ariaLabel).length")
-    yield unless(fields == 0, f"{fields} fields have no label")
+    names = collections.Counter(it["name"]["value"] for it in page.tree(*CONTROLS))
+    good = len(names) >= 28 and "" not in names and set(names.values()) == {1}
+    yield holds(f"controls without a name, or with the same: {names}", good)
+    yield same("the parts that are read out when they change", len(page.tree("status")), 2)
+    unlabeled = page.value("[...document.querySelectorAll('input, textarea, select')]"
+                           ".filter((it) => !it.labels.length && !it.ariaLabel).length")
+    yield same("fields without a label", unlabeled, 0)
+    checked = page.value("[...document.querySelectorAll('textarea, input:not([type=checkbox])')]"
+                         ".filter((it) => it.spellcheck).length")
+    yield same("fields with a spelling checker", checked, 0)
+    yield same("whether the browser fills the fields", page.one("#inputs", "autocomplete"), "off")
+    yield same("how a feature's lines are broken", page.value("getComputedStyle(document.querySelector('#files .text')).whiteSpace"), "pre")
+    yield same("what is said without scripts", page.one("noscript", "innerText").strip(), "<p>This page needs JavaScript.</p>")
 
 
 # ---- runs
@@ -524,47 +614,50 @@ def stopped(page):
     page.focus("#halt")
     before = page.shown()
     page.press(" ")
-    yield unless(page.shown() == before and page.focused() == "halt", "Stop does something where nothing runs")
+    yield same("Stop when nothing runs", (page.shown(), page.focused()), (before, "halt"))
     for stop in (lambda: page.click("#halt"), lambda: (page.focus("#halt"), page.press("Enter"))):
         page.fill("#files .text", LASTS_LONG)
-        yield unless(page.browser.wait("document.getElementById('halt').getAttribute('aria-disabled') === 'false'"), "Stop isn't offered")
-        yield unless(page.text("status") == "Running ..", f"a long run says '{page.text('status')}'")
-        begun = time.monotonic()
+        yield holds("Stop isn't offered", page.browser.wait("$('halt').ariaDisabled === 'false'"))
+        yield same("the status of a long run", page.text("#status"), "Running ..")
         stop()
-        ended = page.browser.wait("document.body.dataset.state === 'stopped'", 5) and time.monotonic() - begun < 2
-        yield unless(ended and (page.text("status"), page.text("report")) == ("Stopped", ""), f"a long run isn't stopped: {page.shown()}")
-        off = page.value("document.getElementById('halt').getAttribute('aria-disabled')")
-        yield unless(page.focused() == "halt" and off == "true", f"after Stop the focus is on {page.focused()}")
+        yield holds("a long run isn't stopped", page.state("stopped", 2))
+        found = (page.text("#status"), page.text("#report"), page.focused(), page.one("#halt", "ariaDisabled"))
+        yield same("after Stop", found, ("Stopped", "", "halt", "true"))
         time.sleep(0.5)
-        yield unless(page.text("status") == "Stopped", "a stopped run goes on")
+        yield same("some time after Stop", page.text("#status"), "Stopped")
         page.fill("#files .text", SMALL)
-        yield unless(page.shown() == page.wanted(SMALL), "no run after one that was stopped")
+        yield same("a run after one that was stopped", page.shown(), page.wanted(SMALL))
     page.fill("#files .text", LASTS_LONG)
-    page.browser.wait("document.body.dataset.state === 'running'")
+    page.state("running")
     page.fill("#files .text", SMALL)
-    yield unless(page.browser.wait("document.body.dataset.state === 'done'", 5) and page.shown() == page.wanted(SMALL), "a new text waits for an older run")
+    yield holds("a new text waits for an older run", page.state("done"))
+    yield same("a run after one that it ended", page.shown(), page.wanted(SMALL))
     page.value("ended({ number: asked - 1, answer: { hasReport: true, status: 1, text: 'old' }, time: 1 })")
-    yield unless(page.shown() == page.wanted(SMALL), "the report of an older run is shown")
+    yield same("the report after that of an older run", page.shown(), page.wanted(SMALL))
 
 
 def run_again(page):
-    """Run runs again what was stopped, and Enter in a field runs without leaving the page."""
+    """Run runs again what was stopped. Enter in a field runs without leaving the page."""
     page.load()
     page.fill("#files .text", LASTS_A_SECOND)
-    page.browser.wait("document.getElementById('halt').getAttribute('aria-disabled') === 'false'")
+    page.browser.wait("$('halt').ariaDisabled === 'false'")
     page.click("#halt")
     page.click("button[type=submit]")
-    yield unless(page.shown() == page.wanted(LASTS_A_SECOND), "Run doesn't run what was stopped")
+    yield same("Run after Stop", page.shown(), page.wanted(LASTS_A_SECOND))
+    before = page.value("asked")
+    page.value("for (let n = 0; n < 5; n += 1) $('tags').dispatchEvent(new Event('input', { bubbles: true }))")
+    time.sleep(0.5)
+    yield same("the runs after five keys", page.value("asked") - before, 1)
     page.load()
-    page.value("document.getElementById('report').textContent = ''")
+    page.value("$('report').textContent = ''")
     page.focus("#files .name")
     page.press("Enter")
-    yield unless(page.browser.wait("document.getElementById('report').textContent !== ''", 5), "Enter in a field runs nothing")
-    yield unless(page.value("location.href") == PAGE, "Enter in a field leaves the page")
+    yield holds("Enter in a field runs nothing", page.browser.wait("$('report').textContent !== ''", 5))
+    yield same("the address after Enter in a field", page.value("location.href"), PAGE)
 
 
 def long_report(page):
-    """A report of some 16 MB is shown whole, without being laid out whole."""
+    """A report of some 15 MB is shown whole, without being laid out whole."""
     text = long_feature(30, 9000)
     page.load()
     before = page.browser.metric("LayoutDuration")
@@ -572,15 +665,15 @@ def long_report(page):
     found, wanted = page.shown(), page.wanted(text)
     page.value("new Promise((it) => requestAnimationFrame(() => setTimeout(it, 0)))")
     spent = page.browser.metric("LayoutDuration") - before
-    yield unless(found == wanted, f"a report of {len(wanted[2])} bytes on the page has {len(found[2])}")
-    yield unless(len(wanted[2]) > 15000000 and spent < 1, f"a report of {len(wanted[2])} bytes is laid out in {spent:.1f} s")
-    end = "(() => { const it = document.getElementById('report'); it.scrollTop = 1e9; const range = document.createRange(); " \
-          "range.selectNodeContents(it.lastChild); const last = range.getBoundingClientRect(); return last.bottom <= it.getBoundingClientRect().bottom + 1; })()"
-    yield unless(page.browser.wait(end, 10), "the end of a long report can't be seen")
-    page.fill("#files .text", driver.feature(*["Given it passes"] * 300))
+    yield same("a long report", found, wanted)
+    yield holds(f"a report of {len(wanted[2])} bytes is laid out in {spent:.1f} s", len(wanted[2]) > 15000000 and spent < 1)
+    page.value("$('report').scrollTop = 1e9")
+    seen = "$('report').lastChild.getBoundingClientRect().bottom <= $('report').getBoundingClientRect().bottom"
+    yield holds("the end of a long report can't be seen", page.browser.wait(seen, 10))
+    page.fill("#files .text", driver.feature(*["Given it passes"] * 900))
     page.settle()
-    copied_text = page.value("(() => { getSelection().selectAllChildren(document.getElementById('report')); return getSelection().toString(); })()")
-    yield unless(copied_text.encode().rstrip() == page.shown()[2].rstrip(), "a copied report has other line feeds")
+    chosen = page.value("(() => { getSelection().selectAllChildren($('report')); return getSelection().toString(); })()")
+    yield same("a report that is copied by hand", chosen.rstrip(), page.text("#report").rstrip())
 
 
 def scrolled(page):
@@ -589,75 +682,63 @@ def scrolled(page):
     text = driver.feature(*["Given it passes"] * 300)
     page.fill("#files .text", text)
     page.settle()
-    page.value("document.getElementById('report').scrollTop = 2000")
+    page.value("$('report').scrollTop = 2000")
     page.fill("#files .text", text + "Given it fails\n")
     page.settle()
-    yield unless(page.value("document.getElementById('report').scrollTop") == 2000, "the report moves while somebody types")
-    page.click("#open")
-    page.click("#undo")
+    yield same("the place in the report after a change", page.one("#report", "scrollTop"), 2000)
+    page.value(f"show({json.dumps({'files': [['a', text]]})})")
     page.settle()
-    yield unless(page.value("document.getElementById('report').scrollTop") == 0, "an opened report isn't at its top")
+    yield same("the place in the report of an example", page.one("#report", "scrollTop"), 0)
 
 
 # ---- text is never markup, and nothing is fetched
 
-def elements(page):
-    """How many elements of each kind the page has, apart from its feature files and the report's pieces."""
-    return page.value("(() => { const found = {}; for (const it of document.querySelectorAll('*')) if (!it.closest('.file') && !it.matches('#report > div')) "
-                      "found[it.tagName] = (found[it.tagName] ?? 0) + 1; return found; })()")
-
-
 def markup(page):
-    """Whatever stands in a field, a name, a link or a message is shown as text."""
+    """Markup in a field, a name, a link or a message is shown as text."""
     page.load()
-    wanted = elements(page)
     page.type("#files .name", MARKUP)
-    fields = {"#files .text": f"Feature: {MARKUP}\u0000\u202e\n  Scenario: {MARKUP}\n    Given it passes <b>\n", "#library": MARKUP, "#libraryName": MARKUP,
-              "#hooks": MARKUP, "#hooksName": MARKUP, "#tags": MARKUP, "#variables": MARKUP, "#lines": MARKUP}
+    fields = {"#files .text": f"Feature: {MARKUP}\u0000\u202e\n  Scenario: {MARKUP}\n    Given it passes <b>\n", "#library": MARKUP,
+              "#libraryName": MARKUP, "#hooks": MARKUP, "#hooksName": MARKUP, "#tags": MARKUP, "#variables": MARKUP, "#lines": MARKUP}
+    wanted = [page.value(ELEMENTS), MARKUP, "Try gherkin_run"]
     for selector, text in fields.items():
         page.type(selector, text)
         page.settle()
-        said = page.text("report")
-        yield unless(page.value("document.title") == "Try gherkin_run" and elements(page) == wanted, f"markup in {selector} is taken: {elements(page)}")
-        yield unless(page.inputs()["files"][0][0] == MARKUP and said != "", f"markup in {selector} leaves {said}")
-    yield unless(page.text("linesWrong").startswith('"</textarea></pre><script>document.title" is not'), f"a wrong line shows {page.text('linesWrong')}")
+        yield same(f"markup in {selector}", [page.value(ELEMENTS), page.names()[0], page.value("document.title")], wanted)
+        yield holds(f"markup in {selector} leaves no report", page.text("#report") != "")
+    said = '"</textarea></pre><script>document.title" is not a line number'
+    yield holds(f"a wrong line shows {page.text('#linesWrong')}", page.text("#linesWrong").startswith(said))
     page.click("#add")
     page.click("#link")
     page.load(page.value("location.hash"))
-    yield unless(page.inputs()["lines"] == MARKUP and elements(page) == wanted, f"markup in a link is taken: {elements(page)}")
+    yield same("markup in a link", [page.value(ELEMENTS), page.inputs()["lines"]], wanted[:2])
     for message in ("ended({ number: asked, error: %s })", "worker.onerror({ message: %s })"):
         page.value(message % json.dumps(MARKUP))
-        state = page.shown()
-        yield unless(MARKUP in state[2] and state[:2] == ("failed", "Not run") and elements(page) == wanted, f"markup in a message is taken: {state}")
-    yield unless(page.value("document.title") == "Try gherkin_run", "the title is taken")
+        state, status, text = page.shown()
+        found = [page.value(ELEMENTS), state, status, text[-len(MARKUP):]]
+        yield same("markup in a message", found, [wanted[0], "failed", "Not run", MARKUP])
     page.load()
-    page.type("#files .text", MARKUP)
-    yield unless(page.shown() == page.wanted(MARKUP), f"a fault with markup: {page.shown()}")
+    for text in (fields["#files .text"], MARKUP):
+        page.type("#files .text", text)
+        page.settle()
+        yield same("a report with markup", page.shown(), page.wanted(text))
+        yield same("the page with such a report", [page.value(ELEMENTS), page.value("document.title")], [wanted[0], wanted[2]])
 
 
 def locked(page):
-    """The page's policy lets nothing be fetched, and no script run that isn't the page's."""
+    """The page's policy lets nothing be fetched, and no script run except the page's."""
     page.load()
     policy = page.value("document.querySelector('meta[http-equiv]').content.replace(/sha256-[A-Za-z0-9+/=]{44}/g, 'sha256-?')")
-    yield unless(policy == POLICY, f"the policy is {policy}")
-    tries = {"an inline script": "(() => { const it = document.createElement('script'); it.textContent = 'window.taken = 1'; document.body.append(it); return window.taken; })()",
-             "a handler": "(() => { const it = document.createElement('a'); it.setAttribute('onclick', 'window.taken = 1'); document.body.append(it); it.click(); return window.taken; })()",
-             "a text as code": "new Promise((done) => { setTimeout('window.taken = 1', 0); setTimeout(() => done(window.taken), 50); })",
-             "fetch": "fetch('data:,taken').then((it) => it.text(), () => undefined)",
-             "a style": "(() => { const it = document.createElement('div'); it.setAttribute('style', 'color: red'); return it.style.color || undefined; })()"}
-    for name, expression in tries.items():
-        found = page.value(expression)
-        yield unless(found is None, f"the policy allows {name}: {found}")
+    yield same("the policy", policy, POLICY)
+    for name, expression in REFUSED.items():
+        yield same(f"{name} under the policy", page.value(expression), None)
 
 
 def quiet(page):
     """Over all that was tried, the page asked for nothing, and no script failed."""
     urls = [it["request"]["url"] for it in page.browser.events_of("Network.requestWillBeSent")]
-    yield unless(urls and all(it.startswith(("file:", "blob:", "data:", "about:")) for it in urls), f"the page asks for {urls}")
-    failed = [it["exceptionDetails"] for it in page.browser.events_of("Runtime.exceptionThrown")]
-    yield unless(not failed, f"a script of the page fails: {failed[:3]}")
-    entries = [it["entry"]["text"] for it in page.browser.events_of("Log.entryAdded")]
-    yield unless(not entries, f"the browser complains: {entries[:3]}")
+    yield holds(f"the page asks for {urls}", urls and all(it.startswith(("file:", "blob:", "data:", "about:")) for it in urls))
+    yield same("scripts that failed", [it["exceptionDetails"] for it in page.browser.events_of("Runtime.exceptionThrown")], [])
+    yield same("complaints of the browser", [it["entry"]["text"] for it in page.browser.events_of("Log.entryAdded")], [])
 
 
 # ---- what is seen
@@ -666,47 +747,44 @@ def layout(page):
     """The report begins in view, in one column and in two, and its verdict stays there."""
     for width, height, lowest in ((320, 640, 700), (400, 800, 600), (1280, 800, 160), (1920, 1000, 160)):
         page.load(width=width, height=height)
-        top, wide = page.value("[document.getElementById('report').getBoundingClientRect().top, document.documentElement.scrollWidth]")
-        yield unless(top <= lowest and wide <= width, f"at {width} pixels the report begins at {top} and the page is {wide} wide")
+        top, wide = page.one("#report", "getBoundingClientRect().top"), page.value("document.documentElement.scrollWidth")
+        yield holds(f"at {width} pixels the report begins at {top} and the page is {wide} wide", top <= lowest and wide <= width)
         page.open_example("progress.feature")
-        page.value("window.scrollTo(0, 0)")
         for place in (0, 1e9):
             page.value(f"window.scrollTo(0, {place})")
-            box = page.value("(() => { const it = document.getElementById('status').getBoundingClientRect(); return [it.top, it.bottom]; })()")
-            yield unless(0 <= box[0] < box[1] <= height, f"at {width} pixels, scrolled to {place}, the verdict is at {box}")
-    sides = page.value("[document.getElementById('files').getBoundingClientRect().right, document.getElementById('report').getBoundingClientRect().left]")
-    yield unless(sides[0] < sides[1], f"at 1920 pixels the report isn't beside the feature: {sides}")
+            edges = [page.one("#status", f"getBoundingClientRect().{it}") for it in ("top", "bottom")]
+            yield holds(f"at {width} pixels, scrolled to {place}, the verdict is at {edges}", 0 <= edges[0] < edges[1] <= height)
+    sides = [page.one("#files", "getBoundingClientRect().right"), page.one("#report", "getBoundingClientRect().left")]
+    yield holds(f"at 1920 pixels the report isn't beside the feature: {sides}", sides[0] < sides[1])
 
 
 def contrast(page):
     """Each text can be read, by daylight and in the dark."""
-    for scheme, dark in (("light", False), ("dark", True)):
+    for scheme in ("light", "dark"):
         page.browser.ask("Emulation.setEmulatedMedia", features=[{"name": "prefers-color-scheme", "value": scheme}])
-        page.load(link_to({**FULL, "lines": "x"}))
-        found = page.value(CONTRAST)
-        page.load()
-        found += page.value(CONTRAST)
-        page.fill("#files .text", SMALL)
-        page.settle()
-        found += page.value(CONTRAST)
+        found = []
+        files = [[["a", SMALL]], [["a", driver.feature("Given it fails")]]]
+        for given in ({**FULL, "lines": "x"}, FULL, *({"files": it} for it in files)):
+            page.load(link_to(given))
+            found += page.value(CONTRAST)
         weak = [it for it in found if it[1] < 4.5]
-        yield unless(len(found) > 100 and not weak, f"{scheme}: too little contrast: {weak}")
-        red = page.value("getComputedStyle(document.body).backgroundColor.match(/[0-9]+/)[0]")
-        yield unless((int(red) < 64) == dark, f"{scheme}: the background is {red}")
+        yield holds(f"{scheme}: too little contrast: {weak}", len(found) > 100 and not weak)
+        red = int(page.value("getComputedStyle(document.body).backgroundColor.match(/[0-9]+/)[0]"))
+        yield same(f"{scheme}: whether the background is dark", red < 64, scheme == "dark")
     page.browser.ask("Emulation.setEmulatedMedia", features=[])
 
 
-CHECKS = [example, guide, verdict, link, copied, address, wrong_link, later_link, long_link, example_key, removed, added, wrong_field, order, label, stopped,
-          run_again, long_report, scrolled, markup, layout, contrast, quiet, locked]
+CHECKS = [example, guide, verdict, link, copied, address, wrong_link, later_link, long_link, example_key, removed, added, wrong_field, order,
+          label, stopped, run_again, long_report, scrolled, markup, layout, contrast, quiet, locked]
 
 
 def on_the_page(page):
-    """All of these, and what fails by itself in one of them."""
+    """All of these. A check that can't be carried out has failed."""
     for check in CHECKS:
         begun = time.monotonic()
         try:
             yield from check(page)
-        except (ValueError, TypeError, KeyError, StopIteration, IndexError) as failure:
+        except (ValueError, TypeError, KeyError, IndexError) as failure:
             yield f"{check.__name__}: {failure!r}"
         if os.environ.get("TIMES"):
             print(f"{check.__name__}: {time.monotonic() - begun:.1f} s")
@@ -720,7 +798,7 @@ def speed(page):
         page.settle()
         page.click("button[type=submit]")
     page.settle()
-    print(f"1,000 scenarios take {page.text('time')} on the page")
+    print(f"1,000 scenarios take {page.text('#time')} on the page")
 
 
 def pictures(page, folder):
@@ -731,7 +809,7 @@ def pictures(page, folder):
 
 
 def in_chromium(program, room):
-    """What is wrong on the page. None if Chromium itself ended, each of three times: some machines let it open nothing."""
+    """What is wrong on the page. None if Chromium ended by itself, each of three times: on some machines it opens nothing."""
     for number in range(3):
         browser = chromium.Browser(chromium.installed(), os.path.join(room, f"profile{number}"))
         try:
@@ -757,9 +835,9 @@ def main():
     if shutil.which("node"):
         tests.add_all(in_node(program, room))
     else:
-        print("nothing runs in Node: there is no node")
+        print("nothing runs in Node: node is missing")
     if not chromium.installed():
-        print("the page isn't opened: there is no chromium")
+        print("the page isn't opened: Chromium is missing")
         return tests.close()
     found = in_chromium(program, room)
     if found is None:

@@ -1,7 +1,7 @@
 #!/usr/bin/env python3
 """Makes the page, one file with all that it needs: make_page.py MODULE > try.html
 
-It has the page and the scripts of web/source, the WebAssembly module, and the features of examples/ with their arguments.
+It consists of the page and the scripts of web/source, the WebAssembly module, and the features of examples/ with their arguments.
 """
 
 import base64
@@ -18,13 +18,13 @@ FILES = {"--library": "library", "--hooks": "hooks"}
 
 
 def read(*path):
-    """The text of a file of the repository."""
+    """Returns the text of a file of the repository."""
     with open(os.path.join(HOME, *path), encoding="utf-8") as file:
         return file.read()
 
 
 def inputs_of(words):
-    """The fields of the page for a command line."""
+    """Returns the fields of the page for a command line."""
     made = {"files": [], "tags": "", "lines": "", "variables": ""}
     words = iter(words)
     for word in words:
@@ -46,7 +46,7 @@ def inputs_of(words):
 
 
 def examples():
-    """The inputs of each example, by its name."""
+    """Returns the inputs of each example by its name, as JSON."""
     found = {}
     for name in sorted(os.listdir(os.path.join(HOME, "examples"))):
         stem, ending = os.path.splitext(name)
@@ -58,7 +58,7 @@ def examples():
 
 
 def filled(page, parts):
-    """The page with each part in its place."""
+    """Returns the page with each part in its place."""
     for name, text in parts.items():
         if "</script" in text or page.count("{%s}" % name) != 1:
             sys.exit(f"make_page.py: {name} doesn't fit into the page")
@@ -69,7 +69,7 @@ def filled(page, parts):
 
 
 def hashes_of(page):
-    """The hashes by which the page's policy allows its one style sheet and its one script, and no others."""
+    """Returns the hashes with which the page's policy allows its style sheet and its script, and no others."""
     found = {}
     for name in ("style", "script"):
         text, = re.findall(f"<{name}>(.*?)</{name}>", page, re.DOTALL)
@@ -78,7 +78,7 @@ def hashes_of(page):
 
 
 def main():
-    """Puts the parts together."""
+    """Prints the page."""
     with open(sys.argv[1], "rb") as file:
         module = base64.b64encode(file.read()).decode()
     caller = read("web", "source", "gherkin_run.js").replace("export ", "")
