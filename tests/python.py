@@ -16,7 +16,6 @@ import signal
 import subprocess
 import sys
 import threading
-import time
 import typing
 
 import driver
@@ -397,27 +396,29 @@ def waiting(room):
                 process.stdin.flush()
             status, stderr = ends(process)
         yield "" if (begun, status, stderr) == (b"in", wanted, b"") else f"after Ctrl-C the command ends with {status}: {stderr.decode()}"
-    read, write = os.pipe()
-    with subprocess.Popen([sys.executable, __file__, "beside", str(write)], env=environment, stdin=read, stdout=subprocess.PIPE,
-                          stderr=subprocess.PIPE, pass_fds=[write]) as process:
+    with subprocess.Popen([sys.executable, __file__, "beside"], env=environment, stderr=subprocess.PIPE) as process:
         status, stderr = ends(process)
     yield "" if (status, stderr) == (0, b"") else f"a call doesn't let other threads run: {status}, {stderr.decode()}"
 
 
 def ends(process):
-    """Returns the status of a process and its standard error. Kills it after 10 seconds."""
+    """Returns the status of a process and its standard error. Kills it if it doesn't end."""
     try:
-        return process.wait(10), process.stderr.read()
+        return process.wait(driver.PATIENCE), process.stderr.read()
     except subprocess.TimeoutExpired:
         process.kill()
         return "no end", b""
 
 
-def beside(pipe):
-    """Makes a call that waits for its standard input, to which another thread of this process writes."""
+def beside():
+    """Makes a call that waits until another thread of this process has seen it begin."""
+    (begun, output), (standard_input, reply) = os.pipe(), os.pipe()
+    os.dup2(output, 1)
+    os.dup2(standard_input, 0)
+
     def write():
-        time.sleep(0.2)
-        os.write(pipe, b"x")
+        os.read(begun, 2)
+        os.write(reply, b"x")
 
     thread = threading.Thread(target=write)
     thread.start()
@@ -436,7 +437,7 @@ def main():
     if sys.argv[1] == "refused":
         return refused_here(sys.argv[2])
     if sys.argv[1] == "beside":
-        return beside(int(sys.argv[2]))
+        return beside()
     program, room, said = sys.argv[1:4]
     os.environ["TMPDIR"] = temporary = os.path.join(room, "temporary")
     os.mkdir(temporary)
