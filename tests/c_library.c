@@ -153,7 +153,9 @@ static void nulls_in_call(void) {
     null_at(&call.lines, "null for no lines");
     null_at(&call.variables, "null for no variables");
     null_at(&call.library.bytes.bytes, "null in a library that isn't used");
-    call.has_library = true;
+    call.has_library = true, call.library = named("", "no library\n");
+    null_at(&call.library.name.bytes, "null for the name of a library with a fault");
+    call.library = before.library;
     null_at(&call.library.name.bytes, "null for a library's name");
     null_at(&call.library.bytes.bytes, "null for an empty library");
     expect(answer.has_report && memmem(room, answer.length, "0 steps passed", 14), "an empty library has steps", 0);

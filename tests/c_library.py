@@ -156,9 +156,9 @@ class Comparisons(driver.Tests):
         self.compile("cc", "piece.c", f"#include <stdlib.h>\n{head} {{\n{piece}return 0; }}\n", "-std=c11")
 
     def shared_library(self):
-        """Loads the shared library by its versioned name, and from Python. Making it left nothing in TMPDIR."""
+        """Loads the shared library by its versioned name, and from Python, and looks at its names."""
         left = os.listdir(os.path.join(self.room, "temporary"))
-        self.add(left and f"tools/shared_library.sh leaves {left}")
+        self.add(left and f"tools/shared_library.sh leaves {left} in TMPDIR")
         version = re.search(r"^#define GHERKIN_RUN_ABI_VERSION (\d+)$", driver.read(HEADER).decode(), re.MULTILINE)
         folder = os.path.join(self.room, "found")
         os.mkdir(folder)
@@ -167,6 +167,9 @@ class Comparisons(driver.Tests):
         found = ended([os.path.join(self.room, "shared"), "examples/paint.feature"], HOME, {"LD_LIBRARY_PATH": folder})
         self.add(driver.trouble("the shared library", found, ended([self.main, "examples/paint.feature"], HOME)))
         self.add(not ctypes.CDLL(built).gherkin_run_version(None, 0) and "ctypes gets no version")
+        if shutil.which("nm"):
+            names = ended(["nm", "-D", "--defined-only", built], HOME)[1].split()[2::3]
+            self.add(names != [b"gherkin_run", b"gherkin_run_version"] and f"the shared library exports {names}")
 
     def calls(self, *command):
         """Runs a program of tests in C, and adds its counts."""

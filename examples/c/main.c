@@ -24,7 +24,7 @@ static void *room_for(size_t count, size_t size) {
     return room;
 }
 
-static void refuse(const char *why) {
+static _Noreturn void refuse(const char *why) {
     fprintf(stderr, "%s\n", why);
     exit(GHERKIN_BAD_CALL);
 }
