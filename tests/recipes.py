@@ -1,5 +1,5 @@
 #!/usr/bin/env python3
-"""Tries the recipes of docs/guide/recipes.md: recipes.py PROGRAM ROOM [EXAMPLES]. Called by tests/recipes.sh.
+"""Tries the recipes of the guide, and its page on machines: recipes.py PROGRAM ROOM [EXAMPLES]. Called by tests/recipes.sh.
 
 EXAMPLES is another folder with the scripts than examples/.
 """
@@ -19,7 +19,6 @@ import driver
 
 EXAMPLES = (sys.argv[3:] or [os.path.join(driver.HOME, "examples")])[0]
 RECIPES = os.path.join(EXAMPLES, "recipes")
-PAGE = os.path.join(driver.HOME, "docs", "guide", "recipes.md")
 BAD = ("failed", "undefined", "memory")
 # A name with every control character but line feed, and with what Markdown, XML and GitHub read as their own.
 ODD = "".join(map(chr, [*range(10), *range(11, 32), *range(127, 160), 0xFFFE, 0xFFFF, 0x1F600])) + "%0A ::error::##[error]<b>&amp;\"'|*_`]]>"
@@ -39,9 +38,10 @@ SUITE = {
 }
 
 
-def blocks():
-    """The commands of the page, block by block."""
-    return re.findall(r"^```sh\n(.*?)^```$", driver.read(PAGE).decode(), re.MULTILINE | re.DOTALL)
+def blocks(page):
+    """The commands of a page of the guide, block by block."""
+    text = driver.read(os.path.join(driver.HOME, "docs", "guide", page)).decode()
+    return re.findall(r"^```sh\n(.*?)^```$", text, re.MULTILINE | re.DOTALL)
 
 
 def folder_of(program, room, name):
@@ -179,12 +179,12 @@ def makers_troubles(program, room):
             yield f"{name}: {found}" if found else ""
 
 
-# ---- the commands of the page
+# ---- the commands of the pages
 
 def page_troubles(program, room):
-    """The commands of the page, one block after another, in one folder."""
+    """The commands of the page on recipes, one block after another, in one folder."""
     folder = folder_of(program, room, "page")
-    readers, again_command, long, spread = blocks()
+    readers, again_command = blocks("recipes.md")
     plain, whole = one_run(program, folder), one_run(program, folder, "--format", "json")
 
     ended = shell(folder, readers)
@@ -200,18 +200,46 @@ def page_troubles(program, room):
     yield from usage_troubles(folder)
     yield from refused_troubles(folder)
     yield from check_troubles(folder)
+
+
+def machine_troubles(program, room):
+    """The commands of the page on machines, each compared with one run."""
+    folder = folder_of(program, room, "machines")
+    spread, spread_part, long, part, add = blocks("machines.md")
+    whole = one_run(program, folder, "--format", "json")
     yield from sum_troubles(folder, "long.sh", long, whole)
-    yield from sum_troubles(folder, "long.sh in small parts", long.replace("examples/recipes/long.sh", "examples/recipes/long.sh --files 2"), whole)
-    killed = "examples/recipes/long.sh --files 2 ./killed"
+    yield from sum_troubles(folder, "long.sh in small parts", long.replace("long.sh ./run", "long.sh --files 2 ./run"), whole)
+    yield from killed_troubles(folder, long)
+    yield from divided_troubles(program, folder, part, add)
+    if shutil.which("parallel"):
+        yield from sum_troubles(folder, "spread.sh", spread, whole)
+        yield from sum_troubles(folder, "spread.sh with options", spread_part, one_run(program, folder, "--format", "json", "--tags", "~@broken"))
+    else:
+        print("examples/spread.sh isn't tried: there is no parallel")
+
+
+def killed_troubles(folder, long):
+    """A part that is killed leaves no report."""
     driver.write(folder, {"killed": '#!/bin/sh\n./run "$@"\ncase " $* " in *passes*) kill -9 "$PPID" ;; esac\n'})
     os.chmod(os.path.join(folder, "killed"), 0o755)
-    ended = shell(folder, long.replace("examples/recipes/long.sh ./run", killed))
+    ended = shell(folder, long.replace("long.sh ./run", "long.sh --files 2 ./killed"))
     yield unless("long.sh, killed: another end", ended[0] == 3 and ended[2] == b"long: a part was killed\n", ended[2].decode())
     yield unless("long.sh, killed: a report", driver.read(os.path.join(folder, "report.json")) == b"")
-    if subprocess.run(["sh", "-c", "command -v parallel"], stdout=subprocess.DEVNULL, check=False).returncode == 0:
-        yield from sum_troubles(folder, "spread.sh", spread, whole)
-    else:
-        print("examples/spread.sh isn't tried: it needs GNU parallel, and there is none here")
+
+
+def divided_troubles(program, folder, part, add):
+    """Three machines run a part each; the sum of their reports is one run over the files in their order."""
+    names = sorted(os.path.join("features", it) for it in os.listdir(os.path.join(folder, "features")))
+    order = [it for place in range(3) for number, it in enumerate(names, 1) if number % 3 == place]
+    for place in range(3):
+        status, printed, fault = shell(folder, part, PART=str(place), PARTS="3", LC_ALL="C")
+        yield unless(f"the command for machine {place}", status in (0, 1) and (printed, fault) == (b"", b""), status, fault)
+    status, printed, fault = shell(folder, add)
+    wanted = driver.start(program, ["--format", "json", "--", *order], folder)
+    yield driver.trouble("the sum of three machines", (status, driver.read(os.path.join(folder, "report.json")), fault), wanted)
+    os.remove(os.path.join(folder, "report.1.json"))
+    status, printed, fault = shell(folder, add)
+    yield unless("the sum without a machine", status == 3 and driver.read(os.path.join(folder, "report.json")) == b"" and fault != b"", status, fault)
 
 
 def again_troubles(folder, command):
@@ -441,7 +469,7 @@ def seconds_of(folder, command, **more):
 def main():
     program, room = sys.argv[1], sys.argv[2]
     tests = driver.Tests()
-    for troubles in (makers_troubles, page_troubles, escaped_troubles, name_troubles, setting_troubles, missing_troubles, signal_troubles, time_troubles):
+    for troubles in (makers_troubles, page_troubles, machine_troubles, escaped_troubles, name_troubles, setting_troubles, missing_troubles, signal_troubles, time_troubles):
         tests.add_all(troubles(program, room))
     return tests.close()
 
