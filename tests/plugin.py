@@ -143,12 +143,15 @@ class Pytest:
                               env={**os.environ, "COLUMNS": "80", **dict(environment)})
         return done.returncode, (done.stdout + done.stderr).decode("utf-8", "surrogateescape")
 
+    def tests(self, *words, below=""):
+        """Returns what pytest's XML says of each test, in order."""
+        path = os.path.join(self.folder, "results.xml")
+        self(f"--junitxml={path}", "-o", "junit_family=xunit1", *words, below=below)
+        return list(xml.etree.ElementTree.parse(path).getroot().iter("testcase"))
+
     def results(self, *words, below=""):
         """Returns the result of each test by its name, in order."""
-        path = os.path.join(self.folder, "results.xml")
-        self(f"--junitxml={path}", *words, below=below)
-        tests = xml.etree.ElementTree.parse(path).getroot().iter("testcase")
-        return {it.get("name"): it[0].tag if len(it) else "passed" for it in tests}
+        return {it.get("name"): it[0].tag if len(it) else "passed" for it in self.tests(*words, below=below)}
 
 
 def differs(what, found, wanted):
@@ -170,6 +173,8 @@ def suite(python, room):
     yield from lacks("pytest -v", text, "bad.feature::fails FAILED", "bad.feature::skips SKIPPED", "good.feature::row 2 -- @1.2 PASSED",
                      FAILURES)
     yield differs("all results", pytest.results("--ignore=below"), RESULTS)
+    places = [(it.get("file"), int(it.get("line")) + 1) for it in pytest.tests("good.feature")]
+    yield differs("places of tests", places, [("good.feature", 2), ("good.feature", 8), ("good.feature", 9)])
     yield differs("one test by its id", pytest.results("good.feature::row 1 -- @1.1"), {"row 1 -- @1.1": "passed"})
     yield differs("tests by -k", pytest.results("-k", "row and not 2"), {"row 1 -- @1.1": "passed"})
     yield differs("tests with -x", pytest.results("-x"), {"fails": "failure"})
