@@ -201,7 +201,7 @@ class Scenario(pytest.Item):
             raise ScenarioFailed("\n".join(map(printable, [*outcome.lines(), "", outcome.place()])))
 
     def repr_failure(self, excinfo: Any, style: Any = None) -> Any:
-        if isinstance(excinfo.value, (ScenarioFailed, FaultError)):
+        if isinstance(excinfo.value, ScenarioFailed):
             return str(excinfo.value)
         return super().repr_failure(excinfo, style)
 
