@@ -58,9 +58,8 @@ features_of() {
         read -r rest
         length=$(($(wc -c < "$report") - $(wc -l < "$report") - ${#rest} - 1 - ${#start}))
         [ "$length" -gt 0 ] || continue
-        printf '%s' "$comma"
+        { printf '%s' "$comma" && tail -c "+$((${#start} + 1))" < "$report" | head -c "$length"; } || return 1
         comma=,
-        tail -c "+$((${#start} + 1))" < "$report" | head -c "$length"
     done
 }
 
@@ -71,7 +70,5 @@ features_of() {
 command -v jq > /dev/null || refuse "jq is needed, and isn't installed" 2
 rests=$(rests_of "$@") || exit 3
 sum=$(printf '%s\n' "$rests" | sum_of) || exit 3
-printf '%s' "$start"
-printf '%s\n' "$rests" | features_of "$@"
-printf '],%s\n' "${sum#?}"
+{ printf '%s' "$start" && printf '%s\n' "$rests" | features_of "$@" && printf '],%s\n' "${sum#?}"; } || refuse "cannot write" 3
 exit "$(printf '%s\n' "$sum" | jq .status)"

@@ -15,8 +15,7 @@
 set -euo pipefail
 
 here=$(dirname -- "$(readlink -f -- "$0")")
-room=$(mktemp -d)
-room=$(CDPATH='' cd -- "$room" && pwd)
+room=$(mktemp -d) && room=$(CDPATH='' cd -- "$room" && pwd) || exit 3
 trap 'rm -rf -- "$room"' EXIT
 trap 'stop 129' HUP
 trap 'stop 130' INT
@@ -26,14 +25,14 @@ unset "${!PARALLEL@}" parallel_bash_environment
 
 # A job is these fixed texts and one word, in base64, so that nothing of the user's can be read as a replacement string or by a shell.
 # The first turns the word into words; $0 is the second.
-unpack='printf %s "$1" | base64 -d | xargs -0 sh -c "$0"'
-# $0 is the number of words, $1 the folder; the others are the program's. The last line says how the program ended. Memory may be
+unpack='printf %s "$1" | base64 -d | xargs -0 sh -c "$0" sh'
+# $1 is the number of the other words, $2 the folder, and the rest is the run. The last line says how the program ended. Memory may be
 # free the next time, so at status 4 the job fails, and is run again.
 job='
-    [ "$#" -eq "$0" ] && cd -- "$1" || exit 1
-    shift
-    unset PARALLEL_HOME
+    [ "$(($# - 1))" -eq "$1" ] && cd -- "$2" || exit 1
+    shift 2
     export TMPDIR="${USERS_TMPDIR-${TMPDIR-/tmp}}"
+    unset USERS_TMPDIR PARALLEL_HOME PARALLEL_SHELL
     status=0
     "$@" || status=$?
     printf "\nstatus %s\n" "$status"

@@ -161,7 +161,7 @@ def makers_troubles(program, room):
     folder = folder_of(program, room, "makers")
     names = sorted(os.path.join("features", it) for it in os.listdir(os.path.join(folder, "features")))
     # A command of GitHub's in the name of a file, of a feature and of a scenario, at the begin of a line and in it.
-    commands = ["::error::pwned", " ::set-output name=a::b", "a\n::error::pwned", "\r::error::pwned", "a##[error]pwned", "\x1b[31m::stop-commands::x"]
+    commands = ["::error::pwned", " ::set-output name=a::b", "a\n::error::pwned", "\r::error::pwned", "a##[error]pwned", "\x1b[31m::stop-commands::x", "\u3000::error::pwned"]
     driver.write(folder, {it: f"Feature: f\n  Scenario Outline: <n>\n    Given it fails\n    Examples:\n      | n |\n      | {row} |\n"
                           for it, row in ((it, it.replace("\n", "\\n").replace("\r", "")) for it in commands)})
     runs += [("commands of GitHub's", folder, ["--", *commands])]

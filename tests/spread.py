@@ -74,6 +74,7 @@ shift
 [ "$1" != -- ] || shift
 echo "$machine" >> "$PLACE/reached"
 [ "$machine" != broken ] || exit 255
+unset TMPDIR USERS_TMPDIR
 cd / || exit
 setsid sh -c "$*" &
 wait "$!"
@@ -260,7 +261,7 @@ ALL_HOSTILE = [*HOSTILE, "{=1 $_=1 =}", "{-1}", "{1.}", "{+}", "::::", 'a"b', "\
                "#", "!", "=", "\r", "\x1b[1m", "%s", "é"]
 
 
-def recorded(place, values, *own, **environment):
+def recorded(place, values, machine):
     """The troubles of a run with values as options, and in the names of its folder, its program, its files and the temporary folder."""
     folder = os.path.join(place, *("in " + it for it in values))
     temporary = os.path.join(place, *("t" + it for it in values))
@@ -268,13 +269,14 @@ def recorded(place, values, *own, **environment):
     driver.write(folder, {"record": RECORD, **{it + end: PASSES for it in values for end in (".feature", "")}})
     program, files = os.path.join(folder, "record"), [it + end for it in values for end in (".feature", "")]
     os.chmod(program, 0o755)
-    options = [*values, *(word for it in values for word in ("--env", "A=" + it))]
-    ended = spread(place, *own, "--files", str(len(files)), program, *options, "--", *files, folder=folder, TMPDIR=temporary, **environment)
+    options = ["", *values, *(word for it in values for word in ("--env", "A=" + it))]
+    own = ["--sshlogin", "1/one"] if machine else []
+    ended = spread(place, *own, "--files", str(len(files)), program, *options, "--", *files, folder=folder, TMPDIR=temporary, **on_machines(place))
     words = words_in(place)
     touched = [it for it, _, names in os.walk(place) if "pwned" in names]
     left = left_in(place, temporary)
     yield driver.trouble("a run", ended, driver.start(PROGRAM, ["--format", "json", "--", *files], folder))
-    yield unless("other words", words == [*options, "--format", "json", "--", *files, temporary], *words)
+    yield unless("other words", words == [*options, "--format", "json", "--", *files, "/tmp" if machine else temporary], *words)
     yield unless("something was run", not touched, *touched)
     yield unless("something is left", not left, *left)
 
@@ -283,18 +285,17 @@ def of_words(case):
     """The troubles of words, on this machine or on another one."""
     name, words, machine = case
     place = place_of(name, ssh=SSH)
-    own = ["--sshlogin", "1/one"] if machine else []
-    return [f"{name}, {words!r}: {it}" if it else "" for it in recorded(place, words, *own, **on_machines(place))]
+    return [f"{name}, {words!r}: {it}" if it else "" for it in recorded(place, words, machine)]
 
 
 # ---- the environment
 
 SETTINGS = [
     {"PARALLEL": "--dry-run"},
-    {"PARALLEL": "--jobs 0 --halt now,done=1", "PARALLEL_CSH": "--dry-run", "PARALLEL_SHELL": "/bin/false", "PARALLEL_HOME": "/nosuch",
+    {"PARALLEL": "--jobs 0 --halt now,done=1", "PARALLEL_CSH": "--dry-run", "PARALLEL_SHELL": "/bin/false", "PARALLEL_HOME": "/dev/null/no",
      "PARALLEL_SSH": "/bin/false", "PARALLEL_ENV": "touch pwned", "parallel_bash_environment": "exit 1"},
-    {"PART": "x", "PARTS": "3", "each": "x", "files": "x", "program": "x", "part": "x", "room": "/nosuch", "most": "1", "job": "false", "rest": "x"},
-    {"CDPATH": "/:/tmp", "TMPDIR": ".", "USERS_TMPDIR": "/nosuch"},
+    {"PART": "x", "PARTS": "3", "each": "x", "files": "x", "program": "x", "part": "x", "room": "/dev/null/no", "most": "1", "job": "false", "rest": "x"},
+    {"CDPATH": "/:/tmp", "TMPDIR": ".", "USERS_TMPDIR": "/dev/null/no"},
     {"SHELL": "/bin/false", "POSIXLY_CORRECT": "1", "LC_ALL": "C.UTF-8", "IFS": "/", "GREP_OPTIONS": "-v"},
 ]
 
@@ -403,6 +404,13 @@ def of_fault(_):
                   and fault.count(b"\n") == 1 and b"\x1b" not in fault, status, fault)
 
 
+def of_full_output(_):
+    """A report that can't be written has the status that it has from the program."""
+    with open("/dev/full", "wb") as full:
+        ended = driver.start(SPREAD, [PROGRAM, "--", "10.feature"], suite(), environment_of(place_of("full")), stdout=full)
+    return unless("a full output", ended[0] == 3 and ended[2].endswith(b"add_reports: cannot write\n"), *ended)
+
+
 # ---- all of it
 
 def works():
@@ -413,14 +421,14 @@ def works():
     yield from ((lambda it: compared(*it), it) for it in COMPARISONS)
     yield from ((lambda it: it(), it) for it in (of_long_names, of_standard_input))
     yield from ((of_memory, it) for it in ("no", "yes"))
-    yield from ((of_machines, it) for it in ("2/one,2/two", "2/broken,2/two", "1/:,1/anna@one"))
+    yield from ((of_machines, it) for it in ("2/one,2/two", "2/broken,2/two", "1/:,1/anna@one", "tester@one:2222"))
     yield from ((of_no_machines, it) for it in NO_MACHINES)
     yield from ((of_words, (f"word {number}", [word], False)) for number, word in enumerate(HOSTILE))
     yield from ((of_words, (f"all words, machine {machine}", ALL_HOSTILE, machine)) for machine in (False, True))
     yield from ((of_settings, it) for it in range(len(SETTINGS)))
     yield from ((of_refused, it) for it in REFUSED)
     yield from ((of_missing, it) for it in ("jq", "parallel"))
-    yield from ((it, None) for it in (of_no_home, of_another_parallel, of_no_program, of_fault))
+    yield from ((it, None) for it in (of_no_home, of_another_parallel, of_no_program, of_fault, of_full_output))
 
 
 def main():

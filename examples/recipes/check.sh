@@ -20,7 +20,7 @@ for word do
         ;;
     esac
 done
-room=$(mktemp -d)
+room=$(mktemp -d) && room=$(CDPATH='' cd -- "$room" && pwd) || exit 3
 trap 'rm -rf -- "$room"' EXIT
 trap 'exit 129' HUP
 trap 'exit 130' INT
@@ -30,15 +30,15 @@ shift
 "$program" --dry-run "$@" > "$room/undefined" || {
     status=$?
     {
-        grep -a '\.\.\. undefined$' || true
-        tail -n 3 < "$room/undefined"
-    } < "$room/undefined" | "$here/visible.sh"
+        grep -a '\.\.\. undefined$' "$room/undefined" || true
+        tail -n 3 "$room/undefined"
+    } | "$here/visible.sh"
     exit "$status"
 }
 status=0
 "$program" --no-skipped "$@" > "$room/report" || status=$?
 {
-    grep -aE '^(Feature|  [A-Z][A-Za-z ]*): .* \.\.\. (failed|memory)$|\.\.\. (failed: [a-z ]+|memory)$|^ *\((rule, line [0-9]+: )?hooks and cleanups\) ' || true
-    tail -n 3 < "$room/report"
-} < "$room/report" | "$here/visible.sh"
+    grep -aE '^(Feature|  [A-Z][A-Za-z ]*): .* \.\.\. (failed|memory)$|\.\.\. (failed: [a-z ]+|memory)$|^ *\((rule, line [0-9]+: )?hooks and cleanups\) ' "$room/report" || true
+    tail -n 3 "$room/report"
+} | "$here/visible.sh"
 exit "$status"

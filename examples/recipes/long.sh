@@ -32,8 +32,7 @@ for word do
     esac
 done
 command -v jq > /dev/null || refuse "jq is needed, and isn't installed" 2
-room=$(mktemp -d)
-room=$(CDPATH='' cd -- "$room" && pwd)
+room=$(mktemp -d) && room=$(CDPATH='' cd -- "$room" && pwd) || exit 3
 trap 'rm -rf -- "$room"' EXIT
 trap 'exit 129' HUP
 trap 'exit 130' INT
