@@ -55,7 +55,7 @@ class Browser:
         """Opens a tab, which gets all later calls."""
         target = self.ask("Target.createTarget", url="about:blank")["targetId"]
         self.session = self.ask("Target.attachToTarget", targetId=target, flatten=True)["sessionId"]
-        for domain in ("Page", "Runtime", "Network", "Log", "Performance"):
+        for domain in ("Page", "Runtime", "Network", "Log"):
             self.ask(f"{domain}.enable")
         self.ask("Emulation.setFocusEmulationEnabled", enabled=True)
 
@@ -136,10 +136,6 @@ class Browser:
     def size(self, width, height):
         """Sets the size of the window."""
         self.ask("Emulation.setDeviceMetricsOverride", width=width, height=height, deviceScaleFactor=1, mobile=False)
-
-    def metric(self, name):
-        """Returns one of the browser's counts, such as LayoutDuration."""
-        return next(it["value"] for it in self.ask("Performance.getMetrics")["metrics"] if it["name"] == name)
 
     def picture(self):
         """Returns a picture of the window as PNG."""
