@@ -75,7 +75,7 @@ AROUND = {
 }
 NAMES = ["twice", "twice", "twice (2)", "twice", "", "", "a::b", ":::", "x [1]"]
 IDS = ["twice", "twice (3)", "twice (2)", "twice (4)", "Scenario", "Scenario (2)", "a: :b", ": : :", "x [1]"]
-# Prints the number of lines of each call of the library, and how often files of a suite are opened.
+# Prints the number of lines of each run, or that it was dry, and how often files of a suite are opened.
 COUNTING = """\
 import sys
 import gherkin_run.library
@@ -83,7 +83,7 @@ import gherkin_run.library
 calls, opened, called = [], [], gherkin_run.library.called
 
 def counted(request):
-    calls.append(len(request.lines))
+    calls.append("dry" if request.dry_run else len(request.lines))
     return called(request)
 
 def audit(event, words):
@@ -242,8 +242,8 @@ def costs(python, room):
     """Each file is read once, and runs once beside its dry run, with the chosen lines only."""
     files = {**SUITE, "own.hooks": "", "pytest.ini": f"{SUITE['pytest.ini']}gherkin_hooks = own.hooks\n", "conftest.py": COUNTING}
     pytest = Pytest(python, os.path.join(room, "counted"), files)
-    for words, wanted in [([], "calls [0, 0, 0, 3, 3, 1] opened 5"), (["-k", "one or row"], "calls [0, 0, 0, 3] opened 5"),
-                          (["good.feature::one"], "calls [0, 1] opened 3"), (["--collect-only"], "calls [0, 0, 0] opened 5")]:
+    for words, wanted in [([], "calls ['dry', 'dry', 'dry', 3, 3, 1] opened 5"), (["-k", "one or row"], "calls ['dry', 'dry', 'dry', 3] opened 5"),
+                          (["good.feature::one"], "calls ['dry', 1] opened 3"), (["--collect-only"], "calls ['dry', 'dry', 'dry'] opened 5")]:
         yield from lacks(f"pytest {words}", pytest(*words)[1], wanted)
 
 

@@ -182,6 +182,7 @@ def faults():
         ({"features": good, "tags": ["\udcff"]}, ["not UTF-8", 2, None, None, "not UTF-8"]),
         ({"features": good, "env": {"": "x"}}, ["bad variable", 2, None, None, "bad variable"]),
     ]
+    yield "" if gherkin_run.FaultError("a:1: b: c", 3, "a", 1).reason == "b: c" else "a reason is cut"
     for options, wanted in rows:
         found = fault_of(**options)
         yield "" if found == wanted else f"the fault is {found}, and not {wanted}"
@@ -360,6 +361,15 @@ def nuls():
     yield "" if found == ["a\0b:1: unexpected line", 3, "a\0b", 1, "unexpected line"] else f"the fault is {found}"
 
 
+def loaded():
+    """Counts how often the shared library is loaded: never by an import, and once by several runs."""
+    script = ("import sys; loads = []; sys.addaudithook(lambda event, words: event == 'ctypes.dlopen' and loads.append(words[0]))\n"
+              "import ctypes; first = len(loads); import gherkin_run, gherkin_run.__main__; print(len(loads) - first)\n"
+              "gherkin_run.run([]); gherkin_run.run([]); gherkin_run.version(); print(len(loads) - first)")
+    ended_so = driver.start(sys.executable, ["-c", script])
+    yield "" if ended_so == (0, b"0\n1\n", b"") else f"loads of the shared library: {ended_so}"
+
+
 def unloaded(room):
     """Tries shared libraries that can't be loaded: the package can be imported, and a call raises `ImportError`."""
     driver.write(room, {"text.so": "no library"})
@@ -445,7 +455,7 @@ def main():
     if said:
         tests.add(said if "isn't" in said else "")
     parts = [example_runs(program), command_lines(program), long_files(program, room), failing_outputs(program), changed_runs(program, room),
-             faults(), values(), reports(), types(), checked_types(room), same_version(program), threads(), nuls(), unloaded(room),
+             faults(), values(), reports(), types(), checked_types(room), same_version(program), threads(), nuls(), loaded(), unloaded(room),
              waiting(room), refused(room), plugin.tests(room), python_pages.tests(room, plugin.interpreter()),
              left_over(temporary)]
     for part in parts:

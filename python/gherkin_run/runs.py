@@ -122,7 +122,7 @@ def _read(file: File) -> calls.Named:
             text = opened.read(LONGEST_FILE + 1)
     except OSError as error:
         # The error of a read names no file.
-        error.filename = error.filename or name.decode("utf-8", "surrogateescape")
+        error.filename = name.decode("utf-8", "surrogateescape")
         raise
     if len(text) > LONGEST_FILE:
         shown = name.decode("utf-8", "surrogateescape")
