@@ -10,7 +10,7 @@
 # A scenario's verdict is the same alone and in a suite. So the reports of the parts, added up in their order, are the one report,
 # byte for byte, and the script exits with its status. A job that is lost is run again, three times in all. A part's report
 # counts once: it is that of the last try, which has to say how it ended. If a part stays lost, the script prints no report and exits
-# with 3. If a part has a fault, one run over all files finds the first fault. The sum of parts isn't a run with --stop, so that is
+# with 3. If a part has a fault, one run over all files finds the first fault. A run with --stop isn't the sum of its parts, so it is
 # refused, and so are other reports. The script needs GNU parallel and jq.
 set -euo pipefail
 
@@ -155,25 +155,25 @@ run_engine() {
 
 # Prints the last line of a part's faults, or the engine's if there is none.
 said_last() {
-    { grep -a . "$room/parts/$part.err" 2> "$room/missing" || grep -a . "$room/engine"; } | tail -n 1
+    { grep -a . "$room/parts/$number.err" 2> "$room/missing" || grep -a . "$room/engine"; } | tail -n 1
 }
 
 # Ends the script, since a part is lost. It may be lost because another program is called parallel.
 end_lost() {
     [[ $(parallel --version 2> "$room/missing") == "GNU parallel"* ]] || refuse "GNU parallel is needed, and isn't installed" 2
-    refuse "part $part is lost, which begins with ${firsts[part - 1]}: $(said_last)" 3
+    refuse "part $number is lost, which begins with ${firsts[number - 1]}: $(said_last)" 3
 }
 
 # Makes the report of each part. Ends the script if a part is lost or has a fault. A report is one line, with its end.
 take_reports() {
     local last
     reports=()
-    for ((part = 1; part <= ${#firsts[@]}; part++)); do
-        last=$(tail -n 1 "$room/parts/$part" 2> "$room/missing") || true
+    for ((number = 1; number <= ${#firsts[@]}; number++)); do
+        last=$(tail -n 1 "$room/parts/$number" 2> "$room/missing") || true
         [[ $last =~ ^status\ ([0-4])$ ]] || end_lost
-        [ "$(wc -l < "$room/parts/$part")" -eq 3 ] || end_with_fault "${BASH_REMATCH[1]}"
-        head -n 1 "$room/parts/$part" > "$room/report.$part"
-        reports+=("$room/report.$part")
+        [ "$(wc -l < "$room/parts/$number")" -eq 3 ] || end_with_fault "${BASH_REMATCH[1]}"
+        head -n 1 "$room/parts/$number" > "$room/report.$number"
+        reports+=("$room/report.$number")
     done
 }
 
@@ -185,7 +185,7 @@ end_with_fault() {
         run "${program[@]}" --format json -- "${files[@]}" || status=$?
         [ "$status" -eq 126 ] || exit "$status"
     fi
-    cat "$room/parts/$part.err" >&2
+    cat "$room/parts/$number.err" >&2
     exit "$1"
 }
 

@@ -85,7 +85,7 @@ def bad_places(report):
 
 
 def unless(claim, holds, *shown):
-    """A trouble where a claim doesn't hold."""
+    """A trouble if a claim doesn't hold."""
     return "" if holds else "\n".join([claim, *(f"  {it}" for it in shown)])
 
 
@@ -262,7 +262,7 @@ def again_troubles(folder, command):
 
 
 def run_troubles(folder):
-    """Where hooks or cleanups of the run failed, or nothing can be run again, again.sh ends with 1; --stop leaves what it didn't reach."""
+    """If hooks or cleanups of the run failed, or nothing can be run again, again.sh exits with 1. After --stop it leaves out what wasn't reached."""
     good = "Feature: good\n  Scenario: one\n    Given it passes\n"
     driver.write(folder, {"one.feature": good, "two.feature": good, "before.hooks": "before_all:\n  Given it fails\n",
                           "after.hooks": "after_all:\n  Given it fails\n", "cleanup.hooks": "before_all:\n  Given at cleanup it fails\n",
@@ -293,7 +293,7 @@ def again(folder, options, files):
 
 
 def usage_troubles(folder):
-    """Without arguments each script prints its usage alone, and ends with 2."""
+    """Without arguments each script prints only its usage, and exits with 2."""
     for script in ("recipes/again.sh", "recipes/check.sh", "recipes/long.sh", "add_reports.sh"):
         status, printed, fault = shell(folder, f"examples/{script}")
         said = fault.decode()
@@ -301,7 +301,7 @@ def usage_troubles(folder):
 
 
 def refused_troubles(folder):
-    """A suite in parts is no run with --stop and has no other report: long.sh refuses these words; and check.sh those that it gives itself."""
+    """long.sh refuses options that it can't add up, and check.sh those that it adds itself."""
     for words in ("--stop", "--format json", "--format=json", "--explain", "--lint", "--help", "--version", "-hV"):
         status, printed, fault = shell(folder, f"ls features/*.feature | examples/recipes/long.sh ./run {words}")
         wanted = f"long: {words.split()[0]} isn't for a suite in parts\n".encode()
@@ -315,7 +315,7 @@ def refused_troubles(folder):
 
 
 def check_troubles(folder):
-    """check.sh prints what failed, and no row that only looks so; an undefined step of a scenario that is skipped ends it with 1."""
+    """check.sh prints what failed, and no row that only looks so. It exits with 1 for an undefined step of a skipped scenario."""
     driver.write(folder, {"like.feature": 'Feature: like\n  Scenario: one\n    Given a file named "log" containing "... failed: x"\n',
                           "skips.feature": "Feature: skips\n  Scenario: one\n    Given the scenario is skipped\n    And nothing knows this\n",
                           "null.feature": "Feature: null\n  Scenario: one\0\n    Given it fails\n",
@@ -328,7 +328,7 @@ def check_troubles(folder):
                           "memory": '#!/bin/sh\n[ "$1" = --dry-run ] || { cat said; exit 4; }\n'})
     os.chmod(os.path.join(folder, "memory"), 0o755)
     status, printed, fault = shell(folder, "examples/recipes/check.sh ./memory one.feature")
-    yield unless("check.sh where memory runs out", (status, printed, fault) == (4, rows + b"one\ntwo\nthree\n", b""), printed.decode(), fault.decode())
+    yield unless("check.sh if memory runs out", (status, printed, fault) == (4, rows + b"one\ntwo\nthree\n", b""), printed.decode(), fault.decode())
     status, printed, fault = shell(folder, "examples/recipes/check.sh ./run like.feature")
     yield unless("check.sh of a row like one that failed", status == 0 and printed.count(b"\n") == 3, printed.decode(), fault.decode())
     status, printed, fault = shell(folder, "examples/recipes/check.sh ./run skips.feature")
@@ -416,19 +416,17 @@ def missing_troubles(program, room):
 
 def signal_troubles(program, room):
     """A script that is ended by a signal leaves nothing."""
-    folder = folder_of(program, room, "signals")
+    cases = [(words, number) for words in ("recipes/check.sh ./slow features/passes.feature", "recipes/long.sh ./slow")
+             for number in (signal.SIGTERM, signal.SIGINT, signal.SIGHUP)]
+    for (words, number), (status, left) in zip(cases, driver.on_all_processors(lambda it: ended_by(program, room, *it), cases)):
+        yield unless(f"{words}, ended by {number.name}: status {status}, left {left}", (status, left) == (128 + number, []))
+
+
+def ended_by(program, room, words, number):
+    """Sends a signal to a script that has begun. Returns its status, and what it left."""
+    folder = folder_of(program, room, f"{number.name} {words.split('/')[1]}")
     driver.write(folder, {"slow": '#!/bin/sh\necho $$ >> begun\nsleep 1\nexec ./run "$@"\n', "names": "features/passes.feature\n"})
     os.chmod(os.path.join(folder, "slow"), 0o755)
-    for words in ("recipes/check.sh ./slow features/passes.feature", "recipes/long.sh ./slow"):
-        for number in (signal.SIGTERM, signal.SIGINT, signal.SIGHUP):
-            status, left = ended_by(number, folder, words)
-            yield unless(f"{words}, ended by {number.name}: status {status}, left {left}", (status, left) == (128 + number, []))
-
-
-def ended_by(number, folder, words):
-    """Sends a signal to a script that has begun. Returns its status, and what it left over."""
-    if os.path.exists(os.path.join(folder, "begun")):
-        os.remove(os.path.join(folder, "begun"))
     script, *others = words.split()
     with open(os.path.join(folder, "names"), "rb") as names, \
             subprocess.Popen([os.path.join(EXAMPLES, script), *others], cwd=folder, env=environment_of(folder), stdin=names, stdout=subprocess.DEVNULL) as process:
@@ -469,8 +467,11 @@ def seconds_of(folder, command, **more):
 def main():
     program, room = sys.argv[1], sys.argv[2]
     tests = driver.Tests()
-    for troubles in (makers_troubles, page_troubles, machine_troubles, escaped_troubles, name_troubles, setting_troubles, missing_troubles, signal_troubles, time_troubles):
-        tests.add_all(troubles(program, room))
+    groups = (makers_troubles, page_troubles, machine_troubles, escaped_troubles, name_troubles, setting_troubles, missing_troubles, signal_troubles)
+    for found in driver.on_all_processors(lambda it: list(it(program, room)), groups):
+        tests.add_all(found)
+    # By itself, since it counts the time of all that this driver starts.
+    tests.add_all(time_troubles(program, room))
     return tests.close()
 
 
