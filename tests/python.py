@@ -123,6 +123,17 @@ def command_lines(program):
         yield "" if same else f"{words} ends with {status}, and not {wanted[0]}: {stderr.decode()}"
 
 
+def options_alone(program):
+    """Compares the package with the program for each option of a run alone."""
+    hooks = os.path.join(driver.EXAMPLES, "hooks.hooks")
+    library = os.path.join(driver.EXAMPLES, "default.steps")
+    for words, options in [(["--dry-run"], {"dry_run": True}), (["--stop"], {"stop": True}), (["--no-skipped"], {"no_skipped": True}),
+                           (["--hooks", hooks], {"hooks": hooks}), (["--library", library], {"library": library}),
+                           (["--tags", "not @a"], {"tags": "not @a"}), (["--format", "progress"], {"format": "progress"})]:
+        wanted = ended(program, ["--line", "5", "--line", "15", *words, PAINT, PAINT], driver.HOME)
+        yield driver.trouble(f"a run with {words}", called(features=[PAINT, PAINT], lines=[5, 15], **options), wanted)
+
+
 def long_files(program, room):
     """Compares which fault is named if a file is too long and there is another fault."""
     driver.write(room, {"long.feature": b"#" * ((1 << 24) + 1)})
@@ -223,7 +234,10 @@ def values():
     yield raises(OSError, features="none.feature")
     many = gherkin_run.Source("many", "Feature: many\n" + "Scenario: a long name\nGiven it passes\n" * 9000)
     text = gherkin_run.run(many).text
-    yield "" if text.count("a long name") == 9000 and text.endswith("0 undefined\n") else "a long report is cut"
+    yield "" if text.count("a long name") == 9000 and text.endswith("0 undefined\n") else "a report is cut"
+    rows = "Scenario Outline: o\n" + "Given it passes\n" * 200 + "Examples:\n" + "| x |\n" * 500
+    text = gherkin_run.run(gherkin_run.Source("rows", f"Feature: rows\n{rows}")).text
+    yield "" if text.count("it passes") == 200 * 499 and text.endswith("0 undefined\n") else "a report longer than its first room is cut"
 
 
 def reports():
@@ -454,7 +468,7 @@ def main():
     tests = driver.Tests(20)
     if said:
         tests.add(said if "isn't" in said else "")
-    parts = [example_runs(program), command_lines(program), long_files(program, room), failing_outputs(program), changed_runs(program, room),
+    parts = [example_runs(program), command_lines(program), options_alone(program), long_files(program, room), failing_outputs(program), changed_runs(program, room),
              faults(), values(), reports(), types(), checked_types(room), same_version(program), threads(), nuls(), loaded(), unloaded(room),
              waiting(room), refused(room), plugin.tests(room), python_pages.tests(room, plugin.interpreter()),
              left_over(temporary)]
