@@ -306,6 +306,9 @@ def refused_troubles(folder):
         status, printed, fault = shell(folder, f"ls features/*.feature | examples/recipes/long.sh ./run {words}")
         wanted = f"long: {words.split()[0]} isn't for a suite in parts\n".encode()
         yield unless(f"long.sh {words}", (status, printed, fault) == (2, b"", wanted), printed.decode(), fault.decode())
+    for words in ("--files", "--files 0", "--files x", "--files -1", "--files ''"):
+        ended = shell(folder, f"ls features/*.feature | examples/recipes/long.sh {words} ./run")
+        yield driver.trouble(f"long.sh {words}", ended, (2, b"", b"long: --files is a number from 1 on\n"))
     status, printed, fault = shell(folder, "examples/recipes/long.sh ./run < /dev/null > report.json; ended=$?; cat report.json; exit $ended")
     yield unless("long.sh without a name", (status, printed, fault) == (2, b"", b"long: no file is given\n"), printed.decode(), fault.decode())
     for words in ("--dry-run", "--no-skipped", "--format json", "--format=json", "--explain", "--lint", "--help", "--version", "-Vh"):
@@ -441,7 +444,7 @@ def ended_by(program, room, words, number):
 def time_troubles(program, room):
     """A report of one long line takes add_reports.sh no more than twice the time in which jq reads it, also with mawk."""
     folder = folder_of(program, room, "long")
-    rows = "".join(f"  Scenario: s{number} [x]\n    Given it passes\n    Given it passes\n    Given it passes\n    Given it passes\n" for number in range(61500))
+    rows = "".join(f"  Scenario: s{number} [x]\n    Given it passes\n    Given it passes\n    Given it passes\n    Given it passes\n" for number in range(32000))
     driver.write(folder, {"long.feature": "Feature: f\n" + rows})
     report = driver.start(program, ["--format", "json", "long.feature"], folder)[1]
     driver.write(folder, {"report.json": report})

@@ -180,9 +180,9 @@ def compared(name, own, options, files, program=PROGRAM, folder=None, **environm
 def of_long_names():
     """More bytes of names than one command takes, so there are more parts than --files says."""
     folder = os.path.join(ROOM, "many")
-    names = [f"a_name_of_many_bytes_so_that_a_job_is_too_long_{number}.feature" for number in range(1001, 3601)]
+    names = [f"a_näme_of_mäny_bytes_{'ä' * 40}_{number}.feature" for number in range(1001, 2601)]
     driver.write(folder, {it: PASSES for it in names})
-    return compared("parts that are too long", ["--files", "3000"], [], names, folder=folder)
+    return compared("parts that are too long", ["--files", "3000"], [], names, folder=folder, LC_ALL="C.UTF-8")
 
 
 def of_standard_input():
@@ -404,6 +404,20 @@ def of_fault(_):
                   and fault.count(b"\n") == 1 and b"\x1b" not in fault, status, fault)
 
 
+def of_lost_words(_):
+    """A machine that gets only some of the words runs nothing."""
+    base64 = '#!/bin/sh\ncase $* in -d) /usr/bin/base64 -d | head -c 400 ;; *) exec /usr/bin/base64 "$@" ;; esac\n'
+    place = place_of("lost words", ssh=SSH, base64=base64)
+    status, printed, fault = spread(place, "--files", "99", "--sshlogin", "1/one", PROGRAM, "--", *FILES * 3, **on_machines(place))
+    return unless("lost words", (status, printed) == (3, b"") and fault.startswith(b"spread: part 1 is lost, "), status, printed, fault)
+
+
+def of_long_option(_):
+    """An option that doesn't fit into a command loses the part, and the message says why."""
+    status, printed, fault = spread(place_of("a long option"), PROGRAM, "--env", "A=" + "x" * 100000, "--", *FILES)
+    return unless("a long option", (status, printed) == (3, b"") and b"Command line too long" in fault and fault.count(b"\n") == 1, status, printed, fault)
+
+
 def of_full_output(_):
     """A report that can't be written has the status that it has from the program."""
     with open("/dev/full", "wb") as full:
@@ -428,7 +442,7 @@ def works():
     yield from ((of_settings, it) for it in range(len(SETTINGS)))
     yield from ((of_refused, it) for it in REFUSED)
     yield from ((of_missing, it) for it in ("jq", "parallel"))
-    yield from ((it, None) for it in (of_no_home, of_another_parallel, of_no_program, of_fault, of_full_output))
+    yield from ((it, None) for it in (of_no_home, of_another_parallel, of_no_program, of_fault, of_full_output, of_lost_words, of_long_option))
 
 
 def main():

@@ -136,6 +136,9 @@ add_up "cleanups" --hooks examples/cleanups.hooks -- \
     examples/cleanups.feature examples/first.feature
 add_up "rules" --hooks examples/rules.hooks -- examples/rules.feature examples/settings.feature
 add_up "a library" --library examples/default.steps --env A=b -- examples/default.feature $features
+echo '# nothing' > "$room/none.feature"
+add_up "files without features" -- "$room/none.feature" examples/first.feature "$room/none.feature" examples/sums.feature "$room/none.feature"
+add_up "only files without features" -- "$room/none.feature" "$room/none.feature"
 # The command of the guide that lists what failed.
 list=$(grep --max-count=1 --fixed-strings -- "jq -r '.features[]" docs/guide/reports.md)
 run "$room/report.json" --format json $features
@@ -150,14 +153,23 @@ cd "$home"
 run "$room/json" --format json examples/first.feature
 head -c 100 "$room/json" > "$room/cut"
 cat "$room/json" "$room/json" > "$room/two"
+tr -d '\n' < "$room/two" > "$room/two_in_a_line"
 echo '{}' > "$room/other"
 jq . "$room/json" > "$room/in_lines"
-for broken in empty cut two other in_lines; do
+jq --compact-output '{features, status, run, summary}' "$room/json" > "$room/in_another_order"
+sed 's/^/ /' "$room/json" > "$room/indented"
+sed 's/$/ /' "$room/json" > "$room/with_a_space"
+sed 's/"status":0,"summary"/"status":0.0,"summary"/' "$room/json" > "$room/with_another_number"
+for broken in empty cut two two_in_a_line other in_lines in_another_order indented with_a_space with_another_number; do
     status=0
     examples/add_reports.sh "$room/json" "$room/$broken" > "$room/sum" 2> "$room/fault" || status=$?
     check "a report that is $broken: another status" [ "$status" -eq 3 ]
     check "a report that is $broken: something is printed" [ ! -s "$room/sum" ]
+    check "a report that is $broken: it isn't named" grep -q "^add_reports: .*/$broken is no report" "$room/fault"
 done
+tr -d '\n' < "$room/json" > "$room/without_line_feed"
+examples/add_reports.sh "$room/without_line_feed" > "$room/sum" || true
+check "a report without its line feed: another sum" cmp "$room/json" "$room/sum"
 
 echo "$passed passed, $failed failed"
 [ "$failed" -eq 0 ]
