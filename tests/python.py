@@ -11,6 +11,7 @@ import os
 import pickle
 import random
 import re
+import resource
 import shutil
 import signal
 import subprocess
@@ -33,7 +34,7 @@ PACKAGE = os.path.join(driver.HOME, "python")
 REFUSED = [
     *(["--line", line, PAINT] for line in ("0", "-1", "4294967296", "x", "1_0", " 1", "")), ["--line"], [], ["--stop"], ["--"],
     *([*option, PAINT, *option] for option in (["--library", "x"], ["--hooks", "x"], ["--format", "json"], ["--dry-run"], ["--stop"], ["--no-skipped"])),
-    ["--format", "xml", PAINT], ["--env", "A", PAINT], ["--env", "=x", PAINT], ["--tags", "", PAINT], ["--tags", "-@a", PAINT], ["--unknown", PAINT],
+    ["--format", "xml", PAINT], ["--env", "A", PAINT], ["--env", "=x", PAINT], ["--tags", "", PAINT], ["--tags", "-@a", PAINT], ["--unknown", PAINT], ["--sto", PAINT], ["--dry", PAINT],
     ["none.feature"], ["-"], [PAINT, "--", "--stop"], ["--library", "none.steps", PAINT],
     # A mistake in the arguments comes before one in a file.
     ["/proc/self/mem"], ["--library", "/proc/self/mem", PAINT],
@@ -152,6 +153,16 @@ def failing_outputs(program):
                                        timeout=driver.PATIENCE, check=False) for it in (module, [program])]
             made, wanted = [(it.returncode, it.stderr) for it in ended_so]
             yield "" if made == wanted == (3, b"gherkin_run: cannot write\n") else f"{words} with the output {output}: {made}, and not {wanted}"
+
+
+def lacking_memory(room):
+    """Runs `python3 -m gherkin_run` where there is no memory for the report: the status and the message."""
+    def limited():
+        resource.setrlimit(resource.RLIMIT_AS, (110_000_000, 110_000_000))
+
+    driver.write(room, {"comments.feature": b"#" * 99 + b"\n" + b"# none\n" * 2_000_000})
+    found = driver.start(sys.executable, ["-m", "gherkin_run", "comments.feature"], room, before=limited)
+    yield "" if found == (4, b"", b"gherkin_run: out of memory\n") else f"without memory the command ends with {found}"
 
 
 def changed_runs(program, room):
@@ -300,10 +311,10 @@ def checked_types(room):
     interpreter = plugin.interpreter()
     if interpreter:
         command += ["--python-executable", interpreter]
-    status, stdout, _ = driver.start("mypy", [*command, os.path.join(PACKAGE, "gherkin_run")], PACKAGE)
+    status, stdout, _ = driver.start("mypy", [*command, os.path.join(PACKAGE, "gherkin_run")], PACKAGE, patience=300)
     yield "" if status == 0 or not interpreter else stdout.decode()
     driver.write(room, {"typed.py": TYPED})
-    status, stdout, _ = driver.start("mypy", [*command, os.path.join(room, "typed.py")], room, {**os.environ, "MYPYPATH": PACKAGE})
+    status, stdout, _ = driver.start("mypy", [*command, os.path.join(room, "typed.py")], room, {**os.environ, "MYPYPATH": PACKAGE}, patience=300)
     found = [int(it) for it in re.findall(rb"typed\.py:(\d+): error", stdout)]
     wanted = [number for number, line in enumerate(TYPED.splitlines(), 1) if line.endswith("# wrong")]
     yield "" if sorted(set(found)) == wanted else f"errors in lines {found} of what uses the types, and not {wanted}: {stdout.decode()}"
@@ -468,7 +479,7 @@ def main():
     tests = driver.Tests(20)
     if said:
         tests.add(said if "isn't" in said else "")
-    parts = [example_runs(program), command_lines(program), options_alone(program), long_files(program, room), failing_outputs(program), changed_runs(program, room),
+    parts = [example_runs(program), command_lines(program), options_alone(program), long_files(program, room), failing_outputs(program), lacking_memory(room), changed_runs(program, room),
              faults(), values(), reports(), types(), checked_types(room), same_version(program), threads(), nuls(), loaded(), unloaded(room),
              waiting(room), refused(room), plugin.tests(room), python_pages.tests(room, plugin.interpreter()),
              left_over(temporary)]
