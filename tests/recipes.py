@@ -184,8 +184,13 @@ def makers_troubles(program, room):
 def page_troubles(program, room):
     """The commands of the page on recipes, one block after another, in one folder."""
     folder = folder_of(program, room, "page")
-    readers, again_command = blocks("recipes.md")
+    junit, readers, again_command = blocks("recipes.md")
     plain, whole = one_run(program, folder), one_run(program, folder, "--format", "json")
+
+    ended = shell(folder, junit)
+    yield unless(f"a JUnit file: status {ended[0]}", ended == (0, b"", b""), ended[2].decode())
+    yield MAKERS["junit"](json.loads(whole[1]), driver.read(os.path.join(folder, "junit.xml")))
+    os.remove(os.path.join(folder, "junit.xml"))
 
     ended = shell(folder, readers)
     yield unless(f"one run: status {ended[0]}", ended[0] == whole[0], ended[2].decode())
