@@ -300,14 +300,15 @@ SETTINGS = [
 ]
 
 
-def of_settings(number):
-    """A run with variables in the environment that nobody set for it."""
-    name = f"settings {number}"
+def of_settings(case):
+    """A run with variables in the environment that nobody set for it, here or on a machine."""
+    number, machine = case
+    name = f"settings {number} on {machine or 'this machine'}"
     place = place_of(name, ssh=SSH)
     folder = os.path.join(place, "suite")
     driver.write(folder, SUITE)
-    words = ["--files", "5", "--sshlogin", "2/:,2/one", PROGRAM, "--", *FILES]
-    ended = driver.start(SPREAD, words, folder, {**environment_of(place), **on_machines(place), **SETTINGS[number]})
+    own = ["--sshlogin", "2/" + machine] if machine else []
+    ended = driver.start(SPREAD, [*own, "--files", "5", PROGRAM, "--", *FILES], folder, {**environment_of(place), **on_machines(place), **SETTINGS[number]})
     wanted = driver.start(PROGRAM, ["--format", "json", "--", *FILES], folder)
     left = set(os.listdir(folder)) - set(SUITE)
     return [driver.trouble(name, ended, wanted), unless(f"{name}: something is left", not left, *left)]
@@ -439,7 +440,7 @@ def works():
     yield from ((of_no_machines, it) for it in NO_MACHINES)
     yield from ((of_words, (f"word {number}", [word], False)) for number, word in enumerate(HOSTILE))
     yield from ((of_words, (f"all words, machine {machine}", ALL_HOSTILE, machine)) for machine in (False, True))
-    yield from ((of_settings, it) for it in range(len(SETTINGS)))
+    yield from ((of_settings, (number, machine)) for number in range(len(SETTINGS)) for machine in ("", "one"))
     yield from ((of_refused, it) for it in REFUSED)
     yield from ((of_missing, it) for it in ("jq", "parallel"))
     yield from ((it, None) for it in (of_no_home, of_another_parallel, of_no_program, of_fault, of_full_output, of_lost_words, of_long_option))
