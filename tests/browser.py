@@ -46,7 +46,7 @@ class Browser:
     def __init__(self, program, profile):
         self.process, self.read_from, self.write_to = start(program, profile)
         # A browser that hangs is killed, so no call waits for it forever.
-        self.watch = threading.Timer(20 * PATIENCE, self.process.kill)
+        self.watch = threading.Timer(40 * PATIENCE, self.process.kill)
         self.watch.daemon = True
         self.watch.start()
         self.number, self.session, self.events, self.rest = 0, None, [], bytearray()

@@ -67,6 +67,29 @@ ELEMENTS = """(() => {
     }
     return found;
 })()"""
+# Opens a link on the page. Gives what is said of it, the inputs and the number of runs.
+OPENED = """new Promise((done) => {
+    history.replaceState(null, "", location.pathname);
+    $("notice").textContent = "";
+    addEventListener("hashchange", () => done([$("notice").textContent, inputs(), asked]), { once: true });
+    location.hash = %s;
+})"""
+# Types a text, and another one as soon as the first one runs, before the page says that it does.
+TYPED_TWICE = """new Promise((done) => {
+    const put = (text) => {
+        const it = document.querySelector("#files .text");
+        it.value = text;
+        it.dispatchEvent(new Event("input", { bubbles: true }));
+    };
+    put(%s);
+    const timer = setInterval(() => {
+        if (document.body.dataset.state !== "running") return;
+        clearInterval(timer);
+        window.olderWorker = worker;
+        put(%s);
+        done();
+    }, 5);
+})"""
 # What the policy has to refuse, each an expression that gives something if it isn't refused.
 REFUSED = {
     "an inline script": """(() => {
@@ -114,8 +137,8 @@ def long_feature(steps, rows):
         + "Scenario Outline: row <n>\nThen it passes\nExamples:\n| n |\n" + "| 1 |\n" * rows
 
 
-LASTS_A_SECOND = long_feature(30, 9990)
-LASTS_LONG = long_feature(99, 9990)
+MILLION_STEPS = long_feature(999, 999)
+LONG_RUN = {"files": [[f"{number}.feature", MILLION_STEPS] for number in range(5)], "format": "progress"}
 
 
 def wanted_of(program, arguments, folder=driver.HOME):
@@ -462,10 +485,9 @@ def wrong_link(page):
     page.type("#files .text", SMALL)
     page.settle()
     wanted = page.shown()
+    before = page.value("[inputs(), asked]")
     for fragment in fragments:
-        page.value(f"$('notice').textContent = ''; location.hash = {json.dumps(fragment)}")
-        yield holds(f"the link {fragment}, opened later, says '{page.text('#notice')}'", page.says("#notice", LATER))
-        yield same(f"the link {fragment}, opened later", page.shown(), wanted)
+        yield same(f"the link {fragment}, opened later", page.value(OPENED % json.dumps(fragment)), [LATER, *before])
     page.value("$('notice').textContent = ''; location.hash = ''")
     time.sleep(0.3)
     yield same("the notice and the page after the link is taken out by hand", (page.text("#notice"), page.shown()), ("", wanted))
@@ -633,39 +655,40 @@ def stopped(page):
     page.press(" ")
     yield same("Stop when nothing runs", (page.shown(), page.focused()), (before, "halt"))
     for stop in (lambda: page.click("#halt"), lambda: (page.focus("#halt"), page.press("Enter"))):
-        page.fill("#files .text", LASTS_LONG)
+        page.value(f"show({json.dumps(LONG_RUN)})")
         yield holds("Stop isn't offered", page.browser.wait("$('halt').ariaDisabled === 'false'"))
         yield same("the status of a long run", page.text("#status"), "Running ..")
         stop()
-        yield holds("a long run isn't stopped", page.state("stopped", 2))
+        yield holds("a long run isn't stopped", page.state("stopped"))
         found = (page.text("#status"), page.text("#report"), page.focused(), page.one("#halt", "ariaDisabled"))
         yield same("after Stop", found, ("Stopped", "", "halt", "true"))
         time.sleep(0.5)
         yield same("some time after Stop", page.text("#status"), "Stopped")
-        page.fill("#files .text", SMALL)
-        yield same("a run after one that was stopped", page.shown(), page.wanted(SMALL))
-    page.fill("#files .text", LASTS_LONG)
-    page.state("running")
-    page.fill("#files .text", SMALL)
-    yield holds("a new text waits for an older run", page.state("done"))
+        page.click("button[type=submit]")
+        yield holds("Run doesn't run what was stopped", page.state("running"))
+        page.value(f"show({json.dumps({'files': [['small.feature', SMALL]]})})")
+        yield same("a run after long ones", page.shown(), page.wanted(SMALL))
+
+
+def overtaken(page):
+    """A new text ends the run of an older one, whose report is never shown."""
+    page.load()
+    page.value(TYPED_TWICE % (json.dumps(MILLION_STEPS), json.dumps(SMALL)))
+    page.browser.wait("document.body.dataset.state === 'done'")
+    yield holds("a new text waits for an older run", page.value("worker !== olderWorker"))
     time.sleep(0.5)
     yield same("a run after one that it ended", page.shown(), page.wanted(SMALL))
     page.value("ended({ number: asked - 1, answer: { hasReport: true, status: 1, text: 'old' }, time: 1 })")
     yield same("the report after that of an older run", page.shown(), page.wanted(SMALL))
-
-
-def run_again(page):
-    """Run runs again what was stopped. Enter in a field runs without leaving the page."""
-    page.load()
-    page.fill("#files .text", LASTS_A_SECOND)
-    page.browser.wait("$('halt').ariaDisabled === 'false'")
-    page.click("#halt")
-    page.click("button[type=submit]")
-    yield same("Run after Stop", page.shown(), page.wanted(LASTS_A_SECOND))
     before = page.value("asked")
     page.value("for (let n = 0; n < 5; n += 1) $('tags').dispatchEvent(new Event('input', { bubbles: true }))")
-    time.sleep(0.5)
+    page.browser.wait(f"asked > {before}")
+    time.sleep(0.4)
     yield same("the runs after five keys", page.value("asked") - before, 1)
+
+
+def entered(page):
+    """Enter in a field runs, without leaving the page."""
     page.load()
     page.value("$('report').textContent = ''")
     page.focus("#files .name")
@@ -791,7 +814,7 @@ def contrast(page):
 
 
 CHECKS = [example, guide, verdict, link, copied, address, wrong_link, later_link, long_link, example_key, removed, added, wrong_field, order,
-          label, stopped, run_again, long_report, scrolled, markup, layout, contrast, quiet, locked]
+          label, stopped, overtaken, entered, long_report, scrolled, markup, layout, contrast, quiet, locked]
 
 
 def on_the_page(page):
