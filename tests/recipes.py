@@ -237,7 +237,7 @@ def divided_troubles(program, folder, part, add):
     names = sorted(os.path.join("features", it) for it in os.listdir(os.path.join(folder, "features")))
     order = [it for place in range(3) for number, it in enumerate(names, 1) if number % 3 == place]
     for place in range(3):
-        status, printed, fault = shell(folder, part, PART=str(place), PARTS="3", LC_ALL="C")
+        status, printed, fault = shell(folder, part, PART=str(place), PARTS="3")
         yield unless(f"the command for machine {place}", status in (0, 1) and (printed, fault) == (b"", b""), status, fault)
     status, printed, fault = shell(folder, add)
     wanted = driver.start(program, ["--format", "json", "--", *order], folder)
@@ -437,7 +437,8 @@ def ended_by(program, room, words, number):
     os.chmod(os.path.join(folder, "slow"), 0o755)
     script, *others = words.split()
     with open(os.path.join(folder, "names"), "rb") as names, \
-            subprocess.Popen([os.path.join(EXAMPLES, script), *others], cwd=folder, env=environment_of(folder), stdin=names, stdout=subprocess.DEVNULL) as process:
+            subprocess.Popen([os.path.join(EXAMPLES, script), *others], cwd=folder, env=environment_of(folder), stdin=names, stdout=subprocess.DEVNULL,
+                             preexec_fn=lambda: signal.signal(number, signal.SIG_DFL)) as process:
         end = time.monotonic() + 30
         while not os.path.exists(os.path.join(folder, "begun")) and time.monotonic() < end:
             time.sleep(0.02)

@@ -350,7 +350,8 @@ def of_signal(case):
     place = place_of(name, waiting=WAITING, ssh=SSH)
     words = [*machines, "--files", "2", os.path.join(place, "waiting"), "--", *FILES]
     with subprocess.Popen([SPREAD, *words], cwd=suite(), env=environment_of(place, **on_machines(place)), stdin=subprocess.DEVNULL,
-                          stdout=subprocess.PIPE, stderr=subprocess.STDOUT, start_new_session=True) as process:
+                          stdout=subprocess.PIPE, stderr=subprocess.STDOUT, start_new_session=True,
+                          preexec_fn=lambda: signal.signal(number, signal.SIG_DFL)) as process:
         end = time.monotonic() + 30
         while not lines_in(place, "begun") and time.monotonic() < end:
             time.sleep(0.05)
