@@ -116,6 +116,9 @@ EVIL = {
                     f"      | a{CONTROLS}\t\rb |\n",
     "\n::error::evil\x1b[1m.feature": "Feature: evil\n  Scenario: one\n    Given the scenario is skipped\n  Scenario: other\n    Given it fails\n",
     "\n::error::fault\x1b.feature": "Feature: evil\nFeature: evil\n",
+    "::error::plain.feature": "Feature: evil\nFeature: evil\n",
+    # A name that isn't UTF-8.
+    "evil\udcff.feature": "Feature: evil\n  Scenario: bytes\n    Given it fails\n",
     "pytest.ini": SETTINGS,
 }
 
@@ -265,7 +268,8 @@ def controls(python, room):
     shown = rf"a{SHOWN}\t\rb"
     yield from lacks("escapes", text, rf"evil.feature::{shown} -- @1.2 FAILED", rf"    Given it fails {shown} ... undefined",
                      r"evil.feature::x\n: :error: :pwned -- @1.1 FAILED", r"Outline: x\n::error::pwned -- @1.1 ... failed",
-                     r"\n::error::fault\u{1b}.feature:2: unexpected line", r"SKIPPED [1] \n: :error: :evil\u{1b}[1m.feature:2: ")
+                     r"\n: :error: :fault\u{1b}.feature:2: unexpected line", r"SKIPPED [1] \n: :error: :evil\u{1b}[1m.feature:2: ", r"evil\u{dcff}.feature::bytes",
+                     "\nevil\\u{dcff}.feature:3: failed: fail step\n", "\n: :error: :plain.feature:2: unexpected line\n")
 
 
 def installed(python, room):

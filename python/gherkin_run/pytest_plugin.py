@@ -26,12 +26,17 @@ HOOKS = "(hooks and cleanups)"
 SETTINGS = pytest.StashKey[Dict[str, Optional[Source]]]()
 
 
+def as_id(text: str) -> str:
+    """Returns a text as a part of an id. It has no `::`, at which pytest cuts ids and with which GitHub's commands begin."""
+    return re.sub(":(?=:)", ": ", printable(text))
+
+
 def read(config: pytest.Config, path: pathlib.Path) -> Source:
     """Reads a file. Its name is its path from the folder in which pytest was started."""
     with path.open("rb") as file:
         # The run refuses a file that is longer.
         text = file.read(LONGEST_FILE + 1)
-    return Source(printable(os.path.relpath(path, config.invocation_params.dir)), text)
+    return Source(as_id(os.path.relpath(path, config.invocation_params.dir)), text)
 
 
 def files_of_settings(config: pytest.Config) -> Dict[str, Optional[Source]]:
@@ -41,11 +46,6 @@ def files_of_settings(config: pytest.Config) -> Dict[str, Optional[Source]]:
         names = {kind: config.getini(f"gherkin_{kind}") for kind in ("library", "hooks")}
         config.stash[SETTINGS] = {kind: read(config, folder / name) if name else None for kind, name in names.items()}
     return config.stash[SETTINGS]
-
-
-def as_id(text: str) -> str:
-    """Returns a text as a part of an id: pytest cuts ids at `::`."""
-    return re.sub(":(?=:)", ": ", printable(text))
 
 
 def distinct(names: List[str]) -> Iterator[str]:
