@@ -1,47 +1,74 @@
 #!/bin/sh
-# Adds JSON reports of runs over different files up to one: examples/add_reports.sh REPORT..
+# Adds up the JSON reports of runs over different files: examples/add_reports.sh REPORT..
 #
-# Prints the report that one run over all these files gives, in the order of the reports, and ends with its
-# status. Each run judges its features alone, so what it says of them is what one run would say; only where
-# a run is to --stop it knows nothing of the others. A file that isn't one report as the program printed it,
-# on one line, is no report: the script then prints none and ends with status 3. It needs jq.
+# Prints the report that one run over all these files gives, in the order of the reports, and exits with its status. Each run
+# judges its features alone, so it says of them what one run would say. Only a run with --stop knows nothing of the others.
+# If a file isn't one report as the program printed it, on one line, the script prints no report and exits with 3. It needs jq.
 set -eu
+
+here=$(dirname -- "$(readlink -f -- "$0")")
+start='{"features":['
+
+refuse() {
+    "$here/recipes/visible.sh" "add_reports: $1" >&2
+    exit "$2"
+}
+
+# Prints what follows the features of a report, as an object. No text of a suite is in it.
+rest_of() {
+    jq --slurp --compact-output --sort-keys '
+        if map(keys) == [["features", "run", "status", "summary"]] then .[0] | del(.features)
+        else error("it is no report") end' < "$1"
+}
+
+# Passes if a report is one line, which begins as reports do and ends with this rest, as the program prints it.
+is_printed() {
+    lines=$(wc -l < "$1")
+    [ "$lines" -le 1 ] && [ "$(head -c "${#start}" < "$1")" = "$start" ] &&
+        [ "$(tail -c "$((${#2} + 1 + lines))" < "$1")" = "],${2#?}" ]
+}
+
+# Prints the rest of each report, one a line.
+rests_of() {
+    for report do
+        rest=$(rest_of "$report") || refuse "$report is no report" 3
+        is_printed "$report" "$rest" || refuse "$report is no report as the program printed it" 3
+        printf '%s\n' "$rest"
+    done
+}
+
+# Adds up rests.
+sum_of() {
+    jq --slurp --compact-output --sort-keys '
+        def worst: if any(. == "memory") then "memory" elif any(. == "failed") then "failed" else "passed" end;
+        def plus($more): reduce ($more | paths(numbers)) as $place (.; setpath($place; getpath($place) + ($more | getpath($place))));
+
+        {
+            run: map(.run) | worst,
+            status: map(.status) | max,
+            summary: (reduce .[1:][].summary as $more (.[0].summary; plus($more)))
+        }'
+}
+
+# Prints the features of each report with commas between them, as they were written: jq has other escapes for some characters.
+# Reads the rests, since the features are what is left of a report without them.
+features_of() {
+    comma=
+    for report do
+        read -r rest
+        length=$(($(wc -c < "$report") - $(wc -l < "$report") - ${#rest} - 1 - ${#start}))
+        [ "$length" -gt 0 ] || continue
+        { printf '%s' "$comma" && tail -c "+$((${#start} + 1))" < "$report" | head -c "$length"; } || return 1
+        comma=,
+    done
+}
 
 [ $# -ge 1 ] || {
     echo "usage: examples/add_reports.sh REPORT.." >&2
     exit 2
 }
-# What each of them adds to the sum, a line each.
-parts=$(for report in "$@"; do
-    [ "$(head -c 13 < "$report")" = '{"features":[' ] && [ "$(wc -l < "$report")" -le 1 ] || {
-        echo "add_reports: $report is no report as the program printed it" >&2
-        exit 3
-    }
-    jq --slurp --compact-output '
-        if map(keys) == [["features", "run", "status", "summary"]] then .[0] | del(.features)
-        else error("it is no report") end' < "$report" || {
-        echo "add_reports: $report is no report" >&2
-        exit 3
-    }
-done) || exit 3
-sum=$(printf '%s\n' "$parts" | jq --slurp --compact-output --sort-keys '
-    def worst: if any(. == "memory") then "memory" elif any(. == "failed") then "failed" else "passed" end;
-    def plus($more): reduce ($more | paths(numbers)) as $place (.; setpath($place; getpath($place) + ($more | getpath($place))));
-
-    {
-        run: map(.run) | worst,
-        status: map(.status) | max,
-        summary: (reduce .[1:][].summary as $more (.[0].summary; plus($more)))
-    }') || exit 3
-# The features as they were written: jq has other escapes for some characters. What follows the features has no
-# text of a suite in it, and no bracket but its first.
-printf '{"features":['
-for report in "$@"; do
-    LC_ALL=C awk '{
-        sub(/^\{"features":\[/, "")
-        sub(/\],"run":"[a-z]*","status":[0-9]*,"summary":[^][]*$/, "")
-        if ($0 != "") print
-    }' < "$report"
-done | paste -s -d , - | tr -d '\n'
-printf '],%s\n' "${sum#?}"
+command -v jq > /dev/null || refuse "jq is needed, and isn't installed" 2
+rests=$(rests_of "$@") || exit 3
+sum=$(printf '%s\n' "$rests" | sum_of) || exit 3
+{ printf '%s' "$start" && printf '%s\n' "$rests" | features_of "$@" && printf '],%s\n' "${sum#?}"; } || refuse "cannot write" 3
 exit "$(printf '%s\n' "$sum" | jq .status)"

@@ -1,7 +1,12 @@
 # Completion of gherkin_run for bash, in a folder where bash-completion looks for it, or read with `.`.
 
 _gherkin_run() {
-    local word=${COMP_WORDS[COMP_CWORD]} before=
+    local word=${COMP_WORDS[COMP_CWORD]} before= earlier
+    COMPREPLY=()
+    # After -- every argument is a file.
+    for earlier in "${COMP_WORDS[@]:0:COMP_CWORD}"; do
+        [[ $earlier != -- ]] || return 0
+    done
     ((COMP_CWORD == 0)) || before=${COMP_WORDS[COMP_CWORD - 1]}
     # bash cuts --format=json into three words.
     if [[ $word == = ]]; then
@@ -9,7 +14,6 @@ _gherkin_run() {
     elif [[ $before == = ]]; then
         ((COMP_CWORD < 2)) || before=${COMP_WORDS[COMP_CWORD - 2]}
     fi
-    COMPREPLY=()
     case $before in
     --format)
         compopt +o default

@@ -1,7 +1,8 @@
-/* Calls the static library with one feature file and looks at what a C caller can see: c_library FILE
+/* Calls the static library with one feature file, which fails, and looks at what a C caller can see: c_library FILE
  *
- * Linked with --wrap=malloc, --wrap=realloc and --wrap=free, so that each growth of memory is refused in turn. Closes
- * with one line 'N passed, M failed'. */
+ * Linked with --wrap=malloc, --wrap=realloc and --wrap=free, so that each growth of memory is refused, one after
+ * another. Closes with one line 'N passed, M failed'. */
+#define _GNU_SOURCE
 #include "gherkin_run.h"
 #include <stdio.h>
 #include <stdlib.h>
@@ -44,7 +45,7 @@ static gherkin_named source;
 static gherkin_call call = GHERKIN_CALL;
 static gherkin_answer answer;
 
-/* A call with so much room: what there is room for is written, and nothing else. */
+/* Calls with each size of room: what fits is written, and nothing else. */
 static void rooms(size_t length) {
     for (size_t size = 0; size <= length + 2; size++) {
         memset(room, 0xAA, size + EDGE);
@@ -56,7 +57,7 @@ static void rooms(size_t length) {
     }
 }
 
-/* Each growth in turn: the whole report, one with a mark of memory, or the line of refused memory; and no block is left. */
+/* Refuses each growth: the text is the whole report, one with a mark of memory, or a line; and no block is left. */
 static void refusals(size_t length, uint8_t status) {
     growths = 0;
     gherkin_run(&call, room, LARGEST, &answer);
@@ -66,13 +67,13 @@ static void refusals(size_t length, uint8_t status) {
         gherkin_run(&call, room, LARGEST, &answer);
         refused = 0;
         bool same = answer.has_report && answer.status == status && answer.length == length && memcmp(room, whole, length) == 0;
-        bool marked = answer.has_report && answer.status == 4;
-        bool line = !answer.has_report && answer.status == 4 && answer.length == 13 && memcmp(room, "out of memory", 13) == 0;
+        bool marked = answer.has_report && answer.status == GHERKIN_OUT_OF_MEMORY;
+        bool line = !answer.has_report && answer.status == GHERKIN_OUT_OF_MEMORY && answer.length == 13 && memcmp(room, "out of memory", 13) == 0;
         expect((same || marked || line) && blocks == 0, "another end with a refused growth", number);
     }
 }
 
-/* A call that is refused with this line, status and place. */
+/* Makes a call that is refused with this line, status and place. */
 static void refuses_at(const char *line, uint8_t status, uint8_t input, size_t place, uint32_t number) {
     long before = blocks;
     gherkin_run(&call, room, LARGEST, &answer);
@@ -82,7 +83,7 @@ static void refuses_at(const char *line, uint8_t status, uint8_t input, size_t p
 }
 
 static void refuses(const char *line) {
-    refuses_at(line, 2, GHERKIN_NO_INPUT, 0, 0);
+    refuses_at(line, GHERKIN_BAD_CALL, GHERKIN_NO_INPUT, 0, 0);
 }
 
 static gherkin_named named(const char *name, const char *text) {
@@ -90,18 +91,18 @@ static gherkin_named named(const char *name, const char *text) {
     return made;
 }
 
-/* The place of a fault of each file, whose names hold colons. */
+/* Finds the place of a fault in each file. The names contain colons. */
 static void places(void) {
     gherkin_named three[3] = {source, named("b:7: c", "Feature: F\n\nFeature: G\n"), source};
     gherkin_named bad_library = named("a:1", "\ngiven a => none\n"), bad_hooks = named("a:2", "@never\n");
     gherkin_text tag = {(const uint8_t *)"@a and", 6};
     gherkin_call before = call;
     call.sources = three, call.source_count = 3;
-    refuses_at("b:7: c:3: unexpected line", 3, GHERKIN_SOURCE, 1, 3);
+    refuses_at("b:7: c:3: unexpected line", GHERKIN_BAD_FILE, GHERKIN_SOURCE, 1, 3);
     call.hooks = bad_hooks, call.has_hooks = true;
-    refuses_at("a:2:1: unexpected line", 3, GHERKIN_HOOKS, 0, 1);
+    refuses_at("a:2:1: unexpected line", GHERKIN_BAD_FILE, GHERKIN_HOOKS, 0, 1);
     call.library = bad_library, call.has_library = true;
-    refuses_at("a:1:2: unknown action", 3, GHERKIN_LIBRARY, 0, 2);
+    refuses_at("a:1:2: unknown action", GHERKIN_BAD_FILE, GHERKIN_LIBRARY, 0, 2);
     call.tags = &tag, call.tag_count = 1;
     refuses("bad tag expression");
     call = before;
@@ -126,8 +127,74 @@ static void hostile(void) {
     call.has_library = true, call.library.name = bad, refuses("not UTF-8"), call = before;
     call.source_count = 0;
     gherkin_run(&call, room, LARGEST, &answer);
-    expect(answer.has_report && answer.status == 0, "no source", 0);
+    expect(answer.has_report && answer.status == GHERKIN_PASSED, "no source", 0);
     call = before;
+}
+
+/* Makes the call as it is, and again with a null pointer at this place: nothing else may change. */
+static void null_at(void *place, const char *what) {
+    char pointer[sizeof(void *)];
+    gherkin_answer other;
+    gherkin_run(&call, whole, LARGEST, &other);
+    memcpy(pointer, place, sizeof pointer);
+    memset(place, 0, sizeof pointer);
+    gherkin_run(&call, room, LARGEST, &answer);
+    bool same = answer.length == other.length && memcmp(room, whole, other.length) == 0;
+    same = same && answer.has_report == other.has_report && answer.status == other.status;
+    same = same && answer.input == other.input && answer.source == other.source && answer.line == other.line;
+    expect(same, what, 0);
+    memcpy(place, pointer, sizeof pointer);
+}
+
+/* Null pointers in the call itself. An empty library file has no steps, and isn't the default library. */
+static void nulls_in_call(void) {
+    gherkin_call before = call;
+    null_at(&call.tags, "null for no tags");
+    null_at(&call.lines, "null for no lines");
+    null_at(&call.variables, "null for no variables");
+    null_at(&call.library.bytes.bytes, "null in a library that isn't used");
+    call.has_library = true, call.library = named("", "no library\n");
+    null_at(&call.library.name.bytes, "null for the name of a library with a fault");
+    call.library = before.library;
+    null_at(&call.library.name.bytes, "null for a library's name");
+    null_at(&call.library.bytes.bytes, "null for an empty library");
+    expect(answer.has_report && memmem(room, answer.length, "0 steps passed", 14), "an empty library has steps", 0);
+    call.has_hooks = true;
+    null_at(&call.hooks.name.bytes, "null for a hooks file's name");
+    null_at(&call.hooks.bytes.bytes, "null for an empty hooks file");
+    call = before, call.source_count = 0;
+    null_at(&call.sources, "null for no sources");
+    gherkin_call nothing = {0};
+    call = nothing;
+    gherkin_run(&call, NULL, 0, &answer);
+    expect(answer.has_report && answer.status == GHERKIN_PASSED && answer.length > 0, "null for everything", 0);
+    call = before;
+}
+
+/* Null pointers in the texts of a list, also of a file that has a fault. */
+static void nulls_in_lists(void) {
+    gherkin_named files[2] = {named("", "no feature\n"), GHERKIN_NO_FILE}, variable = GHERKIN_NO_FILE;
+    gherkin_text tag = GHERKIN_NO_TEXT;
+    gherkin_call before = call;
+    call.sources = files, call.source_count = 2;
+    null_at(&files[0].name.bytes, "null for the name of a file with a fault");
+    call.sources = files + 1, call.source_count = 1;
+    null_at(&files[1].name.bytes, "null for the name of an empty file");
+    null_at(&files[1].bytes.bytes, "null for an empty file");
+    call = before, call.tags = &tag, call.tag_count = 1;
+    null_at(&tag.bytes, "null for an empty text of tags");
+    call = before, call.variables = &variable, call.variable_count = 1;
+    null_at(&variable.name.bytes, "null for a variable's name");
+    variable = named("x", "");
+    null_at(&variable.bytes.bytes, "null for a variable's text");
+    call = before;
+}
+
+static void versions(void) {
+    size_t length = gherkin_run_version(NULL, 0);
+    expect(length == strlen(GHERKIN_RUN_VERSION), "another length of the version", 0);
+    gherkin_run_version(room, LARGEST);
+    expect(memcmp(room, GHERKIN_RUN_VERSION, length) == 0, "another version", 0);
 }
 
 int main(int count, char **words) {
@@ -140,12 +207,14 @@ int main(int count, char **words) {
     gherkin_run(&call, whole, LARGEST, &answer);
     size_t length = answer.length;
     uint8_t status = answer.status;
-    expect(answer.has_report && length <= LARGEST, "no report", 0);
+    expect(answer.has_report && length <= LARGEST && status == GHERKIN_FAILED, "no failing report", 0);
     rooms(length);
     refusals(length, status);
     hostile();
     places();
-    expect(gherkin_run_version(room, LARGEST) > 0, "no version", 0);
+    nulls_in_call();
+    nulls_in_lists();
+    versions();
     printf("%d passed, %d failed\n", passed, failed);
     return failed != 0;
 }

@@ -4,34 +4,39 @@
 Called by tests/c_library.sh, which says what is compared, and compiled the programs in ROOM.
 """
 
-import glob
+import ctypes
 import os
 import random
+import re
+import resource
+import shutil
 import subprocess
 import sys
 
-HOME = os.path.dirname(os.path.dirname(os.path.realpath(__file__)))
+import driver
+
+HOME = driver.HOME
+HEADER = os.path.join(HOME, "include", "gherkin_run.h")
 CHANGED = 300
 PREFIX = b"gherkin_run: "
+# Counts of arguments around powers of two, and more files than may be open at once.
+BAD_WORDS = [], ["--stop"], ["--line"], ["ten", "--line"], ["--env", "AB", "ten"], ["--unknown", "8", "ten"], ["-x", "ten"]
+OPEN_FILES = 256
+COUNTS = 63, 64, 65, 66, 127, 129, 1000
+GOOD_LINES = "8", "010", "+10", "4294967295"
+BAD_LINES = "-1", "0", "4294967304", "18446744073709551624", "", "+", "8+", "8x", " 8", "0x8"
+ENVIRONMENT = {"ASAN_OPTIONS": "detect_leaks=0"}
 
 
-def ended(command, folder):
-    """What a command writes, and its status."""
-    done = subprocess.run(command, cwd=folder, stdin=subprocess.DEVNULL, capture_output=True, timeout=60, check=False)
+def ended(command, folder, environment=None):
+    """Returns a command's status and what it writes."""
+    done = subprocess.run(command, cwd=folder, stdin=subprocess.DEVNULL, capture_output=True, timeout=60, check=False,
+                          env={**os.environ, **ENVIRONMENT, **(environment or {})})
     return done.returncode, done.stdout, done.stderr.removeprefix(PREFIX)
 
 
-def arguments_of(feature):
-    """The arguments of an example, without its feature file."""
-    name = f"{os.path.splitext(feature)[0]}.arguments"
-    if not os.path.exists(name):
-        return []
-    with open(name, encoding="utf-8") as file:
-        return file.read().splitlines()
-
-
 def changed(source, lines, rng):
-    """The bytes of a feature file with some changes."""
+    """Returns the bytes of a feature file with some changes."""
     made = bytearray(source)
     for _ in range(rng.randrange(4)):
         place = rng.randrange(len(made) + 1)
@@ -47,51 +52,151 @@ def changed(source, lines, rng):
     return bytes(made)
 
 
-def main():
-    """Runs the comparisons, and then the calls of tests/c_library.c and of tests/random_bytes.c."""
-    program, room, seed, count = sys.argv[1:5]
-    embedded, called, randomly = (os.path.join(room, name) for name in ("main", "called", "random"))
-    passed = failed = 0
+class Comparisons(driver.Tests):
+    """Runs examples/c/main.c and the program, and counts the tests."""
 
-    def compare(words, folder, what):
-        nonlocal passed, failed
-        wanted, got = ended([program, *words], folder), ended([embedded, *words], folder)
-        passed += wanted == got
-        failed += wanted != got
-        if wanted != got:
-            print(f"{what}: the program ends with {wanted}, the library with {got}")
+    def __init__(self, program, room):
+        super().__init__()
+        self.program = program
+        self.room = room
+        self.main = os.path.join(room, "main")
 
-    features = sorted(glob.glob(os.path.join(HOME, "examples", "*.feature")))
-    for feature in features:
-        name = os.path.relpath(feature, HOME)
-        compare([*arguments_of(feature), name], HOME, name)
-    compare(["examples"], HOME, "a folder")
-    compare(["examples/missing.feature"], HOME, "a file that isn't there")
-    shown = ended([embedded, "--show", "examples/uneven.feature"], HOME)[2].splitlines()
-    with open(os.path.join(HOME, "examples", "uneven.feature"), "rb") as file:
-        wanted = file.read().split(b"\n")[int(shown[0].split(b":")[1]) - 1]
-    passed += shown[1:] == [wanted]
-    failed += shown[1:] != [wanted]
-    sources = []
-    for feature in features:
-        with open(feature, "rb") as file:
-            sources.append(file.read())
-    lines = [line for source in sources for line in source.split(b"\n")]
-    rng = random.Random(5)
-    for number in range(CHANGED):
-        with open(os.path.join(room, "changed.feature"), "wb") as file:
-            file.write(changed(rng.choice(sources), lines, rng))
-        words = ["--format", rng.choice(["plain", "progress", "json"]), "changed.feature"]
-        compare(words, room, f"changed file {number}")
-    for command in ([called, os.path.join(HOME, "examples", "paint.feature")], [randomly, seed, count]):
+    def compare(self, words, what, folder=HOME):
+        """Expects both to write the same and to end with the same status."""
+        wanted, got = ended([self.program, *words], folder), ended([self.main, *words], folder)
+        self.add(driver.trouble(what, got, wanted))
+
+    def refuse(self, words):
+        """Expects both to refuse a command line and to print no report."""
+        for name in self.program, self.main:
+            self.add(driver.trouble(f"{name} {words}", ended([name, *words], self.room)[:2], (2, b"")))
+
+    def examples(self):
+        """Runs the examples, and names that can't be read."""
+        for words in driver.examples():
+            self.compare(words, words[-1])
+        self.compare(["examples"], "a folder")
+        self.compare(["examples/missing.feature"], "a missing file")
+
+    def shown_lines(self):
+        """Shows the line that a fault is in, of each kind of file, and none for a fault without a line."""
+        driver.write(self.room, {"good": "Feature: f\n", "bad.feature": "Feature: f\n\n\tFeature: g", "bad.hooks": "\n@never\n",
+                                 "bad.library": "given a => pass\ngiven b => none\n", "large": "\n" * 16777217})
+        for words, shown in (
+            (["good", "bad.feature"], "\tFeature: g\n"),
+            (["--hooks", "bad.hooks", "good"], "@never\n"),
+            (["--library", "bad.library", "good"], "given b => none\n"),
+            (["large"], ""),
+            (["--tags", "and", "good"], ""),
+        ):
+            wanted = ended([self.program, *words], self.room)
+            got = ended([self.main, "--show", *words], self.room)
+            self.add(driver.trouble(f"--show {words}", got, (*wanted[:2], wanted[2] + shown.encode())))
+
+    def command_lines(self):
+        """Tries numbers of lines, and many arguments."""
+        scenarios = "Scenario: line 8\nGiven it passes\nScenario: line 10\nGiven it fails\n"
+        driver.write(self.room, {"ten": "Feature: f" + "\n" * 7 + scenarios})
+        for line in GOOD_LINES:
+            self.compare(["--line", line, "ten"], f"line {line}", self.room)
+        for words in [*(["--line", line, "ten"] for line in BAD_LINES), *BAD_WORDS]:
+            self.refuse(words)
+        for count in COUNTS:
+            self.compare(["ten"] * count, f"{count} files", self.room)
+            for option in (["--line", "8"], ["--tags", "not @a"], ["--env", "A=b"]):
+                words = [*option * (count // 2), *["ten"] * (count % 2 or 2)]
+                self.compare(words, f"{count} words, {option[0]}", self.room)
+
+    def texts(self):
+        """Prints a report longer than the example's first room, and one with a zero byte."""
+        rows = "".join(f"|{number}|\n" for number in range(2000))
+        steps = "Given it passes\n" * 20
+        driver.write(self.room, {
+            "long.feature": f"Feature: f\nScenario Outline: <n>\n{steps}Examples:\n|n|\n{rows}",
+            "zero.feature": b"Feature: f\nScenario: a\0b\nGiven it passes\n",
+        })
+        for form in "plain", "progress", "json":
+            self.compare(["--format", form, "long.feature"], f"a long report, {form}", self.room)
+            self.compare(["--format", form, "zero.feature"], f"a zero byte, {form}", self.room)
+
+    def changed_files(self):
+        """Runs examples whose bytes were changed at random."""
+        sources = [driver.read(os.path.join(HOME, words[-1])) for words in driver.examples()]
+        lines = [line for source in sources for line in source.split(b"\n")]
+        rng = random.Random(5)
+        for number in range(CHANGED):
+            driver.write(self.room, {"changed.feature": changed(rng.choice(sources), lines, rng)})
+            words = ["--format", rng.choice(["plain", "progress", "json"]), "changed.feature"]
+            self.compare(words, f"changed file {number}", self.room)
+
+    def compile(self, compiler, name, text, *words):
+        """Compiles a text that includes the header, and expects no warning."""
+        if not shutil.which(compiler):
+            print(f"include/gherkin_run.h isn't compiled by {compiler}, which is missing")
+            return
+        driver.write(self.room, {name: f'#include "gherkin_run.h"\n{text}'})
+        strict = ["-Wall", "-Wextra", "-Wpedantic", "-Werror", "-fsyntax-only", f"-I{os.path.dirname(HEADER)}"]
+        status, _, said = ended([compiler, *strict, *words, name], self.room)
+        self.add(status != 0 and f"{compiler} {name}: {said.decode()}")
+
+    def header(self):
+        """Compiles the header in C and in C++."""
+        body = "int main(void) { gherkin_call call = GHERKIN_CALL; return call.format; }\n"
+        self.compile("cc", "header.c", body, "-std=c11")
+        self.compile("c++", "header.cc", body, "-std=c++11", "-Wold-style-cast")
+
+    def page(self):
+        """Compares what the program of docs/guide/from_c.md prints, and compiles the page's other piece of C."""
+        text = driver.read(os.path.join(HOME, "docs", "guide", "from_c.md")).decode()
+        printed = re.search(r"^```text\n\$ ./bakery\n(.*?)^```$", text, re.MULTILINE | re.DOTALL)[1]
+        got = ended([os.path.join(self.room, "bakery")], HOME)
+        self.add(driver.trouble("docs/guide/from_c.md", got, (1, printed.encode(), b"")))
+        piece = re.search(r"^```c\n(.*?)^```$", text, re.MULTILINE | re.DOTALL)[1]
+        head = "int f(gherkin_call call, uint8_t *room, size_t size, gherkin_answer answer)"
+        self.compile("cc", "piece.c", f"#include <stdlib.h>\n{head} {{\n{piece}return 0; }}\n", "-std=c11")
+
+    def shared_library(self):
+        """Loads the shared library by its versioned name, and from Python, and looks at its names."""
+        left = os.listdir(os.path.join(self.room, "temporary"))
+        self.add(left and f"tools/shared_library.sh leaves {left} in TMPDIR")
+        version = re.search(r"^#define GHERKIN_RUN_ABI_VERSION (\d+)$", driver.read(HEADER).decode(), re.MULTILINE)
+        folder = os.path.join(self.room, "found")
+        os.mkdir(folder)
+        built = os.path.join(self.room, "libgherkin_run.so")
+        os.symlink(built, os.path.join(folder, f"libgherkin_run.so.{version[1]}"))
+        found = ended([os.path.join(self.room, "shared"), "examples/paint.feature"], HOME, {"LD_LIBRARY_PATH": folder})
+        self.add(driver.trouble("the shared library", found, ended([self.main, "examples/paint.feature"], HOME)))
+        self.add(not ctypes.CDLL(built).gherkin_run_version(None, 0) and "ctypes gets no version")
+        if shutil.which("nm"):
+            names = ended(["nm", "-D", "--defined-only", built], HOME)[1].split()[2::3]
+            self.add(names != [b"gherkin_run", b"gherkin_run_version"] and f"the shared library exports {names}")
+
+    def calls(self, *command):
+        """Runs a program of tests in C, and adds its counts."""
         done = subprocess.run(command, capture_output=True, text=True, check=False)
         *said, last = done.stdout.splitlines() or ["0 passed, 1 failed"]
         for line in said:
             print(line)
-        passed += int(last.split()[0])
-        failed += int(last.split()[2])
-    print(f"{passed} passed, {failed} failed")
-    return failed != 0
+        self.passed += int(last.split()[0])
+        self.failed += int(last.split()[2])
+
+
+def main():
+    """Runs the comparisons, and then the calls of tests/c_library.c and of tests/random_bytes.c."""
+    program, room, seed, count = sys.argv[1:5]
+    resource.setrlimit(resource.RLIMIT_NOFILE, (OPEN_FILES, OPEN_FILES))
+    tests = Comparisons(program, room)
+    tests.examples()
+    tests.shown_lines()
+    tests.command_lines()
+    tests.texts()
+    tests.changed_files()
+    tests.header()
+    tests.page()
+    tests.shared_library()
+    tests.calls(os.path.join(room, "c_library"), os.path.join(HOME, "examples", "paint.feature"))
+    tests.calls(os.path.join(room, "random_bytes"), seed, count)
+    return tests.close()
 
 
 if __name__ == "__main__":

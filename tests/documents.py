@@ -11,9 +11,10 @@ Fails where
 - a file of examples/ that a document shows isn't that file;
 - a definition of specs/ has no comment above it, or a broken one;
 - two crates have modules of the same name;
-- README.md has more than 120 lines;
+- README.md has more than 120 lines, or a page for users is hard to read (prose.py says how that is counted);
 - a fault text or a reason of the program has no entry in docs/FAULTS.md, or an entry has no such text;
 - examples/default.steps isn't the built-in library;
+- a picture of docs/pictures/ isn't the one that its script draws;
 - a page at the top or of docs/ has a word of WORDS; elsewhere such words are counted only.
 """
 
@@ -22,10 +23,16 @@ import re
 import subprocess
 import sys
 
+import prose
+
 HOME = os.path.dirname(os.path.dirname(os.path.realpath(__file__)))
 # Words that Rust's own documentation doesn't use so.
 WORDS = re.compile(r"\b(front|fronts|behind|tells|told|want of memory)\b", re.IGNORECASE)
 README_LINES = 120
+# Folders that checking and building make. A fresh clone has none of them.
+BUILT = ("out", "__pycache__")
+# Pages for users that aren't held against prose.py yet.
+UNREAD = {f"docs/guide/{it}.md" for it in ("from_python", "installing", "editors", "pytest")}
 # The endings of files that pages name.
 SOURCES = (".rt", ".antt", ".py", ".sh", ".awk", ".c", ".feature", ".steps", ".edit", ".arguments", ".report", ".status", ".fault")
 
@@ -39,7 +46,7 @@ def repository_files():
     """All files of the repository but what is built."""
     found = []
     for folder, folders, names in os.walk(HOME):
-        folders[:] = sorted(it for it in folders if it not in (".git", "out", "__pycache__"))
+        folders[:] = sorted(it for it in folders if it not in (".git", *BUILT))
         found += [os.path.relpath(os.path.join(folder, it), HOME) for it in sorted(names)]
     return found
 
@@ -133,8 +140,12 @@ def members():
 
 
 def path_is_there(name, page):
-    """Whether a name with a slash or a file's ending is there: from the top, from the page, or in a crate."""
+    """Whether a name with a slash or a file's ending is there: from the top, from the page, or in a crate.
+
+    Of what is built only the folder may be named, so that a page passes in a fresh clone, too."""
     name = name.rstrip("/")
+    if any(it in BUILT for it in name.split("/")):
+        return name in BUILT
     bases = [HOME, os.path.join(HOME, "crates"), os.path.dirname(os.path.join(HOME, page))]
     bases += [os.path.join(HOME, "crates", crate) for crate in CRATES]
     if any(os.path.exists(os.path.join(base, name)) for base in bases):
@@ -441,7 +452,7 @@ def fault_texts():
             and (" " in it or it in REASONS_OF_ONE_WORD or it.startswith("bad"))}
 
 
-# What is to be done about each fault, in the last column of docs/FAULTS.md.
+# What is to be done about each fault: its fix in docs/FAULTS.md begins so.
 HINTS = "crates/gk_cli/src/hints.rt"
 
 # Reasons that are one word; other single words in the code are keywords and names.
@@ -450,20 +461,34 @@ REASONS_OF_ONE_WORD = {"absent", "present", "differs"}
 
 def fault_differences():
     """Texts of the code without an entry in docs/FAULTS.md, and entries for texts that the code lacks."""
-    page, texts = read("docs/FAULTS.md"), fault_texts()
-    listed = set(re.findall(r"^\| `([^`]+)` \|", page, re.MULTILINE))
-    for text in sorted(texts - set(re.findall(r"`([^`]+)`", page))):
+    headings, texts = re.findall(r"^### `.*", read("docs/FAULTS.md"), re.MULTILINE), fault_texts()
+    listed = set(re.findall(r"`([^`]+)`", " ".join(headings)))
+    for text in sorted(texts - listed):
         yield f"docs/FAULTS.md has no entry for `{text}`"
     for text in sorted(listed - texts - STATUSES):
         yield f"docs/FAULTS.md has an entry for `{text}`, which the program doesn't print"
 
 
 def hint_differences():
-    """Hints of the code that begin no cell of docs/FAULTS.md."""
-    page = re.sub(r"\[([^]]*)\]\([^)]*\)", r"\1", read("docs/FAULTS.md")).replace("`", "")
-    for hint in re.findall(r'"([^"]+)"', re.sub(r"//.*", "", read(HINTS))):
-        if f"| {hint}" not in page:
-            yield f"docs/FAULTS.md has no cell that begins with `{hint}`"
+    """Hints of the code that begin no fix of docs/FAULTS.md."""
+    page = re.sub(r"\[([^]]*)\]\([^)]*\)", r"\1", read("docs/FAULTS.md")).replace("`", "").replace("\n", " ")
+    for hint in re.findall(r'"([^"]+)"', re.sub(r"//.*", "", read(HINTS)).replace("\\\\", "\\")):
+        if f"**Fix:** {hint}" not in page:
+            yield f"docs/FAULTS.md has no fix that begins with `{hint}`"
+
+
+# ---- pictures
+
+# Each picture's script. One draws what the program prints, one the figures of bench/README.md.
+PICTURES = {"failing_run.svg": "docs/pictures/failing_run.py", "peers.svg": "bench/chart"}
+
+
+def picture_differences(program):
+    """Pictures that are missing, or that their scripts draw in another way."""
+    for name, script in PICTURES.items():
+        drawn = subprocess.run([sys.executable, os.path.join(HOME, script), program], stdout=subprocess.PIPE, text=True, check=True).stdout
+        if drawn != read(f"docs/pictures/{name}"):
+            yield f"docs/pictures/{name} isn't what {script} draws"
 
 
 # ---- the built-in library
@@ -533,6 +558,9 @@ def main():
         tests.check(f"examples in {page}", lines_of(page, example_differences(page)))
         for number, difference in run_differences(page, program, room):
             tests.check(f"{page}:{number}", [difference] if difference else [])
+    for page in sorted({"README.md", "docs/FAULTS.md", *GUIDE} - UNREAD):
+        text = read(page)
+        tests.check(f"how {page} reads", lines_of(page, prose.hard_to_read(page, text, without_blocks(text))))
     tests.check("files of docs/guide/", shown_twice())
     tests.check("must-fail edits", edit_differences())
     for path in FILES:
@@ -543,6 +571,7 @@ def main():
     tests.check("the length of README.md", [f"{length} lines"] if length > README_LINES else [])
     tests.check("entries of docs/FAULTS.md", fault_differences())
     tests.check("hints of docs/FAULTS.md", hint_differences())
+    tests.check("pictures", picture_differences(program))
     tests.check("the built-in library", library_difference())
     faults, elsewhere = counted_words()
     tests.check("words in pages", [f"{path}:{number}: {text}" for path, number, text in faults])

@@ -1,8 +1,8 @@
 #!/bin/sh
 # Holds the documents against the code, the definitions and the program: tests/documents.sh [PROGRAM]
 #
-# tests/documents.py says what it looks for. PROGRAM is the built program; without it, the one that ./run
-# builds. Closes with one line 'N passed, M failed'.
+# tests/documents.py says what it looks for. Nothing that is built has to be there. PROGRAM is the built program; without it,
+# the one that ./run runs. Closes with one line 'N passed, M failed'.
 set -eu
 
 . "$(dirname -- "$(readlink -f -- "$0")")/setup.sh"

@@ -162,10 +162,59 @@ without_home() (
 # A file that can't be written whole, as on a full disk.
 fails_midway() (
     ulimit -f 100
-    refuses "nothing is installed" "$room/place"
+    refuses "is as it was" "$room/place"
 )
 
+fails_midway_again() {
+    "$home/install" "$room/place" && fails_midway && it_is_all_there "$room/place"
+}
+
 # ---- the man page and the completions
+
+# Runs the program, and prints its status.
+status_of() {
+    status=0
+    "$program" "$@" > "$room/report" 2>&1 || status=$?
+    echo "$status"
+}
+
+status_of_a_full_disk() {
+    status=0
+    "$program" "$@" > /dev/full 2> "$room/report" || status=$?
+    echo "$status"
+}
+
+# A run of many scenarios needs more memory than it is given here.
+status_of_little_memory() (
+    awk 'BEGIN { print "Feature: f"; for (n = 0; n < 20000; n++) print "Scenario: s\nGiven it passes" }' > "$room/large.feature"
+    ulimit -v 5000
+    status_of "$room/large.feature"
+)
+
+# The statuses that the man page lists, each with what it says of it.
+statuses_of_man() {
+    sed -n '/^\.SH EXIT STATUS/,/^\.SH ENVIRONMENT/p' "$home/share/gherkin_run.1" | grep -A 1 '^\.B [0-9]$' |
+        sed 's/^\.B //' | tr '\n' ' ' | sed 's/ -- /\n/g;s/ $/\n/'
+}
+
+# The same, each status by runs that end so.
+statuses_of_runs() {
+    example=$home/examples
+    echo "$(status_of "$example/first.feature") Nothing failed."
+    for status in "$(status_of "$example/failing.feature")" "$(status_of "$example/undefined.feature")" \
+        "$(status_of --hooks "$example/failing_hooks.hooks" "$example/failing_hooks.feature")" \
+        "$(status_of --lint "$example/undefined.feature")"; do
+        [ "$status" -eq 1 ] || return 1
+    done
+    echo "$status A step, a hook or a cleanup failed, or a step is undefined; or"
+    echo "$(status_of --no-such-option) The command line is wrong."
+    for status in "$(status_of "$room/missing")" "$(status_of "$example/uneven.feature")" \
+        "$(status_of_a_full_disk "$example/first.feature")" "$(status_of_a_full_disk --lint "$example/undefined.feature")"; do
+        [ "$status" -eq 3 ] || return 1
+    done
+    echo "$status A file can't be read or is refused, or the report or the findings can't be written."
+    echo "$(status_of_little_memory) Memory ran out."
+}
 
 # The options that the help lists, one a line: each spelling, and the value.
 options_of_help() {
@@ -237,6 +286,18 @@ bash_lists_options() {
 formats() {
     "$program" --help | sed -nE 's/^ +--format .* as ([a-z, ]+) \[.*$/\1/p' | sed 's/,//g;s/ or / /' | tr ' ' '\n' |
         LC_ALL=C sort | tr '\n' ' '
+}
+
+# Every argument after -- is a file.
+bash_completes_files_after_hyphens() {
+    [ -z "$(bash_completes -- -)" ] && [ -z "$(bash_completes a.feature -- --)" ] &&
+        [ -z "$(bash_completes -- --format "")" ] && [ -z "$(bash_completes -- --format = j)" ] &&
+        [ "$(bash_completes --tags=a--b a--b --form)" = --format ]
+}
+
+fish_completes_files_after_hyphens() {
+    completed=$(fish --no-config -c "source $home/share/gherkin_run.fish; complete -C 'gherkin_run --form'
+        complete -C 'gherkin_run -- --form'") && [ "$(printf '%s\n' "$completed" | cut -f 1)" = --format ]
 }
 
 # bash hands over --format=j as three words.
@@ -341,6 +402,13 @@ else
     left_out="$left_out a user other than root who can read $home,"
 fi
 holds "a failure midway leaves nothing" fails_midway
+holds "a failure midway leaves the earlier installation" fails_midway_again
+for test in "fails: a failure at any step" "ends: the signal TERM at any step" "dies: the signal KILL at any step" \
+    "together: more than one at the same time" "modes: another umask" "lists: a list that ./install didn't write" \
+    "links: a link in place of a folder"; do
+    holds "${test#*: }" python3 "$home/tests/install.py" "${test%%: *}"
+done
+clear
 holds "an option that isn't known is refused" refuses "there is no option" --prefix="$room/place"
 holds "two folders are refused" refuses "too many arguments" "$room/place" "$room/place"
 holds "two folders are refused with --remove" refuses "too many arguments" "$room/place" --remove "$room/place"
@@ -352,6 +420,7 @@ b"
 holds "removing where nothing is installed is refused" refuses "there is no installation" --remove "$room/place"
 
 holds "the man page lists the options of the help" lists_as options_of_man options_of_help
+holds "each status of the man page is that of runs" lists_as statuses_of_man statuses_of_runs
 holds "the man page lists the steps of the built-in library" lists_as steps_of_man steps_of_library
 clear
 holds "the files that the man page names are installed" man_names_files
@@ -362,6 +431,7 @@ if command -v bash > /dev/null; then
     holds "bash reads its completions" bash -n share/gherkin_run.bash
     holds "the completions for bash list the options of the help" bash_lists_options
     holds "bash completes the formats" bash_completes_formats
+    holds "bash completes files after --" bash_completes_files_after_hyphens
 else
     left_out="$left_out bash"
 fi
@@ -372,6 +442,7 @@ else
 fi
 if command -v fish > /dev/null; then
     holds "fish reads its completions" fish --no-execute share/gherkin_run.fish
+    holds "fish completes files after --" fish_completes_files_after_hyphens
 else
     left_out="$left_out fish"
 fi

@@ -1,8 +1,8 @@
 // Runs requests by web/gherkin_run.wasm in Node: page.mjs CALLER MODULE CASES
 //
-// CALLER is web/source/gherkin_run.js, CASES a file of JSON: a list of requests, in which bytes are base64. Prints two lists: the
-// answers, with the text as base64 and the time of each run in milliseconds; and the answers to the first request where little memory
-// is left, from none on.
+// CALLER is web/source/gherkin_run.js, CASES a file of JSON: a list of requests, in which bytes are base64. Prints three lists: the
+// answers, with the text as base64 and the time of each run in milliseconds; the answers to the first request when little memory
+// is left, from none on; and the first lines of the texts for some lines, or the names of their exceptions.
 import { readFileSync } from "node:fs";
 
 const [caller, module, cases] = process.argv.slice(2);
@@ -43,4 +43,11 @@ const compiled = await WebAssembly.compile(readFileSync(module));
 const [all] = runWithout(compiled, requests[0], Infinity);
 const left = [0, 4, 16, 64, 128, 192, 256, 384, 512, 768, 1024, 2048].filter((blocks) => blocks <= all);
 const refused = left.map((blocks) => runWithout(compiled, requests[0], all - blocks)[1]);
-process.stdout.write(JSON.stringify([answers, refused]));
+const wrong = [0, 4294967295, -1, 4294967296, 4294967298, 1.5, NaN, "2", 2n].map((line) => {
+    try {
+        return run({ sources: [["f", "Feature: f\n  Scenario: s\n    Given it passes\n"]], lines: [line] }).text.split("\n")[0];
+    } catch (error) {
+        return error.name;
+    }
+});
+process.stdout.write(JSON.stringify([answers, refused, wrong]));

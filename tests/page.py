@@ -1,19 +1,21 @@
 #!/usr/bin/env python3
 """Runs the module of web/ in Node, and its page in Chromium: page.py PROGRAM ROOM PASSED FAILED.
 
-Called by tests/page.sh, which says what is compared, and hands over its own counts.
+Called by tests/page.sh, which says what is compared, and passes its own counts.
 """
 
 import base64
+import collections
 import json
 import os
 import random
+import re
 import shutil
 import subprocess
 import sys
-import threading
 import time
 
+import browser as chromium
 import driver
 from c_library import changed
 
@@ -21,9 +23,122 @@ CHANGED = 300
 PATIENCE = 60  # seconds
 PREFIX = b"gherkin_run: "
 WEB = os.path.join(driver.HOME, "web")
-HOSTILE = "Feature: </textarea></pre><script>document.title = 'taken'</script> <img src=x onerror=\"document.title = 'taken'\"> &amp; \u0000\u202e\n" \
-          "  Scenario: {page} ${1} \\u003c \U0001f600\n    Given it passes <b>\n"
-WIDTHS = {"wide": 1400, "narrow": 390}
+GUIDE = os.path.join(driver.HOME, "docs", "guide", "in_your_browser.md")
+PAGE = "file://" + os.path.join(WEB, "try.html")
+FIRST = "examples/paint.feature"
+MARKUP = "</textarea></pre><script>document.title = 'taken'</script> " \
+         "<img src=x onerror=\"document.title = 'taken'\"> &amp; {page} ${1} \\u003c"
+SMALL = driver.feature("Given it passes")
+# Something in each field of the page.
+FULL = {"files": [["ä \"1\".feature", "Feature: ü <&> \U0001f600\n  Scenario: s\n\tGiven the lamp\n"],
+                  ["b.feature", "Feature: b\n"]],
+        "library": "step the lamp => pass\n", "libraryName": "my.steps",
+        "hooks": "before_all:\n  Given the lamp\n", "hooksName": "my.hooks",
+        "tags": "~@a\n@b,~@c", "lines": "1 2, 3", "variables": "A=1\nB==\n",
+        "format": "json", "dryRun": True, "stop": True, "noSkipped": True}
+AT_FIRST = "The link in the address can't be used. The page shows its example."
+LATER = "The link in the address can't be used. The fields are as they were."
+POLICY = "default-src 'none'; style-src 'sha256-?'; script-src 'sha256-?' 'wasm-unsafe-eval'; worker-src blob:; " \
+         "form-action 'none'; base-uri 'none'"
+CONTROLS = {"textbox", "combobox", "button", "checkbox", "DisclosureTriangle", "region", "form"}
+# Pairs of an element that is seen, and the contrast of its text with its background.
+CONTRAST = """(() => {
+    const canvas = document.createElement("canvas").getContext("2d", { willReadFrequently: true });
+    const rgb = (color) => {
+        canvas.clearRect(0, 0, 1, 1);
+        canvas.fillStyle = color;
+        canvas.fillRect(0, 0, 1, 1);
+        return [...canvas.getImageData(0, 0, 1, 1).data];
+    };
+    const part = (it) => it / 255 <= 0.04045 ? it / 255 / 12.92 : ((it / 255 + 0.055) / 1.055) ** 2.4;
+    const light = (it) => 0.2126 * part(it[0]) + 0.7152 * part(it[1]) + 0.0722 * part(it[2]);
+    const own = (it) => rgb(getComputedStyle(it).backgroundColor);
+    const backdrop = (it) => own(it)[3] === 255 || !it.parentElement ? own(it) : backdrop(it.parentElement);
+    return [...document.querySelectorAll("body *")].filter((it) => it.checkVisibility()).map((it) => {
+        const both = [light(rgb(getComputedStyle(it).color)), light(backdrop(it))].sort((one, other) => other - one);
+        return [it.id || it.className || it.tagName, (both[0] + 0.05) / (both[1] + 0.05)];
+    });
+})()"""
+# How many elements of each kind there are, apart from the feature files and the pieces of the report.
+ELEMENTS = """(() => {
+    const found = {};
+    for (const it of document.querySelectorAll("*")) {
+        if (!it.closest(".file") && !it.matches("#report > div")) found[it.tagName] = (found[it.tagName] ?? 0) + 1;
+    }
+    return found;
+})()"""
+# Opens a link on the page. Gives what is said of it, the inputs and the number of runs.
+OPENED = """new Promise((done) => {
+    history.replaceState(null, "", location.pathname);
+    $("notice").textContent = "";
+    addEventListener("hashchange", () => done([$("notice").textContent, inputs(), asked]), { once: true });
+    location.hash = %s;
+})"""
+# Types a text, and another one as soon as the first one runs, before the page says that it does.
+TYPED_TWICE = """new Promise((done) => {
+    const put = (text) => {
+        const it = document.querySelector("#files .text");
+        it.value = text;
+        it.dispatchEvent(new Event("input", { bubbles: true }));
+    };
+    put(%s);
+    const timer = setInterval(() => {
+        if (document.body.dataset.state !== "running") return;
+        clearInterval(timer);
+        window.olderWorker = worker;
+        put(%s);
+        done();
+    }, 5);
+})"""
+# What the policy has to refuse, each an expression that gives something if it isn't refused.
+REFUSED = {
+    "an inline script": """(() => {
+        const it = document.createElement("script");
+        it.textContent = "window.taken = 1";
+        document.body.append(it);
+        return window.taken;
+    })()""",
+    "an inline handler": """(() => {
+        const it = document.createElement("a");
+        it.setAttribute("onclick", "window.taken = 1");
+        document.body.append(it);
+        it.click();
+        return window.taken;
+    })()""",
+    "an inline style": """(() => {
+        const it = document.createElement("a");
+        it.setAttribute("style", "color: red");
+        return it.style.color || undefined;
+    })()""",
+    "a text as code": """new Promise((done) => {
+        setTimeout("window.taken = 1", 0);
+        setTimeout(() => done(window.taken), 50);
+    })""",
+    "a request": "fetch('data:,taken').then((it) => it.text(), () => undefined)",
+}
+
+
+def same(what, found, wanted):
+    """No trouble if both are equal, otherwise both of them."""
+    if found == wanted:
+        return ""
+    found, wanted = (driver.shown(str(it).encode("utf-8", "backslashreplace")) for it in (found, wanted))
+    return f"{what}: {found}\n    and not {wanted}"
+
+
+def holds(what, condition):
+    """No trouble if a condition holds."""
+    return "" if condition else what
+
+
+def long_feature(steps, rows):
+    """A feature with a scenario for each row, whose report has some 50 bytes for each step of each row."""
+    return "Feature: long\nBackground:\n" + "Given a file named \"a\" containing \"b\"\n" * steps \
+        + "Scenario Outline: row <n>\nThen it passes\nExamples:\n| n |\n" + "| 1 |\n" * rows
+
+
+MILLION_STEPS = long_feature(999, 999)
+LONG_RUN = {"files": [[f"{number}.feature", MILLION_STEPS] for number in range(5)], "format": "progress"}
 
 
 def wanted_of(program, arguments, folder=driver.HOME):
@@ -66,12 +181,8 @@ def request_of(arguments):
     return made
 
 
-def in_node(program, room):
-    """Each example and some changed features, by the module in Node."""
-    cases = [(arguments[-1], request_of(arguments), wanted_of(program, arguments)) for arguments in driver.examples()]
-    # The first is run with refused memory, too.
-    cases.sort(key=lambda it: not it[0].endswith("paint.feature"))
-    sources = [driver.read(os.path.join(driver.HOME, name)) for name, _, _ in cases]
+def changed_cases(program, room, sources):
+    """Some changed features: names, requests, and what has to come out."""
     lines = [line for source in sources for line in source.split(b"\n")]
     rng = random.Random(9)
     for number in range(CHANGED):
@@ -79,200 +190,674 @@ def in_node(program, room):
         form = rng.choice(["plain", "progress", "json"])
         driver.write(room, {"changed.feature": text})
         wanted = wanted_of(program, ["--format", form, "changed.feature"], room)
-        cases.append((f"changed file {number}", {"sources": [[encoded("changed.feature"), encoded(text)]], "format": form}, wanted))
+        request = {"sources": [[encoded("changed.feature"), encoded(text)]], "format": form}
+        yield f"changed file {number}", request, wanted
+
+
+def large_cases(program, room):
+    """The same of large features. The last ones are warm, so that their time is worth printing."""
     large = "Feature: large\n" + "Scenario: one of many\nGiven a file named \"a\" containing \"b\"\n" * 1000
-    driver.write(room, {"large.feature": large})
-    wanted = wanted_of(program, ["large.feature"], room)
-    cases += [(f"large file, run {n}", {"sources": [[encoded("large.feature"), encoded(large)]]}, wanted) for n in range(5)]
+    for name, text, runs in (("long.feature", long_feature(99, 999), 1), ("large.feature", large, 5)):
+        driver.write(room, {name: text})
+        wanted = wanted_of(program, [name], room)
+        yield from [(name, {"sources": [[encoded(name), encoded(text)]]}, wanted)] * runs
+
+
+def node_cases(program, room):
+    """Each example, some changed features, and large ones."""
+    cases = [(arguments[-1], request_of(arguments), wanted_of(program, arguments)) for arguments in driver.examples()]
+    # The first is run with refused memory, too.
+    cases.sort(key=lambda it: it[0] != FIRST)
+    sources = [driver.read(os.path.join(driver.HOME, name)) for name, _, _ in cases]
+    return [*cases, *changed_cases(program, room, sources), *large_cases(program, room)]
+
+
+def in_node(program, room):
+    """Each of these, by the module in Node."""
+    cases = node_cases(program, room)
     driver.write(room, {"cases.json": json.dumps([it[1] for it in cases])})
     command = ["node", os.path.join(driver.HOME, "tests", "page.mjs"), os.path.join(WEB, "source", "gherkin_run.js"),
                os.path.join(WEB, "gherkin_run.wasm"), os.path.join(room, "cases.json")]
     done = subprocess.run(command, capture_output=True, timeout=4 * PATIENCE, check=False)
-    answers, refused = json.loads(done.stdout) if done.returncode == 0 else ([], [])
-    yield "" if len(answers) == len(cases) else f"Node ends with {done.returncode}: {done.stderr.decode()}"
+    answers, refused, lines = json.loads(done.stdout) if done.returncode == 0 else ([], [], [])
+    yield same(f"Node says {done.stderr.decode()}", (done.returncode, len(answers)), (0, len(cases)))
     for (name, _, wanted), answer in zip(cases, answers):
-        found = (answer["status"], answer["hasReport"], base64.b64decode(answer["text"]))
-        yield "" if found == wanted else f"{name} in Node: {found}, and not {wanted}"
-    # Where memory is refused: the whole report, one with a mark of memory, or the fault; and each of the first and the last is met.
-    for answer in refused:
-        text = base64.b64decode(answer["text"])
-        same = (answer["status"], answer["hasReport"], text) == cases[0][2]
-        marked = answer["status"] == 4 and answer["hasReport"] and b"memory" in text
-        fault = answer["status"] == 4 and not answer["hasReport"] and text == b"out of memory"
-        yield "" if same or marked or fault else f"with refused memory in Node: {answer}"
-    yield "" if {it["status"] for it in refused} >= {4, cases[0][2][0]} else "no memory was refused in Node, or always"
+        yield same(f"{name} in Node", (answer["status"], answer["hasReport"], base64.b64decode(answer["text"])), wanted)
+    yield from without_memory(refused, cases[0][2])
+    yield same("lines in Node", lines, ["line 0", "Feature: f ... skipped", *["RangeError"] * 7])
+    yield from guide_in_node(room)
     if answers:
         print(f"1,000 scenarios take {answers[-1]['time']:.0f} ms in Node")
 
 
-# ---- Chromium
-
-class Browser:
-    """Headless Chromium, by the pipe of its debugging protocol. Each call raises EOFError or BrokenPipeError once it has ended."""
-
-    def __init__(self, program, profile):
-        ours, theirs = os.pipe(), os.pipe()
-        self.read_from, self.write_to = os.fdopen(theirs[0], "rb"), os.fdopen(ours[1], "wb")
-
-        def before():
-            kept = [os.dup(ours[0]), os.dup(theirs[1])]
-            for place, file in zip((3, 4), [os.dup2(it, 10 + n) for n, it in enumerate(kept)]):
-                os.dup2(file, place)
-
-        words = ["--headless=new", "--no-sandbox", "--disable-gpu", "--disable-dev-shm-usage", "--no-first-run", "--remote-debugging-pipe",
-                 f"--user-data-dir={profile}", "about:blank"]
-        self.process = subprocess.Popen([program, *words], stdin=subprocess.DEVNULL, stdout=subprocess.DEVNULL, stderr=subprocess.DEVNULL,
-                                        close_fds=False, preexec_fn=before)
-        os.close(ours[0])
-        os.close(theirs[1])
-        # A browser that says nothing any more is ended, so that no call waits for it.
-        self.watch = threading.Timer(5 * PATIENCE, self.process.kill)
-        self.watch.start()
-        self.number, self.session, self.events = 0, None, []
-
-    def open(self):
-        """Opens a page, to which all that is asked goes from then on."""
-        target = self.ask("Target.createTarget", url="about:blank")["targetId"]
-        self.session = self.ask("Target.attachToTarget", targetId=target, flatten=True)["sessionId"]
-        for domain in ("Page", "Runtime", "Network"):
-            self.ask(f"{domain}.enable")
-
-    def ask(self, method, **parameters):
-        """What the browser answers to a call."""
-        self.number += 1
-        message = {"id": self.number, "method": method, "params": parameters}
-        if self.session:
-            message["sessionId"] = self.session
-        self.write_to.write(json.dumps(message).encode() + b"\0")
-        self.write_to.flush()
-        while True:
-            said = bytearray()
-            while not said.endswith(b"\0"):
-                byte = self.read_from.read(1)
-                if not byte:
-                    raise EOFError("Chromium has ended")
-                said += byte
-            answer = json.loads(said[:-1])
-            if answer.get("id") == self.number:
-                if "error" in answer:
-                    raise ValueError(f"{method}: {answer['error']}")
-                return answer["result"]
-            self.events.append(answer)
-
-    def value(self, expression):
-        """The value of an expression on the page."""
-        found = self.ask("Runtime.evaluate", expression=expression, returnByValue=True, awaitPromise=True)
-        if "exceptionDetails" in found:
-            raise ValueError(found["exceptionDetails"])
-        return found["result"].get("value")
-
-    def wait(self, expression):
-        """Waits until an expression holds. Answers whether it did in time."""
-        end = time.monotonic() + PATIENCE
-        while time.monotonic() < end:
-            if self.value(expression):
-                return True
-            time.sleep(0.02)
-        return False
-
-    def close(self):
-        """Ends the browser."""
-        self.watch.cancel()
-        self.process.terminate()
-        self.process.wait(PATIENCE)
+def without_memory(refused, wanted):
+    """When memory is refused: the whole report, one with a mark of memory, or the fault. The first and the last occur."""
+    for answer in refused:
+        text = base64.b64decode(answer["text"])
+        whole = (answer["status"], answer["hasReport"], text) == wanted
+        marked = answer["status"] == 4 and answer["hasReport"] and b"memory" in text
+        fault = answer["status"] == 4 and not answer["hasReport"] and text == b"out of memory"
+        yield holds(f"with refused memory in Node: {answer}", whole or marked or fault)
+    yield holds("no memory was refused in Node, or always", {it["status"] for it in refused} >= {4, wanted[0]})
 
 
-def shown(browser):
-    """What the page shows, once its run is over: the status, whether it is a report, and the text."""
-    if not browser.wait("document.body.dataset.state === 'done' || document.body.dataset.state === 'failed'"):
-        return "no run ended"
-    state, status, fault, text = browser.value("[document.body.dataset.state, document.body.dataset.status, "
-                                               "document.getElementById('report').dataset.fault, document.getElementById('report').textContent]")
-    if state == "failed":
-        return browser.value("document.getElementById('status').textContent")
-    return int(status), fault == "false", text.encode()
+def guide_in_node(room):
+    """The program that the guide shows runs."""
+    code, = re.findall("^```js\n(.*?)^```$", driver.read(GUIDE).decode(), re.DOTALL | re.MULTILINE)
+    parts = {"gherkin_run.js": os.path.join(WEB, "source", "gherkin_run.js"),
+             "gherkin_run.wasm": os.path.join(WEB, "gherkin_run.wasm")}
+    driver.write(room, {name: driver.read(path) for name, path in parts.items()})
+    driver.write(room, {"run.js": code, "package.json": '{"type": "module"}'})
+    done = subprocess.run(["node", "run.js"], cwd=room, capture_output=True, timeout=PATIENCE, check=False)
+    good = done.returncode == 0 and done.stdout.startswith(b"0 made.feature") and b"1 scenario passed" in done.stdout
+    yield holds(f"the guide's program gives {done}", good)
 
 
-def set_fields(browser, text, library=""):
-    """Puts a feature into the fields, as someone types it."""
-    browser.value("(() => { document.getElementById('library').value = %s; const it = document.querySelector('#files .text'); it.value = %s; "
-                  "it.dispatchEvent(new Event('input', { bubbles: true })); })()" % (json.dumps(library), json.dumps(text)))
+# ---- what a user does on the page, and sees there
+
+class Page:
+    """The page in a browser, beside the program."""
+
+    def __init__(self, browser, program, room):
+        self.browser, self.program, self.room = browser, program, room
+        self.value, self.click, self.press, self.focus = browser.value, browser.click, browser.press, browser.focus
+
+    def load(self, fragment="", width=1280, height=800):
+        """Loads the page, and waits for its first run."""
+        self.browser.size(width, height)
+        self.browser.go(PAGE + fragment)
+        self.settle()
+
+    def settle(self):
+        """Waits until a run is over. Returns whether one was in time."""
+        return self.browser.wait("['done', 'failed', 'stopped'].includes(document.body.dataset.state)")
+
+    def state(self, state, patience=5):
+        """Waits for a state of the page. Returns whether it came in time."""
+        return self.browser.wait(f"document.body.dataset.state === '{state}'", patience)
+
+    def one(self, selector, rest):
+        """The value of an expression on the first element of a selector."""
+        return self.value(f"document.querySelector({json.dumps(selector)}).{rest}")
+
+    def text(self, selector):
+        """What an element shows."""
+        return self.one(selector, "textContent")
+
+    def says(self, selector, text, patience=5):
+        """Waits for a text of an element. Returns whether it came in time."""
+        return self.browser.wait(f"document.querySelector('{selector}').textContent === {json.dumps(text)}", patience)
+
+    def shown(self):
+        """What the page shows once its run is over: the status, whether it is a report, and the text."""
+        if not self.settle():
+            return "no run ended"
+        state, status, fault = self.value("[document.body.dataset.state, document.body.dataset.status, $('report').dataset.fault]")
+        text = self.text("#report")
+        return (int(status), fault == "false", text.encode()) if state == "done" else (state, self.text("#status"), text)
+
+    def wanted(self, text, *options):
+        """What the program says of a feature with the name of the page's first file."""
+        name = self.names()[0]
+        driver.write(os.path.join(self.room, os.path.dirname(name)), {os.path.basename(name): text})
+        return wanted_of(self.program, [*options, name], self.room)
+
+    def fill(self, selector, text):
+        """Puts a text into a field at once."""
+        self.value("(() => { const it = document.querySelector(%s); it.value = %s; "
+                   "it.dispatchEvent(new Event('input', { bubbles: true })); })()" % (json.dumps(selector), json.dumps(text)))
+
+    def type(self, selector, text):
+        """Types a text over that of a field, which is opened before."""
+        self.value("(() => { const part = document.querySelector(%s).closest('details'); "
+                   "if (part) part.open = true; })()" % json.dumps(selector))
+        self.focus(selector)
+        self.browser.type(text)
+
+    def open_example(self, name):
+        """Chooses an example, and opens it."""
+        self.value(f"$('example').value = {json.dumps(name)}")
+        self.click("#open")
+
+    def inputs(self):
+        """All that the fields hold."""
+        return self.value("inputs()")
+
+    def names(self):
+        """The names of the feature files."""
+        return [name for name, _ in self.inputs()["files"]]
+
+    def focused(self):
+        """The element that has the focus, as its id, its label or its text."""
+        return self.value("(() => { const it = document.activeElement; return it === document.body ? 'nothing' "
+                          ": it.id || it.getAttribute('aria-label') || it.textContent.trim(); })()")
+
+    def tree(self, *roles):
+        """The nodes of these roles that a screen reader meets."""
+        nodes = self.browser.ask("Accessibility.getFullAXTree")["nodes"]
+        return [it for it in nodes if not it.get("ignored") and it["role"]["value"] in roles]
 
 
-def on_the_page(program, room, browser):
-    """Each example, a link, a hostile input, and a run that is stopped."""
-    page = "file://" + os.path.join(WEB, "try.html")
-    browser.ask("Page.navigate", url=page)
-    browser.wait("document.readyState === 'complete' && document.body.dataset.state === 'done'")
+def link_to(given):
+    """The fragment of a link to these inputs, or to these bytes in place of them."""
+    data = given if isinstance(given, bytes) else json.dumps(given).encode()
+    return "#" + base64.urlsafe_b64encode(data).decode().rstrip("=")
+
+
+def example(page):
+    """Each example, opened from the list, gives what the program gives."""
+    page.load()
     for arguments in driver.examples():
-        name = os.path.basename(arguments[-1])
-        browser.value("(() => { const it = document.getElementById('example'); it.value = %s; it.onchange(); })()" % json.dumps(name))
-        found, wanted = shown(browser), wanted_of(program, arguments)
-        yield "" if found == wanted else f"{name} on the page: {found}, and not {wanted}"
-    # A link holds all inputs.
-    browser.value("document.getElementById('link').click()")
-    before = browser.value("[location.href, JSON.stringify(inputs())]")
-    browser.ask("Page.navigate", url="about:blank")
-    browser.ask("Page.navigate", url=before[0])
-    browser.wait("document.readyState === 'complete' && document.body.dataset.state === 'done'")
-    yield "" if browser.value("JSON.stringify(inputs())") == before[1] else "a link holds other inputs"
-    # Text is shown as text.
-    driver.write(room, {"hostile.feature": HOSTILE})
-    browser.value("(() => { show({ files: [['hostile.feature', '']] }); })()")
-    set_fields(browser, HOSTILE)
-    found, wanted = shown(browser), wanted_of(program, ["hostile.feature"], room)
-    yield "" if found == wanted else f"a hostile input on the page: {found}, and not {wanted}"
-    yield "" if browser.value("document.title === 'Try gherkin_run' && document.querySelectorAll('img, b, pre script').length === 0") else "a hostile input is markup"
-    browser.value("location.hash = '#%22%3Cscript%3E'")
-    yield "" if shown(browser) == wanted else "a link that holds nothing changes the page"
-    # A long run can be stopped, and another one begun.
-    steps = "Given a file named \"a\" containing \"b\"\n" * 99
-    set_fields(browser, "Feature: long\nBackground:\n" + steps + "Scenario Outline: row <n>\nThen it passes\nExamples:\n| n |\n" + "| 1 |\n" * 9990)
-    yield "" if browser.wait("document.body.dataset.state === 'running'") else "a long run isn't begun"
-    begun = time.monotonic()
-    browser.value("document.getElementById('halt').click()")
-    yield "" if browser.wait("document.body.dataset.state === 'stopped'") and time.monotonic() - begun < 2 else "a long run isn't stopped"
-    small = "Feature: small\nScenario: s\nGiven it passes\n"
-    driver.write(room, {"hostile.feature": small})
-    set_fields(browser, small)
-    yield "" if shown(browser) == wanted_of(program, ["hostile.feature"], room) else "no run after one that was stopped"
-    # Every field has a name for those who can't see it, and can be reached by the keyboard.
-    unnamed = browser.value("[...document.querySelectorAll('main input, main textarea, main select, main button')]"
-                            ".filter((it) => !(it.getAttribute('aria-label') || it.labels?.length || it.textContent.trim()) || it.tabIndex < 0).map((it) => it.outerHTML)")
-    yield "" if unnamed == [] else f"fields without a name: {unnamed}"
-    requests = [it["params"]["request"]["url"] for it in browser.events if it.get("method") == "Network.requestWillBeSent"]
-    yield "" if all(it.startswith(("file:", "blob:", "data:", "about:")) for it in requests) else f"the page asks for {requests}"
+        page.open_example(os.path.basename(arguments[-1]))
+        yield same(f"{arguments[-1]} on the page", page.shown(), wanted_of(page.program, arguments))
 
 
-def speed(browser):
+def guide(page):
+    """The guide's page begins with this."""
+    page.load()
+    yield same("the guide's first step", (page.names(), page.text("#status")), ([FIRST], "Failed, status 1"))
+    text = page.inputs()["files"][0][1]
+    yield holds(f"the first example ends with {text[-20:]}", text.endswith("| blue   |\n"))
+    page.fill("#files .text", text[:-10] + text[-10:].replace("blue", "red"))
+    page.settle()
+    yield same("the guide's second step", page.text("#status"), "Nothing failed, status 0")
+    yield same("the delays of the page", page.value("[PAUSE, SLOW]"), [150, 300])
+
+
+def verdict(page):
+    """The status says in words how a run ended. The time isn't a part of it: it would be read out each time."""
+    page.load()
+    cases = (("Given it passes", "Nothing failed, status 0", "good", "false"), ("Given it fails", "Failed, status 1", "bad", "false"),
+             ("Given it passes\n\"\"\"", "Fault, status 3", "bad", "true"))
+    for step, *wanted in cases:
+        page.fill("#files .text", driver.feature(step))
+        page.settle()
+        found = [page.text("#status"), page.one("#status", "className"), page.one("#report", "dataset.fault")]
+        yield same(f"'{step}' on the page", found, wanted)
+    yield holds(f"the page says no time: {page.text('#time')}", re.fullmatch(r"[0-9]+\.[0-9] ms", page.text("#time")))
+    page.value("ended({ number: asked, answer: { hasReport: true, status: 4, text: 'memory' }, time: 1 })")
+    yield same("out of memory on the page", page.text("#status"), "Memory ran out, status 4")
+    page.value("asked += 1; worker.postMessage({ number: asked, request: { lines: [-1] } })")
+    page.state("failed")
+    yield same("a run with an exception", page.shown(), ("failed", "Not run", "The run couldn't end: RangeError: not a line number: -1"))
+    page.fill("#files .text", SMALL)
+    yield same("a run after an exception", page.shown(), page.wanted(SMALL))
+
+
+# ---- links
+
+def link(page):
+    """A link holds all inputs, and stays in the address, and what is said of it too, until they change."""
+    page.load()
+    page.value(f"show({json.dumps(FULL)})")
+    page.settle()
+    before = page.value("history.length")
+    page.click("#link")
+    page.browser.wait("$('notice').textContent.startsWith('The link is ')")
+    address = page.value("location.href")
+    page.click("button[type=submit]")
+    page.settle()
+    time.sleep(0.3)
+    yield holds("a run overwrites what is said of the link", page.text("#notice").startswith("The link is "))
+    yield same("the address after a run", page.value("location.href"), address)
+    yield same("the length of the browser's history", page.value("history.length"), before)
+    page.load("#" + address.split("#")[1])
+    yield same("the inputs of a link", page.inputs(), FULL)
+    yield holds("fields that a link fills aren't open", page.value("[...document.querySelectorAll('details')].every((it) => it.open)"))
+    page.load(link_to({"files": [["a.feature", SMALL]]}))
+    yield same("a link to a file alone", (page.shown(), page.text("#notice")), (page.wanted(SMALL), ""))
+    names = {"libraryName": "own.steps", "hooksName": "own.hooks", "format": "plain"}
+    wanted = {name: names.get(name, type(value)()) for name, value in FULL.items()}
+    yield same("the other fields then", page.inputs(), {**wanted, "files": [["a.feature", SMALL]]})
+    page.value(f"location.hash = {json.dumps(link_to(FULL))}")
+    page.browser.wait("inputs().format === 'json'", 5)
+    page.value(f"location.hash = {json.dumps(link_to({'files': [['b.feature', '']]}))}")
+    page.browser.wait("inputs().format === 'plain'", 5)
+    yield same("a link to a file alone after one to all", page.inputs(), {**wanted, "files": [["b.feature", ""]]})
+
+
+def copied(page):
+    """The link is copied if the browser allows it. Otherwise it is only in the address, and the page says so."""
+    for setting, said in (("granted", "The link is copied, and in the address."), ("denied", "The link is in the address.")):
+        page.load()
+        for name in ("clipboard-write", "clipboard-read"):
+            permission = {"name": name, "allowWithoutSanitization": False}
+            page.browser.ask("Browser.setPermission", permission=permission, setting=setting if name == "clipboard-write" else "granted")
+        page.click("#link")
+        yield holds(f"with copying {setting}: '{page.text('#notice')}', and not '{said}'", page.says("#notice", said))
+        if setting == "granted":
+            yield same("the copied link", page.value("navigator.clipboard.readText()"), page.value("location.href"))
+            late = page.value("(async () => { const made = makeLink(); forgetLink(); await made; return $('notice').textContent; })()")
+            yield same("what is said of a link that is copied after a change", late, "")
+
+
+def address(page):
+    """Each change of the inputs takes the link out of the address, and what is said of it."""
+    changes = {
+        "a typed text": lambda: page.type("#files .text", "x"),
+        "a name": lambda: page.type("#files .name", "x"),
+        "a box": lambda: page.click("#dryRun"),
+        "the list of formats": lambda: (page.focus("#format"), page.press("ArrowUp")),
+        "a new file": lambda: page.click("#add"),
+        "a removed file": lambda: page.click(".remove"),
+        "an example": lambda: page.click("#open"),
+        "Undo": lambda: page.click("#undo"),
+    }
+    page.load(link_to(FULL))
+    for name, change in changes.items():
+        page.click("#link")
+        page.browser.wait("location.hash !== '' && $('notice').textContent !== ''", 5)
+        change()
+        yield same(f"the address and the notice after {name}", page.value("[location.href, $('notice').textContent]"), [PAGE, ""])
+        time.sleep(0.2)
+    page.click("#link")
+    page.browser.wait("location.hash !== ''", 5)
+    page.focus("#example")
+    page.press("ArrowDown")
+    time.sleep(0.3)
+    found = page.value("location.hash !== '' && $('notice').textContent !== ''")
+    yield holds("a key on the list of examples takes the link out of the address", found)
+
+
+def wrong_fragments():
+    """Fragments of links that can't be used."""
+    good = ["a.feature", SMALL]
+    yield from ("#%22%3Cscript%3E", "#x", "#" + "é", link_to(b"\xff"), link_to(b"{"), link_to(b"{}")[:-1])
+    yield from map(link_to, (None, 1, True, "text", [], {}))
+    yield link_to(json.dumps({"files": [good]}).encode().replace(b"Feature", b"\xff"))
+    for files in (None, "ab", {}, {"0": good, "length": 1}, [], ["ab"], [[]], [["a"]], [["a", "b", "c"]], [["a", {}]], [[{}, "b"]],
+                  [["a", 1]], [["a", None]], [{"0": "a", "1": "b", "length": 2}], [good, None]):
+        yield link_to({"files": files})
+    yield from (link_to({"files": [good], name: {}}) for name in FULL if name != "files")
+    for name, value in (("tags", []), ("tags", None), ("tags", 1), ("tags", True), ("stop", []), ("stop", None), ("stop", 1),
+                        ("stop", "true"), ("format", ""), ("format", "xml"), ("format", MARKUP)):
+        yield link_to({"files": [good], name: value})
+
+
+def wrong_link(page):
+    """A link that can't be used says so. The page then shows its example, or leaves the fields as they were."""
+    fragments = list(wrong_fragments())
+    for fragment in fragments[::5]:
+        page.load(fragment)
+        yield same(f"the link {fragment}", [page.names(), page.text("#notice")], [[FIRST], AT_FIRST])
+    page.load()
+    yield same("the notice without a link", page.text("#notice"), "")
+    page.type("#files .text", SMALL)
+    page.settle()
+    wanted = page.shown()
+    before = page.value("[inputs(), asked]")
+    for fragment in fragments:
+        yield same(f"the link {fragment}, opened later", page.value(OPENED % json.dumps(fragment)), [LATER, *before])
+    page.value("$('notice').textContent = ''; location.hash = ''")
+    time.sleep(0.3)
+    yield same("the notice and the page after the link is taken out by hand", (page.text("#notice"), page.shown()), ("", wanted))
+
+
+def later_link(page):
+    """A link that is opened on the page replaces what was typed, and Undo brings that back."""
+    page.load()
+    page.type("#files .text", "Feature: typed\n")
+    page.settle()
+    typed = page.inputs()
+    page.value(f"$('notice').textContent = 'old'; location.hash = {json.dumps(link_to(FULL))}")
+    page.browser.wait("inputs().format === 'json'", 5)
+    yield same("a link that is opened later", (page.inputs(), page.text("#notice")), (FULL, ""))
+    page.click("#undo")
+    yield same("Undo after a link", page.inputs(), typed)
+    page.click("#undo")
+    yield same("Undo after Undo", page.inputs(), FULL)
+
+
+def long_link(page):
+    """Inputs that no address can hold get no link."""
+    page.load()
+    page.fill("#files .text", "#" * 740000)
+    page.click("#link")
+    good = page.text("#notice").startswith("The link is ") and len(page.value("location.hash")) > 980000
+    yield holds(f"a link to 740,000 bytes: '{page.text('#notice')}'", good)
+    page.fill("#files .text", "#" * 760000)
+    page.click("#link")
+    good = page.text("#notice").startswith("These inputs are too long for a link: it would have 1013") and page.value("location.hash") == ""
+    yield holds(f"a link to 760,000 bytes: '{page.text('#notice')}'", good)
+
+
+# ---- the keyboard, and what is typed
+
+def example_key(page):
+    """A key on the list of examples leaves what was typed. Open replaces it, and Undo brings it back."""
+    page.load()
+    yield holds("Undo is offered before there is anything to undo", page.one("#undo", "hidden"))
+    page.type("#files .text", SMALL)
+    page.settle()
+    typed = page.inputs()
+    page.focus("#example")
+    for key in ("ArrowDown", "ArrowDown", "ArrowUp"):
+        page.press(key)
+    chosen = page.one("#example", "value")
+    time.sleep(0.3)
+    yield holds("an arrow key on the list of examples does nothing", chosen != "paint.feature")
+    yield same("an arrow key on the list of examples", (page.inputs(), page.shown()), (typed, page.wanted(SMALL)))
+    page.press("Tab")
+    page.press("Enter")
+    page.settle()
+    yield same("Open", (page.names()[-1], page.focused()), (f"examples/{chosen}", "open"))
+    page.press("Tab")
+    page.press(" ")
+    yield same("Undo", (page.inputs(), page.focused(), page.shown()), (typed, "undo", page.wanted(SMALL)))
+
+
+def removed(page):
+    """After a removal the focus is in the next file, or the one before. Undo brings the file back."""
+    page.load()
+    page.open_example("progress.feature")
+    before = page.inputs()
+    names = page.names()
+    for place, left, focus in ((1, [0, 2], "Feature file 2"), (2, [0, 1], "Feature file 2"), (0, [1, 2], "Feature file 1")):
+        page.focus(f".file:nth-child({place + 1}) .remove")
+        page.press(" ")
+        yield same(f"file {place + 1} removed", (page.names(), page.focused()), ([names[it] for it in left], focus))
+        page.click("#undo")
+        yield same(f"file {place + 1} brought back", page.inputs(), before)
+    for _ in range(2):
+        page.click(".remove")
+    yield same("the last file", (page.names(), page.focused(), page.one(".remove", "hidden")), (names[2:], "Feature file", True))
+    page.browser.wait("$('report').textContent.startsWith('examples/progress')", 5)
+    yield same("the last file runs", page.shown(), page.wanted(before["files"][2][1], "--format", "progress"))
+
+
+def added(page):
+    """An added file is empty, has the focus, and a name that no other file has."""
+    page.load()
+    for number in (2, 3, 4):
+        page.focus("#add")
+        page.press("Enter")
+        found = (page.inputs()["files"][-1], page.focused())
+        yield same("an added file", found, ([f"file{number}.feature", ""], f"Feature file {number}"))
+    page.click(".file:nth-child(2) .remove")
+    page.click("#add")
+    page.click(".file:nth-child(1) .remove")
+    page.click("#add")
+    yield same("Add after Remove", page.names(), [f"file{number}.feature" for number in (3, 4, 5, 6)])
+    page.browser.type(SMALL)
+    for number in (1, 2, 3):
+        page.fill(f".file:nth-child({number}) .text", SMALL)
+    good = page.browser.wait("$('report').textContent.includes('4 features passed')", 5)
+    yield holds(f"four added files: {page.shown()}", good)
+
+
+def wrong_field(page):
+    """A wrong line or variable is said in the report and at its field, until it is right."""
+    line = '"{}" is not a line number: lines are whole numbers from 1 to 4294967295.'
+    variable = '"{}" is not a variable: it needs a name, "=" and a text.'
+    cases = (("lines", "1 4x 2", line.format("4x"), "2 3", ["--line=2", "--line=3"]),
+             ("lines", "0", line.format("0"), "+2,4294967295", ["--line=2", "--line=4294967295"]),
+             ("lines", "4294967296", line.format("4294967296"), "", []),
+             ("variables", "A=1\nB\u0007", variable.format("B\\u0007"), "A=1\nB=C=", ["--env=A=1", "--env=B=C="]))
+    text = "Feature: f\n  Scenario: s\n    Then the variable \"B\" should be \"C=\"\n  Scenario: t\n    Given it fails\n"
+    for field, wrong, said, right, options in cases:
+        page.load()
+        page.fill("#files .text", text)
+        page.type("#" + field, wrong)
+        page.state("failed")
+        found = (page.shown(), page.one("#report", "dataset.fault"), page.one("#" + field, "ariaInvalid"), page.text(f"#{field}Wrong"))
+        yield same(f"{field} '{wrong}'", found, (("failed", "Not run", said), "true", "true", said))
+        read_out = [it.get("description", {}).get("value") for it in page.tree("textbox")
+                    if it["name"]["value"].lower().startswith(field)]
+        yield same(f"what is read out at the {field}", read_out, [said])
+        page.fill("#" + field, right)
+        found = (page.shown(), page.one("#" + field, "ariaInvalid"), page.text(f"#{field}Wrong"))
+        yield same(f"{field} '{right}'", found, (page.wanted(text, *options), "false", ""))
+
+
+def order(page):
+    """The Tab key reaches each control, in the order in which the page is read, and none twice."""
+    page.load()
+    page.value("$('example').value = 'kitchen.feature'; $('open').click()")
+    page.settle()
+    found = []
+    while len(found) < 40:
+        page.press("Tab")
+        if page.focused() == "nothing":
+            break
+        found.append(page.focused())
+    wanted = ["example", "open", "undo", "link", "Name of feature file", "Feature file", "add", "Run", "halt", "report", "format", "dryRun",
+              "stop", "noSkipped", "Own steps, in place of the built-in steps", "libraryName", "library", "Hooks", "Tags, lines and variables"]
+    yield same("the Tab key", found, wanted)
+    tops = [page.one(it, "getBoundingClientRect().top") for it in ("h1", "#example", "#files .text", "#add", "#format", "#library", "footer")]
+    yield same("the places of the controls", tops, sorted(tops))
+
+
+def label(page):
+    """Each control has a name for a screen reader, and no two of them the same."""
+    page.load(link_to(FULL))
+    names = collections.Counter(it["name"]["value"] for it in page.tree(*CONTROLS))
+    good = len(names) >= 28 and "" not in names and set(names.values()) == {1}
+    yield holds(f"controls without a name, or with the same: {names}", good)
+    yield same("the parts that are read out when they change", len(page.tree("status")), 2)
+    unlabeled = page.value("[...document.querySelectorAll('input, textarea, select')]"
+                           ".filter((it) => !it.labels.length && !it.ariaLabel).length")
+    yield same("fields without a label", unlabeled, 0)
+    checked = page.value("[...document.querySelectorAll('textarea, input:not([type=checkbox])')]"
+                         ".filter((it) => it.spellcheck).length")
+    yield same("fields with a spelling checker", checked, 0)
+    yield same("whether the browser fills the fields", page.one("#inputs", "autocomplete"), "off")
+    yield same("how a feature's lines are broken", page.value("getComputedStyle(document.querySelector('#files .text')).whiteSpace"), "pre")
+    yield same("what is said without scripts", page.one("noscript", "innerText").strip(), "<p>This page needs JavaScript.</p>")
+
+
+# ---- runs
+
+def stopped(page):
+    """A long run can be stopped, by the keyboard too, and another one begun."""
+    page.load()
+    page.focus("#halt")
+    before = page.shown()
+    page.press(" ")
+    yield same("Stop when nothing runs", (page.shown(), page.focused()), (before, "halt"))
+    for stop in (lambda: page.click("#halt"), lambda: (page.focus("#halt"), page.press("Enter"))):
+        page.value(f"show({json.dumps(LONG_RUN)})")
+        yield holds("Stop isn't offered", page.browser.wait("$('halt').ariaDisabled === 'false'"))
+        yield same("the status of a long run", page.text("#status"), "Running ..")
+        stop()
+        yield holds("a long run isn't stopped", page.state("stopped"))
+        found = (page.text("#status"), page.text("#report"), page.focused(), page.one("#halt", "ariaDisabled"))
+        yield same("after Stop", found, ("Stopped", "", "halt", "true"))
+        time.sleep(0.5)
+        yield same("some time after Stop", page.text("#status"), "Stopped")
+        page.click("button[type=submit]")
+        yield holds("Run doesn't run what was stopped", page.state("running"))
+        page.value(f"show({json.dumps({'files': [['small.feature', SMALL]]})})")
+        yield same("a run after long ones", page.shown(), page.wanted(SMALL))
+
+
+def overtaken(page):
+    """A new text ends the run of an older one, whose report is never shown."""
+    page.load()
+    page.value(TYPED_TWICE % (json.dumps(MILLION_STEPS), json.dumps(SMALL)))
+    page.browser.wait("document.body.dataset.state === 'done'")
+    yield holds("a new text waits for an older run", page.value("worker !== olderWorker"))
+    time.sleep(0.5)
+    yield same("a run after one that it ended", page.shown(), page.wanted(SMALL))
+    page.value("ended({ number: asked - 1, answer: { hasReport: true, status: 1, text: 'old' }, time: 1 })")
+    yield same("the report after that of an older run", page.shown(), page.wanted(SMALL))
+    before = page.value("asked")
+    page.value("for (let n = 0; n < 5; n += 1) $('tags').dispatchEvent(new Event('input', { bubbles: true }))")
+    page.browser.wait(f"asked > {before}")
+    time.sleep(0.4)
+    yield same("the runs after five keys", page.value("asked") - before, 1)
+
+
+def entered(page):
+    """Enter in a field runs, without leaving the page."""
+    page.load()
+    page.value("$('report').textContent = ''")
+    page.focus("#files .name")
+    page.press("Enter")
+    yield holds("Enter in a field runs nothing", page.browser.wait("$('report').textContent !== ''", 5))
+    yield same("the address after Enter in a field", page.value("location.href"), PAGE)
+
+
+def long_report(page):
+    """A report of some 15 MB is shown whole, without being laid out whole."""
+    text = long_feature(30, 9000)
+    page.load()
+    page.fill("#files .text", text)
+    yield same("a long report", page.shown(), page.wanted(text))
+    found = page.value("[...$('report').children].map((it) => [getComputedStyle(it).contentVisibility, it.textContent.length])")
+    good = len(found) > 800 and all(kind == "auto" and size < 17000 for kind, size in found)
+    yield holds(f"a long report has {len(found)} pieces, such as {found[0]}", good)
+    page.value("$('report').scrollTop = 1e9")
+    seen = "$('report').lastChild.getBoundingClientRect().bottom <= $('report').getBoundingClientRect().bottom"
+    yield holds("the end of a long report can't be seen", page.browser.wait(seen, 10))
+    page.fill("#files .text", driver.feature(*["Given it passes"] * 900))
+    page.settle()
+    chosen = page.value("(() => { getSelection().selectAllChildren($('report')); return getSelection().toString(); })()")
+    yield same("a report that is copied by hand", chosen.rstrip(), page.text("#report").rstrip())
+
+
+def scrolled(page):
+    """While somebody types, the report stays scrolled where it is. An example begins at its top."""
+    page.load()
+    text = driver.feature(*["Given it passes"] * 300)
+    page.fill("#files .text", text)
+    page.settle()
+    page.value("$('report').scrollTop = 2000")
+    page.fill("#files .text", text + "Given it fails\n")
+    page.settle()
+    yield same("the place in the report after a change", page.one("#report", "scrollTop"), 2000)
+    page.value(f"show({json.dumps({'files': [['a', text]]})})")
+    page.settle()
+    yield same("the place in the report of an example", page.one("#report", "scrollTop"), 0)
+
+
+# ---- text is never markup, and nothing is fetched
+
+def markup(page):
+    """Markup in a field, a name, a link or a message is shown as text."""
+    page.load()
+    page.type("#files .name", MARKUP)
+    fields = {"#files .text": f"Feature: {MARKUP}\u0000\u202e\n  Scenario: {MARKUP}\n    Given it passes <b>\n", "#library": MARKUP,
+              "#libraryName": MARKUP, "#hooks": MARKUP, "#hooksName": MARKUP, "#tags": MARKUP, "#variables": MARKUP, "#lines": MARKUP}
+    wanted = [page.value(ELEMENTS), MARKUP, "Try gherkin_run"]
+    for selector, text in fields.items():
+        page.type(selector, text)
+        page.settle()
+        yield same(f"markup in {selector}", [page.value(ELEMENTS), page.names()[0], page.value("document.title")], wanted)
+        yield holds(f"markup in {selector} leaves no report", page.text("#report") != "")
+    said = '"</textarea></pre><script>document.title" is not a line number'
+    yield holds(f"a wrong line shows {page.text('#linesWrong')}", page.text("#linesWrong").startswith(said))
+    page.click("#add")
+    page.click("#link")
+    page.load(page.value("location.hash"))
+    yield same("markup in a link", [page.value(ELEMENTS), page.inputs()["lines"]], wanted[:2])
+    for message in ("ended({ number: asked, error: %s })", "worker.onerror({ message: %s })"):
+        page.value(message % json.dumps(MARKUP))
+        state, status, text = page.shown()
+        found = [page.value(ELEMENTS), state, status, text[-len(MARKUP):]]
+        yield same("markup in a message", found, [wanted[0], "failed", "Not run", MARKUP])
+    page.load()
+    for text in (fields["#files .text"], MARKUP):
+        page.type("#files .text", text)
+        page.settle()
+        yield same("a report with markup", page.shown(), page.wanted(text))
+        yield same("the page with such a report", [page.value(ELEMENTS), page.value("document.title")], [wanted[0], wanted[2]])
+
+
+def locked(page):
+    """The page's policy lets nothing be fetched, and no script run except the page's."""
+    page.load()
+    policy = page.value("document.querySelector('meta[http-equiv]').content.replace(/sha256-[A-Za-z0-9+/=]{44}/g, 'sha256-?')")
+    yield same("the policy", policy, POLICY)
+    for name, expression in REFUSED.items():
+        yield same(f"{name} under the policy", page.value(expression), None)
+
+
+def quiet(page):
+    """Over all that was tried, the page asked for nothing, and no script failed."""
+    urls = [it["request"]["url"] for it in page.browser.events_of("Network.requestWillBeSent")]
+    yield holds(f"the page asks for {urls}", urls and all(it.startswith(("file:", "blob:", "data:", "about:")) for it in urls))
+    yield same("scripts that failed", [it["exceptionDetails"] for it in page.browser.events_of("Runtime.exceptionThrown")], [])
+    yield same("complaints of the browser", [it["entry"]["text"] for it in page.browser.events_of("Log.entryAdded")], [])
+
+
+# ---- what is seen
+
+def layout(page):
+    """The report begins in view, in one column and in two, and its verdict stays there."""
+    for width, height, lowest in ((320, 640, 700), (400, 800, 600), (1280, 800, 160), (1920, 1000, 160)):
+        page.load(width=width, height=height)
+        top, wide = page.one("#report", "getBoundingClientRect().top"), page.value("document.documentElement.scrollWidth")
+        yield holds(f"at {width} pixels the report begins at {top} and the page is {wide} wide", top <= lowest and wide <= width)
+        page.open_example("progress.feature")
+        for place in (0, 1e9):
+            page.value(f"window.scrollTo(0, {place})")
+            edges = [page.one("#status", f"getBoundingClientRect().{it}") for it in ("top", "bottom")]
+            yield holds(f"at {width} pixels, scrolled to {place}, the verdict is at {edges}", 0 <= edges[0] < edges[1] <= height)
+    sides = [page.one("#files", "getBoundingClientRect().right"), page.one("#report", "getBoundingClientRect().left")]
+    yield holds(f"at 1920 pixels the report isn't beside the feature: {sides}", sides[0] < sides[1])
+
+
+def contrast(page):
+    """Each text can be read, by daylight and in the dark."""
+    for scheme in ("light", "dark"):
+        page.browser.ask("Emulation.setEmulatedMedia", features=[{"name": "prefers-color-scheme", "value": scheme}])
+        found = []
+        files = [[["a", SMALL]], [["a", driver.feature("Given it fails")]]]
+        for given in ({**FULL, "lines": "x"}, FULL, *({"files": it} for it in files)):
+            page.load(link_to(given))
+            found += page.value(CONTRAST)
+        weak = [it for it in found if it[1] < 4.5]
+        yield holds(f"{scheme}: too little contrast: {weak}", len(found) > 100 and not weak)
+        red = int(page.value("getComputedStyle(document.body).backgroundColor.match(/[0-9]+/)[0]"))
+        yield same(f"{scheme}: whether the background is dark", red < 64, scheme == "dark")
+    page.browser.ask("Emulation.setEmulatedMedia", features=[])
+
+
+CHECKS = [example, guide, verdict, link, copied, address, wrong_link, later_link, long_link, example_key, removed, added, wrong_field, order,
+          label, stopped, overtaken, entered, long_report, scrolled, markup, layout, contrast, quiet, locked]
+
+
+def on_the_page(page):
+    """All of these. A check that can't be carried out has failed."""
+    for check in CHECKS:
+        begun = time.monotonic()
+        try:
+            yield from check(page)
+        except (ValueError, TypeError, KeyError, IndexError) as failure:
+            yield f"{check.__name__}: {failure!r}"
+        if os.environ.get("TIMES"):
+            print(f"{check.__name__}: {time.monotonic() - begun:.1f} s")
+
+
+def speed(page):
     """Says how long 1,000 scenarios take, warm."""
-    set_fields(browser, "Feature: large\n" + "Scenario: one of many\nGiven a file named \"a\" containing \"b\"\n" * 1000)
+    page.load()
+    page.fill("#files .text", "Feature: large\n" + "Scenario: one of many\nGiven a file named \"a\" containing \"b\"\n" * 1000)
     for _ in range(4):
-        browser.value("runNow()")
-        shown(browser)
-    print(f"1,000 scenarios take on the page: {browser.value('document.getElementById(`status`).textContent')}")
+        page.settle()
+        page.click("button[type=submit]")
+    page.settle()
+    print(f"1,000 scenarios take {page.text('#time')} on the page")
 
 
-def pictures(browser, folder):
+def pictures(page, folder):
     """Pictures of the page at two widths."""
-    browser.value("(() => { const it = document.getElementById('example'); it.value = 'paint.feature'; it.onchange(); })()")
-    shown(browser)
-    for name, width in WIDTHS.items():
-        browser.ask("Emulation.setDeviceMetricsOverride", width=width, height=900, deviceScaleFactor=1, mobile=False)
-        picture = browser.ask("Page.captureScreenshot", format="png", captureBeyondViewport=True)["data"]
-        driver.write(folder, {f"{name}.png": base64.b64decode(picture)})
+    for width in (400, 1280):
+        page.load(width=width)
+        driver.write(folder, {f"{width}.png": page.browser.picture()})
 
 
-def in_chromium(chromium, program, room):
-    """What is wrong on the page. None where Chromium itself ended, each of three times: some machines let it open nothing."""
+def in_chromium(program, room):
+    """What is wrong on the page. None if Chromium ended by itself, each of three times: on some machines it opens nothing."""
     for number in range(3):
-        browser = Browser(chromium, os.path.join(room, f"profile{number}"))
+        browser = chromium.Browser(chromium.installed(), os.path.join(room, f"profile{number}"))
         try:
             browser.open()
-            found = list(on_the_page(program, room, browser))
-            speed(browser)
+            page = Page(browser, program, room)
+            found = list(on_the_page(page))
+            speed(page)
             if os.environ.get("PICTURES"):
-                pictures(browser, os.environ["PICTURES"])
+                pictures(page, os.environ["PICTURES"])
             return found
         except (EOFError, BrokenPipeError):
             pass
@@ -289,12 +874,11 @@ def main():
     if shutil.which("node"):
         tests.add_all(in_node(program, room))
     else:
-        print("nothing runs in Node: there is no node")
-    chromium = shutil.which("chromium") or shutil.which("chromium-browser") or shutil.which("google-chrome")
-    if not chromium:
-        print("the page isn't opened: there is no chromium")
+        print("nothing runs in Node: node is missing")
+    if not chromium.installed():
+        print("the page isn't opened: Chromium is missing")
         return tests.close()
-    found = in_chromium(chromium, program, room)
+    found = in_chromium(program, room)
     if found is None:
         print("the page isn't opened: Chromium ended by itself, three times")
     tests.add_all(found or [])

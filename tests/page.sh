@@ -1,18 +1,19 @@
 #!/bin/sh
-# Holds the page of web/ against its parts and the program: tests/page.sh [PROGRAM [MODULE]]
+# Tests the page of web/ against its parts and the program: tests/page.sh [PROGRAM [MODULE]]
 #
-# PROGRAM is the built program; without it, the one that ./run runs. MODULE is what web/build/capture_module.sh kept of the
-# proved library; where it is given, and wasm-opt is the one that made web/gherkin_run.wasm, that file is made anew and compared.
-# web/try.html has to be what its parts make. Then tests/page.py runs the examples and some changed ones by the module in
-# Node, and the examples, a hostile input and a run that is stopped on the page, in headless Chromium. Says what isn't there. With
-# PICTURES in the environment, a folder, it leaves pictures of the page there. Closes with one line 'N passed, M failed'.
+# PROGRAM is the built program; without it, the one that ./run runs. MODULE is the output of web/build/capture_module.sh. If it is
+# given, and the tools are those that built web/gherkin_run.wasm, that file is rebuilt and compared. web/try.html has to be
+# what its parts make. Then tests/page.py runs the examples and some changed ones with the module in Node, and uses the page by
+# mouse and keyboard in headless Chromium: examples, links, files, long runs, markup. Says which of these tools are missing.
+# If PICTURES in the environment is a folder, pictures of the page are left there; with TIMES, the script says how long
+# each part takes. The last line is 'N passed, M failed'.
 set -eu
 
 . "$(dirname -- "$(readlink -f -- "$0")")/setup.sh"
 module=${2:-}
 web=$home/web
 
-# Counts a comparison: what is wrong where it doesn't hold, and then the command that is to hold.
+# Counts a comparison: a message for the case that it fails, and then the command that has to succeed.
 holds() {
     what=$1
     shift
@@ -33,20 +34,20 @@ refuses_unknown() {
     ! python3 "$web/build/retarget.py" "$room/unknown.ll" "$room/unknown64.ll" 2> /dev/null && ! [ -e "$room/unknown64.ll" ]
 }
 
-holds "the files of web/ have other sums than web/made.sha256 says; ./release renews them" has_its_sums
+holds "web/made.sha256 doesn't have the sums of the files of web/; ./release renews them" has_its_sums
 python3 "$web/build/make_page.py" "$web/gherkin_run.wasm" > "$room/try.html"
-holds "web/try.html isn't what its parts make; ./release renews it" cmp "$room/try.html" "$web/try.html"
+holds "web/try.html isn't what its parts make; web/build/make.sh renews it" cmp "$room/try.html" "$web/try.html"
 holds "web/gherkin_run.wasm has more than 350,000 bytes" [ "$(wc -c < "$web/gherkin_run.wasm")" -le 350000 ]
-holds "retarget.py takes a call that it doesn't know" refuses_unknown
+holds "retarget.py accepts a call that it doesn't know" refuses_unknown
 if [ -z "$module" ]; then
-    echo "web/gherkin_run.wasm isn't made anew: no module of the library is given"
+    echo "web/gherkin_run.wasm isn't rebuilt: no module of the library is given"
 elif ! command -v wasm-opt > /dev/null; then
-    echo "web/gherkin_run.wasm isn't made anew, and only its sum is compared: there is no wasm-opt of binaryen"
+    echo "web/gherkin_run.wasm isn't rebuilt, and only its sum is compared: wasm-opt of binaryen is missing"
 elif [ "$("$web/build/tools.sh")" != "$(cat "$web/made.tools")" ]; then
-    echo "web/gherkin_run.wasm isn't made anew: it was made with '$(cat "$web/made.tools")', and here is '$("$web/build/tools.sh")'"
+    echo "web/gherkin_run.wasm isn't rebuilt: it was built with '$(cat "$web/made.tools")', and here is '$("$web/build/tools.sh")'"
 else
     "$web/build/make_module.sh" "$module" "$room/gherkin_run.wasm"
-    holds "web/gherkin_run.wasm isn't that of these sources; ./release renews it" cmp "$room/gherkin_run.wasm" "$web/gherkin_run.wasm"
+    holds "web/gherkin_run.wasm isn't what these sources make; ./release renews it" cmp "$room/gherkin_run.wasm" "$web/gherkin_run.wasm"
 fi
-# Its count goes on from here.
+# Continues these counts.
 python3 "$home/tests/page.py" "$program" "$room" "$passed" "$failed"

@@ -1,5 +1,5 @@
-/* Stands before the allocator of a shared library, which is linked with --wrap=malloc, --wrap=realloc and --wrap=free:
- * counts its growths, and refuses one of them. For tests/python.py, in one thread. */
+/* Wraps the allocator of a shared library, which is linked with --wrap=malloc, --wrap=realloc and --wrap=free: counts
+ * growths, and refuses one of them. For tests/python.py, in one thread. */
 #include <stddef.h>
 
 void *__real_malloc(size_t size);
@@ -8,7 +8,7 @@ void __real_free(void *place);
 
 static long growths, refused, blocks;
 
-/* Counts from 0 again, and refuses the growth of this number, from 1; of number 0 none. */
+/* Starts counting again, and refuses the growth with this number, from 1. Number 0 refuses none. */
 void refuse(long number) {
     growths = 0;
     blocks = 0;

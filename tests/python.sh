@@ -2,10 +2,11 @@
 # Runs features from Python: tests/python.sh [PROGRAM [LIBRARY]]
 #
 # PROGRAM is the built program; without it, the one that ./run runs. LIBRARY is the static library; without it,
-# crates/gk_c/out/libgk_c.a, as `rt lib` leaves it there. The shared library that is made of it has to be, byte for byte, the
-# one of python/gherkin_run. Then tests/python.py compares the package with the program, looks at its faults, runs in
-# threads and, built with tests/python.c, with each growth of memory refused in turn, and lets pytest collect features. Says
-# what isn't there. Closes with one line 'N passed, M failed'.
+# crates/gk_c/out/libgk_c.a, where `rt lib` leaves it. The shared library made of it has to be the one of
+# python/gherkin_run, byte for byte. Then tests/python.py compares the package with the program: reports, faults,
+# arguments, types, threads, missing libraries, Ctrl-C and, built with tests/python.c, each growth of memory refused, one
+# after another. tests/plugin.py runs pytest, and tests/python_pages.py what the pages of docs/guide/ on both show. Names
+# each tool that is missing. Closes with one line 'N passed, M failed'.
 set -eu
 
 . "$(dirname -- "$(readlink -f -- "$0")")/setup.sh"

@@ -5,6 +5,7 @@ Each test works on a copy of the repository as a clone has it. Where ./run build
 is found, which proves nothing: it takes a moment for each crate, and 'builds' a program that says which it is.
 """
 
+import glob
 import os
 import shutil
 import signal
@@ -21,6 +22,8 @@ SOURCE = "crates/gk_gherkin/src/lib.rt"
 # The commands that ./run may count on, and one for the stand-in.
 COMMANDS = ("awk cat chmod cp cut dirname du find mkdir mktemp mv python3 readlink rm sh sha256sum sort tail touch "
             "xargs sleep").split()
+# What stays in out/.
+KEPT = {"fits", "lock", "logs", "gherkin_run", *(f"gherkin_run.{it}" for it in ("kit", "libraries", "sha256", "sources"))}
 STAND_IN = """#!/bin/sh
 echo "$1 ${PWD##*/}" >> "$CALLS"
 case $1 in
@@ -50,6 +53,11 @@ class Clone:
                         ignore=shutil.ignore_patterns(".git", "out", "runs", "must-fail", "__pycache__"))
         self.calls = os.path.join(room, "calls")
 
+        # What a script leaves behind is seen here.
+        self.temporary = os.path.join(room, "temporary")
+        os.mkdir(self.temporary)
+        os.chmod(self.temporary, 0o1777)
+
     def path(self, name):
         return os.path.join(self.folder, name)
 
@@ -68,7 +76,7 @@ class Clone:
     def start(self, *words, with_rt=False, script=None, user=None, **more):
         """Begins ./run with these words, from the top of the clone unless `folder` names another."""
         folder = more.pop("folder", self.folder)
-        settings = {"PATH": self.commands(with_rt), "CALLS": self.calls, **more}
+        settings = {"PATH": self.commands(with_rt), "CALLS": self.calls, "TMPDIR": self.temporary, **more}
         return subprocess.Popen([script or "./run", *words], cwd=folder, env=settings, stdin=subprocess.DEVNULL,
                                 stdout=subprocess.PIPE, stderr=subprocess.PIPE, user=user, group=user,
                                 start_new_session=True, preexec_fn=as_from_a_terminal)
@@ -78,6 +86,26 @@ class Clone:
         process = self.start(*(words or [EXAMPLE]), **more)
         out, err = process.communicate(timeout=60)
         return process.returncode, out, err
+
+    def left(self):
+        """What scripts that have ended left in out/ or in the folder for temporary files."""
+        out = self.path("out")
+        return os.listdir(self.temporary) + [it for it in (os.listdir(out) if os.path.isdir(out) else []) if it not in KEPT]
+
+    def ended(self, name, *words, at, **more):
+        """Ends a script by the signal TERM while it reads the sources: its status. `at` begins a name in out/."""
+        commands = self.commands(True)
+        slow = os.path.join(commands, "sha256sum")
+        os.remove(slow)
+        with open(slow, "w", encoding="utf-8") as file:
+            file.write(f'#!/bin/sh\nsleep 0.5\nexec {shutil.which("sha256sum")} "$@"\n')
+        os.chmod(slow, 0o755)
+        process = self.start(*words, script=self.path(name), PATH=commands, **more)
+        while process.poll() is None and not glob.glob(self.path(f"out/{at}*")):
+            time.sleep(0.01)
+        process.send_signal(signal.SIGTERM)
+        process.communicate(timeout=60)
+        return process.returncode
 
     def change(self, name=SOURCE):
         """Changes the end of a file, and leaves its time as it was."""
@@ -259,6 +287,19 @@ def an_interrupt_leaves_nothing_half_built(clone):
         clone.run(with_rt=True)[1] == b"built here\n")
 
 
+def an_end_while_it_looks_for_a_program_leaves_nothing(clone):
+    status = clone.ended("run", EXAMPLE, at="before.")
+    return status in (143, -signal.SIGTERM) and not clone.left() and is_right(clone.run())
+
+
+def an_end_while_a_program_is_kept_leaves_nothing(clone):
+    clone.change()
+    clone.run(with_rt=True)
+    with open(clone.path("out/gherkin_run.sources"), encoding="utf-8") as file:
+        status = clone.ended("tools/keep.sh", file.read().strip(), at="keep.")
+    return status != 0 and not clone.left() and clone.run() == (0, b"built here\n", b"")
+
+
 def cleaning_leaves_the_program(clone):
     clone.change()
     clone.run(with_rt=True)
@@ -298,6 +339,7 @@ TESTS = [
     a_source_more_or_less_is_a_change, a_change_that_is_not_proved_runs_nothing, a_changed_byte_in_dist_is_refused,
     building_without_the_toolchain_says_so, building_where_nothing_can_be_written_says_so, another_processor_is_named,
     an_older_library_is_named, two_builds_at_once_are_one, an_interrupt_leaves_nothing_half_built,
+    an_end_while_it_looks_for_a_program_leaves_nothing, an_end_while_a_program_is_kept_leaves_nothing,
     cleaning_leaves_the_program, a_word_of_the_script_stands_alone,
 ]
 
@@ -307,7 +349,8 @@ def passes(test):
     with tempfile.TemporaryDirectory() as room:
         os.chmod(room, 0o755)
         try:
-            return test(Clone(room))
+            clone = Clone(room)
+            return test(clone) and not clone.left()
         except (OSError, subprocess.SubprocessError) as error:
             print(error)
             return False

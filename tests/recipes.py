@@ -1,20 +1,28 @@
 #!/usr/bin/env python3
-"""Tries the recipes of docs/guide/recipes.md: recipes.py PROGRAM ROOM. Called by tests/recipes.sh."""
+"""Tries the recipes of the guide, and its page on machines: recipes.py PROGRAM ROOM [EXAMPLES]. Called by tests/recipes.sh.
+
+EXAMPLES is another folder with the scripts than examples/.
+"""
 
 import json
 import os
 import re
+import resource
+import shutil
+import signal
 import subprocess
 import sys
+import time
 import xml.etree.ElementTree
 
 import driver
 
-RECIPES = os.path.join(driver.HOME, "examples", "recipes")
-PAGE = os.path.join(driver.HOME, "docs", "guide", "recipes.md")
+EXAMPLES = (sys.argv[3:] or [os.path.join(driver.HOME, "examples")])[0]
+RECIPES = os.path.join(EXAMPLES, "recipes")
 BAD = ("failed", "undefined", "memory")
 # A name with every control character but line feed, and with what Markdown, XML and GitHub read as their own.
-ODD = "".join(map(chr, [*range(10), *range(11, 32), 127, 0x85, 0xFFFE, 0xFFFF, 0x1F600])) + "%0A ::error::<b>&amp;\"'|*_`]]>"
+ODD = "".join(map(chr, [*range(10), *range(11, 32), *range(127, 160), 0xFFFE, 0xFFFF, 0x1F600])) + "%0A ::error::##[error]<b>&amp;\"'|*_`]]>"
+CONTROL = re.compile("[\\x00-\\x09\\x0b-\\x1f\\x7f-\\x9f]")
 SUITE = {
     "features/odd.feature": f"Feature: {ODD}x\n  Scenario: {ODD}y\n    Given it fails\n    Then {ODD}z\n"
                             "  Scenario Outline: <n>\n    Given it passes\n    Examples:\n      | n |\n      | a\\nb |\n",
@@ -30,9 +38,10 @@ SUITE = {
 }
 
 
-def blocks():
-    """The commands of the page, block by block."""
-    return re.findall(r"^```sh\n(.*?)^```$", driver.read(PAGE).decode(), re.MULTILINE | re.DOTALL)
+def blocks(page):
+    """The commands of a page of the guide, block by block."""
+    text = driver.read(os.path.join(driver.HOME, "docs", "guide", page)).decode()
+    return re.findall(r"^```sh\n(.*?)^```$", text, re.MULTILINE | re.DOTALL)
 
 
 def folder_of(program, room, name):
@@ -41,13 +50,20 @@ def folder_of(program, room, name):
     driver.write(os.path.join(folder, "features"), {})
     driver.write(folder, {**SUITE, "run": f'#!/bin/sh\nexec "{program}" "$@"\n'})
     os.chmod(os.path.join(folder, "run"), 0o755)
-    os.symlink(os.path.join(driver.HOME, "examples"), os.path.join(folder, "examples"))
+    os.symlink(EXAMPLES, os.path.join(folder, "examples"))
+    os.mkdir(os.path.join(folder, "temporary"))
     return folder
 
 
-def shell(folder, command):
-    """Runs a command of a shell. Answers its status, and what it printed on the two streams."""
-    return driver.start("sh", ["-c", command], folder, {**os.environ, "GITHUB_STEP_SUMMARY": os.path.join(folder, "summary.md")})
+def environment_of(folder, **more):
+    return {**os.environ, "GITHUB_STEP_SUMMARY": os.path.join(folder, "summary.md"), "TMPDIR": os.path.join(folder, "temporary"), **more}
+
+
+def shell(folder, command, **more):
+    """Runs a command of a shell. Returns its status, and what it printed on the two streams, with what it left over."""
+    status, printed, fault = driver.start("sh", ["-c", command], folder, environment_of(folder, **more))
+    left = os.listdir(os.path.join(folder, "temporary"))
+    return status, printed, fault + (f"left over: {left}\n".encode() if left else b"")
 
 
 def one_run(program, folder, *options):
@@ -69,7 +85,7 @@ def bad_places(report):
 
 
 def unless(claim, holds, *shown):
-    """A trouble where a claim doesn't hold."""
+    """A trouble if a claim doesn't hold."""
     return "" if holds else "\n".join([claim, *(f"  {it}" for it in shown)])
 
 
@@ -78,9 +94,8 @@ def unless(claim, holds, *shown):
 def annotations_trouble(report, printed):
     lines = printed.decode().split("\n")[:-1]
     odd = [it for it in lines if not re.fullmatch(r"::error (file=[^,:]*,line=\d+,)?title=[^,:]*::[^\r]*", it)]
-    raw = [it for it in printed if it < 32 and it != 10]
     return unless("annotations: lines that are none", not odd, *odd) or \
-        unless("annotations: control characters", not raw) or \
+        unless("annotations: control characters", not CONTROL.search(printed.decode())) or \
         unless(f"annotations: {len(lines)} lines", len(lines) == bad_places(report))
 
 
@@ -90,7 +105,8 @@ def summary_trouble(report, printed):
     wrong = [it for it in rows[1:] if any(cell != str(report["summary"][it[0]].get(name, "")) for name, cell in zip(rows[0][1:], it[1:]))]
     listed = [it for it in lines if it.startswith(("- ", "  - "))]
     odd = [it for it in listed if not re.fullmatch(r" *- (?:[\w ().:,*/]|[^\x00-\xa0]|&#?\w+;)*", it)]
-    return unless("summary: other counts", len(rows) == 4 and not wrong, *wrong) or \
+    return unless("summary: control characters", not CONTROL.search(printed.decode())) or \
+        unless("summary: other counts", len(rows) == 4 and not wrong, *wrong) or \
         unless("summary: characters that are Markdown", not odd, *odd) or \
         unless("summary: nothing failed", bool(listed) == bool(bad_places(report)))
 
@@ -118,13 +134,17 @@ def junit_trouble(report, printed):
 
 def readable(name):
     """A name as the JUnit file has it."""
-    return "".join(chr(ord(it) + 0x2400) if ord(it) < 32 and it not in "\t\n\r" else "\ufffd" if it in "\ufffe\uffff" else it for it in name)
+    return "".join("\ufffd" if it in "\ufffe\uffff" else f"\\x{ord(it):02x}" if CONTROL.match(it) and it not in "\t\r" else it for it in name)
 
 
 def failed_trouble(report, printed):
     wanted = sum(it["status"] in ("failed", "memory") for one in report["features"] for it in one["scenarios"])
     wanted += sum(it["around"] in BAD for it in [*report["features"], *rules_of(report)]) + (report["run"] in BAD)
-    return unless("failed: another number of lines", printed.count(b"\n") == wanted, printed.decode())
+    lines = printed.decode().split("\n")[:-1]
+    commands = [it for it in lines if it.lstrip().startswith("::") or "##[" in it]
+    return unless("failed: another number of lines", len(lines) == wanted, *lines) or \
+        unless("failed: control characters", not CONTROL.search(printed.decode()), *lines) or \
+        unless("failed: commands of GitHub's", not commands, *commands)
 
 
 MAKERS = {"annotations": annotations_trouble, "summary": summary_trouble, "junit": junit_trouble, "failed": failed_trouble}
@@ -140,6 +160,11 @@ def makers_troubles(program, room):
     runs = [(" ".join(it), driver.HOME, it) for it in driver.examples() if "--format" not in it]
     folder = folder_of(program, room, "makers")
     names = sorted(os.path.join("features", it) for it in os.listdir(os.path.join(folder, "features")))
+    # A command of GitHub's in the name of a file, of a feature and of a scenario, at the begin of a line and in it.
+    commands = ["::error::pwned", " ::set-output name=a::b", "a\n::error::pwned", "\r::error::pwned", "a##[error]pwned", "\x1b[31m::stop-commands::x", "\u3000::error::pwned"]
+    driver.write(folder, {it: f"Feature: f\n  Scenario Outline: <n>\n    Given it fails\n    Examples:\n      | n |\n      | {row} |\n"
+                          for it, row in ((it, it.replace("\n", "\\n").replace("\r", "")) for it in commands)})
+    runs += [("commands of GitHub's", folder, ["--", *commands])]
     runs += [("the suite", folder, names), ("the suite with hooks", folder, ["--hooks", "suite.hooks", *names]),
              ("a dry run of the suite", folder, ["--dry-run", *names]), ("a part of the suite", folder, ["--no-skipped", *names])]
     for name, place, arguments in runs:
@@ -154,13 +179,18 @@ def makers_troubles(program, room):
             yield f"{name}: {found}" if found else ""
 
 
-# ---- the commands of the page
+# ---- the commands of the pages
 
 def page_troubles(program, room):
-    """The commands of the page, one block after another, in one folder."""
+    """The commands of the page on recipes, one block after another, in one folder."""
     folder = folder_of(program, room, "page")
-    readers, again_command, long, spread = blocks()
+    junit, readers, again_command = blocks("recipes.md")
     plain, whole = one_run(program, folder), one_run(program, folder, "--format", "json")
+
+    ended = shell(folder, junit)
+    yield unless(f"a JUnit file: status {ended[0]}", ended == (0, b"", b""), ended[2].decode())
+    yield MAKERS["junit"](json.loads(whole[1]), driver.read(os.path.join(folder, "junit.xml")))
+    os.remove(os.path.join(folder, "junit.xml"))
 
     ended = shell(folder, readers)
     yield unless(f"one run: status {ended[0]}", ended[0] == whole[0], ended[2].decode())
@@ -175,18 +205,46 @@ def page_troubles(program, room):
     yield from usage_troubles(folder)
     yield from refused_troubles(folder)
     yield from check_troubles(folder)
+
+
+def machine_troubles(program, room):
+    """The commands of the page on machines, each compared with one run."""
+    folder = folder_of(program, room, "machines")
+    spread, spread_part, long, part, add = blocks("machines.md")
+    whole = one_run(program, folder, "--format", "json")
     yield from sum_troubles(folder, "long.sh", long, whole)
-    yield from sum_troubles(folder, "long.sh in small parts", long.replace("examples/recipes/long.sh", "PART=2 examples/recipes/long.sh"), whole)
-    killed = "PART=2 examples/recipes/long.sh ./killed"
+    yield from sum_troubles(folder, "long.sh in small parts", long.replace("long.sh ./run", "long.sh --files 2 ./run"), whole)
+    yield from killed_troubles(folder, long)
+    yield from divided_troubles(program, folder, part, add)
+    if shutil.which("parallel"):
+        yield from sum_troubles(folder, "spread.sh", spread, whole)
+        yield from sum_troubles(folder, "spread.sh with options", spread_part, one_run(program, folder, "--format", "json", "--tags", "~@broken"))
+    else:
+        print("examples/spread.sh isn't tried: there is no parallel")
+
+
+def killed_troubles(folder, long):
+    """A part that is killed leaves no report."""
     driver.write(folder, {"killed": '#!/bin/sh\n./run "$@"\ncase " $* " in *passes*) kill -9 "$PPID" ;; esac\n'})
     os.chmod(os.path.join(folder, "killed"), 0o755)
-    ended = shell(folder, long.replace("examples/recipes/long.sh ./run", killed))
+    ended = shell(folder, long.replace("long.sh ./run", "long.sh --files 2 ./killed"))
     yield unless("long.sh, killed: another end", ended[0] == 3 and ended[2] == b"long: a part was killed\n", ended[2].decode())
     yield unless("long.sh, killed: a report", driver.read(os.path.join(folder, "report.json")) == b"")
-    if subprocess.run(["sh", "-c", "command -v parallel"], stdout=subprocess.DEVNULL, check=False).returncode == 0:
-        yield from sum_troubles(folder, "spread.sh", spread, whole)
-    else:
-        print("examples/spread.sh isn't tried: it needs GNU parallel, and there is none here")
+
+
+def divided_troubles(program, folder, part, add):
+    """Three machines run a part each; the sum of their reports is one run over the files in their order."""
+    names = sorted(os.path.join("features", it) for it in os.listdir(os.path.join(folder, "features")))
+    order = [it for place in range(3) for number, it in enumerate(names, 1) if number % 3 == place]
+    for place in range(3):
+        status, printed, fault = shell(folder, part, PART=str(place), PARTS="3")
+        yield unless(f"the command for machine {place}", status in (0, 1) and (printed, fault) == (b"", b""), status, fault)
+    status, printed, fault = shell(folder, add)
+    wanted = driver.start(program, ["--format", "json", "--", *order], folder)
+    yield driver.trouble("the sum of three machines", (status, driver.read(os.path.join(folder, "report.json")), fault), wanted)
+    os.remove(os.path.join(folder, "report.1.json"))
+    status, printed, fault = shell(folder, add)
+    yield unless("the sum without a machine", status == 3 and driver.read(os.path.join(folder, "report.json")) == b"" and fault != b"", status, fault)
 
 
 def again_troubles(folder, command):
@@ -209,7 +267,7 @@ def again_troubles(folder, command):
 
 
 def run_troubles(folder):
-    """Where hooks or cleanups of the run failed, or nothing can be run again, again.sh ends with 1; --stop leaves what it didn't reach."""
+    """If hooks or cleanups of the run failed, or nothing can be run again, again.sh exits with 1. After --stop it leaves out what wasn't reached."""
     good = "Feature: good\n  Scenario: one\n    Given it passes\n"
     driver.write(folder, {"one.feature": good, "two.feature": good, "before.hooks": "before_all:\n  Given it fails\n",
                           "after.hooks": "after_all:\n  Given it fails\n", "cleanup.hooks": "before_all:\n  Given at cleanup it fails\n",
@@ -240,7 +298,7 @@ def again(folder, options, files):
 
 
 def usage_troubles(folder):
-    """Without arguments each script prints its usage alone, and ends with 2."""
+    """Without arguments each script prints only its usage, and exits with 2."""
     for script in ("recipes/again.sh", "recipes/check.sh", "recipes/long.sh", "add_reports.sh"):
         status, printed, fault = shell(folder, f"examples/{script}")
         said = fault.decode()
@@ -248,11 +306,14 @@ def usage_troubles(folder):
 
 
 def refused_troubles(folder):
-    """A suite in parts is no run with --stop and has no other report: long.sh refuses these words; and check.sh those that it gives itself."""
+    """long.sh refuses options that it can't add up, and check.sh those that it adds itself."""
     for words in ("--stop", "--format json", "--format=json", "--explain", "--lint", "--help", "--version", "-hV"):
         status, printed, fault = shell(folder, f"ls features/*.feature | examples/recipes/long.sh ./run {words}")
         wanted = f"long: {words.split()[0]} isn't for a suite in parts\n".encode()
         yield unless(f"long.sh {words}", (status, printed, fault) == (2, b"", wanted), printed.decode(), fault.decode())
+    for words in ("--files", "--files 0", "--files x", "--files -1", "--files ''"):
+        ended = shell(folder, f"ls features/*.feature | examples/recipes/long.sh {words} ./run")
+        yield driver.trouble(f"long.sh {words}", ended, (2, b"", b"long: --files is a number from 1 on\n"))
     status, printed, fault = shell(folder, "examples/recipes/long.sh ./run < /dev/null > report.json; ended=$?; cat report.json; exit $ended")
     yield unless("long.sh without a name", (status, printed, fault) == (2, b"", b"long: no file is given\n"), printed.decode(), fault.decode())
     for words in ("--dry-run", "--no-skipped", "--format json", "--format=json", "--explain", "--lint", "--help", "--version", "-Vh"):
@@ -262,12 +323,12 @@ def refused_troubles(folder):
 
 
 def check_troubles(folder):
-    """check.sh prints what failed, and no row that only looks so; an undefined step of a scenario that is skipped ends it with 1."""
+    """check.sh prints what failed, and no row that only looks so. It exits with 1 for an undefined step of a skipped scenario."""
     driver.write(folder, {"like.feature": 'Feature: like\n  Scenario: one\n    Given a file named "log" containing "... failed: x"\n',
                           "skips.feature": "Feature: skips\n  Scenario: one\n    Given the scenario is skipped\n    And nothing knows this\n",
                           "null.feature": "Feature: null\n  Scenario: one\0\n    Given it fails\n",
                           "unknown.feature": "Feature: unknown\n  Scenario: one\n    Given it\0fails\n"})
-    for name, wanted in (("null", b"  Scenario: one\0 ... failed\n    Given it fails ... failed: fail step\n"), ("unknown", b"    Given it\0fails ... undefined\n")):
+    for name, wanted in (("null", b"  Scenario: one\\x00 ... failed\n    Given it fails ... failed: fail step\n"), ("unknown", b"    Given it\\x00fails ... undefined\n")):
         status, printed, fault = shell(folder, f"examples/recipes/check.sh ./run {name}.feature")
         yield unless(f"check.sh of {name}.feature", status == 1 and wanted in printed and fault == b"", printed.decode(), fault.decode())
     rows = b"Feature: f ... memory\n  Scenario: s ... memory\n    Given it passes ... memory\n"
@@ -275,7 +336,7 @@ def check_troubles(folder):
                           "memory": '#!/bin/sh\n[ "$1" = --dry-run ] || { cat said; exit 4; }\n'})
     os.chmod(os.path.join(folder, "memory"), 0o755)
     status, printed, fault = shell(folder, "examples/recipes/check.sh ./memory one.feature")
-    yield unless("check.sh where memory runs out", (status, printed, fault) == (4, rows + b"one\ntwo\nthree\n", b""), printed.decode(), fault.decode())
+    yield unless("check.sh if memory runs out", (status, printed, fault) == (4, rows + b"one\ntwo\nthree\n", b""), printed.decode(), fault.decode())
     status, printed, fault = shell(folder, "examples/recipes/check.sh ./run like.feature")
     yield unless("check.sh of a row like one that failed", status == 0 and printed.count(b"\n") == 3, printed.decode(), fault.decode())
     status, printed, fault = shell(folder, "examples/recipes/check.sh ./run skips.feature")
@@ -294,11 +355,132 @@ def sum_troubles(folder, name, command, whole):
     yield unless(f"{name}: a fault with a report", driver.read(os.path.join(folder, "report.json")) == b"")
 
 
+# ---- what must not happen
+
+def escaped_troubles(program, room):
+    """No name reaches the terminal with control characters: neither by check.sh, nor in a message."""
+    folder = folder_of(program, room, "escaped")
+    name = "a\n::error::b\x1b[31m\x9b"
+    driver.write(folder, {name: f"Feature: {ODD}\n  Scenario: {ODD}\n    Given it fails\n    Given it passes {ODD}\n", "other": f"Feature: f\n  Scenario: {ODD}\n    Given it fails\n"})
+    for words in ("other", '"$name"'):
+        status, printed, fault = shell(folder, f"examples/recipes/check.sh ./run {words}", name=name)
+        yield unless(f"check.sh {words}: control characters", status == 1 and fault == b"" and b"\\x1b" in printed and not CONTROL.search(printed.decode()), printed, fault)
+    status, printed, fault = shell(folder, 'examples/add_reports.sh "$name"', name=name)
+    yield unless("add_reports.sh: another message", (status, printed) == (3, b"") and fault.endswith(b"add_reports: a\\n::error::b\\x1b[31m\\x9b is no report\n"), fault)
+    for script in ("recipes/long.sh", "recipes/check.sh"):
+        status, printed, fault = shell(folder, f'examples/{script} ./run "$word" < /dev/null', word="--format=" + name)
+        yield unless(f"{script}: another message", status == 2 and fault.count(b"\n") == 1 and not CONTROL.search(fault.decode()), fault)
+    for text, wanted in (("a\nb", "a\\nb\n"), ("", "\n"), ("-n", "-n\n"), ("\\x1b%s é€😀", "\\x1b%s é€😀\n"), (ODD, readable(ODD).replace("\ufffd\ufffd", "\ufffe\uffff").replace("\t", "\\x09").replace("\r", "\\x0d") + "\n")):
+        ended = driver.start(os.path.join(RECIPES, "visible.sh"), [text.replace("\0", "")], folder)
+        yield driver.trouble(f"visible.sh {text!r}", ended, (0, wanted.replace("\\x00", "").encode(), b""))
+    driver.write(folder, {"text": f"{ODD}\n\n{ODD}\nend"})
+    ended = shell(folder, "examples/recipes/visible.sh < text")
+    line = readable(ODD).replace("\ufffd\ufffd", "\ufffe\uffff").replace("\t", "\\x09").replace("\r", "\\x0d")
+    yield driver.trouble("visible.sh with lines", ended, (0, f"{line}\n\n{line}\nend".encode(), b""))
+
+
+def name_troubles(program, room):
+    """A report whose name looks like an option is a report."""
+    folder = folder_of(program, room, "names")
+    driver.write(folder, {"bad.feature": "Feature: bad\n  Scenario: one\n    Given it fails\n", "good.feature": "Feature: good\n"})
+    wanted = driver.start(program, ["bad.feature"], folder)
+    for name in ("-r.json", "--help", "-", "--arg", "a b.json"):
+        report = driver.start(program, ["--format", "json", "bad.feature"], folder)[1]
+        driver.write(folder, {name: report, "good.json": driver.start(program, ["--format", "json", "good.feature"], folder)[1]})
+        yield driver.trouble(f"again.sh {name}", shell(folder, f'examples/recipes/again.sh "{name}" ./run'), wanted)
+        yield driver.trouble(f"again.sh {name}, with nothing to run", shell(folder, f'cp good.json "./{name}" && examples/recipes/again.sh "{name}" ./run'), (0, b"", b""))
+        driver.write(folder, {name: report})
+        yield driver.trouble(f"add_reports.sh {name}", shell(folder, f'examples/add_reports.sh "{name}"'), (1, report, b""))
+
+
+def setting_troubles(program, room):
+    """Variables that nobody set for a script change nothing."""
+    folder = folder_of(program, room, "settings")
+    settings = {**dict.fromkeys(("PART", "PARTS", "files", "report", "rest", "lines", "start", "length", "comma", "worst", "runs", "part", "ended", "status", "word"), "x"),
+                "PARALLEL": "--dry-run", "CDPATH": "/", "POSIXLY_CORRECT": "1", "GREP_OPTIONS": "-v"}
+    whole, names = one_run(program, folder, "--format", "json"), "ls features/*.feature"
+    for name, command in (("long.sh", f"{names} | examples/recipes/long.sh ./run"), ("add_reports.sh", "./run --format json features/*.feature > all.json; examples/add_reports.sh all.json")):
+        yield driver.trouble(f"{name} with other variables", shell(folder, command, **settings), whole)
+    for name, command in (("check.sh", "examples/recipes/check.sh ./run features/*.feature"), ("again.sh", "examples/recipes/again.sh all.json ./run")):
+        yield driver.trouble(f"{name} with other variables", shell(folder, command, **settings), shell(folder, command))
+    status, printed, fault = shell(folder, f"{names} | TMPDIR=-t examples/recipes/long.sh --files 2 ./run; mkdir ./-t; {names} | TMPDIR=-t examples/recipes/long.sh --files 2 ./run && ls ./-t")
+    yield unless("long.sh with a TMPDIR that looks like an option", printed == whole[1], status, printed[:100], fault)
+
+
+def missing_troubles(program, room):
+    """Without jq each script that needs it says so."""
+    folder = folder_of(program, room, "missing")
+    tools = os.path.join(folder, "tools")
+    os.mkdir(tools)
+    for place in ("/bin", "/usr/bin"):
+        for name in os.listdir(place):
+            if name != "jq" and not os.path.lexists(os.path.join(tools, name)):
+                os.symlink(os.path.join(place, name), os.path.join(tools, name))
+    driver.write(folder, {"one.json": one_run(program, folder, "--format", "json")[1]})
+    for script, words in (("add_reports.sh", "one.json"), ("recipes/again.sh", "one.json ./run"), ("recipes/long.sh", "./run < one.json")):
+        name = os.path.basename(script).removesuffix(".sh")
+        yield driver.trouble(f"{name} without jq", shell(folder, f"examples/{script} {words}", PATH=tools), (2, b"", f"{name}: jq is needed, and isn't installed\n".encode()))
+
+
+def signal_troubles(program, room):
+    """A script that is ended by a signal leaves nothing."""
+    cases = [(words, number) for words in ("recipes/check.sh ./slow features/passes.feature", "recipes/long.sh ./slow")
+             for number in (signal.SIGTERM, signal.SIGINT, signal.SIGHUP)]
+    for (words, number), (status, left) in zip(cases, driver.on_all_processors(lambda it: ended_by(program, room, *it), cases)):
+        yield unless(f"{words}, ended by {number.name}: status {status}, left {left}", (status, left) == (128 + number, []))
+
+
+def ended_by(program, room, words, number):
+    """Sends a signal to a script that has begun. Returns its status, and what it left."""
+    folder = folder_of(program, room, f"{number.name} {words.split('/')[1]}")
+    driver.write(folder, {"slow": '#!/bin/sh\necho $$ >> begun\nsleep 1\nexec ./run "$@"\n', "names": "features/passes.feature\n"})
+    os.chmod(os.path.join(folder, "slow"), 0o755)
+    script, *others = words.split()
+    with open(os.path.join(folder, "names"), "rb") as names, \
+            subprocess.Popen([os.path.join(EXAMPLES, script), *others], cwd=folder, env=environment_of(folder), stdin=names, stdout=subprocess.DEVNULL,
+                             preexec_fn=lambda: signal.signal(number, signal.SIG_DFL)) as process:
+        end = time.monotonic() + 30
+        while not os.path.exists(os.path.join(folder, "begun")) and time.monotonic() < end:
+            time.sleep(0.02)
+        process.send_signal(number)
+        status = process.wait(30)
+    return status, os.listdir(os.path.join(folder, "temporary"))
+
+
+def time_troubles(program, room):
+    """A report of one long line takes add_reports.sh no more than twice the time in which jq reads it, also with mawk."""
+    folder = folder_of(program, room, "long")
+    rows = "".join(f"  Scenario: s{number} [x]\n    Given it passes\n    Given it passes\n    Given it passes\n    Given it passes\n" for number in range(32000))
+    driver.write(folder, {"long.feature": "Feature: f\n" + rows})
+    report = driver.start(program, ["--format", "json", "long.feature"], folder)[1]
+    driver.write(folder, {"report.json": report})
+    base = seconds_of(folder, "jq --slurp 'map(keys)' < report.json")[1]
+    for awk in filter(None, map(shutil.which, ("mawk", "gawk"))):
+        os.makedirs(os.path.join(folder, "bin"), exist_ok=True)
+        link = os.path.join(folder, "bin", "awk")
+        if os.path.lexists(link):
+            os.remove(link)
+        os.symlink(awk, link)
+        ended, taken = seconds_of(folder, "examples/add_reports.sh report.json", PATH=os.path.dirname(link) + ":" + os.environ["PATH"])
+        yield unless(f"add_reports.sh of {len(report)} bytes with {awk}: {taken:.1f} s, and jq alone {base:.1f} s", ended == (0, report, b"") and taken < 2 * base)
+
+
+def seconds_of(folder, command, **more):
+    """What a command printed, and the seconds of a processor that it took."""
+    before = resource.getrusage(resource.RUSAGE_CHILDREN)
+    ended = shell(folder, command, **more)
+    after = resource.getrusage(resource.RUSAGE_CHILDREN)
+    return ended, after.ru_utime + after.ru_stime - before.ru_utime - before.ru_stime
+
+
 def main():
     program, room = sys.argv[1], sys.argv[2]
     tests = driver.Tests()
-    tests.add_all(makers_troubles(program, room))
-    tests.add_all(page_troubles(program, room))
+    groups = (makers_troubles, page_troubles, machine_troubles, escaped_troubles, name_troubles, setting_troubles, missing_troubles, signal_troubles)
+    for found in driver.on_all_processors(lambda it: list(it(program, room)), groups):
+        tests.add_all(found)
+    # By itself, since it counts the time of all that this driver starts.
+    tests.add_all(time_troubles(program, room))
     return tests.close()
 
 

@@ -4,8 +4,8 @@
 Called by tests/side_by_side.sh, and with --behave by tests/with_behave.sh. A pair is a folder with a file `says`,
 which has commands and what they say; tests/side_by_side/README.md says how. Without --behave the commands of
 gherkin_run are run, with it those of behave. Besides:
-- a row of the tables of docs/guide/behave.md and docs/guide/cucumber.md names a pair that is there, and each pair
-  is named by one row;
+- each pair is named once, by a link on docs/guide/behave.md or docs/guide/cucumber.md or among the other pairs of
+  tests/side_by_side/README.md, and these name no pair that is missing;
 - examples/leaks/show.py shows what examples/leaks/result.txt has.
 """
 
@@ -23,9 +23,10 @@ SUITES = [os.path.join(driver.HOME, "examples", it) for it in ("from_behave", "f
 LEAKS = os.path.join(driver.HOME, "examples", "leaks")
 STEPS = os.path.join(PAIRS, "steps.py")
 COUNTS = re.compile(r"\d+ (features?|scenarios?|steps?) passed, ")
-# A row of a page's table whose last cell is a link to its pair.
-ROW = re.compile(r"^\|.*\| \[[^\]]+\]\((?:\.\./)+tests/side_by_side/([a-z_]+/[a-z0-9_]+)\) \|$", re.MULTILINE)
-PAGES = ("docs/guide/behave.md", "docs/guide/cucumber.md")
+# The pages that name pairs, each with how it does: by a link, or by the name alone.
+LINKED = re.compile(r"\]\((?:\.\./)+tests/side_by_side/([a-z_]+/[a-z0-9_]+)\)")
+PAGES = {"docs/guide/behave.md": LINKED, "docs/guide/cucumber.md": LINKED,
+         "tests/side_by_side/README.md": re.compile(r"`((?:behave|cucumber)/[a-z0-9_]+)`")}
 # behave's own settings: nothing of the machine changes what is said.
 QUIET = ["--no-capture", "--no-color", "--no-timings", "--format=plain"]
 
@@ -102,15 +103,15 @@ def pair_trouble(program, room, job):
     return trouble_of(folder, words, wanted, said)
 
 
-def rows_named():
-    """Pairs that no row of the tables names, that several do, or that aren't there."""
-    named = [it for page in PAGES for it in ROW.findall(driver.read(os.path.join(driver.HOME, page)).decode())]
+def naming_trouble():
+    """Pairs that the pages don't name, or name more than once, and named pairs that are missing."""
+    named = [it for page, name in PAGES.items() for it in name.findall(driver.read(os.path.join(driver.HOME, page)).decode())]
     there = [os.path.relpath(it, PAIRS) for it in pairs() if it.startswith(PAIRS)]
     for pair in sorted(set(named) | set(there)):
         if pair not in there:
-            yield f"a row names the pair {pair}, which isn't there"
+            yield f"a page names the pair {pair}, which is missing"
         elif named.count(pair) != 1:
-            yield f"the pair {pair} is named by {named.count(pair)} rows"
+            yield f"the pages name the pair {pair} {named.count(pair)} times"
 
 
 def leaks_trouble(program, with_behave):
@@ -130,7 +131,7 @@ def main():
     for folder in pairs():
         laid_out(folder, room)
     tests.add_all(driver.on_all_processors(lambda job: pair_trouble(program, room, job), jobs))
-    tests.add("\n".join(rows_named()))
+    tests.add("\n".join(naming_trouble()))
     tests.add(leaks_trouble(program, with_behave))
     return tests.close()
 

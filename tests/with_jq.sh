@@ -1,20 +1,18 @@
 #!/bin/sh
 # Reads JSON reports with jq, as another program would: tests/with_jq.sh [PROGRAM]
 #
-# For each example, and for each stored run with a JSON report, jq makes the plain report of the
-# JSON one, which has to be what the program prints as plain; it counts the features, scenarios and
-# steps, which has to give the summary; and the status has to be the one that the program ends with.
-# Then runs over several files are compared with the reports of runs over a part of them each, added
-# up by examples/add_reports.sh; and the commands with jq in docs/guide/reports.md are tried. PROGRAM is the
-# built program; without it, the one that ./run runs. jq is needed, so ./test doesn't run this
-# script. Closes with one line 'N passed, M failed'.
+# For each example, and for each stored run with a JSON report, jq makes the plain report of the JSON one. It has to be what the
+# program prints as plain. jq counts the features, scenarios and steps, which has to give the summary, and the status has to be the
+# program's. Then runs over several files are compared with the sum of runs over one of them each, by examples/add_reports.sh.
+# The command with jq in docs/guide/reports.md is tried, too. PROGRAM is the built program; without it, the one that ./run runs.
+# It needs jq, and says so if that is missing. Closes with one line 'N passed, M failed'.
 set -eu
 
 . "$(dirname -- "$(readlink -f -- "$0")")/setup.sh"
 if ! command -v jq > /dev/null; then
-    echo "tests/with_jq.sh needs jq, and there is none here"
-    echo "0 passed, 1 failed"
-    exit 1
+    echo "tests/with_jq.sh is left out: there is no jq"
+    echo "0 passed, 0 failed"
+    exit
 fi
 
 # Counts one test, which has passed where the rest of the arguments is a command that ends with 0.
@@ -138,32 +136,15 @@ add_up "cleanups" --hooks examples/cleanups.hooks -- \
     examples/cleanups.feature examples/first.feature
 add_up "rules" --hooks examples/rules.hooks -- examples/rules.feature examples/settings.feature
 add_up "a library" --library examples/default.steps --env A=b -- examples/default.feature $features
-# The commands of the guide, in a folder with some features: a line of the page that begins with a
-# text.
-command_of() {
-    grep --max-count=1 --fixed-strings -- "$1" docs/guide/reports.md
-}
-share=$(command_of './run --format json $(ls')
-add=$(command_of 'examples/add_reports.sh report.0.json')
-list=$(command_of "jq -r '.features[]")
-mkdir "$room/suite" "$room/suite/features"
-cp $features "$room/suite/features"
-ln -s "$home/examples" "$room/suite/examples"
-printf '#!/bin/sh\nexec "%s" "$@"\n' "$program" > "$room/suite/run"
-chmod +x "$room/suite/run"
-cd "$room/suite"
-PARTS=3
-for PART in 0 1 2; do
-    check "the guide's command for machine $PART: its status" sh -c "
-        PART=$PART PARTS=$PARTS
-        $share"' || [ $? -le 1 ]'
-done
-check "the guide's sum: its status" sh -c "$add"'; [ $? -eq 1 ]'
-order=$(for part in 0 1 2; do ls features/*.feature | awk "NR % 3 == $part"; done)
-run "$room/all" --format json $order
-check "the guide's sum: another report" cmp "$room/all" report.json
+echo '# nothing' > "$room/none.feature"
+add_up "files without features" -- "$room/none.feature" examples/first.feature "$room/none.feature" examples/sums.feature "$room/none.feature"
+add_up "only files without features" -- "$room/none.feature" "$room/none.feature"
+# The command of the guide that lists what failed.
+list=$(grep --max-count=1 --fixed-strings -- "jq -r '.features[]" docs/guide/reports.md)
+run "$room/report.json" --format json $features
+run "$room/plain" $features
+cd "$room"
 sh -c "$list" > listed || true
-run "$room/plain" $order
 failures=$(grep -cE '^  [A-Z].* \.\.\. failed$' "$room/plain" || true)
 check "the guide's list of failed scenarios" [ "$(wc -l < listed)" -eq "$failures" ]
 check "the guide's list has scenarios" [ -s listed ]
@@ -172,14 +153,23 @@ cd "$home"
 run "$room/json" --format json examples/first.feature
 head -c 100 "$room/json" > "$room/cut"
 cat "$room/json" "$room/json" > "$room/two"
+tr -d '\n' < "$room/two" > "$room/two_in_a_line"
 echo '{}' > "$room/other"
 jq . "$room/json" > "$room/in_lines"
-for broken in empty cut two other in_lines; do
+jq --compact-output '{features, status, run, summary}' "$room/json" > "$room/in_another_order"
+sed 's/^/ /' "$room/json" > "$room/indented"
+sed 's/$/ /' "$room/json" > "$room/with_a_space"
+sed 's/"status":0,"summary"/"status":0.0,"summary"/' "$room/json" > "$room/with_another_number"
+for broken in empty cut two two_in_a_line other in_lines in_another_order indented with_a_space with_another_number; do
     status=0
     examples/add_reports.sh "$room/json" "$room/$broken" > "$room/sum" 2> "$room/fault" || status=$?
     check "a report that is $broken: another status" [ "$status" -eq 3 ]
     check "a report that is $broken: something is printed" [ ! -s "$room/sum" ]
+    check "a report that is $broken: it isn't named" grep -q "^add_reports: .*/$broken is no report" "$room/fault"
 done
+tr -d '\n' < "$room/json" > "$room/without_line_feed"
+examples/add_reports.sh "$room/without_line_feed" > "$room/sum" || true
+check "a report without its line feed: another sum" cmp "$room/json" "$room/sum"
 
 echo "$passed passed, $failed failed"
 [ "$failed" -eq 0 ]

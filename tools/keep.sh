@@ -11,8 +11,10 @@ if [ "$(tools/sources.sh)" != "$1" ]; then
     exit 1
 fi
 mkdir -p out
-room=$(mktemp -d out/keep.XXXXXX)
+room=
 trap 'rm -rf "$room"' EXIT
+trap 'exit 1' HUP INT TERM
+room=$(mktemp -d out/keep.XXXXXX)
 cp crates/gherkin_run/out/gherkin_run "$room/gherkin_run"
 (cd "$room" && sha256sum gherkin_run > gherkin_run.sha256)
 rt version > "$room/gherkin_run.kit"

@@ -1,21 +1,40 @@
-/* Runs feature files by the static library: main [OPTION].. FILE..
+/* Runs feature files with the library: main [OPTION].. FILE..
  *
- * It takes the program's options but for --explain, --lint, --help and --version, each with its value as the next
- * argument, without --, and at most 63 arguments. Where the command line is right and each file can be read it ends as the
- * program does. With --show it prints the line that a fault is of, too. */
+ * Takes the program's options except --explain, --lint, --help and --version. Each value is the next argument, and
+ * there is no --. If the command line is right and each file can be read, the output and the status are the program's.
+ * With --show it also prints the line that a fault is in. */
 #include "gherkin_run.h"
 #include <stdio.h>
 #include <stdlib.h>
 #include <string.h>
 
-enum { MOST = 64 };
+/* What the arguments ask for. Each array has room for all of them. */
+typedef struct {
+    gherkin_call call;
+    gherkin_named *sources, *variables;
+    gherkin_text *tags;
+    uint32_t *lines;
+    bool shows;
+} command;
+
+/* Returns memory for as many items as asked for, and ends the program if there is none. */
+static void *room_for(size_t count, size_t size) {
+    void *room = calloc(count, size);
+    if (!room) exit(GHERKIN_OUT_OF_MEMORY);
+    return room;
+}
+
+static _Noreturn void refuse(const char *why) {
+    fprintf(stderr, "%s\n", why);
+    exit(GHERKIN_BAD_CALL);
+}
 
 static gherkin_text text_of(const char *text) {
     gherkin_text made = {(const uint8_t *)text, strlen(text)};
     return made;
 }
 
-/* The file of this name, whole. Ends the program where it can't be read. */
+/* Reads a file whole. Ends the program if it can't. */
 static gherkin_named file_of(const char *name) {
     FILE *file = fopen(name, "rb");
     uint8_t *bytes = malloc(1);
@@ -24,29 +43,34 @@ static gherkin_named file_of(const char *name) {
         length += got;
         if (length == size) bytes = realloc(bytes, size *= 2);
     }
-    if (!bytes) exit(4);
-    /* A folder can be opened, and not read. */
+    if (!bytes) exit(GHERKIN_OUT_OF_MEMORY);
+    /* A folder can be opened, but not read. */
     if (!file || ferror(file)) {
         fprintf(stderr, "%s: cannot read\n", name);
-        exit(3);
+        exit(GHERKIN_BAD_FILE);
     }
     fclose(file);
     gherkin_named made = {text_of(name), {bytes, length}};
     return made;
 }
 
-/* A variable of the form NAME=TEXT. */
+/* Returns a variable of the form NAME=TEXT. */
 static gherkin_named variable_of(const char *text) {
     const char *equals = strchr(text, '=');
-    if (!equals) {
-        fprintf(stderr, "bad variable\n");
-        exit(2);
-    }
+    if (!equals) refuse("bad variable");
     gherkin_named made = {{(const uint8_t *)text, (size_t)(equals - text)}, text_of(equals + 1)};
     return made;
 }
 
-/* The number of a format; of another word one that no format has, which the call refuses. */
+/* Returns a line's number. strtoul would also take spaces, a minus and numbers that are too large. */
+static uint32_t line_of(const char *text) {
+    char *end;
+    unsigned long number = strtoul(text, &end, 10);
+    if (text[strspn(text, "+0123456789")] || *end || number > UINT32_MAX) refuse("bad line");
+    return (uint32_t)number;
+}
+
+/* Returns a format's number; for an unknown word, one that the call refuses. */
 static uint8_t format_of(const char *name) {
     static const char *const names[] = {"plain", "progress", "json"};
     uint8_t format = GHERKIN_PLAIN;
@@ -54,7 +78,58 @@ static uint8_t format_of(const char *name) {
     return format;
 }
 
-/* Prints the line that a fault is of, where it is of one. */
+/* Takes a file or an option without a value, and returns whether the argument is one. */
+static bool takes_word(command *asked, const char *word) {
+    gherkin_call *call = &asked->call;
+    if (strcmp(word, "--show") == 0) asked->shows = true;
+    else if (strcmp(word, "--dry-run") == 0) call->dry_run = true;
+    else if (strcmp(word, "--stop") == 0) call->stop = true;
+    else if (strcmp(word, "--no-skipped") == 0) call->no_skipped = true;
+    else if (word[0] != '-') asked->sources[call->source_count++] = file_of(word);
+    else return false;
+    return true;
+}
+
+/* Takes an option and its value. */
+static void take_value(command *asked, const char *word, const char *value) {
+    gherkin_call *call = &asked->call;
+    if (!value) refuse("a value is missing");
+    if (strcmp(word, "--tags") == 0) asked->tags[call->tag_count++] = text_of(value);
+    else if (strcmp(word, "--line") == 0) asked->lines[call->line_count++] = line_of(value);
+    else if (strcmp(word, "--env") == 0) asked->variables[call->variable_count++] = variable_of(value);
+    else if (strcmp(word, "--format") == 0) call->format = format_of(value);
+    else if (strcmp(word, "--library") == 0) call->library = file_of(value), call->has_library = true;
+    else if (strcmp(word, "--hooks") == 0) call->hooks = file_of(value), call->has_hooks = true;
+    else refuse("unknown option");
+}
+
+/* Reads the arguments, which end with a null pointer. */
+static command command_of(size_t count, char **words) {
+    command asked = {.call = GHERKIN_CALL};
+    asked.call.sources = asked.sources = room_for(count, sizeof *asked.sources);
+    asked.call.variables = asked.variables = room_for(count, sizeof *asked.variables);
+    asked.call.tags = asked.tags = room_for(count, sizeof *asked.tags);
+    asked.call.lines = asked.lines = room_for(count, sizeof *asked.lines);
+    for (char **word = words + 1; *word; word++)
+        if (!takes_word(&asked, *word)) take_value(&asked, word[0], word[1]), word++;
+    if (asked.call.source_count == 0) refuse("no file");
+    return asked;
+}
+
+/* Runs the call, and returns its text. The first room is enough for most reports. */
+static uint8_t *run(const gherkin_call *call, gherkin_answer *answer) {
+    size_t size = 1 << 16;
+    for (size_t n = 0; n < call->source_count; n++) size += 8 * call->sources[n].bytes.length;
+    uint8_t *room = room_for(size, 1);
+    while (gherkin_run(call, room, size, answer), answer->length > size) {
+        free(room);
+        size = answer->length;
+        room = room_for(size, 1);
+    }
+    return room;
+}
+
+/* Prints the line that a fault is in, if there is one. */
 static void show(const gherkin_call *call, const gherkin_answer *answer) {
     const gherkin_named *file = answer->input == GHERKIN_LIBRARY  ? &call->library
                                 : answer->input == GHERKIN_HOOKS  ? &call->hooks
@@ -68,46 +143,12 @@ static void show(const gherkin_call *call, const gherkin_answer *answer) {
 }
 
 int main(int count, char **words) {
-    bool shows = false;
-    gherkin_named sources[MOST], variables[MOST];
-    gherkin_text tags[MOST];
-    uint32_t lines[MOST];
-    gherkin_call call = GHERKIN_CALL;
-    call.sources = sources, call.variables = variables, call.tags = tags, call.lines = lines;
-    if (count > MOST) return 2;
-    for (int n = 1; n < count; n++) {
-        const char *word = words[n], *value = n + 1 < count ? words[n + 1] : "";
-        if (strcmp(word, "--show") == 0) shows = true;
-        else if (strcmp(word, "--dry-run") == 0) call.dry_run = true;
-        else if (strcmp(word, "--stop") == 0) call.stop = true;
-        else if (strcmp(word, "--no-skipped") == 0) call.no_skipped = true;
-        else if (strncmp(word, "--", 2) != 0) sources[call.source_count++] = file_of(word);
-        else if (n++, strcmp(word, "--tags") == 0) tags[call.tag_count++] = text_of(value);
-        else if (strcmp(word, "--line") == 0) lines[call.line_count++] = (uint32_t)strtoul(value, 0, 10);
-        else if (strcmp(word, "--env") == 0) variables[call.variable_count++] = variable_of(value);
-        else if (strcmp(word, "--format") == 0) call.format = format_of(value);
-        else if (strcmp(word, "--library") == 0) call.library = file_of(value), call.has_library = true;
-        else if (strcmp(word, "--hooks") == 0) call.hooks = file_of(value), call.has_hooks = true;
-        else return 2;
-    }
-    if (call.source_count == 0) return 2;
+    command asked = command_of((size_t)count, words);
     gherkin_answer answer;
-    /* Most reports have at most so many bytes, and room that isn't written takes no memory. */
-    size_t size = 1 << 16;
-    for (size_t n = 0; n < call.source_count; n++) size += 8 * sources[n].bytes.length;
-    uint8_t *room = malloc(size);
-    if (!room) return 4;
-    gherkin_run(&call, room, size, &answer);
-    if (answer.length > size) {
-        size = answer.length;
-        free(room);
-        room = malloc(size);
-        if (!room) return 4;
-        gherkin_run(&call, room, size, &answer);
-    }
+    uint8_t *text = run(&asked.call, &answer);
     FILE *to = answer.has_report ? stdout : stderr;
-    if (fwrite(room, 1, answer.length, to) != answer.length || fflush(to) != 0) return 3;
+    if (fwrite(text, 1, answer.length, to) != answer.length || fflush(to) != 0) return GHERKIN_BAD_FILE;
     if (!answer.has_report) fputc('\n', stderr);
-    if (shows) show(&call, &answer);
+    if (asked.shows) show(&asked.call, &answer);
     return answer.status;
 }

@@ -1,15 +1,19 @@
 #!/bin/sh
-# Runs once more what failed: examples/recipes/again.sh REPORT PROGRAM [OPTION]..
+# Runs again what failed: examples/recipes/again.sh REPORT PROGRAM [OPTION]..
 #
-# REPORT is the JSON report of the run in which it failed. Each file of it with something that failed is run by itself,
-# with the options and the lines of those scenarios, and of all those that it has of a rule whose hooks and cleanups failed;
-# whole where it has none of that rule, and where the feature's own did. Where those of the run did, each file of the report
-# is run whole. Ends with the greatest status, or with the report's, where there is nothing in it to run. Where the file isn't
-# one report the script runs nothing and ends with 3. It needs jq.
+# REPORT is the JSON report of the run in which it failed. Each file in which something failed is run by itself, with the options and
+# with the lines of the scenarios that failed, and of all scenarios of a rule whose hooks and cleanups failed. The whole file is run
+# if the report has no scenario of that rule, or if the feature's own hooks and cleanups failed. If those of the run failed, each file
+# of the report is run whole. The script exits with the greatest status, or with the report's if there is nothing to run. If the
+# file isn't one report it runs nothing and exits with 3. It needs jq.
 set -eu
 
 [ $# -ge 2 ] || {
     echo "usage: examples/recipes/again.sh REPORT PROGRAM [OPTION].." >&2
+    exit 2
+}
+command -v jq > /dev/null || {
+    echo "again: jq is needed, and isn't installed" >&2
     exit 2
 }
 report=$1
@@ -26,8 +30,8 @@ runs=$(jq --raw-output --slurp '
     | if $all or (.around | is_bad) or any($parts[]; . as $part | all($listed[]; . < $part[0] or $part[1] < .)) then ["--", .source]
       elif $lines == [] then empty
       else [$lines[] | "--line", tostring] + ["--", .source] end
-    | "again \"$@\" " + @sh' "$report") || exit 3
-[ -n "$runs" ] || exit "$(jq .status "$report")"
+    | "again \"$@\" " + @sh' < "$report") || exit 3
+[ -n "$runs" ] || exit "$(jq .status < "$report")"
 worst=0
 
 again() {

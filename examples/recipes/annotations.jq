@@ -1,8 +1,11 @@
 # GitHub's annotations, by a JSON report: one for each step that failed, is undefined or is memory, at its line, and one for
-# hooks and cleanups that didn't pass, where they belong: at the heading of their scenario, rule or feature. Control
-# characters are shown by their pictures.
-def character: if . == 10 or . == 13 or . >= 32 then . else . + 9216 end;
-def data: explode | map(character) | implode | gsub("%"; "%25") | gsub("\r"; "%0D") | gsub("\n"; "%0A");
+# hooks and cleanups that didn't pass, at the heading of their scenario, rule or feature. Control characters are escaped: a
+# line feed as GitHub asks for, the others such as \x1b.
+def digit: if . < 10 then . + 48 else . + 87 end;
+def visible:
+    [explode[] | if . != 10 and . < 32 or (. > 126 and . < 160) then 92, 120, (. / 16 | floor | digit), (. % 16 | digit) else . end]
+    | implode;
+def data: visible | gsub("%"; "%25") | gsub("\n"; "%0A");
 def property: data | gsub(":"; "%3A") | gsub(","; "%2C");
 def error($file; $line; $title; $text): "::error file=\($file | property),line=\($line),title=\($title | property)::\($text | data)";
 def is_bad: . == "failed" or . == "undefined" or . == "memory";

@@ -1,15 +1,16 @@
 # A JUnit file, by a JSON report: a suite for each feature, a case for each scenario. Hooks and cleanups of a rule, of a
-# feature or of the run that didn't pass are a case of their own. A character that XML can't have is replaced: a control
-# character by its picture, the others by the replacement character.
+# feature or of the run that didn't pass are a case of their own. Control characters are escaped: a tab, a line feed and a carriage
+# return as in XML, the others such as \x1b. Other characters that XML can't have become the replacement character.
+def digit: if . < 10 then . + 48 else . + 87 end;
 def character:
     if . == 38 then "&amp;" elif . == 60 then "&lt;" elif . == 62 then "&gt;" elif . == 34 then "&quot;"
     elif . == 9 or . == 10 or . == 13 then "&#\(.);"
-    elif . < 32 then [. + 9216] | implode
+    elif . < 32 or (. > 126 and . < 160) then [92, 120, (. / 16 | floor | digit), (. % 16 | digit)] | implode
     elif . == 65534 or . == 65535 then "\ufffd"
     else [.] | implode end;
 def xml: explode | map(character) | join("");
 def line: "\(.keyword) \(.text) ... \(.status)" + (if .reason then ": \(.reason)" else "" end);
-# What stands in a case: why it isn't passed.
+# What is in a case: why it isn't passed.
 def ended($status; $message; $text):
     if $status == "failed" then "<failure message=\"\($message | xml)\">\($text | xml)</failure>"
     elif $status == "memory" then "<error message=\"\($message | xml)\">\($text | xml)</error>"

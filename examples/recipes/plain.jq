@@ -1,9 +1,10 @@
-# The plain report of a run, by the JSON report of the same run.
+# The plain report of a run, by the JSON report of the same run, byte for byte. A line feed in a name is \n, and other characters are
+# as they are.
 def line: gsub("\n"; "\\n");
-def hooks($blanks): if .around == "passed" then empty else "\($blanks)(hooks and cleanups) ... \(.around)" end;
+def hooks($indent): if .around == "passed" then empty else "\($indent)(hooks and cleanups) ... \(.around)" end;
 def step: "    \(.keyword) \(.text | line) ... \(.status)" + (if .reason then ": \(.reason)" else "" end);
 def scenario: "  \(.keyword): \(.name | line) ... \(.status)", (.steps[] | step), hooks("    ");
-# Those of a rule stand below its last scenario, so above the next rule.
+# Hooks and cleanups of a rule are below its last scenario, so above the next rule.
 def rules:
     (.rules // []) as $rules | range($rules | length) as $place | $rules[$place] | select(.around != "passed")
     | {line: ($rules[$place + 1].line // infinite), text: ["  (rule, line \(.line): hooks and cleanups) ... \(.around)"]};

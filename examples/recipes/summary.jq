@@ -1,5 +1,5 @@
-# A page in Markdown, as GitHub's step summary, by a JSON report: the counts, and what failed. In names only letters, digits
-# and blanks are left as they are, so that nothing in them is Markdown.
+# A summary in Markdown, by a JSON report: the counts, and what failed. In names only letters, digits and spaces stay as they are, so
+# that nothing in them is Markdown. Control characters become spaces or references.
 def is_plain: . == 32 or (. >= 48 and . <= 57) or (. >= 65 and . <= 90) or (. >= 97 and . <= 122) or . > 159;
 def text: explode | map(if is_plain then [.] | implode elif . < 32 then " " else "&#\(.);" end) | join("");
 def counts($noun; $names): .[$noun] as $counts | "| \($noun) | " + ($names | map($counts[.] // "" | tostring) | join(" | ")) + " |";

@@ -1,28 +1,29 @@
-"""Runs feature files as the program does: python3 -m gherkin_run [OPTION].. FILE.."""
+"""The command line: python3 -m gherkin_run [OPTION].. FILE.., as the program takes it."""
 
 from __future__ import annotations
 
 import argparse
 import re
+import signal
 import sys
 from typing import Any, List, Optional, Tuple
 
-from gherkin_run.runs import FORMATS, Fault, run
+from gherkin_run.runs import FORMATS, FaultError, run
 
-# The statuses at which the arguments are wrong, at which a file can't be read or the report can't be written, and at which memory
-# ran out.
-ARGUMENTS, INPUT_OR_OUTPUT, MEMORY = 2, 3, 4
-# The bytes that the name and the text of a variable may have.
+# The statuses for wrong arguments, for a file that can't be read or a report that can't be written, for a lack of memory,
+# and for a shared library that can't be loaded.
+ARGUMENTS, INPUT_OR_OUTPUT, MEMORY, NO_LIBRARY = 2, 3, 4, 70
+# The most bytes in the name and in the text of a variable.
 LONGEST_NAME, LONGEST_TEXT = 255, 1_048_576
 
 
 def _is_utf8(word: str) -> bool:
-    """Whether an argument is UTF-8: Python hands over other bytes as single surrogates."""
+    """Whether an argument is UTF-8. Python keeps other bytes as single surrogates."""
     return not any("\ud800" <= letter <= "\udfff" for letter in word)
 
 
 def _ended(text: str, status: int) -> int:
-    """Writes a text to standard output. Returns this status, or the one of an output that fails."""
+    """Writes a text to standard output. Returns the status, or another one if that fails."""
     try:
         with open(1, "wb", closefd=False) as output:
             output.write(text.encode("utf-8"))
@@ -33,10 +34,10 @@ def _ended(text: str, status: int) -> int:
 
 
 class _Parser(argparse.ArgumentParser):
-    """A parser whose help may fail to be written, and whose options take any value."""
+    """A parser whose options take any value, and which notices that its help can't be written."""
 
     def _get_values(self, action: Any, arg_strings: List[str]) -> Any:
-        # Of `--option=--` argparse would drop the value.
+        # argparse drops the value of `--option=--`.
         if action.option_strings and arg_strings == ["--"]:
             value = self._get_value(action, "--")
             self._check_value(action, value)
@@ -48,7 +49,7 @@ class _Parser(argparse.ArgumentParser):
 
 
 class _Once(argparse.Action):
-    """An option that may be given once. Where it isn't given there is no value of it."""
+    """An option that may be given once. If it is omitted, the namespace has no value for it."""
 
     def __call__(self, parser: argparse.ArgumentParser, namespace: argparse.Namespace, values: Any, option_string: Optional[str] = None) -> None:
         if hasattr(namespace, self.dest):
@@ -61,7 +62,7 @@ def _variable(text: str) -> Tuple[str, str]:
     if not equals:
         raise argparse.ArgumentTypeError(f"{text} isn't of the form NAME=TEXT")
     if not 1 <= len(name.encode()) <= LONGEST_NAME or len(value.encode()) > LONGEST_TEXT:
-        raise argparse.ArgumentTypeError("the name or the text of a variable has a length that isn't taken")
+        raise argparse.ArgumentTypeError("the name or the text of a variable is too short or too long")
     return name, value
 
 
@@ -88,7 +89,7 @@ def _options() -> argparse.ArgumentParser:
 
 
 def main(words: Optional[List[str]] = None) -> int:
-    """Runs what the words of a command line ask for, and returns the status. Where they can't be read it exits with 2."""
+    """Runs a command line and returns the status. Exits with 2 if its words are wrong."""
     words = sys.argv[1:] if words is None else words
     if not all(map(_is_utf8, words)):
         print("gherkin_run: not UTF-8", file=sys.stderr)
@@ -101,9 +102,12 @@ def main(words: Optional[List[str]] = None) -> int:
         options.error("no FILE is named")
     try:
         report = run(**asked)
-    except Fault as fault:
+    except FaultError as fault:
         print(f"gherkin_run: {fault}", file=sys.stderr)
         return fault.status
+    except ImportError as error:
+        print(f"gherkin_run: {error}", file=sys.stderr)
+        return NO_LIBRARY
     except ValueError as error:
         options.error(str(error))
     except OSError as error:
@@ -116,4 +120,7 @@ def main(words: Optional[List[str]] = None) -> int:
 
 
 if __name__ == "__main__":
+    # Python's own handler would wait for the end of the run.
+    if signal.getsignal(signal.SIGINT) is signal.default_int_handler:
+        signal.signal(signal.SIGINT, signal.SIG_DFL)
     sys.exit(main())

@@ -1,18 +1,19 @@
-"""The shared library and its two calls, as include/gherkin_run.h has them."""
+"""The shared library and its two functions, as include/gherkin_run.h declares them."""
 
 from __future__ import annotations
 
 import ctypes
+import functools
 import mmap
 import os
 from typing import NamedTuple, Optional, Sequence, Tuple
 
 NO_INPUT, LIBRARY, HOOKS, SOURCE = range(4)
-# Most reports fit a room of so many bytes, and of so many for each byte of the sources.
+# Most reports fit into this number of bytes, and this number more for each byte of the sources.
 FIRST_ROOM = 1 << 16
 ROOM_FOR_EACH = 8
 
-# A file or a variable: its name, and what it holds.
+# A file or a variable: its name and its text.
 Named = Tuple[bytes, bytes]
 
 
@@ -65,7 +66,7 @@ class Answer(ctypes.Structure):
 
 
 class Request(NamedTuple):
-    """What a call hands over, in values of Python."""
+    """The arguments of a call, as values of Python."""
 
     sources: Sequence[Named]
     tags: Sequence[bytes]
@@ -79,18 +80,21 @@ class Request(NamedTuple):
     format: int
 
 
+@functools.lru_cache(maxsize=None)
 def _loaded() -> ctypes.CDLL:
+    """Loads the shared library, once."""
     beside = os.path.join(os.path.dirname(os.path.abspath(__file__)), "libgherkin_run.so")
-    loaded = ctypes.CDLL(os.environ.get("GHERKIN_RUN_LIBRARY") or beside)
+    path = os.environ.get("GHERKIN_RUN_LIBRARY") or beside
     room = [ctypes.c_char_p, ctypes.c_size_t]
-    loaded.gherkin_run.argtypes = [ctypes.POINTER(Call), *room, ctypes.POINTER(Answer)]
-    loaded.gherkin_run.restype = None
-    loaded.gherkin_run_version.argtypes = room
-    loaded.gherkin_run_version.restype = ctypes.c_size_t
+    try:
+        loaded = ctypes.CDLL(path)
+        loaded.gherkin_run.argtypes = [ctypes.POINTER(Call), *room, ctypes.POINTER(Answer)]
+        loaded.gherkin_run.restype = None
+        loaded.gherkin_run_version.argtypes = room
+        loaded.gherkin_run_version.restype = ctypes.c_size_t
+    except (OSError, AttributeError) as error:
+        raise ImportError(f"cannot load the library of gherkin_run: {error}", path=path) from error
     return loaded
-
-
-_library = _loaded()
 
 
 def _text(value: bytes) -> Text:
@@ -102,7 +106,7 @@ def _named(value: Named) -> NamedText:
 
 
 def _call(request: Request) -> Call:
-    """The call of a request. No pointer in it is null: an array has one place more than it needs."""
+    """Builds the call of a request. Each array has one element more than it needs, so no pointer is null."""
     return Call(
         (NamedText * (len(request.sources) + 1))(*map(_named, request.sources)),
         len(request.sources),
@@ -124,7 +128,7 @@ def _call(request: Request) -> Call:
 
 
 def _room(size: int) -> ctypes.Array[ctypes.c_char]:
-    """Room for so many bytes, of which those that aren't written take no memory."""
+    """Reserves this number of bytes. Bytes that are never written take no memory."""
     try:
         return (ctypes.c_char * size).from_buffer(mmap.mmap(-1, size))
     except OSError:
@@ -132,18 +136,18 @@ def _room(size: int) -> ctypes.Array[ctypes.c_char]:
 
 
 def called(request: Request) -> Tuple[Answer, bytes]:
-    """The answer to a request, and the whole text."""
-    call, answer = _call(request), Answer()
+    """Makes a call, again if the text doesn't fit, and returns the answer and the whole text."""
+    library, call, answer = _loaded(), _call(request), Answer()
     size = FIRST_ROOM + ROOM_FOR_EACH * sum(len(text) for _, text in request.sources)
     while True:
         room = _room(size)
-        _library.gherkin_run(call, room, size, answer)
+        library.gherkin_run(call, room, size, answer)
         if answer.length <= size:
             return answer, ctypes.string_at(room, answer.length)
         size = answer.length
 
 
 def version() -> bytes:
-    """The version of the library."""
+    """Returns the version of the library."""
     room = ctypes.create_string_buffer(FIRST_ROOM)
-    return ctypes.string_at(room, _library.gherkin_run_version(room, FIRST_ROOM))
+    return ctypes.string_at(room, _loaded().gherkin_run_version(room, FIRST_ROOM))

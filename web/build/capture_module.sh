@@ -1,11 +1,11 @@
 #!/bin/sh
-# Builds crates/gk_c, and keeps the LLVM module that its static library is made of: web/build/capture_module.sh OUT
+# Builds crates/gk_c, and keeps the LLVM module of its static library: web/build/capture_module.sh OUT
 #
-# OUT is the module, as bitcode. The toolchain hands the module of a proved crate to its own clang, and keeps none. So a folder
-# of links stands in for that toolchain, in which clang is a script that copies what it is handed and then calls the real
-# one. crates/gk_c/out/libgk_c.a is the same as `rt lib` leaves there.
-# gk_c itself is proved here once more. The crates that it stands on are taken as they were built for the program that tools/keep.sh
-# kept; where there is none of these sources, `rt lib` builds them first.
+# OUT is the module, as bitcode. The toolchain passes the module of a proved crate to its own clang, and doesn't keep it. So
+# this script calls the toolchain through a folder of links, in which clang is a script that copies the module before it
+# calls the real clang. crates/gk_c/out/libgk_c.a is the same as that of `rt lib`.
+# gk_c is proved here again. Its dependencies are taken from the build that tools/keep.sh kept; if that was of other sources,
+# `rt lib` builds them first.
 set -eu
 
 out=$(readlink -f -- "$1")
@@ -45,7 +45,7 @@ done
     --antt-project "$kit/rattle/logic/antt-project.json" --logic-built "$kit/logic_built" --links gk_c= \
     --jobs "$(nproc)" --toolchain "$room/toolchain" --backend llvm -o out/libgk_c.a)
 if ! [ -s "$out" ]; then
-    echo "capture_module.sh: the toolchain handed no module to its clang" >&2
+    echo "capture_module.sh: the toolchain passed no module to its clang" >&2
     exit 1
 fi
 chmod 644 "$out"

@@ -1,4 +1,4 @@
-// What compiled Rattle calls for memory, over malloc, realloc and free, as the toolchain's own liblibc_c.a has it.
+// The memory functions that compiled Rattle calls, on top of malloc, realloc and free, as in the toolchain's liblibc_c.a.
 typedef unsigned long u64;
 typedef struct {
     u64 is_ok;

@@ -1,8 +1,7 @@
 #!/bin/sh
-# Makes what web/ hands out: web/build/make.sh [MODULE]
+# Rebuilds the page, its module and the sums: web/build/make.sh [MODULE]
 #
-# MODULE is what capture_module.sh kept. Without it, or without wasm-opt of binaryen, web/gherkin_run.wasm stays as it is. The
-# page is made anew, and so are the sums.
+# MODULE is the output of capture_module.sh. Without it, or without wasm-opt of binaryen, web/gherkin_run.wasm stays as it is.
 set -eu
 
 cd "$(dirname -- "$(readlink -f -- "$0")")/.."
@@ -11,7 +10,7 @@ if [ -n "${1:-}" ] && command -v wasm-opt > /dev/null; then
     chmod 644 gherkin_run.wasm
     build/tools.sh > made.tools
 else
-    echo "web/gherkin_run.wasm isn't made anew: no module is given, or there is no wasm-opt of binaryen"
+    echo "web/gherkin_run.wasm isn't rebuilt: no module is given, or wasm-opt of binaryen is missing"
 fi
 python3 build/make_page.py gherkin_run.wasm > try.html
 sha256sum gherkin_run.wasm try.html > made.sha256

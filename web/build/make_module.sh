@@ -1,8 +1,8 @@
 #!/bin/sh
-# Makes a WebAssembly module of the one that capture_module.sh kept: web/build/make_module.sh MODULE OUT
+# Builds the WebAssembly module from the output of capture_module.sh: web/build/make_module.sh MODULE OUT
 #
-# Needs the toolchain's clang and linker, and wasm-opt of binaryen, which makes the module's 64-bit memory a 32-bit one, as
-# every browser has.
+# Needs the toolchain's clang and linker, and wasm-opt of binaryen, which turns the module's 64-bit memory into a 32-bit
+# one, since not every browser has 64-bit memories.
 set -eu
 
 here=$(dirname -- "$(readlink -f -- "$0")")
@@ -10,13 +10,13 @@ kit=$(dirname -- "$(dirname -- "$(readlink -f -- "$(command -v rt)")")")
 clang=$kit/toolchain/bin/clang
 room=$(mktemp -d)
 trap 'rm -rf "$room"' EXIT
-# Neither vectors nor memory.copy, of which wasm-opt 108 can't make a module with a 32-bit memory.
+# No vectors and no memory.copy: wasm-opt 108 can't turn these into code for a 32-bit memory.
 to="--target=wasm64-unknown-unknown -mcpu=mvp -msign-ext -mmutable-globals --no-default-config -ffunction-sections -fdata-sections -O2"
 from="--target=x86_64-unknown-linux-gnu --no-default-config"
 $clang $from -x ir "$1" -S -emit-llvm -Xclang -disable-llvm-passes -o "$room/library.ll"
 python3 "$here/retarget.py" "$room/library.ll" "$room/library64.ll"
 $clang $to -mllvm -expand-div-rem-bits=64 -c -x ir "$room/library64.ll" -o "$room/library.o"
-# Compiled for x86-64 first, so that its struct is returned as the library takes it.
+# Compiled for x86-64 first, so that it returns its struct as the library expects.
 $clang $from -O2 -ffreestanding -nostdinc -S -emit-llvm "$here/heap.c" -o "$room/heap.ll"
 python3 "$here/retarget.py" "$room/heap.ll" "$room/heap64.ll"
 $clang $to -c -x ir "$room/heap64.ll" -o "$room/heap.o"

@@ -1,12 +1,14 @@
 #!/usr/bin/env python3
 """Makes the page, one file with all that it needs: make_page.py MODULE > try.html
 
-It has the page and the scripts of web/source, the WebAssembly module, and the features of examples/ with their arguments.
+It consists of the page and the scripts of web/source, the WebAssembly module, and the features of examples/ with their arguments.
 """
 
 import base64
+import hashlib
 import json
 import os
+import re
 import sys
 
 HOME = os.path.dirname(os.path.dirname(os.path.dirname(os.path.realpath(__file__))))
@@ -16,13 +18,13 @@ FILES = {"--library": "library", "--hooks": "hooks"}
 
 
 def read(*path):
-    """The text of a file of the repository."""
+    """Returns the text of a file of the repository."""
     with open(os.path.join(HOME, *path), encoding="utf-8") as file:
         return file.read()
 
 
 def inputs_of(words):
-    """The fields of the page for a command line."""
+    """Returns the fields of the page for a command line."""
     made = {"files": [], "tags": "", "lines": "", "variables": ""}
     words = iter(words)
     for word in words:
@@ -44,7 +46,7 @@ def inputs_of(words):
 
 
 def examples():
-    """The inputs of each example, by its name."""
+    """Returns the inputs of each example by its name, as JSON."""
     found = {}
     for name in sorted(os.listdir(os.path.join(HOME, "examples"))):
         stem, ending = os.path.splitext(name)
@@ -55,21 +57,35 @@ def examples():
     return json.dumps(found, ensure_ascii=False).replace("<", "\\u003c")
 
 
-def main():
-    """Puts the parts together."""
-    with open(sys.argv[1], "rb") as file:
-        module = base64.b64encode(file.read()).decode()
-    caller = read("web", "source", "gherkin_run.js").replace("export ", "")
-    parts = {"module": module, "worker": "\n" + caller + read("web", "source", "worker.js"), "examples": examples(),
-             "page": read("web", "source", "page.js")}
-    page = read("web", "source", "page.html")
+def filled(page, parts):
+    """Returns the page with each part in its place."""
     for name, text in parts.items():
         if "</script" in text or page.count("{%s}" % name) != 1:
             sys.exit(f"make_page.py: {name} doesn't fit into the page")
     for name, text in parts.items():
         before, after = page.split("{%s}" % name)
         page = before + text + after
-    sys.stdout.buffer.write(page.encode("utf-8"))
+    return page
+
+
+def hashes_of(page):
+    """Returns the hashes with which the page's policy allows its style sheet and its script, and no others."""
+    found = {}
+    for name in ("style", "script"):
+        text, = re.findall(f"<{name}>(.*?)</{name}>", page, re.DOTALL)
+        found[f"{name}_hash"] = "sha256-" + base64.b64encode(hashlib.sha256(text.encode()).digest()).decode()
+    return found
+
+
+def main():
+    """Prints the page."""
+    with open(sys.argv[1], "rb") as file:
+        module = base64.b64encode(file.read()).decode()
+    caller = read("web", "source", "gherkin_run.js").replace("export ", "")
+    page = filled(read("web", "source", "page.html"), {"page": read("web", "source", "page.js")})
+    page = filled(page, hashes_of(page))
+    parts = {"module": module, "worker": "\n" + caller + read("web", "source", "worker.js"), "examples": examples()}
+    sys.stdout.buffer.write(filled(page, parts).encode("utf-8"))
 
 
 if __name__ == "__main__":

@@ -1,5 +1,5 @@
 #!/bin/sh
-# Prints what makes web/gherkin_run.wasm: the toolchain, and wasm-opt
+# Prints the tools that build web/gherkin_run.wasm: the toolchain, and wasm-opt
 set -eu
 
 echo "$(rt version), $(wasm-opt --version)"

@@ -1,10 +1,17 @@
-// Calls gherkin_run.wasm as include/gherkin_run.h has it, with pointers and lengths of 64 bits.
+// Calls gherkin_run.wasm as include/gherkin_run.h describes, with pointers and lengths of 64 bits.
 const FORMATS = ["plain", "progress", "json"];
 const INPUTS = [null, "library", "hooks", "source"];
-// Most reports have at most so many bytes, and so many for each of the sources.
+// Most reports fit into this many bytes, and this many more for each byte of the sources.
 const FIRST_ROOM = 1 << 18;
 const ROOM_FOR_EACH = 8;
+const LAST_LINE = 4294967295;
 const SIZES = { call: 136, named: 32, text: 16, line: 4, answer: 24 };
+
+// Returns a line, or throws if it doesn't fit into 32 bits.
+function checkedLine(value) {
+    if (!Number.isInteger(value) || value < 0 || value > LAST_LINE) throw new RangeError(`not a line number: ${value}`);
+    return value;
+}
 
 // One instance of the module, and its memory.
 export class Instance {
@@ -18,7 +25,7 @@ export class Instance {
         return Number(at);
     }
 
-    // A view of the memory, which is another one after each growth.
+    // Returns a view of the memory. Views made before the memory grew can't be used any more.
     view(at, length) {
         return new DataView(this.exports.memory.buffer, at, length);
     }
@@ -27,7 +34,7 @@ export class Instance {
         return new Uint8Array(this.exports.memory.buffer, at, length);
     }
 
-    // A text at a place: where its bytes are, and how many.
+    // Copies a text into the memory, and puts its place and length at `at`.
     putText(at, value) {
         const given = typeof value === "string" ? new TextEncoder().encode(value) : value;
         const room = this.room(given.length);
@@ -45,7 +52,7 @@ export class Instance {
         this.putText(at + SIZES.text, value);
     }
 
-    // A list at a place of the call: where its elements are, and how many.
+    // Copies a list into the memory, and puts its place and length at `at`.
     putList(at, values, size, put) {
         const room = this.room(values.length * size);
         values.forEach((value, n) => put(room + n * size, value));
@@ -57,7 +64,7 @@ export class Instance {
         const named = (place, value) => this.putNamed(place, value);
         this.putList(at, sources, SIZES.named, named);
         this.putList(at + 16, tags, SIZES.text, (place, value) => this.putText(place, value));
-        this.putList(at + 32, lines, SIZES.line, (place, value) => this.view(place, 4).setUint32(0, value, true));
+        this.putList(at + 32, lines, SIZES.line, (place, value) => this.view(place, 4).setUint32(0, checkedLine(value), true));
         this.putList(at + 48, variables, SIZES.named, named);
         this.putNamed(at + 64, library ?? ["", ""]);
         this.putNamed(at + 96, hooks ?? ["", ""]);
@@ -66,12 +73,12 @@ export class Instance {
         return at;
     }
 
-    // Puts a request into the memory, and so much room for its text.
+    // Copies a request into the memory, with room for a text of this length.
     prepared(request, length) {
         return { call: this.call(request), room: this.room(length), length, answer: this.room(SIZES.answer) };
     }
 
-    // Runs what was prepared, and answers what came out; of the text, what there was room for.
+    // Runs a prepared request. Returns its result, with as much of the text as there was room for.
     called({ call, room, length, answer }) {
         this.exports.gherkin_run(BigInt(call), BigInt(room), BigInt(length), BigInt(answer));
         const said = this.view(answer, SIZES.answer);
@@ -88,9 +95,9 @@ export class Instance {
     }
 }
 
-// Answers a function that runs a request: `sources`, `variables`, `library` and `hooks` are pairs of a name and what it holds, as
-// strings or bytes, or lists of them. What it gives is the text, whether that is a report, the status, and a fault's place. Each
-// run has an instance of its own, so nothing of one is kept, also where it ended badly.
+// Returns a function that runs requests. In a request, `library` and `hooks` are pairs of a name and a text, and `sources` and
+// `variables` are lists of such pairs; each text is a string or bytes. The result has the text, whether it is a report, the
+// status, and the place of a fault. Each run has a new instance, so it keeps nothing of earlier runs, even failed ones.
 export async function load(bytes) {
     const module = await WebAssembly.compile(bytes);
     return (request) => {

@@ -1,4 +1,4 @@
-// Runs what the page asks for, one request after the other. The first message is the module, as base64.
+// Runs the page's requests one after another. The first message is the module, as base64.
 let running;
 
 onmessage = async ({ data }) => {

@@ -7,7 +7,7 @@ Feature: Stock
   Scenario: Apples are sold
     When the stock of apples changes by -3
     Then 7 apples are left
-    And an apple costs 2 euros
+    And the price of apples is 2 euros
 
   Scenario: The next scenario begins anew
     And 5 pears in stock

@@ -21,4 +21,4 @@ def after_tag(context, tag):
 
 
 def after_scenario(context, scenario):
-    assert "draft" not in context.orders, "a draft is left"
+    assert "the guest" not in context.orders, "the guest has an order"

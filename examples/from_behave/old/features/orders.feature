@@ -1,22 +1,22 @@
 Feature: Orders
   Scenario: An order has several lines
-    Given an order of Ada for:
+    Given Ada orders:
       '''
       3 apples
       1 loaf of bread
       '''
-    then the order of Ada has "bread"
+    then Ada's order includes "bread"
 
   Scenario: An order is cancelled
-    Given an order of Ada for "3 apples"
-    When the Order of Ada is cancelled
-    Then there is no order of Ada
+    Given Ada orders "3 apples"
+    When Ada's Order is cancelled
+    Then Ada has no order
 
   @eu
   Scenario Outline: An order says where it goes to: <name>
-    Given an order of <name> for "<what>"
+    Given <name> orders "<what>"
     Then the region is eu
-    And the order of <name> has "<what>"
+    And <name>'s order includes "<what>"
 
     Examples:
       | name | what   |
@@ -25,5 +25,5 @@ Feature: Orders
 
   @slow
   Scenario: An order takes its time
-    Given an order of Ada for "3 apples"
-    Then the order of Ada has "3 apples"
+    Given Ada orders "3 apples"
+    Then Ada's order includes "3 apples"

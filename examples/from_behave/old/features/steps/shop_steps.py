@@ -18,33 +18,33 @@ def left(context, n, name):
     assert context.stock[name] == n, context.stock[name]
 
 
-@then("an apple costs {n:d} euros")
-def costs(context, n):
-    assert context.prices["apples"] == n
+@then("the price of {name} is {n:d} euros")
+def price_is(context, name, n):
+    assert context.prices[name] == n
 
 
-@given("an order of {name} for")
+@given("{name} orders")
 def order_with_text(context, name):
     context.orders[name] = context.text
 
 
-@given('an order of {name} for "{what}"')
+@given('{name} orders "{what}"')
 def order(context, name, what):
     context.orders[name] = what
 
 
-@when("the order of {name} is cancelled")
+@when("{name}'s order is cancelled")
 def cancel(context, name):
     del context.orders[name]
 
 
-@then("there is no order of {name}")
+@then("{name} has no order")
 def no_order(context, name):
     assert name not in context.orders
 
 
-@then('the order of {name} has "{what}"')
-def order_has(context, name, what):
+@then('{name}\'s order includes "{what}"')
+def order_includes(context, name, what):
     assert what in context.orders[name]
 
 

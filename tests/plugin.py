@@ -1,0 +1,365 @@
+#!/usr/bin/env python3
+"""Tests the pytest plugin of python/: each function yields a trouble for each test, empty if it passed.
+
+tests/python.py calls `tests`, which runs pytest in folders below a room. `plugin.py alone` compares the outcomes of scenarios
+that run together with those of each one alone; it runs in another process, since perhaps only another Python has pytest.
+"""
+
+import collections
+import os
+import random
+import shutil
+import subprocess
+import sys
+import xml.etree.ElementTree
+
+import driver
+import gherkin_run
+import random_runs
+
+SUITES = 240
+# The fewest scenarios of these suites with each status, and the verdict of the test.
+FEWEST = {("passed", "passed"): 100, ("passed", "failed"): 50, ("failed", "failed"): 400, ("untested", "failed"): 100,
+          ("skipped", "skipped"): 10, ("skipped", "failed"): 3}
+SETTINGS = "[pytest]\ngherkin_files = *.feature\n"
+PYTHON_TEST = {"test_python.py": "def test_of_python():\n    pass\n"}
+SUITE = {
+    "good.feature": "Feature: good\n  Scenario: one\n    Given it passes\n  Scenario Outline: row <n>\n    Given own step\n"
+                    "    Examples:\n      | n |\n      | 1 |\n      | 2 |\n",
+    "bad.feature": "Feature: bad\n  Background:\n    Given it passes\n  Scenario: fails\n    Given it fails\n    * own step\n"
+                   "  Scenario: skips\n    Given it leaves\n    Then it fails\n  Scenario: is misspelt\n    Given it pases\n",
+    "own.steps": "step it passes => pass\nstep it fails => fail\nstep own step => pass\nstep it leaves => skip_scenario\n",
+    "pytest.ini": f"{SETTINGS}gherkin_library = own.steps\n",
+    "below/low.feature": "Feature: low\n  Scenario: low\n    Given own step\n    Then it fails\n",
+}
+RESULTS = {"fails": "failure", "skips": "skipped", "is misspelt": "failure", "one": "passed", "row 1 -- @1.1": "passed",
+           "row 2 -- @1.2": "passed"}
+FAILURES = """
+______________________________ bad.feature: fails ______________________________
+Feature: bad ... failed
+  Scenario: fails ... failed
+    Given it passes ... passed
+    Given it fails ... failed: fail step
+    * own step ... skipped
+
+bad.feature:5: failed: fail step
+___________________________ bad.feature: is misspelt ___________________________
+Feature: bad ... failed
+  Scenario: is misspelt ... failed
+    Given it passes ... passed
+    Given it pases ... undefined
+
+bad.feature:11: undefined
+=========================== short test summary info ============================
+SKIPPED [1] bad.feature:7: the scenario skipped itself
+==="""
+HOOKED = {
+    "hooked.feature": "Feature: hooked\n  Rule: one\n    Scenario: first\n      Given the file \"made\" should exist\n  @broken\n"
+                      "  Rule: two\n    Scenario: second\n      Given it passes\n  Rule: three\n    Scenario: third\n      Given it passes\n",
+    "own.hooks": "before_scenario:\nGiven a file named \"made\" containing \"x\"\nbefore_tag @broken:\nGiven it fails\n",
+    "pytest.ini": f"{SETTINGS}gherkin_hooks = own.hooks\n",
+}
+HOOKED_FAILURE = """
+Feature: hooked ... failed
+  Scenario: second ... untested
+    Given it passes ... untested
+  (rule, line 6: hooks and cleanups) ... failed
+
+hooked.feature:7: failed
+==="""
+# Hooks whose failure fails each scenario, and what the first failure ends with.
+AROUND = {
+    "after_feature": "    Given the file \"made\" should exist ... passed\n  (hooks and cleanups) ... failed\n\nhooked.feature:3: failed\n",
+    "after_all": "    Given the file \"made\" should exist ... passed\n(hooks and cleanups) ... failed\n\nhooked.feature:3: failed\n",
+    "after_scenario": "    Given the file \"made\" should exist ... passed\n    (hooks and cleanups) ... failed\n\nhooked.feature:3: failed\n",
+}
+NAMES = ["twice", "twice", "twice (2)", "twice", "", "", "a::b", ":::", "x [1]"]
+IDS = ["twice", "twice (3)", "twice (2)", "twice (4)", "Scenario", "Scenario (2)", "a: :b", ": : :", "x [1]"]
+# Prints the number of lines of each run, or that it was dry, and how often files of a suite are opened.
+COUNTING = """\
+import sys
+import gherkin_run.library
+
+calls, opened, called = [], [], gherkin_run.library.called
+
+def counted(request):
+    calls.append("dry" if request.dry_run else len(request.lines))
+    return called(request)
+
+def audit(event, words):
+    if event == "open" and str(words[0]).endswith((".feature", ".hooks", ".steps")):
+        opened.append(words[0])
+
+gherkin_run.library.called = counted
+sys.addaudithook(audit)
+
+def pytest_sessionfinish(session):
+    print("calls", calls, "opened", len(opened))
+"""
+# Keeps the last test from the choice, and adds it when the choice is finished.
+LATE = """\
+import pytest
+
+late = []
+
+def pytest_collection_modifyitems(items):
+    late.append(items.pop())
+
+@pytest.hookimpl(trylast=True)
+def pytest_collection_finish(session):
+    session.items.extend(late)
+"""
+CONTROLS = "\0\a\b\v\f\x1b\x7f\x85\x9b\u061c\u200e\u200f\u2028\u2029\u202a\u202e\u2066\u2069"
+SHOWN = r"\u{0}\u{7}\u{8}\u{b}\u{c}\u{1b}\u{7f}\u{85}\u{9b}\u{61c}\u{200e}\u{200f}\u{2028}\u{2029}\u{202a}\u{202e}\u{2066}\u{2069}"
+EVIL = {
+    "evil.feature": "Feature: evil\n  Scenario Outline: <n>\n    Given it fails <n>\n    Examples:\n      | n |\n      | x\\n::error::pwned |\n"
+                    f"      | a{CONTROLS}\t\rb |\n",
+    "\n::error::evil\x1b[1m.feature": "Feature: evil\n  Scenario: one\n    Given the scenario is skipped\n  Scenario: other\n    Given it fails\n",
+    "\n::error::fault\x1b.feature": "Feature: evil\nFeature: evil\n",
+    "::error::plain.feature": "Feature: evil\nFeature: evil\n",
+    # A name that isn't UTF-8.
+    "evil\udcff.feature": "Feature: evil\n  Scenario: bytes\n    Given it fails\n",
+    "pytest.ini": SETTINGS,
+}
+
+
+def interpreter():
+    """Returns a Python that has pytest, if there is one."""
+    paths = [os.path.join(it, "python3") for it in os.environ.get("PATH", "").split(":") if it]
+    found = [sys.executable, *filter(os.path.exists, paths)]
+    return next((it for it in found if driver.start(it, ["-c", "import pytest"])[0] == 0), None)
+
+
+class Pytest:
+    """pytest with the plugin, in a folder that has these files."""
+
+    def __init__(self, python, folder, files):
+        self.python, self.folder = python, folder
+        for name, text in files.items():
+            path = os.path.join(folder, name)
+            driver.write(os.path.dirname(path), {os.path.basename(path): text})
+
+    def __call__(self, *words, below="", environment=()):
+        """Returns the status and what is printed."""
+        command = [self.python, "-m", "pytest", "-p", "gherkin_run.pytest_plugin", *words]
+        done = subprocess.run(command, cwd=os.path.join(self.folder, below), capture_output=True, timeout=120, check=False,
+                              env={**os.environ, "COLUMNS": "80", **dict(environment)})
+        return done.returncode, (done.stdout + done.stderr).decode("utf-8", "surrogateescape")
+
+    def tests(self, *words, below=""):
+        """Returns what pytest's XML says of each test, in order."""
+        path = os.path.join(self.folder, "results.xml")
+        self(f"--junitxml={path}", "-o", "junit_family=xunit1", *words, below=below)
+        return list(xml.etree.ElementTree.parse(path).getroot().iter("testcase"))
+
+    def results(self, *words, below=""):
+        """Returns the result of each test by its name, in order."""
+        return {it.get("name"): it[0].tag if len(it) else "passed" for it in self.tests(*words, below=below)}
+
+
+def differs(what, found, wanted):
+    """Returns a trouble unless a value is the wanted one."""
+    return "" if found == wanted else f"{what}: {found!r}, and not {wanted!r}"
+
+
+def lacks(what, text, *parts):
+    """Yields a trouble for each part that a text lacks."""
+    for part in parts:
+        yield "" if part in text else f"{what}: no {part!r} in\n{text}"
+
+
+def suite(python, room):
+    """Ids, results and the text of a failure; some of the tests; a folder below."""
+    pytest = Pytest(python, os.path.join(room, "suite"), SUITE)
+    status, text = pytest("-v", "-rs", "--ignore=below")
+    yield differs("the status of pytest", status, 1)
+    yield from lacks("pytest -v", text, "bad.feature::fails FAILED", "bad.feature::skips SKIPPED", "good.feature::row 2 -- @1.2 PASSED",
+                     FAILURES)
+    yield differs("all results", pytest.results("--ignore=below"), RESULTS)
+    places = [(it.get("file"), int(it.get("line")) + 1) for it in pytest.tests("good.feature")]
+    yield differs("places of tests", places, [("good.feature", 2), ("good.feature", 8), ("good.feature", 9)])
+    yield differs("one test by its id", pytest.results("good.feature::row 1 -- @1.1"), {"row 1 -- @1.1": "passed"})
+    yield differs("tests by -k", pytest.results("-k", "row and not 2"), {"row 1 -- @1.1": "passed"})
+    yield differs("tests with -x", pytest.results("-x"), {"fails": "failure"})
+    yield differs("a folder below", pytest.results(below="below"), {"low": "failure"})
+    yield from lacks("a failure in a folder below", pytest("below")[1], "\nbelow/low.feature:4: failed: fail step\n")
+    yield from lacks("a failure of a run there", pytest(below="below")[1], "\nlow.feature:4: failed: fail step\n")
+    pytest()
+    yield differs("tests with --lf", pytest.results("--lf"), {"fails": "failure", "is misspelt": "failure", "low": "failure"})
+    if driver.start(python, ["-c", "import xdist"])[0] == 0:
+        yield differs("results of two processes", pytest.results("-n", "2", "--ignore=below", f"--basetemp={room}/workers"), RESULTS)
+
+
+def faults(python, room):
+    """Files that can't be read: a feature file, the library file, the shared library."""
+    fault = Pytest(python, os.path.join(room, "fault"), {"pytest.ini": SETTINGS, "two.feature": "Feature: a\nFeature: b\n", "below/x": ""})
+    for words, below, name in (([], "", "two.feature"), (["../two.feature"], "below", "../two.feature")):
+        status, text = fault(*words, below=below)
+        yield differs(f"the status at {name}", status, 2)
+        yield from lacks("a fault", text, f"\n{name}:2: unexpected line\n")
+    driver.write(fault.folder, {"long.feature": b"#" * ((1 << 24) + 1)})
+    yield from lacks("a file that is too long", fault("long.feature")[1], "\nlong.feature: longer than 16777216 bytes\n")
+    files = {**SUITE, **PYTHON_TEST, "pytest.ini": f"{SETTINGS}gherkin_library = none.steps\n"}
+    lost = Pytest(python, os.path.join(room, "lost"), files)
+    yield from lacks("a missing library file", lost()[1], f"\n[Errno 2] No such file or directory: '{lost.folder}/none.steps'\n")
+    yield differs("tests of Python without that file", lost("test_python.py")[0], 0)
+    files["pytest.ini"] = f"{SETTINGS}gherkin_library = bad.feature\n"
+    wrong = Pytest(python, os.path.join(room, "wrong"), files)
+    yield from lacks("a wrong library file", wrong()[1], "\nbad.feature:1: bad step type\n")
+    unloaded = {"GHERKIN_RUN_LIBRARY": "/none.so"}
+    status, text = wrong(environment=unloaded)
+    yield differs("the status without the shared library", status, 2)
+    yield from lacks("a missing shared library", text, "\ncannot load the library of gherkin_run: /none.so: cannot open shared object file")
+    yield differs("tests of Python without it", wrong("test_python.py", environment=unloaded)[0], 0)
+
+
+def hooks(python, room):
+    """A hooks file: what it sets up, and whom its failures fail."""
+    pytest = Pytest(python, os.path.join(room, "hooked"), HOOKED)
+    yield differs("results with hooks", pytest.results(), {"first": "passed", "second": "failure", "third": "passed"})
+    yield from lacks("the failure of a hook", pytest("-k", "second")[1], HOOKED_FAILURE)
+    for hook, end in AROUND.items():
+        driver.write(pytest.folder, {"own.hooks": f"before_scenario:\nGiven a file named \"made\" containing \"x\"\n{hook}:\nGiven it fails\n"})
+        yield differs(f"results with {hook}", set(pytest.results().values()), {"failure"})
+        yield from lacks(f"the failure of {hook}", pytest("-k", "first")[1], end)
+
+
+def settings(python, room):
+    """Files that are collected, and their names."""
+    foreign = {**PYTHON_TEST, "foreign.feature": "Funktionalität: of another tool\n"}
+    unset = Pytest(python, os.path.join(room, "unset"), foreign)
+    yield differs("results without the setting", unset.results(), {"test_of_python": "passed"})
+    files = {**foreign, "pytest.ini": "[pytest]\ngherkin_files = run/*.feature 'a b*'\n"}
+    for name in ("run/in.feature", "run/below/out.feature", "out.feature", "a b.txt"):
+        files[name] = f"Feature: f\nScenario: {name}\nGiven it passes\n"
+    chosen = Pytest(python, os.path.join(room, "chosen"), files)
+    yield differs("files that are chosen", set(chosen.results()), {"test_of_python", "run/in.feature", "a b.txt"})
+    files = {"names.feature": "Feature: f\n" + "".join(f"Scenario: {it}\nGiven it passes\n" for it in NAMES), "pytest.ini": SETTINGS}
+    named = Pytest(python, os.path.join(room, "named"), files)
+    yield differs("names", list(named.results()), IDS)
+    for name in IDS:
+        yield differs(f"the test {name!r} by its id", list(named.results(f"names.feature::{name}")), [name])
+
+
+def costs(python, room):
+    """Each file is read once, and runs once beside its dry run, with the chosen lines only."""
+    files = {**SUITE, "own.hooks": "", "pytest.ini": f"{SUITE['pytest.ini']}gherkin_hooks = own.hooks\n", "conftest.py": COUNTING}
+    pytest = Pytest(python, os.path.join(room, "counted"), files)
+    for words, wanted in [([], "calls ['dry', 'dry', 'dry', 3, 3, 1] opened 5"), (["-k", "one or row"], "calls ['dry', 'dry', 'dry', 3] opened 5"),
+                          (["good.feature::one"], "calls ['dry', 1] opened 3"), (["--collect-only"], "calls ['dry', 'dry', 'dry'] opened 5")]:
+        yield from lacks(f"pytest {words}", pytest(*words)[1], wanted)
+
+
+def late(python, room):
+    """A test that isn't in pytest's choice has its own outcome all the same."""
+    pytest = Pytest(python, os.path.join(room, "late"), {**SUITE, "conftest.py": LATE})
+    for name, wanted in (("good.feature", ["passed"] * 3), ("bad.feature", ["failure", "skipped", "failure"])):
+        yield differs(f"results of {name}", list(pytest.results(name).values()), wanted)
+
+
+def controls(python, room):
+    """Control characters of names, texts and paths are escaped wherever pytest prints them."""
+    pytest = Pytest(python, os.path.join(room, "evil"), EVIL)
+    text = pytest("-vv", "-rA", "--continue-on-collection-errors")[1]
+    text += pytest("-rA", "--continue-on-collection-errors")[1] + pytest("--collect-only", "-q")[1]
+    found = {it for it in text if it in CONTROLS + "\t\r"}
+    yield differs("control characters", found, set())
+    yield differs("lines that are commands", [it for it in text.split("\n") if it.startswith("::")], [])
+    shown = rf"a{SHOWN}\t\rb"
+    yield from lacks("escapes", text, rf"evil.feature::{shown} -- @1.2 FAILED", rf"    Given it fails {shown} ... undefined",
+                     r"evil.feature::x\n: :error: :pwned -- @1.1 FAILED", r"Outline: x\n::error::pwned -- @1.1 ... failed",
+                     r"\n: :error: :fault\u{1b}.feature:2: unexpected line", r"SKIPPED [1] \n: :error: :evil\u{1b}[1m.feature:2: ", r"evil\u{dcff}.feature::bytes",
+                     "\nevil\\u{dcff}.feature:3: failed: fail step\n", "\n: :error: :plain.feature:2: unexpected line\n")
+
+
+def installed(python, room):
+    """A wheel has the whole package, and pytest finds the plugin of an installed one."""
+    build = "from setuptools import build_meta; import wheel; build_meta.build_wheel(\"..\")"
+    if driver.start(python, ["-c", "import setuptools, wheel"])[0]:
+        print(f"no wheel is built: {python} has no setuptools or no wheel")
+        return
+    shutil.copytree(os.path.join(driver.HOME, "python"), os.path.join(room, "wheel", "python"))
+    status, _, stderr = driver.start(python, ["-c", build], os.path.join(room, "wheel", "python"))
+    found = [it for it in os.listdir(os.path.join(room, "wheel")) if it.endswith(".whl")]
+    yield differs(f"wheels, after {stderr.decode()}", (status, found), (0, [f"gherkin_run-{gherkin_run.__version__}-py3-none-any.whl"]))
+    site = os.path.join(room, "wheel", "site")
+    shutil.unpack_archive(os.path.join(room, "wheel", found[0]), site, "zip")
+    files = sorted(os.listdir(os.path.join(driver.HOME, "python", "gherkin_run")))
+    yield differs("files of the wheel", sorted(os.listdir(os.path.join(site, "gherkin_run"))), [it for it in files if it != "__pycache__"])
+    pytest = Pytest(python, os.path.join(room, "installed"), SUITE)
+    path = {"PYTHONPATH": site}
+    status, stdout, _ = driver.start(python, ["-m", "pytest", "-q", "good.feature"], pytest.folder, {**os.environ, **path})
+    yield differs("the installed plugin", (status, b"3 passed" in stdout), (0, True))
+
+
+def together(python):
+    """Scenarios that run together have the outcomes that they have alone."""
+    status, stdout, stderr = driver.start(python, [__file__, "alone"], patience=300)
+    *troubles, count = stdout.decode().splitlines() or ["0"]
+    yield from troubles
+    yield "" if status == 0 else f"plugin.py alone ends with {status}: {stderr.decode()}"
+    yield from [""] * (int(count) - len(troubles))
+
+
+def made_suite(seed):
+    """Returns the files of a random suite, as arguments of a run. A third of the suites has no hooks."""
+    maker = random_runs.Maker(seed)
+    files = {"features": random_runs.text_of(maker.feature("f"))}
+    if seed % 3:
+        files["hooks"] = random_runs.text_of_hooks(maker.hooks())
+    if maker.is_own:
+        files["library"] = random_runs.LIBRARY
+    return {kind: gherkin_run.Source(kind, text) for kind, text in files.items()}
+
+
+def chosen_outcomes(files, chance):
+    """Returns the outcomes of some scenarios that run together."""
+    def outcomes(**options):
+        return pytest_plugin.outcomes(gherkin_run.run(**files, **options, format="json").data)
+
+    lines = [it.scenario["line"] for it in outcomes(dry_run=True) if chance.random() < 0.8]
+    return [it for it in outcomes(lines=lines) if it.scenario["line"] in lines]
+
+
+def printed(outcome):
+    """Returns the lines of an outcome in a report without what is skipped."""
+    head, *lines = outcome.lines()
+    if outcome.scenario["status"] == "skipped":
+        lines = [it for it in lines if not it.startswith(("  Scenario", "    "))]
+    return lines if head.endswith(" ... skipped") else [head, *lines]
+
+
+def compared():
+    """Prints a trouble for each scenario whose outcome isn't the one that it has alone, and then the number of scenarios."""
+    chance, verdicts = random.Random(11), collections.Counter()
+    for seed in range(SUITES):
+        files = made_suite(seed)
+        for outcome in chosen_outcomes(files, chance):
+            line = outcome.scenario["line"]
+            alone = gherkin_run.run(**files, lines=[line], no_skipped=True)
+            wanted = alone.passed, [it for it in alone.text.split("\n")[:-4] if it]
+            found = outcome.verdict() in ("passed", "skipped"), printed(outcome)
+            if found != wanted:
+                print(f"suite {seed}, line {line}: {found}, and alone {wanted}")
+            verdicts[outcome.scenario["status"], outcome.verdict()] += 1
+    if any(verdicts[it] < count for it, count in FEWEST.items()):
+        print(f"only these verdicts: {verdicts}")
+    print(sum(verdicts.values()))
+
+
+def tests(room):
+    """Yields the troubles of all tests, or says why there are none."""
+    python = interpreter()
+    if python is None:
+        print("the pytest plugin isn't tested: there is no python3 with pytest")
+        return
+    folder = os.path.join(room, "pytest")
+    for part in (suite, faults, hooks, settings, costs, late, controls, installed):
+        yield from part(python, folder)
+    yield from together(python)
+
+
+if __name__ == "__main__":
+    # Here pytest exists.
+    from gherkin_run import pytest_plugin
+    compared()

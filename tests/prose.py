@@ -1,0 +1,66 @@
+"""How the pages for users read: what documents.py finds of README.md, docs/guide/ and docs/FAULTS.md.
+
+Such a page has lines of at most 100 columns outside of tables and fenced blocks, sentences of at most 30 words, cells of
+at most 25, at most 4 marks for 1,000 words, and a page of docs/guide/ at most 200 lines. A mark is a word or a phrase that
+sounds translated.
+"""
+
+import re
+
+COLUMNS, SENTENCE, CELL, MARKS, GUIDE_LINES = 100, 30, 25, 4, 200
+FOREIGN = re.compile("|".join([
+    r"\b[Ww]here (?:it|there|they|one|none|no|nothing|an?|the|that|this|each|all|what|memory|something|you|its|their)\b",
+    r"\b(?:stands?|stood|standing|mend(?:s|ed)?|answer(?:s|ed)?|blanks?|besides|mostly|likewise|whereof)\b",
+    r"\bbut for\b", r"(?<![-\w])else\b(?! if)", r"\bso many\b", r"\bas many as\b", r"\bfor want of\b", r"\bwant of memory\b",
+    r"\bwho(?:ever)? (?:wants|knows|comes|reads|writes|calls)\b", r"\bof (?:its|their|your) own\b", r"\bin turn\b",
+    r"\bg(?:iven?|ives|ave) up\b", r"\bhand(?:s|ed)? (?:in|over|out|on)\b", r"\bof wh(?:ich|om)\b", r"\bwhat of\b",
+    r"\b(?:that (?:is|are)|isn't|aren't) there\b", r"\bmay (?:stand|come)\b", r"\bearn(?:s|ed)?\b", r"\b(?:is|are) had\b"]))
+
+
+def plain(text):
+    """A text with an X for each piece in code style, and without the targets of its links."""
+    return re.sub(r"\[([^\]]*)\]\([^)]*\)", r"\1", re.sub(r"`[^`]*`", "X", text))
+
+
+def pieces(text):
+    """The paragraphs, list items and cells of a page without fenced blocks: each with its line, and whether it is a cell."""
+    paragraph, start = [], 0
+    for number, line in enumerate([*text.split("\n"), ""], 1):
+        line = line.strip()
+        if paragraph and (not line or line.startswith("|") or re.match(r"#|>|[-*] |\d+\. ", line)):
+            yield start, plain(" ".join(paragraph)), False
+            paragraph = []
+        if line.startswith("|"):
+            yield from ((number, plain(cell), True) for cell in line.strip("|").split(" | "))
+        elif line:
+            start = start if paragraph else number
+            paragraph.append(re.sub(r"^(?:#+|>|[-*]|\d+\.) +", "", line))
+
+
+def long_pieces(text):
+    """Sentences and cells with too many words."""
+    for number, piece, is_cell in pieces(text):
+        lengths = [len(it.split()) for it in re.split(r"(?<=[.:;?!])\s+", piece)]
+        if max(lengths) > SENTENCE:
+            yield number, f"a sentence of {max(lengths)} words"
+        if is_cell and len(piece.split()) > CELL:
+            yield number, f"a cell of {len(piece.split())} words"
+
+
+def marks(text):
+    """The marks of a page that has too many of them."""
+    found = [(number, f"'{it.group()}'") for number, piece, _ in pieces(text) for it in FOREIGN.finditer(piece)]
+    words = sum(len(piece.split()) for _, piece, _ in pieces(text))
+    return found if 1000 * len(found) > MARKS * max(words, 1000) else []
+
+
+def hard_to_read(page, text, without_blocks):
+    """What makes a page hard to read, with its lines."""
+    for number, line in enumerate(without_blocks.split("\n"), 1):
+        if len(line) > COLUMNS and not line.startswith("|"):
+            yield number, f"{len(line)} columns"
+    yield from long_pieces(without_blocks)
+    yield from marks(without_blocks)
+    lines = text.count("\n")
+    if page.startswith("docs/guide/") and lines > GUIDE_LINES:
+        yield lines, f"more than {GUIDE_LINES} lines"

@@ -1,0 +1,3 @@
+Feature: Types
+  Scenario: The only one
+    Given a lamp
