@@ -17,6 +17,10 @@ use Rattle.gk_run.specs.Section.{Cut, around_of, happened}
 use Rattle.gk_run.specs.SectionHooks.{begun, entered}
 use Rattle.gk_run.specs.WalkContracts.{SoFar, stand_of}
 
+-- These events of a section's before list happened: all of them, or those up to the one in which memory was refused.
+abbrev pub IsOpening : Run → Level → List (List ℕ) → State → List Event → Type 0
+IsOpening run level tags outside first = SoFar false (is_memory_ending (ended_in first)) (begun run.library run.hooks level tags outside) [] first
+
 -- A section was begun from the state outside: these events of its before list happened, all of them, or those up to the one in which memory was refused.
 pub record IsBegun (run : Run) (level : Level) (tags : List (List ℕ)) (outside : State) (first : List Event) (section : OpenSection) (now : SandboxValue) : Type 0 where
   pub so_far : SoFar false (is_memory_ending section.before) (begun run.library run.hooks level tags outside) [] first
@@ -43,8 +47,11 @@ abbrev pub Opens : {S : Type 0} → (S → Event → S → Type 0) → shared.Ru
 Opens hears run section old opened new first last =
     (is : IsOpened (run_value run) section.level (texts section.tags.now) old new opened) × FoldsTo hears first is.first last
 
--- The end of a section that was begun so was told, with how its hooks and cleanups ended.
+-- The end of a section was told, whose hooks and cleanups ended so and of whose before list these events happened: all of the section's events after what is inside of it, cut as the before list is.
+abbrev pub IsEndTold : {S : Type 0} → (S → Event → S → Type 0) → Run → Level → List (List ℕ) → State → Status → List Event → S → S → Type 0
+IsEndTold hears run level tags outside around first begin end = (last : List Event) × FoldsTo hears begin last end × IsSectionEnd run level tags outside around first last
+
+-- The end of a section that was begun so was told.
 abbrev pub EndsAround : {S : Type 0} → (S → Event → S → Type 0) → Run → Level → List (List ℕ) → OpenSection → SandboxValue → Status → S → S → Type 0
 EndsAround hears run level tags opened now around begin end =
-    (outside : State) (first : List Event) → IsBegun run level tags outside first opened now →
-    (last : List Event) × FoldsTo hears begin last end × IsSectionEnd run level tags outside around first last
+    (outside : State) (first : List Event) → IsBegun run level tags outside first opened now → IsEndTold hears run level tags outside around first begin end
