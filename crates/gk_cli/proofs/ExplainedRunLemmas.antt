@@ -1,4 +1,5 @@
 -- Features that are told to an explainer one after another, and what is written of them.
+use Rattle.std.specs.List.{FoldsTo}
 use Rattle.std.proofs.Common.{◌≡◌, ℕ, Bool, true, false, ◌&&◌, List, [], ◌∷◌, ◌++◌, inl, inr, refl, ap, sym, subst, ◌∙◌, append_assoc}
 use Rattle.std.proofs.lemmas.List.{append-nil}
 use Rattle.gk_world.specs.State.{Contents, State, state_of}
@@ -12,18 +13,16 @@ use Rattle.gk_run.specs.Results.{FeatureRow}
 use Rattle.gk_run.specs.Run.{Run}
 use Rattle.gk_run.specs.Chosen.{ChosenValue}
 use Rattle.gk_run.specs.Cases.{stays_open}
-use Rattle.gk_run.specs.Acting.{CleanupValue}
-use Rattle.gk_run.specs.Cleanups.{cleanups_value}
-use Rattle.gk_run.specs.Ending.{has_passed}
+use Rattle.gk_run.specs.Ending.{has_passed, is_memory_ending}
 use Rattle.gk_run.specs.Features.{IsFeatureResult}
 use Rattle.gk_run.specs.Judged.{Judged, BeginsJudged}
 use Rattle.gk_run.specs.OpenRun.{AreFeatures, IsStarted, IsKept, FinishedRunsAreJudged}
-use Rattle.gk_run.specs.OpenSection.{IsBegun, IsSectionEnd}
-use Rattle.gk_run.specs.declared.open_section.OpenSection.{OpenSection}
+use Rattle.gk_run.specs.Events.{Event, Stand, left_by}
+use Rattle.gk_run.specs.SectionContracts.{EndsAround, IsEndTold}
 use Rattle.gk_run.specs.Running.{IsSame}
-use Rattle.gk_run.specs.SectionHooks.{begun as begun_by}
-use Rattle.gk_run.specs.Walk.{Walked, IsWalked}
-use Rattle.gk_run.specs.Watching.{IsStartTold, IsFeatureTold, IsFinishTold}
+use Rattle.gk_run.specs.SectionHooks.{begun as begun_by, entered}
+use Rattle.gk_run.specs.WalkContracts.{SoFar, stand_of}
+use Rattle.gk_run.specs.Watching.{IsFeatureTold}
 use Rattle.gk_report.specs.declared.summary.Summary.{Summary}
 use Rattle.gk_report.specs.Summary.{summary_of}
 use Rattle.gk_explain.specs.declared.explainer.Explainer.{Explainer}
@@ -156,47 +155,53 @@ explaining_stopped run first now first_open all old so_far f left is_open there 
 
 -- ---- the run around its features
 
--- A section whose before list passed whole stands in the state that the list leaves.
-passed_state : (w : Walked) (ended : Ending) (now : State) (cleanups : List CleanupValue) → IsWalked w ended now cleanups → has_passed ended ≡ true → now ≡ w.state
-passed_state w endings.Passed now cleanups walked passed = walked.1
-passed_state w endings.Failed now cleanups walked passed = absurd cc
-passed_state w endings.Skipped now cleanups walked passed = absurd cc
-passed_state w endings.Memory now cleanups walked passed = absurd cc
+-- A section whose before list passed whole stands where the list leaves it.
+passed_stand : (ended : Ending) (all first : List Event) (start now : Stand) → SoFar false (is_memory_ending ended) all [] first → now ≡ left_by start first → has_passed ended ≡ true → now ≡ left_by start all
+passed_stand endings.Passed all first start now told is passed = is ∙ ap (left_by start) (sym (told ∙ append-nil first))
+passed_stand endings.Failed all first start now told is passed = absurd cc
+passed_stand endings.Skipped all first start now told is passed = absurd cc
+passed_stand endings.Memory all first start now told is passed = absurd cc
 
 -- The beginning of a run and its features were told.
 pub first_explained : (run : Run) (hooks : List ℕ) (old started : SandboxValue) (suite : Suite) (first begun : Explainer) (features : List ChosenValue) (rows : List FeatureRow) (text : List ℕ) (told : Explainer) →
-    IsStarted run old started suite → said first ≡ nothing_said run.library hooks → IsStartTold Hears run (state_of old.now) suite.section.before first begun →
-    AreExplained run (state_of started.now) suite.is_open features rows text begun told → AreFirstExplained run hooks (state_of old.now) suite.section.before features rows text told
-first_explained run hooks old started suite first begun features rows text told start silent opening explained = record {
-  first = first;
-  silent = silent;
-  begun = begun;
-  start = opening;
-  state = state_of started.now;
-  from = λ passed. passed_state (begun_by run.library run.hooks levels.Run [] (state_of old.now)) suite.section.before (state_of started.now) (cleanups_value suite.section.cleanups) start.opened.begins passed;
-  told = subst (λ b. AreExplained run (state_of started.now) b features rows text begun told) start.passed explained;
-}
+    (start : IsStarted run old started suite) → said first ≡ nothing_said run.library hooks → FoldsTo Hears first start.opened.first begun →
+    AreExplained run (state_of started.now) suite.is_open features rows text begun told → AreFirstExplained run hooks (state_of old.now) start.opened.first features rows text told
+first_explained run hooks old started suite first begun features rows text told start silent opening explained =
+    let outside = state_of old.now in
+    let events = start.opened.first in
+    let begins = start.opened.begins in
+    let all = begun_by run.library run.hooks levels.Run [] outside in
+    record {
+      first = first;
+      silent = silent;
+      begun = begun;
+      opens = subst (λ (e : Ending). SoFar false (is_memory_ending e) all [] events) begins.ends begins.so_far;
+      start = opening;
+      state = state_of started.now;
+      from = λ passed. ap (λ (x : Stand). x.state) (passed_stand suite.section.before all events (entered outside) (stand_of started suite.section.cleanups) begins.so_far begins.stands (ap has_passed begins.ends ∙ passed));
+      told = subst (λ b. AreExplained run (state_of started.now) b features rows text begun told) (start.passed ∙ ap has_passed begins.ends) explained;
+    }
 
 -- All of a run was told and written.
-pub whole_explained : (run : Run) (hooks : List ℕ) (contents : Contents) (before : Ending) (features : List ChosenValue) (rows : List FeatureRow) (around : Status) (parts : List ℕ) (told last : Explainer) (old there new : Device) (answer : ℕ) →
-    (summary : Summary) → summary ≡ summary_of rows → Judged run contents features (results_with rows around) → AreFirstExplained run hooks (state_of contents) before features rows parts told →
-    IsFinishTold Hears run (state_of contents) before around told last → IsWritten old there parts → IsEndWritten last summary around there new answer → IsExplained run hooks contents features old new answer
-whole_explained run hooks contents before features rows around parts told last old there new answer summary counted judged first finish written end =
+pub whole_explained : (run : Run) (hooks : List ℕ) (contents : Contents) (opening : List Event) (features : List ChosenValue) (rows : List FeatureRow) (around : Status) (parts : List ℕ) (told last : Explainer) (old there new : Device) (answer : ℕ) →
+    (summary : Summary) → summary ≡ summary_of rows → Judged run contents features (results_with rows around) → AreFirstExplained run hooks (state_of contents) opening features rows parts told →
+    IsEndTold Hears run levels.Run [] (state_of contents) around opening told last → IsWritten old there parts → IsEndWritten last summary around there new answer → IsExplained run hooks contents features old new answer
+whole_explained run hooks contents opening features rows around parts told last old there new answer summary counted judged first finish written end =
     let done = end rows counted in
     record {
       results = results_with rows around;
       judged = judged;
       text = parts ++ last_text (said last) rows around;
-      explains = record { before = before; parts = parts; told = told; first = first; last = last; finish = finish; uncut = done.0; whole = refl };
+      explains = record { opening = opening; parts = parts; told = told; first = first; last = last; finish = finish; uncut = done.0; whole = refl };
       written = written_more old there new parts (last_text (said last) rows around) written done.1;
       returned = done.2;
     }
 
 -- All of a run was told, and its end wasn't written whole.
-pub whole_stopped : (run : Run) (hooks : List ℕ) (contents : Contents) (before : Ending) (features : List ChosenValue) (rows : List FeatureRow) (around : Status) (parts : List ℕ) (told last : Explainer) (old there new : Device) (fault : RunFault) →
-    (summary : Summary) → summary ≡ summary_of rows → Judged run contents features (results_with rows around) → AreFirstExplained run hooks (state_of contents) before features rows parts told →
-    IsFinishTold Hears run (state_of contents) before around told last → IsWritten old there parts → IsEndStopped last summary around there new fault → IsExplainedUpTo run hooks contents features old new fault
-whole_stopped run hooks contents before features rows around parts told last old there new fault summary counted judged first finish written (inl refused) =
+pub whole_stopped : (run : Run) (hooks : List ℕ) (contents : Contents) (opening : List Event) (features : List ChosenValue) (rows : List FeatureRow) (around : Status) (parts : List ℕ) (told last : Explainer) (old there new : Device) (fault : RunFault) →
+    (summary : Summary) → summary ≡ summary_of rows → Judged run contents features (results_with rows around) → AreFirstExplained run hooks (state_of contents) opening features rows parts told →
+    IsEndTold Hears run levels.Run [] (state_of contents) around opening told last → IsWritten old there parts → IsEndStopped last summary around there new fault → IsExplainedUpTo run hooks contents features old new fault
+whole_stopped run hooks contents opening features rows around parts told last old there new fault summary counted judged first finish written (inl refused) =
     inl
     (record {
       done = features;
@@ -204,44 +209,42 @@ whole_stopped run hooks contents before features rows around parts told last old
       whole = sym (append-nil features);
       rows = rows;
       judged = (results_with rows around, [], judged, sym (append-nil rows));
-      before = before;
+      opening = opening;
       text = parts;
       told = told;
       explained = first;
       stopped = subst (λ w. IsStopped old new parts w) (sym refused.1) (subst (λ d. IsStopped old d parts Memory) refused.0 (stopped_here old there parts written));
     })
-whole_stopped run hooks contents before features rows around parts told last old there new fault summary counted judged first finish written (inr stops) =
+whole_stopped run hooks contents opening features rows around parts told last old there new fault summary counted judged first finish written (inr stops) =
     let done = stops rows counted in
     inr
     (record {
       results = results_with rows around;
       judged = judged;
       text = parts ++ last_text (said last) rows around;
-      explains = record { before = before; parts = parts; told = told; first = first; last = last; finish = finish; uncut = done.0; whole = refl };
+      explains = record { opening = opening; parts = parts; told = told; first = first; last = last; finish = finish; uncut = done.0; whole = refl };
       stopped = stopped_after old there new parts (last_text (said last) rows around) fault written done.1;
     })
 
 -- What is known of a run whose features were told and written, once it was finished.
-pub record IsRunTold (run : Run) (hooks : List ℕ) (contents : Contents) (before : Ending) (features : List ChosenValue) (rows : List FeatureRow) (around : Status) (parts : List ℕ) (told last : Explainer) : Type 0 where
+pub record IsRunTold (run : Run) (hooks : List ℕ) (contents : Contents) (opening : List Event) (features : List ChosenValue) (rows : List FeatureRow) (around : Status) (parts : List ℕ) (told last : Explainer) : Type 0 where
   pub judged : Judged run contents features (results_with rows around)
-  pub first : AreFirstExplained run hooks (state_of contents) before features rows parts told
-  pub finish : IsFinishTold Hears run (state_of contents) before around told last
+  pub first : AreFirstExplained run hooks (state_of contents) opening features rows parts told
+  pub finish : IsEndTold Hears run levels.Run [] (state_of contents) around opening told last
 
 pub run_told : FinishedRunsAreJudged → (run : Run) (hooks : List ℕ) (old started later : SandboxValue) (suite left : Suite) (first begun told last : Explainer) (features : List ChosenValue) (rows : List FeatureRow) (around : Status) (parts : List ℕ) →
-    IsStarted run old started suite → said first ≡ nothing_said run.library hooks → IsStartTold Hears run (state_of old.now) suite.section.before first begun →
+    (start : IsStarted run old started suite) → said first ≡ nothing_said run.library hooks → FoldsTo Hears first start.opened.first begun →
     AreFeatures run (state_of started.now) suite.is_open features rows → AreExplained run (state_of started.now) suite.is_open features rows parts begun told → IsKept suite left → IsSame started later →
-    ((outside : State) → IsBegun run levels.Run [] outside left.section later → IsSectionEnd run levels.Run [] outside around (has_passed left.section.before)) →
-    ((outside : State) → IsBegun run levels.Run [] outside left.section later → IsFinishTold Hears run outside left.section.before around told last) →
-    IsRunTold run hooks old.now suite.section.before features rows around parts told last
-run_told law run hooks old started later suite left first begun told last features rows around parts start silent opening are explained kept same ends finish = record {
-  judged = judged_by law run old started later suite left around features rows start kept same are ends;
+    EndsAround Hears run levels.Run [] left.section later around told last → IsRunTold run hooks old.now start.opened.first features rows around parts told last
+run_told law run hooks old started later suite left first begun told last features rows around parts start silent opening are explained kept same finish = record {
+  judged = judged_by law run old started later suite left around features rows start kept same are (λ outside events begins. let end = finish outside events begins in (end.0, end.2));
   first = first_explained run hooks old started suite first begun features rows parts told start silent opening explained;
-  finish = subst (λ (x : OpenSection). IsFinishTold Hears run (state_of old.now) x.before around told last) kept.section (finish (state_of old.now) (begun_still run old started later suite left start kept same));
+  finish = finish (state_of old.now) start.opened.first (begun_still run old started later suite left start kept same);
 }
 
 -- Not all features of a run were told and written.
 pub part_explained : (run : Run) (hooks : List ℕ) (old started : SandboxValue) (suite : Suite) (first begun : Explainer) (features : List ChosenValue) (before : Device) (so_far : ExplainedSoFar) (new : Device) (fault : RunFault) →
-    IsStarted run old started suite → said first ≡ nothing_said run.library hooks → IsStartTold Hears run (state_of old.now) suite.section.before first begun → so_far.explainer ≡ begun →
+    (start : IsStarted run old started suite) → said first ≡ nothing_said run.library hooks → FoldsTo Hears first start.opened.first begun → so_far.explainer ≡ begun →
     ((done others : List ChosenValue) (rows : List FeatureRow) → AreFeatures run (state_of started.now) suite.is_open done rows → BeginsJudged run old.now (done ++ others) rows) →
     AreExplainedUpTo run (state_of started.now) suite.is_open features before so_far new fault → IsExplainedUpTo run hooks old.now features before new fault
 part_explained run hooks old started suite first begun features before so_far new fault start silent opening same begins up_to =
@@ -252,7 +255,7 @@ part_explained run hooks old started suite first begun features before so_far ne
       whole = up_to.whole;
       rows = up_to.rows;
       judged = subst (λ fs. BeginsJudged run old.now fs up_to.rows) (sym up_to.whole) (begins up_to.done up_to.others up_to.rows up_to.results);
-      before = suite.section.before;
+      opening = start.opened.first;
       text = up_to.text;
       told = up_to.told;
       explained = first_explained run hooks old started suite first begun up_to.done up_to.rows up_to.text up_to.told start silent opening

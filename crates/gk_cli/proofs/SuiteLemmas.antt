@@ -10,19 +10,18 @@ use Rattle.gk_run.specs.declared.results.Status.{Status}
 use Rattle.gk_run.specs.declared.section.Level.TheVariants as levels
 use Rattle.gk_run.specs.Cleanups.{cleanups_value}
 use Rattle.gk_run.specs.Results.{CaseRow, FeatureRow, RuleRow, Results, is_memory, is_failed, is_undefined, is_untested, is_passed}
-use Rattle.gk_run.specs.Ending.{has_passed}
-use Rattle.gk_run.specs.SectionHooks.{begun}
+use Rattle.gk_run.specs.Events.{Stand}
 use Rattle.gk_run.specs.Section.{happened, before_passed}
 use Rattle.gk_run.specs.Run.{Run}
 use Rattle.gk_run.specs.Chosen.{ChosenValue}
 use Rattle.gk_run.specs.Cases.{case_statuses, first_or, later, stays_open}
 use Rattle.gk_run.specs.Features.{FeatureCuts, uncut_feature, rule_statuses, verdict_by, feature_verdict, feature_of, features_of}
-use Rattle.gk_run.specs.OpenSection.{section_state, section_events, IsBegun, IsSectionEnd}
+use Rattle.gk_run.specs.OpenSection.{section_state, section_events}
+use Rattle.gk_run.specs.SectionContracts.{IsBegun}
 use Rattle.gk_run.specs.declared.open_section.OpenSection.{OpenSection}
 use Rattle.gk_run.specs.Judged.{Cuts, dry_results, results_from, Judged, plain_results, is_memory_case, is_memory_feature, is_memory_rule, has_memory, OneList}
 use Rattle.gk_run.specs.Running.{IsSame}
-use Rattle.gk_run.specs.Walk.{IsWalked}
-use Rattle.gk_run.specs.OpenRun.{IsStarted, IsKept, AreFeatures, FinishedRunsAreJudged}
+use Rattle.gk_run.specs.OpenRun.{IsStarted, IsKept, IsFinished, AreFeatures, FinishedRunsAreJudged}
 use Rattle.gk_run.specs.DryRun.{dry_features_of}
 use Rattle.gk_steps.specs.Finding.{LibraryValue}
 use Rattle.gk_report.specs.Summary.{feature_statuses, scenario_statuses, step_statuses, status}
@@ -51,19 +50,19 @@ pub same_through : (a b d : SandboxValue) → IsSame a b → IsSame b d → IsSa
 same_through a b d p q = record { contents = q.contents ∙ p.contents; saved = q.saved ∙ p.saved; marks = q.marks ∙ p.marks; recorded = q.recorded ∙ p.recorded }
 
 -- A run that was begun is so still after features that leave the sandbox as it was.
-pub begun_still : (run : Run) (old started later : SandboxValue) (suite left : Suite) → IsStarted run old started suite → IsKept suite left → IsSame started later → IsBegun run levels.Run [] (state_of old.now) left.section later
+pub begun_still : (run : Run) (old started later : SandboxValue) (suite left : Suite) → (start : IsStarted run old started suite) → IsKept suite left → IsSame started later → IsBegun run levels.Run [] (state_of old.now) start.opened.first left.section later
 begun_still run old started later suite left start kept same =
-    subst (λ (x : OpenSection). IsBegun run levels.Run [] (state_of old.now) x later) (sym kept.section)
-    (subst (λ (x : Contents). IsWalked (begun run.library run.hooks levels.Run [] (state_of old.now)) suite.section.before (state_of x) (cleanups_value suite.section.cleanups)) (sym same.contents) start.opened.begins)
+    let begins = start.opened.begins in
+    let stand : Contents → Stand = λ x. record { state = state_of x; cleanups = cleanups_value suite.section.cleanups } in
+    subst (λ (x : OpenSection). IsBegun run levels.Run [] (state_of old.now) start.opened.first x later) (sym kept.section) (record { so_far = begins.so_far; ends = begins.ends; stands = ap stand same.contents ∙ begins.stands })
 
 -- A run that was begun, whose features were run, and that was finished.
 pub judged_by : FinishedRunsAreJudged → (run : Run) (old started later : SandboxValue) (suite left : Suite) (around : Status) (features : List ChosenValue) (rows : List FeatureRow) →
-    IsStarted run old started suite → IsKept suite left → IsSame started later → AreFeatures run (state_of started.now) suite.is_open features rows →
-    ((outside : State) → IsBegun run levels.Run [] outside left.section later → IsSectionEnd run levels.Run [] outside around (has_passed left.section.before)) →
+    IsStarted run old started suite → IsKept suite left → IsSame started later → AreFeatures run (state_of started.now) suite.is_open features rows → IsFinished run left.section later around →
     Judged run old.now features (record { features = rows; around = around })
 judged_by law run old started later suite left around features rows start kept same are finish =
-    let begins = begun_still run old started later suite left start kept same in
-    law run old started suite features rows around start are (subst (λ (x : OpenSection). IsSectionEnd run levels.Run [] (state_of old.now) around (has_passed x.before)) kept.section (finish (state_of old.now) begins))
+    let end = finish (state_of old.now) start.opened.first (begun_still run old started later suite left start kept same) in
+    law run old started suite features rows around start are end.0 end.1
 
 -- A feature's status is its verdict, by how its hooks and cleanups and those of its rules ended and by its cases.
 abbrev pub HasVerdict : FeatureRow → Type 0

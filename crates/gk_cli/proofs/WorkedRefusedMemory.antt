@@ -66,20 +66,20 @@ bare_feature source name line members = record { source = source; name = name; l
 run_uncut : (library : LibraryValue) (own : Cut) (cuts : List FeatureCuts) (features : List ChosenValue) →
     results_from_bare (bare_run library) (record { own = own; features = cuts }) features ≡ results_from_bare (bare_run library) (record { own = nowhere; features = cuts }) features
 run_uncut library nowhere cuts features = refl
-run_uncut library (in_before n) cuts features = refl
-run_uncut library (in_steps n) cuts features = refl
-run_uncut library (in_after n) cuts features = refl
-run_uncut library (in_cleanups n) cuts features = refl
+run_uncut library (in_before n s) cuts features = refl
+run_uncut library (in_steps n s) cuts features = refl
+run_uncut library (in_after n s) cuts features = refl
+run_uncut library (in_cleanups n s) cuts features = refl
 
 -- Nor has such a feature in it.
 feature_uncut : (library : LibraryValue) (own : Cut) (cuts : List Cut) (rules : List RuleCuts) (source name : List ℕ) (line : ℕ) (members : List MemberValue) →
     results_from_bare (bare_run library) (record { own = nowhere; features = record { own = own; cases = cuts; rules = rules } ∷ [] }) (bare_feature source name line members ∷ [])
     ≡ results_from_bare (bare_run library) (cuts_of cuts) (bare_feature source name line members ∷ [])
 feature_uncut library nowhere cuts rules source name line members = refl
-feature_uncut library (in_before n) cuts rules source name line members = refl
-feature_uncut library (in_steps n) cuts rules source name line members = refl
-feature_uncut library (in_after n) cuts rules source name line members = refl
-feature_uncut library (in_cleanups n) cuts rules source name line members = refl
+feature_uncut library (in_before n s) cuts rules source name line members = refl
+feature_uncut library (in_steps n s) cuts rules source name line members = refl
+feature_uncut library (in_after n s) cuts rules source name line members = refl
+feature_uncut library (in_cleanups n s) cuts rules source name line members = refl
 
 -- So its scenarios alone are cut.
 scenarios_cut : (library : LibraryValue) (cuts : Cuts) (source name : List ℕ) (line : ℕ) (members : List MemberValue) →
@@ -124,11 +124,11 @@ one_memory_reports = refl
 one_by_cut : (cut : Cut) → let results : Results = results_from_bare (run_with one_request one_inputs) (cuts_of (cut ∷ [])) one_inputs.features in (results ≡ one_results) ⊎ (results ≡ one_memory)
 unfolding cases is_chosen found match_of act
 one_by_cut nowhere = inl refl
-one_by_cut (in_before n) = inl refl
-one_by_cut (in_steps zero) = inr refl
-one_by_cut (in_steps (suc n)) = inl refl
-one_by_cut (in_after n) = inl refl
-one_by_cut (in_cleanups n) = inl refl
+one_by_cut (in_before n s) = inl refl
+one_by_cut (in_steps zero s) = inr refl
+one_by_cut (in_steps (suc n) s) = inl refl
+one_by_cut (in_after n s) = inl refl
+one_by_cut (in_cleanups n s) = inl refl
 
 -- The same by all cuts of a run.
 one_by_cuts : (cuts : Cuts) → let results : Results = results_from_bare (run_with one_request one_inputs) cuts one_inputs.features in (results ≡ one_results) ⊎ (results ≡ one_memory)
@@ -238,21 +238,21 @@ two_section = section_state (run_with two_request two_inputs) levels.Feature [] 
 A_by_cut : (cut : Cut) → let row = reached_row (run_with two_request two_inputs) two_section cut case_A in (row ≡ row_A statuses.Passed) ⊎ (row ≡ row_A statuses.Memory)
 unfolding found match_of is_utf8 chars lib.Utf8.encode act
 A_by_cut nowhere = inl refl
-A_by_cut (in_before n) = inl refl
-A_by_cut (in_steps zero) = inr refl
-A_by_cut (in_steps (suc n)) = inl refl
-A_by_cut (in_after n) = inl refl
-A_by_cut (in_cleanups n) = inl refl
+A_by_cut (in_before n s) = inl refl
+A_by_cut (in_steps zero s) = inr refl
+A_by_cut (in_steps (suc n) s) = inl refl
+A_by_cut (in_after n s) = inl refl
+A_by_cut (in_cleanups n s) = inl refl
 
 -- The row of the second scenario, by its cut.
 B_by_cut : (cut : Cut) → let row = reached_row (run_with two_request two_inputs) two_section cut case_B in (row ≡ row_B failed_B) ⊎ (row ≡ row_B memory_B)
 unfolding found match_of is_utf8 chars lib.Utf8.encode act
 B_by_cut nowhere = inl refl
-B_by_cut (in_before n) = inl refl
-B_by_cut (in_steps zero) = inr refl
-B_by_cut (in_steps (suc n)) = inl refl
-B_by_cut (in_after n) = inl refl
-B_by_cut (in_cleanups n) = inl refl
+B_by_cut (in_before n s) = inl refl
+B_by_cut (in_steps zero s) = inr refl
+B_by_cut (in_steps (suc n) s) = inl refl
+B_by_cut (in_after n s) = inl refl
+B_by_cut (in_cleanups n s) = inl refl
 
 -- The results with these two rows.
 abbrev two_of : CaseRow → CaseRow → Results

@@ -1,9 +1,9 @@
 -- A run whose explanation is written as its features end.
+use Rattle.std.specs.List.{FoldsTo}
 use Rattle.std.specs.Prelude.{◌≡◌, ◌⊎◌, ◌&&◌, ℕ, Bool, true, false, List, [], ◌∷◌, ◌++◌}
 use Rattle.gk_world.specs.State.{Contents, State, state_of}
 use Rattle.gk_world.specs.Sandbox.{SandboxValue}
 use Rattle.gk_run.specs.declared.chosen.Chosen.{Chosen}
-use Rattle.gk_run.specs.declared.ending.Ending.{Ending}
 use Rattle.gk_run.specs.declared.results.Status.{Status}
 use Rattle.gk_run.specs.declared.section.Level.TheVariants as levels
 use Rattle.gk_run.specs.Results.{FeatureRow, Results}
@@ -11,11 +11,13 @@ use Rattle.gk_run.specs.Run.{Run, run_of}
 use Rattle.gk_run.specs.Chosen.{ChosenValue, chosen_value}
 use Rattle.gk_run.specs.Cases.{stays_open}
 use Rattle.gk_run.specs.Ending.{has_passed}
+use Rattle.gk_run.specs.Events.{Event, ended_in}
 use Rattle.gk_run.specs.Features.{IsFeatureResult}
 use Rattle.gk_run.specs.Judged.{Judged, BeginsJudged}
 use Rattle.gk_run.specs.OpenRun.{AreFeatures}
 use Rattle.gk_run.specs.OpenSection.{section_state}
-use Rattle.gk_run.specs.Watching.{IsStartTold, IsFeatureTold, IsFinishTold}
+use Rattle.gk_run.specs.SectionContracts.{IsEndTold, IsOpening}
+use Rattle.gk_run.specs.Watching.{IsFeatureTold}
 use Rattle.gk_report.specs.declared.report.Format.TheVariants as formats
 use Rattle.gk_report.specs.declared.report.Style.{Style}
 use Rattle.gk_report.specs.Report.{tail}
@@ -61,24 +63,25 @@ AreExplained run now is_open (f ∷ fs) (row ∷ rows) text old new =
     (this later : List ℕ) × (next : Explainer) × (text ≡ this ++ later)
     × IsFeatureExplained run now is_open f row this old next × AreExplained run now (is_open && stays_open run row.status) fs rows later next new
 
--- The beginning of a run and its first features were told to an explainer of the run's library and of a hooks file of this name, and this is what it had ready of them. The features are told from the run's state where its before hook passed.
-pub record AreFirstExplained (run : Run) (hooks : List ℕ) (outside : State) (before : Ending) (features : List ChosenValue) (rows : List FeatureRow) (text : List ℕ) (new : Explainer) : Type 0 where
+-- The events of the before hook of a run, all of them or those up to the one in which memory was refused, and its first features were told to an explainer of the run's library and of a hooks file of this name, and this is what it had ready of them. The features are told from the run's state where its before hook passed.
+pub record AreFirstExplained (run : Run) (hooks : List ℕ) (outside : State) (opening : List Event) (features : List ChosenValue) (rows : List FeatureRow) (text : List ℕ) (new : Explainer) : Type 0 where
   pub first : Explainer
   pub silent : said first ≡ nothing_said run.library hooks
   pub begun : Explainer
-  pub start : IsStartTold Hears run outside before first begun
+  pub opens : IsOpening run levels.Run [] outside opening
+  pub start : FoldsTo Hears first opening begun
   pub state : State
-  pub from : has_passed before ≡ true → state ≡ section_state run levels.Run [] outside
-  pub told : AreExplained run state (has_passed before) features rows text begun new
+  pub from : has_passed (ended_in opening) ≡ true → state ≡ section_state run levels.Run [] outside
+  pub told : AreExplained run state (has_passed (ended_in opening)) features rows text begun new
 
 -- The explanation of a run with these results: all of the run was told to an explainer that isn't cut.
 pub record IsExplanation (run : Run) (hooks : List ℕ) (contents : Contents) (features : List ChosenValue) (results : Results) (text : List ℕ) : Type 0 where
-  pub before : Ending
+  pub opening : List Event
   pub parts : List ℕ
   pub told : Explainer
-  pub first : AreFirstExplained run hooks (state_of contents) before features results.features parts told
+  pub first : AreFirstExplained run hooks (state_of contents) opening features results.features parts told
   pub last : Explainer
-  pub finish : IsFinishTold Hears run (state_of contents) before results.around told last
+  pub finish : IsEndTold Hears run levels.Run [] (state_of contents) results.around opening told last
   pub uncut : is_cut last ≡ false
   pub whole : text ≡ parts ++ last_text (said last) results.features results.around
 
@@ -98,10 +101,10 @@ pub record IsExplainedInPart (run : Run) (hooks : List ℕ) (contents : Contents
   pub whole : features ≡ done ++ others
   pub rows : List FeatureRow
   pub judged : BeginsJudged run contents features rows
-  pub before : Ending
+  pub opening : List Event
   pub text : List ℕ
   pub told : Explainer
-  pub explained : AreFirstExplained run hooks (state_of contents) before done rows text told
+  pub explained : AreFirstExplained run hooks (state_of contents) opening done rows text told
   pub stopped : IsStopped old new text fault
 
 -- A prefix of the explanation of a run with judged results was written.

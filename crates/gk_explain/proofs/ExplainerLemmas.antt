@@ -12,13 +12,14 @@ use Rattle.gk_run.specs.declared.section.Level.{Level}
 use Rattle.gk_run.specs.declared.section.Level.TheVariants as levels
 use Rattle.gk_run.specs.declared.section.Place.{Place}
 use Rattle.gk_run.specs.Acting.{CleanupValue, act, done_of}
-use Rattle.gk_run.specs.Ending.{ended_of, ending_of, has_passed}
-use Rattle.gk_run.specs.OpenSection.{its_steps}
+use Rattle.gk_run.specs.Closing.{clean_each}
+use Rattle.gk_run.specs.Ending.{ending_of, has_passed}
+use Rattle.gk_run.specs.Events.{Event as Told, of_step, of_cleanup, Stand, cut_at, ended_in, left_by, refused}
 use Rattle.gk_run.specs.Run.{Run}
-use Rattle.gk_run.specs.Section.{Cut, nowhere, in_before, in_steps, in_after, in_cleanups, is_place, site_of}
-use Rattle.gk_run.specs.SectionHooks.{after_lists, before_list, begun, walk_each}
-use Rattle.gk_run.specs.Walk.{one_step, walk}
-use Rattle.gk_run.specs.Watching.{Told, of_step, of_cleanup, ToldEvents, in_order, refused, cut_told, told_walk, told_steps, told_each, told_in_turn, told_happened, told_case, before_of, after_of}
+use Rattle.gk_run.specs.Running.{alone}
+use Rattle.gk_run.specs.Section.{Cut, nowhere, in_before, in_steps, in_after, in_cleanups, Events, after_of, before_of, happened, in_order, is_place, site_of}
+use Rattle.gk_run.specs.SectionHooks.{after_lists, before_list, entered, walk_each}
+use Rattle.gk_run.specs.Walk.{one_step, steps_from, walk}
 use Rattle.gk_explain.specs.declared.explainer.Explainer.{Explainer}
 use Rattle.gk_explain.specs.SectionLines.{SectionValue, after_event, after_events}
 use Rattle.gk_explain.specs.Event.{level_of}
@@ -38,66 +39,66 @@ at_if : (level : Level) (test : Bool) (xs : List Told) → AllAt level xs → Al
 at_if level true xs a = a
 at_if level false xs a = tt
 
-at_walk : (library : LibraryValue) (place : Place) (s : State) (steps : List StepValue) → AllAt place.level (told_walk library place s steps)
+at_walk : (library : LibraryValue) (place : Place) (s : State) (steps : List StepValue) → AllAt place.level (walk library place s steps)
 at_walk library place s [] = tt
 at_walk library place s (step ∷ steps) =
     let this = one_step library (site_of place) s step in
     (refl, at_if _ (has_passed (ending_of this.mark)) _ (at_walk library place this.state steps))
 
-at_steps : (library : LibraryValue) (stood : Ending) (s : State) (steps : List StepValue) → AllAt levels.Scenario (told_steps library stood s steps)
+at_steps : (library : LibraryValue) (stood : Ending) (s : State) (steps : List StepValue) → AllAt levels.Scenario (steps_from library stood s steps)
 at_steps library stood s [] = tt
 at_steps library endings.Passed s (step ∷ steps) = let this = one_step library sites.Step s step in (refl, at_steps library (ending_of this.mark) this.state steps)
 at_steps library endings.Failed s (step ∷ steps) = (refl, at_steps library endings.Failed s steps)
 at_steps library endings.Skipped s (step ∷ steps) = (refl, at_steps library endings.Skipped s steps)
 at_steps library endings.Memory s (step ∷ steps) = (refl, at_steps library endings.Memory s steps)
 
-at_each : (library : LibraryValue) (level : Level) (s : State) (cleanups : List CleanupValue) (lists : List (List StepValue)) → AllAt level (told_each library level s cleanups lists)
-at_each library level s cleanups [] = tt
-at_each library level s cleanups (steps ∷ others) =
-    let this = walk library sites.Hook s cleanups steps in
-    at_both _ (told_walk library (after_of level) s steps) _ (at_walk library (after_of level) s steps) (at_each library level this.state this.cleanups others)
+at_each : (library : LibraryValue) (level : Level) (stand : Stand) (lists : List (List StepValue)) → AllAt level (walk_each library level stand lists)
+at_each library level stand [] = tt
+at_each library level stand (steps ∷ others) =
+    let this = walk library (after_of level) stand.state steps in
+    at_both _ this _ (at_walk library (after_of level) stand.state steps) (at_each library level (left_by stand this) others)
 
-at_in_turn : (library : LibraryValue) (level : Level) (s : State) (cleanups : List CleanupValue) → AllAt level (told_in_turn library level s cleanups)
+at_in_turn : (library : LibraryValue) (level : Level) (s : State) (cleanups : List CleanupValue) → AllAt level (clean_each library level s cleanups)
 at_in_turn library level s [] = tt
 at_in_turn library level s (c ∷ cs) = let done = done_of (act library sites.Cleanup c.found c.block s) in (refl, at_in_turn library level done.state cs)
 
 at_refused : {level : Level} (s : State) (t : Told) → level_of t ≡ level → level_of (refused s t) ≡ level
-at_refused s (of_step place step mark s') a = a
+at_refused s (of_step place step mark cleanups s') a = a
 at_refused s (of_cleanup level cleanup outcome s') a = a
 
-at_cut : (level : Level) (s : State) (n : ℕ) (ts : List Told) → AllAt level ts → AllAt level (cut_told s n ts)
-at_cut level s n [] a = tt
-at_cut level s zero (t ∷ ts) a = (at_refused s t a.0, tt)
-at_cut level s (suc n) (t ∷ ts) a = (a.0, at_cut level s n ts a.1)
+at_cut : (level : Level) (n : ℕ) (s : State) (ts : List Told) → AllAt level ts → AllAt level (cut_at n s ts)
+at_cut level n s [] a = tt
+at_cut level zero s (t ∷ ts) a = (at_refused s t a.0, tt)
+at_cut level (suc n) s (t ∷ ts) a = (a.0, at_cut level n s ts a.1)
 
 -- The events of a section are all of one level.
-abbrev pub AreAt : Level → ToldEvents → Type 0
+abbrev pub AreAt : Level → Events → Type 0
 AreAt level t = AllAt level t.before × AllAt level t.steps × AllAt level t.after × AllAt level t.cleanups
 
-either_at : (level : Level) (test : Bool) (x y : ToldEvents) → AreAt level x → AreAt level y → AreAt level (cond test x y)
+either_at : (level : Level) (test : Bool) (x y : Events) → AreAt level x → AreAt level y → AreAt level (cond test x y)
 either_at level true x y a b = a
 either_at level false x y a b = b
 
-are_happened : (level : Level) (s : State) (cut : Cut) (t : ToldEvents) → AreAt level t → AreAt level (told_happened s cut t)
-are_happened level s nowhere t a = a
-are_happened level s (in_before n) t a = either_at level (is_place n t.before) _ t (at_cut level s n t.before a.0, tt, tt, tt) a
-are_happened level s (in_steps n) t a = either_at level (is_place n t.steps) _ t (a.0, at_cut level s n t.steps a.1, tt, tt) a
-are_happened level s (in_after n) t a = either_at level (is_place n t.after) _ t (a.0, a.1, at_cut level s n t.after a.2, tt) a
-are_happened level s (in_cleanups n) t a = either_at level (is_place n t.cleanups) _ t (a.0, a.1, a.2, at_cut level s n t.cleanups a.3) a
+are_happened : (level : Level) (cut : Cut) (t : Events) → AreAt level t → AreAt level (happened cut t)
+are_happened level nowhere t a = a
+are_happened level (in_before n s) t a = either_at level (is_place n t.before) _ t (at_cut level n s t.before a.0, tt, tt, tt) a
+are_happened level (in_steps n s) t a = either_at level (is_place n t.steps) _ t (a.0, at_cut level n s t.steps a.1, tt, tt) a
+are_happened level (in_after n s) t a = either_at level (is_place n t.after) _ t (a.0, a.1, at_cut level n s t.after a.2, tt) a
+are_happened level (in_cleanups n s) t a = either_at level (is_place n t.cleanups) _ t (a.0, a.1, a.2, at_cut level n s t.cleanups a.3) a
 
-are_case : (run : Run) (section : State) (c : CaseValue) → AreAt levels.Scenario (told_case run section c)
+are_case : (run : Run) (section : State) (c : CaseValue) → AreAt levels.Scenario (alone run section c)
 are_case run section c =
-    let before = begun run.library run.hooks levels.Scenario c.own_tags section in
-    let steps = its_steps run.library c.steps before in
-    let lists = after_lists run.hooks levels.Scenario c.own_tags in
-    let each = walk_each run.library steps.state steps.cleanups lists in (
+    let events = alone run section c in
+    let opened = left_by (entered section) events.before in
+    let mid = left_by opened events.steps in
+    let each = left_by mid events.after in (
       at_walk run.library (before_of levels.Scenario) (enter section) (before_list run.hooks levels.Scenario c.own_tags),
-      at_steps run.library (ended_of before.marks) before.state c.steps,
-      at_each run.library levels.Scenario steps.state steps.cleanups lists,
+      at_steps run.library (ended_in events.before) opened.state c.steps,
+      at_each run.library levels.Scenario mid (after_lists run.hooks levels.Scenario c.own_tags),
       at_in_turn run.library levels.Scenario each.state (reverse each.cleanups),
     )
 
-at_order : (level : Level) (t : ToldEvents) → AreAt level t → AllAt level (in_order t)
+at_order : (level : Level) (t : Events) → AreAt level t → AllAt level (in_order t)
 at_order level t a = at_both _ t.before _ a.0 (at_both _ t.steps _ a.1 (at_both _ t.after _ a.2 a.3))
 
 -- What is kept of the scenario.
@@ -122,12 +123,11 @@ pub explained_by_its_events : CasesAreExplained
 explained_by_its_events run section c row old new told uncut none =
     let events = told.1 in
     let ended = told.2.0 uncut in
-    let at = at_order levels.Scenario _ (are_happened levels.Scenario events.refusing events.cut (told_case run section c) (are_case run section c)) in
-    let ts = in_order (told_happened events.refusing events.cut (told_case run section c)) in
+    let at = at_order levels.Scenario _ (are_happened levels.Scenario events.cut (alone run section c) (are_case run section c)) in
+    let ts = in_order (happened events.cut (alone run section c)) in
     let all = hears_all ts old told.0 at events.told ended.0 in
     let e = said old in (
       events.cut,
-      events.refusing,
       events.is,
       all.0,
       ended.1 ∙ ap (with_case row) all.1 ∙ ap (λ (before : SectionValue). with_case_of (after_events e.library e.names ts before).lines row e) none,

@@ -1,11 +1,17 @@
 -- What an event more of a section makes of an explanation.
-use Rattle.std.proofs.Common.{◌≡◌, ◌∙◌, ℕ, List, ap, sym, subst}
+use Rattle.std.proofs.Common.{◌≡◌, ◌∙◌, ℕ, List, [], ap, refl, sym, subst}
 use Rattle.std.specs.Prelude.{OnOk, Result}
 use Rattle.std.proofs.lemmas.Result.{on_ok_weaker}
+use Rattle.gk_gherkin.specs.Feature.{StepValue}
 use Rattle.gk_steps.specs.Finding.{LibraryValue}
-use Rattle.gk_run.specs.Watching.{Told}
+use Rattle.gk_world.specs.State.{State}
+use Rattle.gk_run.specs.declared.results.Mark.{Mark}
+use Rattle.gk_run.specs.declared.section.Place.{Place}
+use Rattle.gk_run.specs.Acting.{CleanupValue}
+use Rattle.gk_run.specs.Events.{Event as Told, of_step}
 use Rattle.gk_run.specs.declared.section.Level.{Level}
 use Rattle.gk_run.specs.declared.section.Level.TheVariants as levels
+use Rattle.gk_explain.specs.Details.{event_details}
 use Rattle.gk_explain.specs.Event.{level_of}
 use Rattle.gk_explain.specs.SectionLines.{SectionValue, after_event}
 use Rattle.gk_explain.specs.Explanation.{ExplanationValue, with_event, with_section}
@@ -42,3 +48,8 @@ rule_added result e told kept source new is = added_by result e told e.rule kept
 
 pub scenario_added : {T E : Type 0} (result : Result T E) (e : ExplanationValue) (told : Told) (kept : LibraryValue) (source : List ℕ) (new : SectionValue) → level_of told ≡ levels.Scenario → kept ≡ e.library → source ≡ e.names.source → OnOk result (new ≡ added e told source e.scenario) → OnOk result (record e { library = kept; scenario = new } ≡ with_event told e)
 scenario_added result e told kept source new is = added_by result e told e.scenario kept source new (λ library. record e { library = library; scenario = new }) (in_scenario e (level_of told) (after_event e.library e.names told) new is)
+
+-- What a step registered isn't said.
+pub whatever_registered : (place : Place) (step : StepValue) (mark : Mark) (registered : List CleanupValue) (s : State) (e : ExplanationValue) → with_event (of_step place step mark [] s) e ≡ with_event (of_step place step mark registered s) e
+unfolding event_details
+whatever_registered place step mark registered s e = refl

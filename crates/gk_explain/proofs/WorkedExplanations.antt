@@ -15,7 +15,7 @@ use Rattle.gk_run.specs.declared.section.Level.TheVariants as levels
 use Rattle.gk_run.specs.declared.section.Part.TheVariants as parts
 use Rattle.gk_run.specs.Acting.{CleanupValue}
 use Rattle.gk_run.specs.Results.{CaseRow, FeatureRow}
-use Rattle.gk_run.specs.Watching.{Told, of_step, of_cleanup}
+use Rattle.gk_run.specs.Events.{Event as Told, of_step, of_cleanup}
 use Rattle.gk_report.specs.ReportTexts.{status_text, reason_text}
 use Rattle.gk_report.specs.PlainReport.{status_line}
 use Rattle.gk_steps.specs.declared.action.Action.TheVariants as actions
@@ -55,11 +55,11 @@ after_events (told ∷ others) e = after_events others (with_event told e)
 -- A scenario between two hooks, with a cleanup, whose second step failed.
 abbrev of_scenario : State → CleanupValue → ExplanationValue
 of_scenario s cleanup =
-    after_events (of_step (record { level = levels.Scenario; part = parts.Before }) (step (codes "Given") (codes "a") 2) (marks.Acted outcomes.Passed) s
-    ∷ of_step (record { level = levels.Scenario; part = parts.Steps }) (step (codes "When") (codes "b\nc") 7) (marks.Acted outcomes.Passed) s
-    ∷ of_step (record { level = levels.Scenario; part = parts.Steps }) (step (codes "Then") (codes "d") 8) (marks.Acted (outcomes.Failed reasons.Differs)) s
-    ∷ of_step (record { level = levels.Scenario; part = parts.Steps }) (step (codes "And") (codes "e") 10) marks.Skipped s
-    ∷ of_step (record { level = levels.Scenario; part = parts.After }) (step (codes "When") (codes "g") 4) marks.Undefined s
+    after_events (of_step (record { level = levels.Scenario; part = parts.Before }) (step (codes "Given") (codes "a") 2) (marks.Acted outcomes.Passed) [] s
+    ∷ of_step (record { level = levels.Scenario; part = parts.Steps }) (step (codes "When") (codes "b\nc") 7) (marks.Acted outcomes.Passed) [] s
+    ∷ of_step (record { level = levels.Scenario; part = parts.Steps }) (step (codes "Then") (codes "d") 8) (marks.Acted (outcomes.Failed reasons.Differs)) [] s
+    ∷ of_step (record { level = levels.Scenario; part = parts.Steps }) (step (codes "And") (codes "e") 10) marks.Skipped [] s
+    ∷ of_step (record { level = levels.Scenario; part = parts.After }) (step (codes "When") (codes "g") 4) marks.Undefined [] s
     ∷ of_cleanup levels.Scenario cleanup outcomes.Memory s ∷ []) begun
 
 -- Where it failed it is explained.
@@ -80,10 +80,10 @@ later_library = record { step_type = None; pattern = Literal (codes "later ") �
 -- A scenario whose hook and first step register a cleanup, and whose second step can't.
 abbrev with_cleanups : State → CleanupValue → ExplanationValue
 with_cleanups s cleanup =
-    after_events (of_step (record { level = levels.Scenario; part = parts.Before }) (step (codes "Given") (codes "later ok") 2) (marks.Acted outcomes.Passed) s
-    ∷ of_step (record { level = levels.Scenario; part = parts.Steps }) (step (codes "Given") (codes "later ok") 7) (marks.Acted outcomes.Passed) s
-    ∷ of_step (record { level = levels.Scenario; part = parts.Steps }) (step (codes "Given") (codes "later no") 8) (marks.Acted (outcomes.Failed reasons.NoStep)) s
-    ∷ of_step (record { level = levels.Scenario; part = parts.Steps }) (step (codes "Given") (codes "ok") 9) marks.Skipped s
+    after_events (of_step (record { level = levels.Scenario; part = parts.Before }) (step (codes "Given") (codes "later ok") 2) (marks.Acted outcomes.Passed) [] s
+    ∷ of_step (record { level = levels.Scenario; part = parts.Steps }) (step (codes "Given") (codes "later ok") 7) (marks.Acted outcomes.Passed) [] s
+    ∷ of_step (record { level = levels.Scenario; part = parts.Steps }) (step (codes "Given") (codes "later no") 8) (marks.Acted (outcomes.Failed reasons.NoStep)) [] s
+    ∷ of_step (record { level = levels.Scenario; part = parts.Steps }) (step (codes "Given") (codes "ok") 9) marks.Skipped [] s
     ∷ of_cleanup levels.Scenario cleanup outcomes.Passed s
     ∷ of_cleanup levels.Scenario cleanup (outcomes.Failed reasons.Asked) s ∷ []) (with_source (codes "f") (nothing_said later_library (codes "h")))
 
@@ -96,9 +96,9 @@ cleanups_have_places s cleanup = refl
 -- Hooks and cleanups of a rule, a feature and a run, with one event in each, of which the rule's passed.
 abbrev of_sections : State → ExplanationValue
 of_sections s =
-    after_events (of_step (record { level = levels.Run; part = parts.Before }) (step (codes "Given") (codes "a") 1) (marks.Acted outcomes.Passed) s
-    ∷ of_step (record { level = levels.Feature; part = parts.Before }) (step (codes "Given") (codes "b") 2) (marks.Acted outcomes.Passed) s
-    ∷ of_step (record { level = levels.Rule; part = parts.Before }) (step (codes "Given") (codes "c") 3) (marks.Acted outcomes.Passed) s ∷ []) begun
+    after_events (of_step (record { level = levels.Run; part = parts.Before }) (step (codes "Given") (codes "a") 1) (marks.Acted outcomes.Passed) [] s
+    ∷ of_step (record { level = levels.Feature; part = parts.Before }) (step (codes "Given") (codes "b") 2) (marks.Acted outcomes.Passed) [] s
+    ∷ of_step (record { level = levels.Rule; part = parts.Before }) (step (codes "Given") (codes "c") 3) (marks.Acted outcomes.Passed) [] s ∷ []) begun
 
 -- What ended badly is explained and listed.
 abbrev ended : State → Status → ExplanationValue

@@ -14,7 +14,7 @@ use Rattle.gk_run.specs.declared.results.Outcome.TheVariants.{Failed}
 use Rattle.gk_run.specs.declared.results.Reason.{Reason}
 use Rattle.gk_run.specs.declared.results.Reason.TheVariants as reasons
 use Rattle.gk_run.specs.Acting.{Given, given}
-use Rattle.gk_run.specs.Watching.{Told, of_step, of_cleanup}
+use Rattle.gk_run.specs.Events.{Event as Told, of_step, of_cleanup}
 use Rattle.gk_report.specs.ReportTexts.{line_feed}
 use Rattle.gk_explain.specs.declared.details.Given as declared
 use Rattle.gk_explain.specs.declared.details.Kind.{Kind}
@@ -169,7 +169,7 @@ mark_details library step mark s = []
 
 -- What is said below an event: of a step the library finds the action, of a cleanup it was found before. The state is the one that the event left; a check, and a change that is refused, leave what they found.
 unfoldable pub event_details : LibraryValue → Told → List ℕ
-event_details library (of_step place step mark s) = mark_details library step mark s
+event_details library (of_step place step mark cleanups s) = mark_details library step mark s
 event_details library (of_cleanup level cleanup outcome s) = outcome_details library cleanup.found cleanup.block outcome s
 
 -- What a `Given` says beside its action.

@@ -1,17 +1,18 @@
 -- An event of a run, as an explainer is told it.
+use Rattle.std.specs.Prelude.{[]}
 use Rattle.gk_gherkin.specs.Feature.{block_value, step_value}
 use Rattle.gk_steps.specs.Finding.{found_value}
 use Rattle.gk_world.specs.State.{state_of}
 use Rattle.gk_run.specs.declared.section.Level.{Level}
-use Rattle.gk_run.specs.Watching.{Told, of_step, of_cleanup}
+use Rattle.gk_run.specs.Events.{Event as Told, of_step, of_cleanup}
 use Rattle.gk_explain.specs.declared.event.CleanupEvent.{CleanupEvent}
 use Rattle.gk_explain.specs.declared.event.Event.{Event}
 use Rattle.gk_explain.specs.declared.event.Event.TheVariants.{Step, Cleanup}
 use Rattle.gk_explain.specs.declared.event.StepEvent.{StepEvent}
 
--- What a `StepEvent` says.
+-- What a `StepEvent` says: whatever the step registered.
 abbrev pub step_told : StepEvent → Told
-step_told e = of_step e.place (step_value e.step.now) e.mark (state_of e.sandbox.now.now)
+step_told e = of_step e.place (step_value e.step.now) e.mark [] (state_of e.sandbox.now.now)
 
 -- What a `CleanupEvent` says.
 abbrev pub cleanup_told : CleanupEvent → Told
@@ -24,5 +25,5 @@ event_told (Cleanup e) = cleanup_told e
 
 -- The level of the section that an event is of.
 abbrev pub level_of : Told → Level
-level_of (of_step place step mark s) = place.level
+level_of (of_step place step mark cleanups s) = place.level
 level_of (of_cleanup level cleanup outcome s) = level

@@ -9,7 +9,7 @@ use Rattle.gk_run.specs.declared.section.Part.{Part}
 use Rattle.gk_run.specs.declared.section.Part.TheVariants as parts
 use Rattle.gk_run.specs.declared.section.Place.{Place}
 use Rattle.gk_run.specs.Ending.{status_of_mark, reason_of_mark}
-use Rattle.gk_run.specs.Watching.{Told, of_step, of_cleanup}
+use Rattle.gk_run.specs.Events.{Event as Told, of_step, of_cleanup}
 use Rattle.gk_steps.specs.Finding.{LibraryValue}
 use Rattle.gk_report.specs.PlainReport.{status_line, step_verdict}
 use Rattle.gk_explain.specs.declared.event_lines.Names.{Names}
@@ -63,7 +63,7 @@ line_of_step names place step mark =
 
 -- The line of an event of a section in which these cleanups are registered and still to run: a cleanup that runs is the last of them.
 abbrev pub event_line : NamesValue → List Registration → Told → List ℕ
-event_line names registered (of_step place step mark s) = line_of_step names place step mark
+event_line names registered (of_step place step mark cleanups s) = line_of_step names place step mark
 event_line names registered (of_cleanup level cleanup outcome s) = line_of_cleanup names (last_of registered) outcome
 
 -- The lines of an event: its own, and what is said below it.

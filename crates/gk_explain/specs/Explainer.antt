@@ -6,9 +6,10 @@ use Rattle.gk_run.specs.declared.results.Status.{Status}
 use Rattle.gk_run.specs.Cases.{is_bad}
 use Rattle.gk_run.specs.Results.{CaseRow}
 use Rattle.gk_run.specs.Run.{Run}
-use Rattle.gk_run.specs.Running.{reached_row}
-use Rattle.gk_run.specs.Section.{Cut}
-use Rattle.gk_run.specs.Watching.{Told, Ended, of_case, of_rule, in_order, told_happened, told_case, IsCaseTold}
+use Rattle.gk_run.specs.Events.{Event as Told}
+use Rattle.gk_run.specs.Section.{Cut, happened, in_order}
+use Rattle.gk_run.specs.Running.{alone, reached_row}
+use Rattle.gk_run.specs.Watching.{Ended, of_case, of_rule, IsCaseTold}
 use Rattle.gk_explain.specs.declared.explainer.Explainer.{Explainer}
 use Rattle.gk_explain.specs.SectionLines.{SectionValue, untold, after_events}
 use Rattle.gk_explain.specs.Explanation.{ExplanationValue, explanation_value, with_event, with_ended, with_case_of}
@@ -43,12 +44,12 @@ abbrev pub Ends : Explainer → Ended → Explainer → Type 0
 Ends old ended new = Becomes old (with_ended ended) new × IsCutOnlyByBad (told_status ended) old new
 
 -- What is kept of a case after its events, these cut at one, in order.
-abbrev pub case_told : Explainer → Run → State → CaseValue → Cut → State → SectionValue
-case_told e run section c cut refusing = let s = said e in after_events s.library s.names (in_order (told_happened refusing cut (told_case run section c))) untold
+abbrev pub case_told : Explainer → Run → State → CaseValue → Cut → SectionValue
+case_told e run section c cut = let s = said e in after_events s.library s.names (in_order (happened cut (alone run section c))) untold
 
 -- A case that was told is explained: an explainer that kept nothing of a scenario, and isn't cut, says what it said, and the explanation of this case, by the lines of all its events, where its result failed or was refused memory.
 abbrev pub CasesAreExplained : Type 0
 CasesAreExplained = (run : Run) (section : State) (c : CaseValue) (row : CaseRow) (old new : Explainer) →
     IsCaseTold Hears Ends run section c row old new → is_cut new ≡ false → (said old).scenario ≡ untold →
-    (cut : Cut) × (refusing : State) × (row ≡ reached_row run section cut c)
-    × (is_cut old ≡ false) × (said new ≡ with_case_of (case_told old run section c cut refusing).lines row (said old))
+    (cut : Cut) × (row ≡ reached_row run section cut c)
+    × (is_cut old ≡ false) × (said new ≡ with_case_of (case_told old run section c cut).lines row (said old))

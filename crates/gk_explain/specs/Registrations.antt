@@ -1,17 +1,19 @@
 -- Where the cleanups of a section were registered.
 use Rattle.std.specs.Prelude.{◌≡◌, ◌-◌, Bool, true, false, cond, ◌&&◌, List, [], ◌∷◌, ◌++◌, length, take, map, flat_map, reverse, Option, Some, None}
 use Rattle.std.specs.List.{slice_get}
-use Rattle.gk_gherkin.specs.Feature.{BlockValue, StepValue}
+use Rattle.gk_gherkin.specs.Feature.{StepValue}
 use Rattle.gk_select.specs.Case.{CaseValue}
 use Rattle.gk_steps.specs.declared.action.Action.{Action}
 use Rattle.gk_steps.specs.declared.action.Action.TheVariants as actions
-use Rattle.gk_steps.specs.Finding.{LibraryValue, FoundValue, action_of, found, found_any}
+use Rattle.gk_steps.specs.Finding.{LibraryValue, FoundValue, action_of, found}
 use Rattle.gk_world.specs.State.{State}
 use Rattle.gk_run.specs.declared.results.Mark.{Mark}
 use Rattle.gk_run.specs.declared.results.Mark.TheVariants.{Acted}
-use Rattle.gk_run.specs.Acting.{CleanupValue, given, is_pass}
+use Rattle.gk_run.specs.Acting.{CleanupValue, is_pass}
 use Rattle.gk_run.specs.Run.{Run}
-use Rattle.gk_run.specs.Watching.{Told, of_step, of_cleanup, in_order, told_case}
+use Rattle.gk_run.specs.Events.{Event as Told, of_step, of_cleanup}
+use Rattle.gk_run.specs.Section.{in_order}
+use Rattle.gk_run.specs.Running.{alone}
 use Rattle.gk_explain.specs.declared.registrations.Registration.{Registration}
 
 -- The action that registers a cleanup. (behave's documentation: cleanups)
@@ -35,7 +37,7 @@ registers library step mark = is_passed mark && found_registers library (found l
 
 -- Where an event registered a cleanup, if it did: in which part of its section the step stands, and its line.
 abbrev pub registered_by : LibraryValue → Told → List Registration
-registered_by library (of_step place step mark s) = cond (registers library step mark) (record { part = place.part; line = step.line } ∷ []) []
+registered_by library (of_step place step mark cleanups s) = cond (registers library step mark) (record { part = place.part; line = step.line } ∷ []) []
 registered_by library (of_cleanup level cleanup outcome s) = []
 
 -- The last that was registered, if any.
@@ -48,7 +50,7 @@ all_but_last registered = take (length registered - 1) registered
 
 -- Where the cleanups were registered that are still to run, in the order of registration, after an event of their section: the one that it registered is added; where it is itself a cleanup, that was the last. (behave's documentation: cleanups)
 abbrev pub left_to_run : LibraryValue → Told → List Registration → List Registration
-left_to_run library (of_step place step mark s) registered = registered ++ registered_by library (of_step place step mark s)
+left_to_run library (of_step place step mark cleanups s) registered = registered ++ registered_by library (of_step place step mark cleanups s)
 left_to_run library (of_cleanup level cleanup outcome s) registered = all_but_last registered
 
 -- A cleanup that runs, and the place that is said of it.
@@ -59,27 +61,16 @@ pub record PlacedCleanup : Type 0 where
 -- The cleanups that run among events, in order, where these were registered before: of each the last place of those that are still to run.
 abbrev pub placed_cleanups : LibraryValue → List Registration → List Told → List PlacedCleanup
 placed_cleanups library registered [] = []
-placed_cleanups library registered (of_step place step mark s ∷ events) = placed_cleanups library (left_to_run library (of_step place step mark s) registered) events
+placed_cleanups library registered (of_step place step mark cleanups s ∷ events) = placed_cleanups library (left_to_run library (of_step place step mark cleanups s) registered) events
 placed_cleanups library registered (of_cleanup level cleanup outcome s ∷ events) = record { at = last_of registered; cleanup = cleanup } ∷ placed_cleanups library (all_but_last registered) events
 
--- What was found as a cleanup is one, with a step's block.
-abbrev pub cleanup_found : BlockValue → Option FoundValue → List CleanupValue
-cleanup_found block None = []
-cleanup_found block (Some f) = record { found = f; block = block } ∷ []
-
--- What at_cleanup registers for a step that found it: what the text of the field `step` finds among the entries of type `step`. (behave's documentation: cleanups)
-abbrev pub cleanup_of : LibraryValue → StepValue → Option FoundValue → List CleanupValue
-cleanup_of library step None = []
-cleanup_of library step (Some f) = cleanup_found step.block (found_any library (given library f step.block).step)
-
--- The cleanup that an event registered, if it did, with the place of its step.
-abbrev pub placed_by : LibraryValue → Told → List PlacedCleanup
-placed_by library (of_step place step mark s) =
-    cond (registers library step mark) (map (λ cleanup. record { at = Some (record { part = place.part; line = step.line }); cleanup = cleanup }) (cleanup_of library step (found library step.step_type step.text))) []
-placed_by library (of_cleanup level cleanup outcome s) = []
+-- The cleanups that an event registered, each with the place of its step.
+abbrev pub placed_by : Told → List PlacedCleanup
+placed_by (of_step place step mark cleanups s) = map (λ cleanup. record { at = Some (record { part = place.part; line = step.line }); cleanup = cleanup }) cleanups
+placed_by (of_cleanup level cleanup outcome s) = []
 
 -- The cleanups of a case that run are those that its hooks and steps registered, the last first, and the place that is said of each is that of the step that registered it.
 abbrev pub CleanupsAreOfTheirSteps : Type 0
 CleanupsAreOfTheirSteps = (run : Run) (section : State) (c : CaseValue) →
-    let told = told_case run section c in
-    placed_cleanups run.library [] (in_order told) ≡ reverse (flat_map (placed_by run.library) (told.before ++ (told.steps ++ told.after)))
+    let events = alone run section c in
+    placed_cleanups run.library [] (in_order events) ≡ reverse (flat_map placed_by (events.before ++ (events.steps ++ events.after)))

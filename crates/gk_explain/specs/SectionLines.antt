@@ -1,7 +1,7 @@
 -- What is kept of a section that is open.
 use Rattle.std.specs.Prelude.{ℕ, List, [], ◌∷◌, ◌++◌, string_bytes}
 use Rattle.gk_steps.specs.Finding.{LibraryValue}
-use Rattle.gk_run.specs.Watching.{Told}
+use Rattle.gk_run.specs.Events.{Event as Told}
 use Rattle.gk_explain.specs.declared.registrations.Registration.{Registration}
 use Rattle.gk_explain.specs.declared.section_lines.SectionLines.{SectionLines}
 use Rattle.gk_explain.specs.Registrations.{left_to_run}

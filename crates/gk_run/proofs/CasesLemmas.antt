@@ -12,7 +12,7 @@ use Rattle.gk_run.specs.declared.results.Mark.TheVariants.{Skipped, Untested}
 use Rattle.gk_run.specs.declared.results.Status.{Status}
 use Rattle.gk_run.specs.declared.results.Status.TheVariants as statuses
 use Rattle.gk_run.specs.Run.{Run}
-use Rattle.gk_run.specs.Running.{reached_row, unrun_row, unreached_row, unselected_row, IsReached, marks_of}
+use Rattle.gk_run.specs.Running.{reached_row, unrun_row, unreached_row, unselected_row, IsReached, same_marks}
 use Rattle.gk_run.specs.Walk.{row_of_step, rows_of_steps}
 use Rattle.gk_run.specs.Chosen.{MemberValue, has_selected, member_of, members_of}
 use Rattle.gk_run.specs.Cases.{all_stay_open, case_of, cases_of, members_in, stays_open, AreCases, RunsCases, TakesMember}
@@ -126,12 +126,12 @@ cases_last run first first_open all rows is_open (m ∷ left) none goes section 
 
 -- ---- a case in which nothing happens
 
-pub unselected_is : (run : Run) (section : State) (is_open : Bool) (m : MemberValue) (row : CaseRow) → m.selected ≡ false → row ≡ unrun_row m.scenario statuses.Skipped (marks_of Skipped m.scenario) → row ≡ case_of run section is_open nowhere m
+pub unselected_is : (run : Run) (section : State) (is_open : Bool) (m : MemberValue) (row : CaseRow) → m.selected ≡ false → row ≡ unrun_row m.scenario statuses.Skipped (same_marks Skipped m.scenario) → row ≡ case_of run section is_open nowhere m
 unselected_is run section is_open m row h e =
     let c = m.scenario in
     e ∙ ap (λ (b : Bool). cond b (cond is_open (reached_row run section nowhere c) (unreached_row c)) (unselected_row c)) (sym h)
 
-pub unreached_is : (run : Run) (section : State) (is_open : Bool) (m : MemberValue) (row : CaseRow) → m.selected ≡ true → is_open ≡ false → row ≡ unrun_row m.scenario statuses.Untested (marks_of Untested m.scenario) → row ≡ case_of run section is_open nowhere m
+pub unreached_is : (run : Run) (section : State) (is_open : Bool) (m : MemberValue) (row : CaseRow) → m.selected ≡ true → is_open ≡ false → row ≡ unrun_row m.scenario statuses.Untested (same_marks Untested m.scenario) → row ≡ case_of run section is_open nowhere m
 unreached_is run section is_open m row h o e =
     let c = m.scenario in
     let with_rows : List StepRow → CaseRow = λ rows. record { keyword = c.keyword; name = c.name; line = c.line; status = statuses.Untested; around = statuses.Passed; cleanups = []; steps = rows } in

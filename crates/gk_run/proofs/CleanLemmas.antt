@@ -1,7 +1,7 @@
 -- Cleanups, the last first.
-use Rattle.std.proofs.Common.{List, [], ap, append_assoc, false, map, refl, reverse, subst, suc, sym, true, ◌++◌, ◌∙◌, ◌∷◌, ◌≡◌}
-use Rattle.std.proofs.lemmas.Bool.{true≢false}
-use Rattle.std.proofs.lemmas.List.{append-nil, reverse-append}
+use Rattle.std.specs.List.{FoldsTo}
+use Rattle.std.proofs.Common.{List, [], ap, append_assoc, false, refl, subst, sym, ◌++◌, ◌∙◌, ◌∷◌, ◌≡◌}
+use Rattle.std.proofs.lemmas.List.{append-nil}
 use Rattle.gk_steps.specs.Finding.{LibraryValue}
 use Rattle.gk_world.specs.State.{State}
 use Rattle.gk_run.specs.declared.ending.Ending.{Ending}
@@ -9,75 +9,69 @@ use Rattle.gk_run.specs.declared.ending.Ending.TheVariants as endings
 use Rattle.gk_run.specs.declared.results.Mark.TheVariants.{Acted}
 use Rattle.gk_run.specs.declared.results.Outcome.{Outcome}
 use Rattle.gk_run.specs.declared.results.Outcome.TheVariants as outcomes
-use Rattle.gk_run.specs.Acting.{CleanupValue, IsDone}
-use Rattle.gk_run.specs.Closing.{cleaned, cleaned_in_turn, IsCleaned, cleanup_done}
+use Rattle.gk_run.specs.declared.section.Level.{Level}
+use Rattle.gk_run.specs.Acting.{CleanupValue, Done, IsDone}
+use Rattle.gk_run.specs.Closing.{clean_each, cleanup_done}
 use Rattle.gk_run.specs.Ending.{ending_of, is_memory_ending, worse}
-use Rattle.gk_run.proofs.EndingLemmas.{ended_append, worse_assoc, worse_memory, worse_passed}
+use Rattle.gk_run.specs.Events.{Event, Stand, of_cleanup, outcomes_of}
+use Rattle.gk_run.specs.WalkContracts.{Goes, Happens}
+use Rattle.gk_run.proofs.EventLemmas.{outcomes_append}
+use Rattle.gk_run.proofs.GoesLemmas.{begin, behind, chain, unrefused, with_rest}
+use Rattle.gk_run.proofs.WalkLemmas.{at}
 
--- whatever the cleanups that are left come to, all come to, with these outcomes before theirs
-abbrev pub GoesClean : LibraryValue → State → List CleanupValue → Ending → List Outcome → State → List CleanupValue → Type 0
-GoesClean library s left ended reported first all =
-    (e : Ending) (more : List Outcome) → IsCleaned (cleaned library s left) e more → IsCleaned (cleaned library first all) (worse ended e) (reported ++ more)
+-- one cleanup happened, with this outcome
+abbrev OneCleanup : {S : Type 0} → (S → Event → S → Type 0) → Event → Outcome → Stand → Stand → S → S → Type 0
+OneCleanup hears event o start now first last = (g : Happens hears endings.Passed (event ∷ []) start now (ending_of (Acted o)) first last) × (outcomes_of g.told ≡ o ∷ [])
 
--- the outcomes of cleanups whose first one gave this outcome and left this state
-abbrev from_first : LibraryValue → Outcome → State → List CleanupValue → List Outcome
-from_first library o s cs = o ∷ cleaned_in_turn library s cs
+-- what a cleanup leaves, as an event
+abbrev event_by : Level → CleanupValue → Outcome → State → Event
+event_by level c o s = of_cleanup level c o s
 
-last_first : (library : LibraryValue) (s : State) (left : List CleanupValue) (a : CleanupValue) → cleaned library s (left ++ a ∷ []) ≡ cleaned_in_turn library s (a ∷ reverse left)
-last_first library s left a = ap (cleaned_in_turn library s) (reverse-append left (a ∷ []))
+exactly : (level : Level) (c : CleanupValue) (done : Done) (o : Outcome) (new : State) → (o ≡ done.outcome) × (new ≡ done.state) → event_by level c done.outcome done.state ≡ event_by level c o new
+exactly level c done o new d = sym (ap (λ x. event_by level c x new) d.0 ∙ ap (event_by level c done.outcome) d.1)
 
--- one outcome before theirs
-one_more : (os : List Outcome) (o : Outcome) (e : Ending) (more : List Outcome) → is_memory_ending (ending_of (Acted o)) ≡ false → IsCleaned os e more → IsCleaned (o ∷ os) (worse (ending_of (Acted o)) e) (o ∷ more)
-one_more os outcomes.Memory e more m h = absurd (true≢false m)
-one_more os outcomes.Passed endings.Memory more m h = (suc h.0, h.1, ap (λ ms. outcomes.Passed ∷ ms) h.2)
-one_more os (outcomes.Failed why) endings.Memory more m h = (suc h.0, h.1, ap (λ ms. outcomes.Failed why ∷ ms) h.2)
-one_more os outcomes.Skip endings.Memory more m h = (suc h.0, h.1, ap (λ ms. outcomes.Skip ∷ ms) h.2)
-one_more os outcomes.Passed endings.Passed more m h = (h.0, ap (λ ms. outcomes.Passed ∷ ms) h.1)
-one_more os outcomes.Passed endings.Failed more m h = (h.0, ap (λ ms. outcomes.Passed ∷ ms) h.1)
-one_more os outcomes.Passed endings.Skipped more m h = (h.0, ap (λ ms. outcomes.Passed ∷ ms) h.1)
-one_more os (outcomes.Failed why) endings.Passed more m h = (ap (worse endings.Failed) h.0 ∙ sym (ended_append (Acted (outcomes.Failed why) ∷ []) (map Acted os)), ap (λ ms. outcomes.Failed why ∷ ms) h.1)
-one_more os (outcomes.Failed why) endings.Failed more m h = (ap (worse endings.Failed) h.0 ∙ sym (ended_append (Acted (outcomes.Failed why) ∷ []) (map Acted os)), ap (λ ms. outcomes.Failed why ∷ ms) h.1)
-one_more os (outcomes.Failed why) endings.Skipped more m h = (ap (worse endings.Failed) h.0 ∙ sym (ended_append (Acted (outcomes.Failed why) ∷ []) (map Acted os)), ap (λ ms. outcomes.Failed why ∷ ms) h.1)
-one_more os outcomes.Skip endings.Passed more m h = (ap (worse endings.Skipped) h.0 ∙ sym (ended_append (Acted outcomes.Skip ∷ []) (map Acted os)), ap (λ ms. outcomes.Skip ∷ ms) h.1)
-one_more os outcomes.Skip endings.Failed more m h = (ap (worse endings.Skipped) h.0 ∙ sym (ended_append (Acted outcomes.Skip ∷ []) (map Acted os)), ap (λ ms. outcomes.Skip ∷ ms) h.1)
-one_more os outcomes.Skip endings.Skipped more m h = (ap (worse endings.Skipped) h.0 ∙ sym (ended_append (Acted outcomes.Skip ∷ []) (map Acted os)), ap (λ ms. outcomes.Skip ∷ ms) h.1)
+one_goes : {S : Type 0} (hears : S → Event → S → Type 0) (level : Level) (c : CleanupValue) (done : Done) (o : Outcome) (s new : State) (cs : List CleanupValue) (first last : S) → IsDone done o new → hears first (of_cleanup level c o new) last →
+    OneCleanup hears (event_by level c done.outcome done.state) o (at s cs) (at new cs) first last
+one_goes hears level c done outcomes.Memory s new cs first last d h = (
+  record {
+    told = of_cleanup level c outcomes.Memory new ∷ [];
+    heard = (last, h, refl);
+    so_far = record { front = []; event = event_by level c done.outcome done.state; rest = []; left = new; whole = refl; cut = refl };
+    ends = refl;
+    stands = refl;
+  },
+  refl,
+)
+one_goes hears level c done outcomes.Passed s new cs first last d h =
+    (record { told = of_cleanup level c outcomes.Passed new ∷ []; heard = (last, h, refl); so_far = ap (λ x. x ∷ []) (exactly level c done outcomes.Passed new d); ends = refl; stands = refl }, refl)
+one_goes hears level c done outcomes.Skip s new cs first last d h =
+    (record { told = of_cleanup level c outcomes.Skip new ∷ []; heard = (last, h, refl); so_far = ap (λ x. x ∷ []) (exactly level c done outcomes.Skip new d); ends = refl; stands = refl }, refl)
+one_goes hears level c done (outcomes.Failed why) s new cs first last d h =
+    (record { told = of_cleanup level c (outcomes.Failed why) new ∷ []; heard = (last, h, refl); so_far = ap (λ x. x ∷ []) (exactly level c done (outcomes.Failed why) new d); ends = refl; stands = refl }, refl)
 
-done_is : (library : LibraryValue) (s new : State) (a : CleanupValue) (o : Outcome) (cs : List CleanupValue) → is_memory_ending (ending_of (Acted o)) ≡ false → IsDone (cleanup_done library a s) o new →
-    from_first library o new cs ≡ cleaned_in_turn library s (a ∷ cs)
-done_is library s new a outcomes.Memory cs m d = absurd (true≢false m)
-done_is library s new a outcomes.Passed cs m d = let x = cleanup_done library a s in ap (λ o. from_first library o new cs) d.0 ∙ ap (λ n. from_first library x.outcome n cs) d.1
-done_is library s new a outcomes.Skip cs m d = let x = cleanup_done library a s in ap (λ o. from_first library o new cs) d.0 ∙ ap (λ n. from_first library x.outcome n cs) d.1
-done_is library s new a (outcomes.Failed why) cs m d = let x = cleanup_done library a s in ap (λ o. from_first library o new cs) d.0 ∙ ap (λ n. from_first library x.outcome n cs) d.1
+-- where memory wasn't refused, the state is the one that the cleanup leaves
+left_state : (done : Done) (o : Outcome) (new : State) → is_memory_ending (ending_of (Acted o)) ≡ false → IsDone done o new → new ≡ done.state
+left_state done outcomes.Memory new n d = let no : ⊥ = cc in absurd no
+left_state done outcomes.Passed new n d = d.1
+left_state done outcomes.Skip new n d = d.1
+left_state done (outcomes.Failed why) new n d = d.1
 
-pub clean_on : (library : LibraryValue) (first : State) (all : List CleanupValue) (s new : State) (list left : List CleanupValue) (a : CleanupValue) (o : Outcome) (ended : Ending) (reported more : List Outcome) →
-    list ≡ left ++ a ∷ [] → IsDone (cleanup_done library a s) o new → is_memory_ending (ending_of (Acted o)) ≡ false → more ≡ reported ++ o ∷ [] →
-    GoesClean library s list ended reported first all → GoesClean library new left (worse ended (ending_of (Acted o))) more first all
-clean_on library first all s new list left a o ended reported more lists d m pushed goes e rest h =
-    let os = cleaned library first all in
-    let this = ending_of (Acted o) in
-    let one : IsCleaned (o ∷ cleaned library new left) (worse this e) (o ∷ rest) = one_more (cleaned library new left) o e rest m h in
-    let is : o ∷ cleaned library new left ≡ cleaned library s list = done_is library s new a o (reverse left) m d ∙ sym (last_first library s left a) ∙ ap (cleaned library s) (sym lists) in
-    let whole : IsCleaned os (worse ended (worse this e)) (reported ++ (o ∷ rest)) = goes (worse this e) (o ∷ rest) (subst (λ xs. IsCleaned xs (worse this e) (o ∷ rest)) is one) in
-    subst (λ x. IsCleaned os x (more ++ rest)) (sym (worse_assoc ended this e))
-    (subst (λ ts. IsCleaned os (worse ended (worse this e)) ts) (sym (ap (λ ts. ts ++ rest) pushed ∙ append_assoc reported (o ∷ []) rest)) whole)
+-- what a loop over cleanups keeps: what happened so far, and that the outcomes are those of it
+pub record CleansSoFar {S : Type 0} (hears : S → Event → S → Type 0) (all rest : List Event) (start now : Stand) (ended : Ending) (reported : List Outcome) (first last : S) : Type 0 where
+  pub goes : Goes hears endings.Passed all rest start now ended first last
+  pub outcomes : reported ≡ outcomes_of goes.told
 
-pub clean_off : (library : LibraryValue) (first : State) (all : List CleanupValue) (s : State) (list left : List CleanupValue) (a : CleanupValue) (o : Outcome) (ended : Ending) (reported more : List Outcome) →
-    list ≡ left ++ a ∷ [] → is_memory_ending (ending_of (Acted o)) ≡ true → more ≡ reported ++ o ∷ [] →
-    GoesClean library s list ended reported first all → IsCleaned (cleaned library first all) (ending_of (Acted o)) more
-clean_off library first all s list left a outcomes.Memory ended reported more lists m pushed goes =
-    let os = cleaned library first all in
-    let is : cleaned_in_turn library s (a ∷ reverse left) ≡ cleaned library s list = sym (last_first library s left a) ∙ ap (cleaned library s) (sym lists) in
-    let one : IsCleaned (cleaned_in_turn library s (a ∷ reverse left)) endings.Memory (outcomes.Memory ∷ []) = (0, refl, refl) in
-    subst (λ x. IsCleaned os x more) (worse_memory ended)
-    (subst (λ ts. IsCleaned os (worse ended endings.Memory) ts) (sym pushed) (goes endings.Memory (outcomes.Memory ∷ []) (subst (λ xs. IsCleaned xs endings.Memory (outcomes.Memory ∷ [])) is one)))
-clean_off library first all s list left a outcomes.Passed ended reported more lists m pushed goes = absurd (true≢false (sym m))
-clean_off library first all s list left a outcomes.Skip ended reported more lists m pushed goes = absurd (true≢false (sym m))
-clean_off library first all s list left a (outcomes.Failed why) ended reported more lists m pushed goes = absurd (true≢false (sym m))
+pub cleans_first : {S : Type 0} (hears : S → Event → S → Type 0) (all : List Event) (start : Stand) (first : S) → CleansSoFar hears all all start start endings.Passed [] first first
+cleans_first hears all start first = record { goes = begin hears endings.Passed all start first; outcomes = refl }
 
-pub clean_done : (library : LibraryValue) (first : State) (all : List CleanupValue) (s : State) (list : List CleanupValue) (ended : Ending) (reported : List Outcome) →
-    list ≡ [] → GoesClean library s list ended reported first all → IsCleaned (cleaned library first all) ended reported
-clean_done library first all s list ended reported none goes =
-    let os = cleaned library first all in
-    subst (λ x. IsCleaned os x reported) (worse_passed ended)
-    (subst (λ ts. IsCleaned os (worse ended endings.Passed) ts) (append-nil reported)
-    (goes endings.Passed [] (subst (λ xs. IsCleaned (cleaned library s xs) endings.Passed []) (sym none) (refl, refl))))
+pub cleans_on : {S : Type 0} (hears : S → Event → S → Type 0) (library : LibraryValue) (level : Level) (c : CleanupValue) (left : List CleanupValue) (o : Outcome) (s new : State) (cs : List CleanupValue) (all : List Event) (start : Stand) (ended : Ending) (reported more : List Outcome) (first here last : S) →
+    is_memory_ending ended ≡ false → IsDone (cleanup_done library c s) o new → hears here (of_cleanup level c o new) last → more ≡ reported ++ o ∷ [] →
+    CleansSoFar hears all (clean_each library level s (c ∷ left)) start (at s cs) ended reported first here → CleansSoFar hears all (clean_each library level new left) start (at new cs) (worse ended (ending_of (Acted o))) more first last
+cleans_on hears library level c left o s new cs all start ended reported more first here last m d h pushed so_far =
+    let done = cleanup_done library c s in
+    let one = one_goes hears level c done o s new cs here last d h in
+    record {
+      goes = with_rest (clean_each library level new left) (chain (clean_each library level done.state left) so_far.goes (λ _. refl) (behind ended m one.0))
+          (λ n. sym (ap (λ x. clean_each library level x left) (left_state done o new (unrefused ended (ending_of (Acted o)) m ∙ n) d)));
+      outcomes = pushed ∙ ap (λ os. os ++ o ∷ []) so_far.outcomes ∙ sym (outcomes_append so_far.goes.told one.0.told ∙ ap (λ os. outcomes_of so_far.goes.told ++ os) one.1);
+    }

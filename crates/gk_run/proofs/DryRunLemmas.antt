@@ -10,16 +10,20 @@ use Rattle.gk_run.specs.declared.results.Mark.TheVariants.{Acted, Skipped, Undef
 use Rattle.gk_run.specs.declared.results.Outcome.TheVariants as outcomes
 use Rattle.gk_run.specs.declared.results.Status.{Status}
 use Rattle.gk_run.specs.declared.results.Status.TheVariants as statuses
-use Rattle.gk_run.specs.Running.{row_of_case, unrun_row, unselected_row, marks_of}
-use Rattle.gk_run.specs.Walk.{row_of_step, looked_up, IsLookedUp}
+use Rattle.gk_world.specs.State.{nothing_yet, state_of}
+use Rattle.gk_run.specs.Events.{cut_at, event_marks}
+use Rattle.gk_run.specs.Running.{row_of_case, unrun_row, unselected_row, same_marks}
+use Rattle.gk_run.specs.Walk.{row_of_step, looked_up}
+use Rattle.gk_run.specs.WalkContracts.{IsLookedUp}
+use Rattle.gk_run.specs.DryRunContracts.{AreDrySteps, IsDryStep}
 use Rattle.gk_run.specs.Chosen.{ChosenValue, MemberValue}
-use Rattle.gk_run.specs.DryRun.{AreDrySteps, IsDryStep, dry_case_of, dry_cases_of, dry_events, dry_feature_of, dry_row, dry_rules_of, dry_verdict}
+use Rattle.gk_run.specs.DryRun.{dry_case_of, dry_cases_of, dry_events, dry_feature_of, dry_row, dry_rules_of, dry_step, dry_verdict}
 use Rattle.gk_run.specs.Ending.{is_memory_mark}
 use Rattle.gk_run.specs.Cases.{case_statuses}
 use Rattle.gk_run.specs.Features.{FeatureCuts, feature_verdict, rule_statuses}
 use Rattle.gk_run.specs.Results.{CaseRow, FeatureRow, RuleRow, StepRow}
-use Rattle.gk_run.specs.Section.{Cut, Events, cut_marks, happened, in_steps, nowhere}
-use Rattle.gk_run.proofs.EndingLemmas.{cut_is_memory}
+use Rattle.gk_run.specs.Section.{Cut, Events, happened, in_steps, nowhere}
+use Rattle.gk_run.proofs.EventLemmas.{cut_is_memory}
 
 -- ---- the steps of a case
 
@@ -73,10 +77,10 @@ dry_steps_last library all refused (step ∷ left) rows none whole = let no : �
 
 -- ---- a case
 
-no_memory : (library : LibraryValue) (steps : List StepValue) → list_any is_memory_mark (map (looked_up library Untested) steps) ≡ false
+no_memory : (library : LibraryValue) (steps : List StepValue) → list_any is_memory_mark (event_marks (map (dry_step library) steps)) ≡ false
 no_memory library [] = refl
 no_memory library (step ∷ steps) =
-    ap (λ b. b || list_any is_memory_mark (map (looked_up library Untested) steps)) (no_memory_mark (is_some (found library step.step_type step.text))) ∙ no_memory library steps
+    ap (λ b. b || list_any is_memory_mark (event_marks (map (dry_step library) steps))) (no_memory_mark (is_some (found library step.step_type step.text))) ∙ no_memory library steps
 
 -- the row of a case with these results of its steps
 abbrev dry_row_by : CaseValue → Status → List StepRow → CaseRow
@@ -89,21 +93,22 @@ verdict_of refused = cond refused statuses.Memory statuses.Untested
 pub dry_is : (library : LibraryValue) (c : CaseValue) (rows : List StepRow) (refused : Bool) (status : Status) → status ≡ cond refused statuses.Memory statuses.Untested → AreDrySteps library false c.steps rows refused →
     (cut : Cut) × (record { keyword = c.keyword; name = c.name; line = c.line; status = status; around = statuses.Passed; cleanups = []; steps = rows } ≡ dry_row library cut c)
 dry_is library c rows false status s h =
-    let marks = map (looked_up library Untested) c.steps in
+    let marks = event_marks (map (dry_step library) c.steps) in
     (nowhere, ap (λ x. dry_row_by c x rows) (s ∙ ap verdict_of (sym (no_memory library c.steps))) ∙ ap (dry_row_by c (verdict_of (list_any is_memory_mark marks))) h)
 dry_is library c rows true status s h =
     let n = h.0 in
+    let there = state_of nothing_yet in
     let e = dry_events library c in
-    let marks = cut_marks n e.steps in
-    let now : Events = record { before = []; steps = marks; after = []; cleanups = [] } in
-    let is : now ≡ happened (in_steps n) e = ap (λ (b : Bool). cond b now e) (sym h.1) in (
-      in_steps n,
-      ap (λ x. dry_row_by c x rows) (s ∙ ap verdict_of (sym (cut_is_memory e.steps n h.1)))
-          ∙ ap (dry_row_by c (verdict_of (list_any is_memory_mark marks))) h.2
+    let steps = cut_at n there e.steps in
+    let now : Events = record { before = []; steps = steps; after = []; cleanups = [] } in
+    let is : now ≡ happened (in_steps n there) e = ap (λ (b : Bool). cond b now e) (sym h.1) in (
+      in_steps n there,
+      ap (λ x. dry_row_by c x rows) (s ∙ ap verdict_of (sym (cut_is_memory e.steps n there h.1)))
+          ∙ ap (dry_row_by c (verdict_of (list_any is_memory_mark (event_marks steps)))) h.2
           ∙ ap (λ (x : Events). row_of_case c (dry_verdict x) x) is,
     )
 
-pub dry_unselected : (library : LibraryValue) (m : MemberValue) (row : CaseRow) → m.selected ≡ false → row ≡ unrun_row m.scenario statuses.Skipped (marks_of Skipped m.scenario) → row ≡ dry_case_of library nowhere m
+pub dry_unselected : (library : LibraryValue) (m : MemberValue) (row : CaseRow) → m.selected ≡ false → row ≡ unrun_row m.scenario statuses.Skipped (same_marks Skipped m.scenario) → row ≡ dry_case_of library nowhere m
 dry_unselected library m row h e = let c = m.scenario in e ∙ ap (λ (b : Bool). cond b (dry_row library nowhere c) (unselected_row c)) (sym h)
 
 pub dry_selected : (library : LibraryValue) (m : MemberValue) (row : CaseRow) → m.selected ≡ true → (cut : Cut) × (row ≡ dry_row library cut m.scenario) → (cut : Cut) × (row ≡ dry_case_of library cut m)

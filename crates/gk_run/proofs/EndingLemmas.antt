@@ -1,15 +1,12 @@
--- How lists of marks end, and where they are cut.
+-- How lists of marks end.
 use Rattle.std.specs.List.{list_any}
-use Rattle.std.proofs.Common.{Bool, List, [], ap, cond, false, map, refl, suc, sym, true, zero, ℕ, ◌++◌, ◌||◌, ◌∙◌, ◌∷◌, ◌≡◌}
+use Rattle.std.proofs.Common.{Bool, List, ap, cond, false, refl, sym, true, ◌++◌, ◌||◌, ◌∙◌, ◌≡◌}
 use Rattle.std.proofs.lemmas.Bool.{true≢false}
 use Rattle.std.proofs.lemmas.List.Folds.{list_any-append}
 use Rattle.gk_run.specs.declared.ending.Ending.{Ending}
 use Rattle.gk_run.specs.declared.ending.Ending.TheVariants as endings
 use Rattle.gk_run.specs.declared.results.Mark.{Mark}
-use Rattle.gk_run.specs.declared.results.Mark.TheVariants.{Acted}
-use Rattle.gk_run.specs.declared.results.Outcome.{Outcome}
-use Rattle.gk_run.specs.Ending.{ended_of, is_bad_mark, is_memory_ending, is_memory_mark, is_skip_mark, worse}
-use Rattle.gk_run.specs.Section.{cut_marks, cut_outcomes, is_place}
+use Rattle.gk_run.specs.Ending.{ended_of, has_passed, is_bad_mark, is_memory_ending, is_memory_mark, is_skip_mark, worse}
 
 abbrev ended_by : Bool → Bool → Bool → Ending
 ended_by m b s = cond m endings.Memory (cond b endings.Failed (cond s endings.Skipped endings.Passed))
@@ -69,50 +66,32 @@ worse_passed endings.Memory = refl
 worse_passed endings.Failed = refl
 worse_passed endings.Skipped = refl
 
--- an event of the later part, counted from the start
-abbrev pub past : {A : Type 0} → List A → ℕ → ℕ
-past [] n = n
-past (x ∷ xs) n = suc (past xs n)
-
-pub place_past : {A : Type 0} (xs ys : List A) (n : ℕ) → is_place n ys ≡ true → is_place (past xs n) (xs ++ ys) ≡ true
-place_past [] ys n h = h
-place_past (x ∷ xs) ys n h = place_past xs ys n h
-
--- an event of the earlier part
-pub place_before : {A : Type 0} (xs ys : List A) (n : ℕ) → is_place n xs ≡ true → is_place n (xs ++ ys) ≡ true
-place_before [] ys n h = absurd (true≢false (sym h))
-place_before (x ∷ xs) ys zero h = refl
-place_before (x ∷ xs) ys (suc n) h = place_before xs ys n h
-
-or_true : (b : Bool) → (b || true) ≡ true
+pub or_true : (b : Bool) → (b || true) ≡ true
 or_true true = refl
 or_true false = refl
 
--- a cut is marked
-pub cut_is_memory : (marks : List Mark) (n : ℕ) → is_place n marks ≡ true → list_any is_memory_mark (cut_marks n marks) ≡ true
-cut_is_memory [] n h = absurd (true≢false (sym h))
-cut_is_memory (m ∷ ms) zero h = refl
-cut_is_memory (m ∷ ms) (suc n) h = ap (λ b. is_memory_mark m || b) (cut_is_memory ms n h) ∙ or_true (is_memory_mark m)
+-- where memory was refused in one of two endings
+pub memory_of : (a b : Ending) → is_memory_ending (worse a b) ≡ (is_memory_ending a || is_memory_ending b)
+memory_of endings.Passed b = refl
+memory_of endings.Memory b = refl
+memory_of endings.Failed endings.Memory = refl
+memory_of endings.Failed endings.Failed = refl
+memory_of endings.Failed endings.Skipped = refl
+memory_of endings.Failed endings.Passed = refl
+memory_of endings.Skipped endings.Memory = refl
+memory_of endings.Skipped endings.Failed = refl
+memory_of endings.Skipped endings.Skipped = refl
+memory_of endings.Skipped endings.Passed = refl
 
-pub cut_ends : (marks : List Mark) (n : ℕ) → is_place n marks ≡ true → ended_of (cut_marks n marks) ≡ endings.Memory
-cut_ends marks n h = ap (λ b. ended_by b (list_any is_bad_mark (cut_marks n marks)) (list_any is_skip_mark (cut_marks n marks))) (cut_is_memory marks n h)
+-- what passed wasn't refused memory
+pub passed_is : (e : Ending) → has_passed e ≡ true → e ≡ endings.Passed
+passed_is endings.Passed h = refl
+passed_is endings.Failed h = absurd (true≢false (sym h))
+passed_is endings.Skipped h = absurd (true≢false (sym h))
+passed_is endings.Memory h = absurd (true≢false (sym h))
 
--- the outcomes of cleanups as marks
-pub cut_acted : (os : List Outcome) (n : ℕ) → map Acted (cut_outcomes n os) ≡ cut_marks n (map Acted os)
-cut_acted [] n = refl
-cut_acted (o ∷ os) zero = refl
-cut_acted (o ∷ os) (suc n) = ap (λ ms. Acted o ∷ ms) (cut_acted os n)
-
-pub place_acted : (os : List Outcome) (n : ℕ) → is_place n (map Acted os) ≡ is_place n os
-place_acted [] n = refl
-place_acted (o ∷ os) zero = refl
-place_acted (o ∷ os) (suc n) = place_acted os n
-
-pub not_memory : (e : Ending) → is_memory_ending e ≡ false → e ≡ endings.Memory → ⊥
-not_memory endings.Memory h m = let no : ⊥ = cc in no
-not_memory endings.Passed h m = let no : ⊥ = cc in no
-not_memory endings.Failed h m = let no : ⊥ = cc in no
-not_memory endings.Skipped h m = let no : ⊥ = cc in no
+pub passed_unrefused : (e : Ending) → has_passed e ≡ true → is_memory_ending e ≡ false
+passed_unrefused e h = ap is_memory_ending (passed_is e h)
 
 pub is_memory : (e : Ending) → is_memory_ending e ≡ true → e ≡ endings.Memory
 is_memory endings.Memory h = refl

@@ -3,13 +3,11 @@ pub mod ActingExamples
 pub mod RunningExamples
 pub mod Nothing
 pub mod EndingLemmas
+pub mod EventLemmas
+pub mod GoesLemmas
 pub mod WalkLemmas
-pub mod WatchingLemmas
 pub mod CleanLemmas
-pub mod StepsLemmas
 pub mod SectionLemmas
-pub mod WatchedCaseLemmas
-pub mod WatchedSectionLemmas
 pub mod GroupingLemmas
 pub mod CasesLemmas
 pub mod RulesLemmas

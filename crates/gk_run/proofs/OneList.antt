@@ -7,17 +7,16 @@ use Rattle.gk_steps.specs.Finding.{LibraryValue}
 use Rattle.gk_world.specs.State.{State, state_of}
 use Rattle.gk_run.specs.declared.ending.Ending.{Ending}
 use Rattle.gk_run.specs.declared.ending.Ending.TheVariants as endings
-use Rattle.gk_run.specs.declared.results.Mark.TheVariants.{Acted, Untested}
 use Rattle.gk_run.specs.declared.results.Status.{Status}
 use Rattle.gk_run.specs.declared.results.Status.TheVariants as statuses
 use Rattle.gk_run.specs.declared.section.Level.{Level}
 use Rattle.gk_run.specs.declared.section.Level.TheVariants as levels
 use Rattle.gk_run.specs.Run.{Run}
-use Rattle.gk_run.specs.Running.{all_marks, alone, reached_row, row_of_case, unreached_row, unselected_row, verdict_of}
-use Rattle.gk_run.specs.Walk.{looked_up}
+use Rattle.gk_run.specs.Running.{alone, reached_row, row_of_case, unreached_row, unselected_row, verdict_of}
 use Rattle.gk_run.specs.Chosen.{ChosenValue, MemberValue, has_selected}
-use Rattle.gk_run.specs.DryRun.{dry_case_of, dry_cases_of, dry_events, dry_feature_of, dry_features_of, dry_row, dry_rules_of, dry_verdict}
-use Rattle.gk_run.specs.Ending.{around_status, ended_of, is_memory_mark, verdict_status}
+use Rattle.gk_run.specs.DryRun.{dry_case_of, dry_cases_of, dry_events, dry_feature_of, dry_features_of, dry_row, dry_rules_of, dry_step, dry_verdict}
+use Rattle.gk_run.specs.Ending.{around_status, is_memory_mark, verdict_status}
+use Rattle.gk_run.specs.Events.{cut_at, ended_in, event_marks}
 use Rattle.gk_run.specs.Cases.{all_stay_open, case_of, cases_of, first_or, later, stays_open}
 use Rattle.gk_run.specs.Features.{FeatureCuts, feature_of, feature_row_of, features_of, inside_by, inside_of, uncut_feature}
 use Rattle.gk_run.specs.Grouping.{Group, own_members, rule_groups}
@@ -25,9 +24,8 @@ use Rattle.gk_run.specs.OpenSection.{SectionRow, happened_in, section_events, se
 use Rattle.gk_run.specs.Rules.{Inside, RuleCuts, rule_of, rule_stays_open, rules_of, uncut_rule}
 use Rattle.gk_run.specs.Judged.{Cuts, OneList, dry_results, has_memory, is_memory_case, is_memory_feature, is_memory_rule, results_from, uncut}
 use Rattle.gk_run.specs.Results.{CaseRow, FeatureRow, RuleRow, Results, is_memory}
-use Rattle.gk_run.specs.Section.{Cut, Events, around_of, before_passed, cut_marks, cut_outcomes, happened, in_after, in_before, in_cleanups, in_steps, is_place, marks_around, nowhere}
-use Rattle.gk_run.proofs.EndingLemmas.{cut_ends, cut_is_memory}
-use Rattle.gk_run.proofs.SectionLemmas.{memory_later, memory_first, outcomes_cut}
+use Rattle.gk_run.specs.Section.{Cut, Events, around_events, around_of, before_passed, happened, in_after, in_before, in_cleanups, in_order, in_steps, is_place, nowhere}
+use Rattle.gk_run.proofs.EventLemmas.{cut_ends, cut_is_memory, first_refused, later_refused}
 
 or_left : (a b : Bool) → (a || b) ≡ false → a ≡ false
 or_left false b h = refl
@@ -46,43 +44,35 @@ uncut_by : (b : Bool) (now e : Events) (f : Events → Ending) → (b ≡ true �
 uncut_by false now e f h free = refl
 uncut_by true now e f h free = absurd (free (h refl))
 
--- how all that happened in a case ends
-case_ending : Events → Ending
-case_ending e = ended_of (all_marks e)
-
--- the same of a section beside its cases
-section_ending : Events → Ending
-section_ending e = ended_of (marks_around e)
-
-case_uncut : (cut : Cut) (e : Events) → (ended_of (all_marks (happened cut e)) ≡ endings.Memory → ⊥) → happened cut e ≡ e
+case_uncut : (cut : Cut) (e : Events) → (ended_in (in_order (happened cut e)) ≡ endings.Memory → ⊥) → happened cut e ≡ e
 case_uncut nowhere e free = refl
-case_uncut (in_before n) e free =
-    uncut_by (is_place n e.before) (record { before = cut_marks n e.before; steps = []; after = []; cleanups = [] }) e (λ x. ended_of (all_marks x)) (λ h. memory_first (cut_marks n e.before) [] (cut_ends e.before n h)) free
-case_uncut (in_steps n) e free =
-    uncut_by (is_place n e.steps) (record e { steps = cut_marks n e.steps; after = []; cleanups = [] }) e (λ x. ended_of (all_marks x))
-    (λ h. memory_later e.before (cut_marks n e.steps ++ []) (memory_first (cut_marks n e.steps) [] (cut_ends e.steps n h))) free
-case_uncut (in_after n) e free =
-    uncut_by (is_place n e.after) (record e { after = cut_marks n e.after; cleanups = [] }) e (λ x. ended_of (all_marks x))
-    (λ h. memory_later e.before (e.steps ++ (cut_marks n e.after ++ [])) (memory_later e.steps (cut_marks n e.after ++ []) (memory_first (cut_marks n e.after) [] (cut_ends e.after n h)))) free
-case_uncut (in_cleanups n) e free =
-    uncut_by (is_place n e.cleanups) (record e { cleanups = cut_outcomes n e.cleanups }) e (λ x. ended_of (all_marks x))
-    (λ h. let tail = map Acted (cut_outcomes n e.cleanups) in memory_later e.before (e.steps ++ (e.after ++ tail)) (memory_later e.steps (e.after ++ tail) (memory_later e.after tail (outcomes_cut e.cleanups n h)))) free
+case_uncut (in_before n s) e free =
+    uncut_by (is_place n e.before) (record { before = cut_at n s e.before; steps = []; after = []; cleanups = [] }) e (λ x. ended_in (in_order x)) (λ h. first_refused (cut_at n s e.before) [] (cut_ends e.before n s h)) free
+case_uncut (in_steps n s) e free =
+    uncut_by (is_place n e.steps) (record e { steps = cut_at n s e.steps; after = []; cleanups = [] }) e (λ x. ended_in (in_order x))
+    (λ h. later_refused e.before (cut_at n s e.steps ++ []) (first_refused (cut_at n s e.steps) [] (cut_ends e.steps n s h))) free
+case_uncut (in_after n s) e free =
+    uncut_by (is_place n e.after) (record e { after = cut_at n s e.after; cleanups = [] }) e (λ x. ended_in (in_order x))
+    (λ h. later_refused e.before (e.steps ++ (cut_at n s e.after ++ [])) (later_refused e.steps (cut_at n s e.after ++ []) (first_refused (cut_at n s e.after) [] (cut_ends e.after n s h)))) free
+case_uncut (in_cleanups n s) e free =
+    uncut_by (is_place n e.cleanups) (record e { cleanups = cut_at n s e.cleanups }) e (λ x. ended_in (in_order x))
+    (λ h. let tail = cut_at n s e.cleanups in later_refused e.before (e.steps ++ (e.after ++ tail)) (later_refused e.steps (e.after ++ tail) (later_refused e.after tail (cut_ends e.cleanups n s h)))) free
 
 section_uncut : (run : Run) (level : Level) (tags : List (List ℕ)) (outside : State) (cut : Cut) →
-    (let es = section_events run level tags outside in ended_of (marks_around (happened cut es)) ≡ endings.Memory → ⊥) → (let es = section_events run level tags outside in happened cut es ≡ es)
+    (let es = section_events run level tags outside in ended_in (around_events (happened cut es)) ≡ endings.Memory → ⊥) → (let es = section_events run level tags outside in happened cut es ≡ es)
 section_uncut run level tags outside nowhere free = refl
-section_uncut run level tags outside (in_before n) free =
+section_uncut run level tags outside (in_before n s) free =
     let e = section_events run level tags outside in
-    uncut_by (is_place n e.before) (record { before = cut_marks n e.before; steps = []; after = []; cleanups = [] }) e (λ x. ended_of (marks_around x)) (λ h. memory_first (cut_marks n e.before) [] (cut_ends e.before n h)) free
-section_uncut run level tags outside (in_steps n) free = refl
-section_uncut run level tags outside (in_after n) free =
+    uncut_by (is_place n e.before) (record { before = cut_at n s e.before; steps = []; after = []; cleanups = [] }) e (λ x. ended_in (around_events x)) (λ h. first_refused (cut_at n s e.before) [] (cut_ends e.before n s h)) free
+section_uncut run level tags outside (in_steps n s) free = refl
+section_uncut run level tags outside (in_after n s) free =
     let e = section_events run level tags outside in
-    uncut_by (is_place n e.after) (record e { after = cut_marks n e.after; cleanups = [] }) e (λ x. ended_of (marks_around x))
-    (λ h. memory_later e.before (cut_marks n e.after ++ []) (memory_first (cut_marks n e.after) [] (cut_ends e.after n h))) free
-section_uncut run level tags outside (in_cleanups n) free =
+    uncut_by (is_place n e.after) (record e { after = cut_at n s e.after; cleanups = [] }) e (λ x. ended_in (around_events x))
+    (λ h. later_refused e.before (cut_at n s e.after ++ []) (first_refused (cut_at n s e.after) [] (cut_ends e.after n s h))) free
+section_uncut run level tags outside (in_cleanups n s) free =
     let e = section_events run level tags outside in
-    uncut_by (is_place n e.cleanups) (record e { cleanups = cut_outcomes n e.cleanups }) e (λ x. ended_of (marks_around x))
-    (λ h. let tail = map Acted (cut_outcomes n e.cleanups) in memory_later e.before (e.after ++ tail) (memory_later e.after tail (outcomes_cut e.cleanups n h))) free
+    uncut_by (is_place n e.cleanups) (record e { cleanups = cut_at n s e.cleanups }) e (λ x. ended_in (around_events x))
+    (λ h. let tail = cut_at n s e.cleanups in later_refused e.before (e.after ++ tail) (later_refused e.after tail (cut_ends e.cleanups n s h))) free
 
 not_verdict : (e : Ending) → is_memory (verdict_status e) ≡ false → e ≡ endings.Memory → ⊥
 not_verdict e h m = true≢false (sym (ap (λ x. is_memory (verdict_status x)) m) ∙ h)
@@ -95,7 +85,7 @@ not_around e h m = true≢false (sym (ap (λ x. is_memory (around_status x)) m) 
 reached_kept : (run : Run) (section : State) (cut : Cut) (c : CaseValue) → (let row = reached_row run section cut c in is_memory row.status ≡ false) → reached_row run section cut c ≡ reached_row run section nowhere c
 reached_kept run section cut c h =
     let es = alone run section c in
-    ap (λ (e : Events). row_of_case c (verdict_of e) e) (case_uncut cut es (not_verdict (ended_of (all_marks (happened cut es))) h))
+    ap (λ (e : Events). row_of_case c (verdict_of e) e) (case_uncut cut es (not_verdict (ended_in (in_order (happened cut es))) h))
 
 choice_kept : (b : Bool) (x x' y y' : CaseRow) → (is_memory x.status ≡ false → x ≡ x') → (is_memory y.status ≡ false → y ≡ y') → (let row : CaseRow = cond b x y in is_memory row.status ≡ false) → cond b x y ≡ cond b x' y'
 choice_kept true x x' y y' f g h = f h
@@ -124,7 +114,7 @@ happened_kept : (run : Run) (level : Level) (tags : List (List ℕ)) (outside : 
 happened_kept run level tags outside false cut h = refl
 happened_kept run level tags outside true cut h =
     let es = section_events run level tags outside in
-    section_uncut run level tags outside cut (not_around (ended_of (marks_around (happened cut es))) h)
+    section_uncut run level tags outside cut (not_around (ended_in (around_events (happened cut es))) h)
 
 -- what a section comes to in which no memory was refused
 section_kept : {A : Type 0} (run : Run) (level : Level) (tags : List (List ℕ)) (outside : State) (is_begun : Bool) (cut : Cut) (inside uncut_inside : State → Bool → A) →
@@ -216,22 +206,22 @@ run_kept run start cuts fs h =
     let with_features : List FeatureRow → Results = λ rows. record { features = rows; around = around_of events } in
     let whole : Events → Results = λ x. record { features = features_of run section (before_passed x) [] fs; around = around_of x } in
     ap with_features (features_kept run section (before_passed events) cuts.features fs (or_right (is_memory (around_of events)) (list_any is_memory_feature features) h))
-    ∙ ap whole (section_uncut run levels.Run [] start cuts.own (not_around (ended_of (marks_around events)) (or_left (is_memory (around_of events)) (list_any is_memory_feature features) h)))
+    ∙ ap whole (section_uncut run levels.Run [] start cuts.own (not_around (ended_in (around_events events)) (or_left (is_memory (around_of events)) (list_any is_memory_feature features) h)))
 
 -- ---- a dry run
 
 -- a cut in steps is none unless one of them is memory
-steps_uncut : (b : Bool) (n : ℕ) (e : Events) → is_place n e.steps ≡ b → (let now : Events = cond b (record e { steps = cut_marks n e.steps; after = []; cleanups = [] }) e in list_any is_memory_mark now.steps ≡ false) →
-    cond b (record e { steps = cut_marks n e.steps; after = []; cleanups = [] }) e ≡ e
-steps_uncut false n e place h = refl
-steps_uncut true n e place h = absurd (true≢false (sym (cut_is_memory e.steps n place) ∙ h))
+steps_uncut : (b : Bool) (n : ℕ) (s : State) (e : Events) → is_place n e.steps ≡ b → (let now : Events = cond b (record e { steps = cut_at n s e.steps; after = []; cleanups = [] }) e in list_any is_memory_mark (event_marks now.steps) ≡ false) →
+    cond b (record e { steps = cut_at n s e.steps; after = []; cleanups = [] }) e ≡ e
+steps_uncut false n s e place h = refl
+steps_uncut true n s e place h = absurd (true≢false (sym (cut_is_memory e.steps n s place) ∙ h))
 
-dry_uncut : (library : LibraryValue) (cut : Cut) (c : CaseValue) → (let es = dry_events library c in let e = happened cut es in list_any is_memory_mark e.steps ≡ false) → (let es = dry_events library c in happened cut es ≡ es)
+dry_uncut : (library : LibraryValue) (cut : Cut) (c : CaseValue) → (let es = dry_events library c in let e = happened cut es in list_any is_memory_mark (event_marks e.steps) ≡ false) → (let es = dry_events library c in happened cut es ≡ es)
 dry_uncut library nowhere c h = refl
-dry_uncut library (in_before n) c h = refl
-dry_uncut library (in_steps n) c h = steps_uncut (is_place n (map (looked_up library Untested) c.steps)) n (dry_events library c) refl h
-dry_uncut library (in_after n) c h = refl
-dry_uncut library (in_cleanups n) c h = refl
+dry_uncut library (in_before n s) c h = refl
+dry_uncut library (in_steps n s) c h = steps_uncut (is_place n (map (dry_step library) c.steps)) n s (dry_events library c) refl h
+dry_uncut library (in_after n s) c h = refl
+dry_uncut library (in_cleanups n s) c h = refl
 
 not_dry_verdict : (b : Bool) → (let status : Status = cond b statuses.Memory statuses.Untested in is_memory status ≡ false) → b ≡ false
 not_dry_verdict true h = absurd (true≢false h)
@@ -240,7 +230,7 @@ not_dry_verdict false h = refl
 dry_row_kept : (library : LibraryValue) (cut : Cut) (c : CaseValue) → (let row = dry_row library cut c in is_memory row.status ≡ false) → dry_row library cut c ≡ dry_row library nowhere c
 dry_row_kept library cut c h =
     let e = happened cut (dry_events library c) in
-    ap (λ (e : Events). row_of_case c (dry_verdict e) e) (dry_uncut library cut c (not_dry_verdict (list_any is_memory_mark e.steps) h))
+    ap (λ (e : Events). row_of_case c (dry_verdict e) e) (dry_uncut library cut c (not_dry_verdict (list_any is_memory_mark (event_marks e.steps)) h))
 
 dry_case_kept : (library : LibraryValue) (cut : Cut) (m : MemberValue) → (let row = dry_case_of library cut m in is_memory row.status ≡ false) → dry_case_of library cut m ≡ dry_case_of library nowhere m
 dry_case_kept library cut m h =

@@ -224,7 +224,7 @@ unfolding found found_any match_of is_utf8 chars lib.Utf8.encode act
 last_in_first_out = refl
 
 -- Memory was refused in the third of them: its outcome is the last.
-cut_in_cleanups : cut_row cleaning (in_cleanups 2) four_cleanups ≡
+cut_in_cleanups : cut_row cleaning (in_cleanups 2 start) four_cleanups ≡
     record { verdict = Memory; around = Memory; cleanups = outcomes.Passed ∷ outcomes.Failed reasons.Asked ∷ outcomes.Memory ∷ []; steps = ok ∷ ok ∷ ok ∷ ok ∷ [] }
 unfolding found found_any match_of is_utf8 chars lib.Utf8.encode act
 cut_in_cleanups = refl
@@ -248,7 +248,7 @@ unfolding found found_any match_of act
 after_a_failure = refl
 
 -- Memory was refused while the second of them was looked up.
-cut_after_a_failure : cut_row (run [] common) (in_steps 1) failing ≡ simple Memory (failed reasons.Asked ∷ with_status Memory ∷ with_status Untested ∷ [])
+cut_after_a_failure : cut_row (run [] common) (in_steps 1 start) failing ≡ simple Memory (failed reasons.Asked ∷ with_status Memory ∷ with_status Untested ∷ [])
 unfolding found found_any match_of act
 cut_after_a_failure = refl
 
@@ -305,22 +305,22 @@ unfolding found found_any match_of is_utf8 chars lib.Utf8.encode act
 failed_before_feature = refl
 
 -- Memory was refused in its before hooks: all steps are untested, and no after hook and no cleanup runs.
-cut_in_before : cut_row (ordered []) (in_before 1) ordered_scenario ≡ record { verdict = Memory; around = Memory; cleanups = []; steps = with_status Untested ∷ with_status Untested ∷ [] }
+cut_in_before : cut_row (ordered []) (in_before 1 start) ordered_scenario ≡ record { verdict = Memory; around = Memory; cleanups = []; steps = with_status Untested ∷ with_status Untested ∷ [] }
 unfolding found found_any match_of is_utf8 chars lib.Utf8.encode act
 cut_in_before = refl
 
 -- Memory was refused in a step: the later ones are untested, and no after hook and no cleanup runs.
-cut_in_steps : cut_row (ordered []) (in_steps 0) ordered_scenario ≡ simple Memory (with_status Memory ∷ with_status Untested ∷ [])
+cut_in_steps : cut_row (ordered []) (in_steps 0 start) ordered_scenario ≡ simple Memory (with_status Memory ∷ with_status Untested ∷ [])
 unfolding found found_any match_of is_utf8 chars lib.Utf8.encode act
 cut_in_steps = refl
 
 -- Memory was refused in its after hooks: its steps' statuses stay, and no cleanup runs.
-cut_in_after : cut_row (ordered []) (in_after 1) ordered_scenario ≡ record { verdict = Memory; around = Memory; cleanups = []; steps = ok ∷ ok ∷ [] }
+cut_in_after : cut_row (ordered []) (in_after 1 start) ordered_scenario ≡ record { verdict = Memory; around = Memory; cleanups = []; steps = ok ∷ ok ∷ [] }
 unfolding found found_any match_of is_utf8 chars lib.Utf8.encode act
 cut_in_after = refl
 
 -- A cut at an event that there isn't is none.
-cut_nowhere : cut_row (ordered []) (in_after 3) ordered_scenario ≡ ordered_row
+cut_nowhere : cut_row (ordered []) (in_after 3 start) ordered_scenario ≡ ordered_row
 unfolding found found_any match_of is_utf8 chars lib.Utf8.encode act
 cut_nowhere = refl
 
@@ -341,7 +341,7 @@ not_selected = simple Skipped (with_status Skipped ∷ [])
 
 -- A feature whose before list failed: the after hook still runs, and memory may be refused in it.
 after_a_failed_before_list : one_cut
-    (run (hook kinds.BeforeFeature (codes "skip" ∷ []) ∷ hook kinds.AfterFeature (codes "pass" ∷ []) ∷ []) common) (record { own = in_after 0; cases = []; rules = [] }) two_scenarios ≡
+    (run (hook kinds.BeforeFeature (codes "skip" ∷ []) ∷ hook kinds.AfterFeature (codes "pass" ∷ []) ∷ []) common) (record { own = in_after 0 start; cases = []; rules = [] }) two_scenarios ≡
     comes_to Memory Memory (two_untested ∷ not_selected ∷ [])
 unfolding found found_any match_of act
 after_a_failed_before_list = refl
@@ -353,7 +353,7 @@ unfolding found found_any match_of act
 failed_before_list = refl
 
 -- Memory was refused in its before list: its scenarios are untested.
-cut_before_feature : one_cut (run (hook kinds.BeforeFeature (codes "pass" ∷ codes "pass" ∷ []) ∷ []) common) (record { own = in_before 1; cases = in_steps 0 ∷ []; rules = [] }) two_scenarios ≡
+cut_before_feature : one_cut (run (hook kinds.BeforeFeature (codes "pass" ∷ codes "pass" ∷ []) ∷ []) common) (record { own = in_before 1 start; cases = in_steps 0 start ∷ []; rules = [] }) two_scenarios ≡
     comes_to Memory Memory (two_untested ∷ not_selected ∷ [])
 unfolding found found_any match_of act
 cut_before_feature = refl
@@ -374,7 +374,7 @@ abbrev same_steps : MemberValue
 same_steps = scenario (codes "absent f" ∷ codes "write f x" ∷ codes "is f x" ∷ codes "pass" ∷ [])
 
 -- Memory was refused in the third step of the second scenario: it alone is spoilt, and the third starts from the feature's state.
-spoilt_alone : one_cut (run [] (of_name (codes "absent ") actions.FileAbsent ∷ write ∷ is ∷ pass ∷ [])) (record { own = nowhere; cases = nowhere ∷ in_steps 2 ∷ []; rules = [] }) (same_steps ∷ same_steps ∷ same_steps ∷ []) ≡
+spoilt_alone : one_cut (run [] (of_name (codes "absent ") actions.FileAbsent ∷ write ∷ is ∷ pass ∷ [])) (record { own = nowhere; cases = nowhere ∷ in_steps 2 start ∷ []; rules = [] }) (same_steps ∷ same_steps ∷ same_steps ∷ []) ≡
     comes_to Memory Passed (simple Passed (ok ∷ ok ∷ ok ∷ ok ∷ []) ∷ simple Memory (ok ∷ ok ∷ with_status Memory ∷ with_status Untested ∷ []) ∷ simple Passed (ok ∷ ok ∷ ok ∷ ok ∷ []) ∷ [])
 unfolding found found_any match_of is_utf8 chars lib.Utf8.encode act
 spoilt_alone = refl
@@ -415,7 +415,7 @@ unfolding found found_any match_of act
 runs_on = refl
 
 -- Memory in a scenario stops it, too.
-stops_at_memory : run_seen (results_from (stopping true) start (record uncut { features = record { own = nowhere; cases = in_steps 0 ∷ []; rules = [] } ∷ [] }) two_features) ≡
+stops_at_memory : run_seen (results_from (stopping true) start (record uncut { features = record { own = nowhere; cases = in_steps 0 start ∷ []; rules = [] } ∷ [] }) two_features) ≡
     record {
       around = Failed;
       features = record { verdict = Memory; around = Failed; cases = simple Memory (with_status Memory ∷ []) ∷ one_untested ∷ one_untested ∷ one_untested ∷ [] } ∷ record { verdict = Untested; around = Passed; cases = one_untested ∷ [] } ∷ [];
@@ -450,7 +450,7 @@ unfolding found found_any match_of act
 looked_up_alone contents = refl
 
 -- Memory was refused while the second step was looked up; there is no hook to refuse it in.
-cut_in_a_dry_run : (contents : Contents) → dry_one (record { own = in_before 0; cases = in_steps 1 ∷ in_before 0 ∷ []; rules = [] }) (looked_at ∷ looked_at ∷ []) contents ≡
+cut_in_a_dry_run : (contents : Contents) → dry_one (record { own = in_before 0 start; cases = in_steps 1 start ∷ in_before 0 start ∷ []; rules = [] }) (looked_at ∷ looked_at ∷ []) contents ≡
     comes_to Memory Passed
     (simple Memory (with_status Untested ∷ with_status Memory ∷ with_status Untested ∷ []) ∷ simple Untested (with_status Untested ∷ with_status Untested ∷ with_status Undefined ∷ []) ∷ [])
 unfolding found found_any match_of act
@@ -511,7 +511,7 @@ unfolding found found_any match_of is_utf8 chars lib.Utf8.encode act digits
 failed_rule_stops = refl
 
 -- Memory was refused in the first rule's after hook: its scenarios stay as they were, and the feature goes on.
-cut_after_rule : rules_cut (growing []) (record uncut_feature { rules = record { own = in_after 0; cases = [] } ∷ [] }) ≡
+cut_after_rule : rules_cut (growing []) (record uncut_feature { rules = record { own = in_after 0 start; cases = [] } ∷ [] }) ≡
     rules_come_to Memory Memory Passed (one_passed ∷ simple Passed (ok ∷ ok ∷ []) ∷ one_passed ∷ one_passed ∷ [])
 unfolding found found_any match_of is_utf8 chars lib.Utf8.encode act digits
 cut_after_rule = refl

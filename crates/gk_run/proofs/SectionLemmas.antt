@@ -1,336 +1,223 @@
 -- What the parts of a section come to together: there is a cut that gives all of it.
-use Rattle.std.proofs.Common.{Bool, List, [], ap, cond, false, inl, inr, map, refl, subst, sym, true, ℕ, ◌++◌, ◌∙◌, ◌≡◌}
+use Rattle.std.specs.List.{FoldsTo}
+use Rattle.std.proofs.Common.{Bool, List, [], ap, cond, false, refl, subst, sym, true, ℕ, ◌++◌, ◌∙◌, ◌≡◌}
+use Rattle.std.proofs.lemmas.Bool.{true≢false}
 use Rattle.gk_gherkin.specs.Feature.{StepValue}
 use Rattle.gk_select.specs.Case.{CaseValue}
-use Rattle.gk_steps.specs.Finding.{LibraryValue}
-use Rattle.gk_world.specs.State.{State}
+use Rattle.gk_world.specs.Sandbox.{SandboxValue}
+use Rattle.gk_world.specs.State.{State, state_of}
 use Rattle.gk_run.specs.declared.ending.Ending.{Ending}
 use Rattle.gk_run.specs.declared.ending.Ending.TheVariants as endings
-use Rattle.gk_run.specs.declared.results.Mark.{Mark}
-use Rattle.gk_run.specs.declared.results.Mark.TheVariants.{Acted}
+use Rattle.gk_run.specs.declared.open_section.OpenSection.{OpenSection}
 use Rattle.gk_run.specs.declared.results.Outcome.{Outcome}
 use Rattle.gk_run.specs.declared.results.Status.{Status}
-use Rattle.gk_run.specs.declared.results.Status.TheVariants as statuses
 use Rattle.gk_run.specs.declared.section.Level.{Level}
 use Rattle.gk_run.specs.declared.section.Level.TheVariants as levels
-use Rattle.gk_run.specs.Acting.{CleanupValue}
-use Rattle.gk_run.specs.Run.{Run}
-use Rattle.gk_run.specs.Walk.{Steps, rows_of_steps, steps_after, AreStepsRun, AreStepped, IsWalked, ended_after, Walked, stepped}
-use Rattle.gk_run.specs.Running.{alone, verdict_of, IsCaseEnd, IsReached, ran}
-use Rattle.gk_run.specs.Closing.{closing, IsClosed, IsClosedAfter}
-use Rattle.gk_run.specs.Ending.{around_status, ended_of, has_passed, verdict_status, worse}
-use Rattle.gk_run.specs.OpenSection.{SectionRow, section_events, section_of, section_state, IsSectionEnd}
+use Rattle.gk_run.specs.Cleanups.{cleanups_value}
+use Rattle.gk_run.specs.Closing.{cleaned}
+use Rattle.gk_run.specs.Ending.{around_status, has_passed, is_memory_ending, verdict_status, worse}
+use Rattle.gk_run.specs.Events.{Event, Stand, cut_at, ended_in, event_marks, left_by, outcomes_of}
+use Rattle.gk_run.specs.OpenSection.{SectionRow, section_events, section_of, section_state}
 use Rattle.gk_run.specs.Results.{CaseRow, StepRow}
-use Rattle.gk_run.specs.Section.{Cut, Events, around_of, before_passed, cut_marks, cut_outcomes, happened, in_after, in_before, in_cleanups, in_steps, is_place, nowhere}
-use Rattle.gk_run.specs.SectionHooks.{begun}
-use Rattle.gk_run.proofs.EndingLemmas.{cut_acted, cut_ends, ended_append, not_memory, place_acted, worse_assoc, worse_memory, worse_passed}
-use Rattle.gk_run.proofs.StepsLemmas.{after_ends}
-use Rattle.gk_run.proofs.WalkLemmas.{exact}
+use Rattle.gk_run.specs.Run.{Run}
+use Rattle.gk_run.specs.Running.{alone, row_of_case, verdict_of}
+use Rattle.gk_run.specs.Section.{Cut, Events, around_of, before_passed, happened, in_after, in_before, in_cleanups, in_order, in_steps, is_place, nowhere}
+use Rattle.gk_run.specs.SectionContracts.{EndsAround, IsBegun, IsSectionEnd}
+use Rattle.gk_run.specs.SectionHooks.{after_lists, begun, entered, walk_each}
+use Rattle.gk_run.specs.Walk.{rows_of_steps, steps_from}
+use Rattle.gk_run.specs.WalkContracts.{Goes, Happens, IsClosing, IsCutOff, SoFar, stand_of}
+use Rattle.gk_run.specs.Watching.{AreEventsTold}
+use Rattle.gk_run.proofs.EndingLemmas.{passed_unrefused, worse_assoc}
+use Rattle.gk_run.proofs.EventLemmas.{count, cut_there, ended_both, heard_both, place_there}
+use Rattle.gk_run.proofs.GoesLemmas.{all_told, stays_refused}
+use Rattle.gk_run.proofs.WalkLemmas.{at}
 
--- where one part ends with memory, all do
-pub memory_first : (xs ys : List Mark) → ended_of xs ≡ endings.Memory → ended_of (xs ++ ys) ≡ endings.Memory
-memory_first xs ys h = ended_append xs ys ∙ ap (λ e. worse e (ended_of ys)) h
+-- ---- four parts and their cut
 
-pub memory_later : (xs ys : List Mark) → ended_of ys ≡ endings.Memory → ended_of (xs ++ ys) ≡ endings.Memory
-memory_later xs ys h = ended_append xs ys ∙ ap (worse (ended_of xs)) h ∙ worse_memory (ended_of xs)
+cut_place : (all told : List Event) (c : IsCutOff all told) → is_place (count c.front) all ≡ true
+cut_place all told c = ap (is_place (count c.front)) c.whole ∙ place_there c.front c.event c.rest
 
-pub outcomes_cut : (os : List Outcome) (n : ℕ) → is_place n os ≡ true → ended_of (map Acted (cut_outcomes n os)) ≡ endings.Memory
-outcomes_cut os n h = ap ended_of (cut_acted os n) ∙ cut_ends (map Acted os) n (place_acted os n ∙ h)
+cut_told : (all told : List Event) (c : IsCutOff all told) → told ≡ cut_at (count c.front) c.left all
+cut_told all told c = c.cut ∙ cut_there c.left c.front c.event c.rest ∙ ap (cut_at (count c.front) c.left) (sym c.whole)
 
 -- the cut of events that there are
-pub cut_is : (b : Bool) (x y : Events) → b ≡ true → x ≡ cond b x y
+cut_is : (b : Bool) (x y : Events) → b ≡ true → x ≡ cond b x y
 cut_is b x y h = ap (λ (c : Bool). cond c x y) (sym h)
 
--- how a case ends after its steps
-pub after_worse : (library : LibraryValue) (b : Ending) (s : State) (cs : List CleanupValue) (steps : List StepValue) → (b ≡ endings.Memory → ⊥) →
-    (let x = steps_after library b s cs steps in ended_after b x.marks ≡ worse b (ended_of x.marks))
-after_worse library endings.Memory s cs steps m = absurd (m refl)
-after_worse library endings.Passed s cs steps m = refl
-after_worse library endings.Failed s cs steps m = sym (after_ends library endings.Failed steps)
-after_worse library endings.Skipped s cs steps m = sym (after_ends library endings.Skipped steps)
+-- four parts
+abbrev pub parts : List Event → List Event → List Event → List Event → Events
+parts before steps after cleanups = record { before = before; steps = steps; after = after; cleanups = cleanups }
 
-stepped_is : (library : LibraryValue) (b : Ending) (s : State) (cs : List CleanupValue) (steps : List StepValue) (rows : List StepRow) (e : Ending) (last : State) (ls : List CleanupValue) → (b ≡ endings.Memory → ⊥) →
-    AreStepped library b s cs steps rows e last ls → AreStepsRun (steps_after library b s cs steps) b steps rows e last ls
-stepped_is library endings.Memory s cs steps rows e last ls m h = absurd (m refl)
-stepped_is library endings.Passed s cs steps rows e last ls m h = h
-stepped_is library endings.Failed s cs steps rows e last ls m h = h
-stepped_is library endings.Skipped s cs steps rows e last ls m h = h
+-- what was told of the four parts of a section is what happened of it at one cut
+abbrev pub IsCut : Events → Events → Type 0
+IsCut all told = (cut : Cut) × (told ≡ happened cut all)
 
-pub exact_steps : (x : Steps) (b : Ending) (steps : List StepValue) (rows : List StepRow) (e : Ending) (last : State) (ls : List CleanupValue) → (e ≡ endings.Memory → ⊥) →
-    AreStepsRun x b steps rows e last ls → (rows ≡ rows_of_steps steps x.marks) × (e ≡ ended_after b x.marks) × (last ≡ x.state) × (ls ≡ x.cleanups)
-exact_steps x b steps rows endings.Memory last ls m h = absurd (m refl)
-exact_steps x b steps rows endings.Passed last ls m h = h
-exact_steps x b steps rows endings.Failed last ls m h = h
-exact_steps x b steps rows endings.Skipped last ls m h = h
+parts_are : (xs xs' ys ys' zs zs' ws ws' : List Event) → xs ≡ xs' → ys ≡ ys' → zs ≡ zs' → ws ≡ ws' → parts xs ys zs ws ≡ parts xs' ys' zs' ws'
+parts_are xs xs' ys ys' zs zs' ws ws' p q r s = ap (λ x. parts x ys zs ws) p ∙ ap (λ x. parts xs' x zs ws) q ∙ ap (λ x. parts xs' ys' x ws) r ∙ ap (parts xs' ys' zs') s
 
--- the steps of a case in its own terms
-pub steps_are : (run : Run) (outside : State) (c : CaseValue) (b : Ending) (s : State) (cs : List CleanupValue) (rows : List StepRow) (e : Ending) (last : State) (ls : List CleanupValue) → (b ≡ endings.Memory → ⊥) →
-    IsWalked (begun run.library run.hooks levels.Scenario c.own_tags outside) b s cs → AreStepped run.library b s cs c.steps rows e last ls →
-    (let w = begun run.library run.hooks levels.Scenario c.own_tags outside in AreStepsRun (steps_after run.library (ended_of w.marks) w.state w.cleanups c.steps) (ended_of w.marks) c.steps rows e last ls)
-steps_are run outside c b s cs rows e last ls m walked stepped =
-    let w = begun run.library run.hooks levels.Scenario c.own_tags outside in
-    let x = exact w b s cs m walked in
-    let lib = run.library in
-    subst (λ l. AreStepsRun (steps_after lib (ended_of w.marks) w.state l c.steps) (ended_of w.marks) c.steps rows e last ls) x.2
-    (subst (λ t. AreStepsRun (steps_after lib (ended_of w.marks) t cs c.steps) (ended_of w.marks) c.steps rows e last ls) x.1
-    (subst (λ p. AreStepsRun (steps_after lib p s cs c.steps) p c.steps rows e last ls) x.0 (stepped_is lib b s cs c.steps rows e last ls m stepped)))
+pub parts_cut : (all : Events) (xs ys zs ws : List Event) (b1 b2 b3 b4 : Bool) → (b1 ≡ true → b2 ≡ true) → (b2 ≡ true → b3 ≡ true) → (b3 ≡ true → b4 ≡ true) →
+    SoFar false b1 all.before [] xs → SoFar b1 b2 all.steps [] ys → SoFar b2 b3 all.after [] zs → SoFar b3 b4 all.cleanups [] ws → IsCut all (parts xs ys zs ws)
+parts_cut all xs ys zs ws true true true true k l m p q r s = (
+  in_before (count p.front) p.left,
+  parts_are xs (cut_at (count p.front) p.left all.before) ys [] zs [] ws [] (cut_told all.before xs p) q r s ∙ cut_is (is_place (count p.front) all.before) (parts (cut_at (count p.front) p.left all.before) [] [] []) all (cut_place all.before xs p),
+)
+parts_cut all xs ys zs ws false true true true k l m p q r s = (
+  in_steps (count q.front) q.left,
+  parts_are xs all.before ys (cut_at (count q.front) q.left all.steps) zs [] ws [] (all_told false all.before xs refl p) (cut_told all.steps ys q) r s
+      ∙ cut_is (is_place (count q.front) all.steps) (parts all.before (cut_at (count q.front) q.left all.steps) [] []) all (cut_place all.steps ys q),
+)
+parts_cut all xs ys zs ws false false true true k l m p q r s = (
+  in_after (count r.front) r.left,
+  parts_are xs all.before ys all.steps zs (cut_at (count r.front) r.left all.after) ws [] (all_told false all.before xs refl p) (all_told false all.steps ys refl q) (cut_told all.after zs r) s
+      ∙ cut_is (is_place (count r.front) all.after) (parts all.before all.steps (cut_at (count r.front) r.left all.after) []) all (cut_place all.after zs r),
+)
+parts_cut all xs ys zs ws false false false true k l m p q r s = (
+  in_cleanups (count s.front) s.left,
+  parts_are xs all.before ys all.steps zs all.after ws (cut_at (count s.front) s.left all.cleanups) (all_told false all.before xs refl p) (all_told false all.steps ys refl q) (all_told false all.after zs refl r) (cut_told all.cleanups ws s)
+      ∙ cut_is (is_place (count s.front) all.cleanups) (parts all.before all.steps all.after (cut_at (count s.front) s.left all.cleanups)) all (cut_place all.cleanups ws s),
+)
+parts_cut all xs ys zs ws false false false false k l m p q r s = (
+  nowhere,
+  parts_are xs all.before ys all.steps zs all.after ws all.cleanups (all_told false all.before xs refl p) (all_told false all.steps ys refl q) (all_told false all.after zs refl r) (all_told false all.cleanups ws refl s),
+)
+parts_cut all xs ys zs ws true false b3 b4 k l m p q r s = absurd (true≢false (sym (k refl)))
+parts_cut all xs ys zs ws true true false b4 k l m p q r s = absurd (true≢false (sym (l refl)))
+parts_cut all xs ys zs ws true true true false k l m p q r s = absurd (true≢false (sym (m refl)))
+parts_cut all xs ys zs ws false true false b4 k l m p q r s = absurd (true≢false (sym (l refl)))
+parts_cut all xs ys zs ws false true true false k l m p q r s = absurd (true≢false (sym (m refl)))
+parts_cut all xs ys zs ws false false true false k l m p q r s = absurd (true≢false (sym (m refl)))
 
--- ---- memory was refused in the before list or in the steps
+-- ---- one part from where another left the section
 
-abbrev pub case_in_before : (run : Run) (outside : State) (c : CaseValue) (s : State) (cs : List CleanupValue) (rows : List StepRow) (e : Ending) (last : State) (ls : List CleanupValue) →
-    IsWalked (begun run.library run.hooks levels.Scenario c.own_tags outside) endings.Memory s cs → AreStepped run.library endings.Memory s cs c.steps rows e last ls →
-    IsCaseEnd run outside c statuses.Memory statuses.Memory [] rows
-case_in_before run outside c s cs rows e last ls walked stepped =
-    let w = begun run.library run.hooks levels.Scenario c.own_tags outside in
-    let es = alone run outside c in
-    let n = walked.0 in
-    let now : Events = record { before = cut_marks n w.marks; steps = []; after = []; cleanups = [] } in
-    let is : now ≡ happened (in_before n) es = cut_is (is_place n w.marks) now es walked.1 in
-    let ends = memory_first (cut_marks n w.marks) [] (cut_ends w.marks n walked.1) in
+-- what wasn't refused now wasn't before
+earlier : (b c : Bool) → (b ≡ true → c ≡ true) → c ≡ false → b ≡ false
+earlier false c k h = refl
+earlier true c k h = absurd (true≢false (sym (k refl) ∙ h))
+
+of_other : (b c : Bool) (all other told : List Event) → (b ≡ false → all ≡ other) → SoFar b c all [] told → SoFar b c other [] told
+of_other true c all other told r h = h
+of_other false c all other told r h = subst (λ xs. SoFar false c xs [] told) (r refl) h
+
+-- where a part leaves a section in which no memory was refused
+left_whole : (b : Bool) (all told : List Event) (start now : Stand) → b ≡ false → SoFar false b all [] told → now ≡ left_by start told → now ≡ left_by start all
+left_whole b all told start now n h is = is ∙ ap (left_by start) (all_told b all told n h)
+
+-- ---- a case
+
+-- a case was told with its result
+pub case_told : {S : Type 0} (hears : S → Event → S → Type 0) (run : Run) (section : State) (c : CaseValue) (b e l : Ending) (opened mid : Stand) (reported : List Outcome) (rows : List StepRow) (first here there last : S) →
+    Happens hears endings.Passed (begun run.library run.hooks levels.Scenario c.own_tags section) (entered section) opened b first here →
+    (steps : Happens hears b (steps_from run.library b opened.state c.steps) opened mid e here there) → rows ≡ rows_of_steps c.steps (event_marks steps.told) →
+    IsClosing hears run.library levels.Scenario (after_lists run.hooks levels.Scenario c.own_tags) e mid l reported there last →
+    AreEventsTold hears run section c (record { keyword = c.keyword; name = c.name; line = c.line; status = verdict_status (worse e l); around = around_status (worse b l); cleanups = reported; steps = rows }) first last
+case_told hears run section c b e l opened mid reported rows first here there last before steps shown closing =
+    let es = alone run section c in
+    let lists = after_lists run.hooks levels.Scenario c.own_tags in
+    let after = closing.after in
+    let cleanups = closing.cleanups in
+    let mb = is_memory_ending b in
+    let me = is_memory_ending e in
+    let ma = is_memory_ending closing.between in
+    let k : mb ≡ true → me ≡ true = stays_refused b (ended_in steps.told) e steps.ends in
+    let k2 : me ≡ true → ma ≡ true = stays_refused e (ended_in after.told) closing.between after.ends in
+    let k3 : ma ≡ true → is_memory_ending closing.end ≡ true = stays_refused closing.between (ended_in cleanups.told) closing.end cleanups.ends in
+    let opens : mb ≡ false → opened ≡ left_by (entered section) es.before = λ n. left_whole mb es.before before.told (entered section) opened n before.so_far before.stands in
+    let same_steps : mb ≡ false → steps_from run.library b opened.state c.steps ≡ es.steps = λ n.
+    ap (λ x. steps_from run.library x opened.state c.steps) (before.ends ∙ ap ended_in (all_told mb es.before before.told n before.so_far)) ∙ ap (λ (x : Stand). steps_from run.library (ended_in es.before) x.state c.steps) (opens n) in
+    let steps_are : SoFar mb me es.steps [] steps.told = of_other mb me (steps_from run.library b opened.state c.steps) es.steps steps.told same_steps steps.so_far in
+    let mids : me ≡ false → mid ≡ left_by (left_by (entered section) es.before) es.steps = λ n.
+    let m = earlier mb me k n in
+    left_whole me es.steps steps.told opened mid n (subst (λ x. SoFar x me es.steps [] steps.told) m steps_are) steps.stands ∙ ap (λ x. left_by x es.steps) (opens m) in
+    let after_is : SoFar me ma es.after [] after.told = of_other me ma (walk_each run.library levels.Scenario mid lists) es.after after.told (λ n. ap (λ x. walk_each run.library levels.Scenario x lists) (mids n)) after.so_far in
+    let lasts : ma ≡ false → closing.mid ≡ left_by (left_by (left_by (entered section) es.before) es.steps) es.after = λ n.
+    let m = earlier me ma k2 n in
+    left_whole ma es.after after.told mid closing.mid n (subst (λ x. SoFar x ma es.after [] after.told) m after_is) after.stands ∙ ap (λ x. left_by x es.after) (mids m) in
+    let cleanups_are : SoFar ma (is_memory_ending closing.end) es.cleanups [] cleanups.told =
+    of_other ma (is_memory_ending closing.end) (cleaned run.library levels.Scenario closing.mid) es.cleanups cleanups.told (λ n. ap (cleaned run.library levels.Scenario) (lasts n)) cleanups.so_far in
+    let told = parts before.told steps.told after.told cleanups.told in
+    let cut : IsCut es told = parts_cut es before.told steps.told after.told cleanups.told mb me ma (is_memory_ending closing.end) k k2 k3 before.so_far steps_are after_is cleanups_are in
+    let tail = after.told ++ cleanups.told in
+    let verdict : worse e l ≡ ended_in (in_order told) =
+    ap (λ x. worse x l) (steps.ends ∙ ap (λ x. worse x (ended_in steps.told)) before.ends) ∙ worse_assoc (ended_in before.told) (ended_in steps.told) l
+    ∙ ap (λ x. worse (ended_in before.told) (worse (ended_in steps.told) x)) closing.ending
+    ∙ ap (worse (ended_in before.told)) (sym (ended_both steps.told tail)) ∙ sym (ended_both before.told (steps.told ++ tail)) in
+    let around : worse b l ≡ ended_in (before.told ++ tail) = ap (λ x. worse x l) before.ends ∙ ap (worse (ended_in before.told)) closing.ending ∙ sym (ended_both before.told tail) in
+    let row : Status → Status → List Outcome → List StepRow → CaseRow = λ v a os rs. record { keyword = c.keyword; name = c.name; line = c.line; status = v; around = a; cleanups = os; steps = rs } in
     record {
-      cut = in_before n;
-      verdict = ap verdict_status (sym ends) ∙ ap verdict_of is;
-      hooks = ap around_status (sym ends) ∙ ap around_of is;
-      cleaned = ap (λ (x : Events). x.cleanups) is;
-      stepped = stepped.0 ∙ ap (λ (x : Events). rows_of_steps c.steps x.steps) is;
+      cut = cut.0;
+      is = ap (λ x. row (verdict_status x) (around_status (worse b l)) reported rows) verdict
+          ∙ ap (λ x. row (verdict_of told) (around_status x) reported rows) around
+          ∙ ap (λ x. row (verdict_of told) (around_of told) x rows) closing.outcomes
+          ∙ ap (row (verdict_of told) (around_of told) (outcomes_of cleanups.told)) shown
+          ∙ ap (λ (x : Events). row_of_case c (verdict_of x) x) cut.1;
+      told = subst (λ (x : Events). FoldsTo hears first (in_order x) last) cut.1
+          (heard_both hears first before.told here (steps.told ++ tail) last before.heard
+          (heard_both hears here steps.told there tail last steps.heard (heard_both hears there after.told closing.here cleanups.told last after.heard cleanups.heard)));
     }
 
-abbrev pub case_in_steps_at : (run : Run) (outside : State) (c : CaseValue) (b : Ending) (rows : List StepRow) (n : ℕ) →
-    (let es = alone run outside c in b ≡ ended_of es.before) → (let es = alone run outside c in is_place n es.steps ≡ true) → (let es = alone run outside c in rows ≡ rows_of_steps c.steps (cut_marks n es.steps)) →
-    IsCaseEnd run outside c statuses.Memory (around_status b) [] rows
-case_in_steps_at run outside c b rows n begins place shown =
-    let es = alone run outside c in
-    let now : Events = record es { steps = cut_marks n es.steps; after = []; cleanups = [] } in
-    let is : now ≡ happened (in_steps n) es = cut_is (is_place n es.steps) now es place in
-    let ends = memory_later es.before (cut_marks n es.steps ++ []) (memory_first (cut_marks n es.steps) [] (cut_ends es.steps n place)) in
-    let around : b ≡ ended_of (es.before ++ []) = begins ∙ sym (worse_passed (ended_of es.before)) ∙ sym (ended_append es.before []) in
-    record {
-      cut = in_steps n;
-      verdict = ap verdict_status (sym ends) ∙ ap verdict_of is;
-      hooks = ap around_status around ∙ ap around_of is;
-      cleaned = ap (λ (x : Events). x.cleanups) is;
-      stepped = shown ∙ ap (λ (x : Events). rows_of_steps c.steps x.steps) is;
-    }
+-- ---- a section beside what is inside of it
 
-pub case_in_steps : (run : Run) (outside : State) (c : CaseValue) (b : Ending) (s : State) (cs : List CleanupValue) (rows : List StepRow) (last : State) (ls : List CleanupValue) → (b ≡ endings.Memory → ⊥) →
-    IsWalked (begun run.library run.hooks levels.Scenario c.own_tags outside) b s cs → AreStepped run.library b s cs c.steps rows endings.Memory last ls →
-    IsCaseEnd run outside c statuses.Memory (around_status b) [] rows
-case_in_steps run outside c b s cs rows last ls m walked stepped =
-    let w = begun run.library run.hooks levels.Scenario c.own_tags outside in
-    let known = steps_are run outside c b s cs rows endings.Memory last ls m walked stepped in
-    case_in_steps_at run outside c b rows known.0 (exact w b s cs m walked).0 known.1 known.2
+no_steps : (b : Bool) → SoFar b b [] [] []
+no_steps true = refl
+no_steps false = refl
 
--- ---- the case was closed
-
--- what is known of a case that was closed, in its own terms
-pub record Parts (run : Run) (outside : State) (c : CaseValue) (b e : Ending) (rows : List StepRow) : Type 0 where
-  pub before : b ≡ (let es = alone run outside c in ended_of es.before)
-  pub ended : e ≡ (let es = alone run outside c in worse b (ended_of es.steps))
-  pub stepped : rows ≡ (let es = alone run outside c in rows_of_steps c.steps es.steps)
-
-abbrev pub closed_after : (run : Run) (outside : State) (c : CaseValue) (b e : Ending) (rows : List StepRow) (reported : List Outcome) (n : ℕ) → Parts run outside c b e rows →
-    (let es = alone run outside c in is_place n es.after ≡ true) → reported ≡ [] → IsCaseEnd run outside c statuses.Memory statuses.Memory reported rows
-closed_after run outside c b e rows reported n p place none =
-    let es = alone run outside c in
-    let now : Events = record es { after = cut_marks n es.after; cleanups = [] } in
-    let is : now ≡ happened (in_after n) es = cut_is (is_place n es.after) now es place in
-    let ends = memory_first (cut_marks n es.after) [] (cut_ends es.after n place) in
-    record {
-      cut = in_after n;
-      verdict = ap verdict_status (sym (memory_later es.before (es.steps ++ (cut_marks n es.after ++ [])) (memory_later es.steps (cut_marks n es.after ++ []) ends))) ∙ ap verdict_of is;
-      hooks = ap around_status (sym (memory_later es.before (cut_marks n es.after ++ []) ends)) ∙ ap around_of is;
-      cleaned = none ∙ ap (λ (x : Events). x.cleanups) is;
-      stepped = p.stepped ∙ ap (λ (x : Events). rows_of_steps c.steps x.steps) is;
-    }
-
-abbrev pub closed_cleanups : (run : Run) (outside : State) (c : CaseValue) (b e : Ending) (rows : List StepRow) (reported : List Outcome) (n : ℕ) → Parts run outside c b e rows →
-    (let es = alone run outside c in (is_place n es.cleanups ≡ true) × (reported ≡ cut_outcomes n es.cleanups)) → IsCaseEnd run outside c statuses.Memory statuses.Memory reported rows
-closed_cleanups run outside c b e rows reported n p h =
-    let es = alone run outside c in
-    let now : Events = record es { cleanups = cut_outcomes n es.cleanups } in
-    let is : now ≡ happened (in_cleanups n) es = cut_is (is_place n es.cleanups) now es h.0 in
-    let ends = memory_later es.after (map Acted (cut_outcomes n es.cleanups)) (outcomes_cut es.cleanups n h.0) in
-    let tail = es.after ++ map Acted (cut_outcomes n es.cleanups) in
-    record {
-      cut = in_cleanups n;
-      verdict = ap verdict_status (sym (memory_later es.before (es.steps ++ tail) (memory_later es.steps tail ends))) ∙ ap verdict_of is;
-      hooks = ap around_status (sym (memory_later es.before tail ends)) ∙ ap around_of is;
-      cleaned = h.1 ∙ ap (λ (x : Events). x.cleanups) is;
-      stepped = p.stepped ∙ ap (λ (x : Events). rows_of_steps c.steps x.steps) is;
-    }
-
-abbrev pub closed_whole : (run : Run) (outside : State) (c : CaseValue) (b e l : Ending) (rows : List StepRow) (reported : List Outcome) → Parts run outside c b e rows →
-    (let es = alone run outside c in (l ≡ ended_of (es.after ++ map Acted es.cleanups)) × (reported ≡ es.cleanups)) → IsCaseEnd run outside c (verdict_status (worse e l)) (around_status (worse b l)) reported rows
-closed_whole run outside c b e l rows reported p h =
-    let es = alone run outside c in
-    let tail = es.after ++ map Acted es.cleanups in
-    let around : worse b l ≡ ended_of (es.before ++ tail) = ap (λ x. worse x l) p.before ∙ ap (worse (ended_of es.before)) h.0 ∙ sym (ended_append es.before tail) in
-    let all : worse e l ≡ ended_of (es.before ++ (es.steps ++ tail)) =
-    ap (λ x. worse x l) p.ended ∙ worse_assoc b (ended_of es.steps) l ∙ ap (λ x. worse x (worse (ended_of es.steps) l)) p.before
-    ∙ ap (λ x. worse (ended_of es.before) (worse (ended_of es.steps) x)) h.0
-    ∙ ap (worse (ended_of es.before)) (sym (ended_append es.steps tail)) ∙ sym (ended_append es.before (es.steps ++ tail)) in
-    record { cut = nowhere; verdict = ap verdict_status all; hooks = ap around_status around; cleaned = h.1; stepped = p.stepped }
-
-closed_memory : (run : Run) (outside : State) (c : CaseValue) (b e : Ending) (rows : List StepRow) (reported : List Outcome) → Parts run outside c b e rows →
-    (let es = alone run outside c in IsClosed (record { after = es.after; cleanups = es.cleanups }) endings.Memory reported) → IsCaseEnd run outside c statuses.Memory statuses.Memory reported rows
-closed_memory run outside c b e rows reported p (inl h) = closed_after run outside c b e rows reported h.0 p h.1 h.2
-closed_memory run outside c b e rows reported p (inr h) = closed_cleanups run outside c b e rows reported h.0 p (h.1, h.2)
-
-closed_by : (run : Run) (outside : State) (c : CaseValue) (b e l : Ending) (rows : List StepRow) (reported : List Outcome) → Parts run outside c b e rows →
-    (let es = alone run outside c in IsClosed (record { after = es.after; cleanups = es.cleanups }) l reported) → IsCaseEnd run outside c (verdict_status (worse e l)) (around_status (worse b l)) reported rows
-closed_by run outside c b e endings.Passed rows reported p h = closed_whole run outside c b e endings.Passed rows reported p h
-closed_by run outside c b e endings.Failed rows reported p h = closed_whole run outside c b e endings.Failed rows reported p h
-closed_by run outside c b e endings.Skipped rows reported p h = closed_whole run outside c b e endings.Skipped rows reported p h
-closed_by run outside c b e endings.Memory rows reported p h =
-    subst (λ x. IsCaseEnd run outside c (verdict_status x) (around_status (worse b endings.Memory)) reported rows) (sym (worse_memory e))
-    (subst (λ x. IsCaseEnd run outside c statuses.Memory (around_status x) reported rows) (sym (worse_memory b))
-    (closed_memory run outside c b e rows reported p h))
-
-pub case_closed : (run : Run) (outside : State) (c : CaseValue) (b : Ending) (s : State) (cs : List CleanupValue) (rows : List StepRow) (e : Ending) (last : State) (ls : List CleanupValue) (l : Ending) (reported : List Outcome) →
-    (b ≡ endings.Memory → ⊥) → (e ≡ endings.Memory → ⊥) →
-    IsWalked (begun run.library run.hooks levels.Scenario c.own_tags outside) b s cs → AreStepped run.library b s cs c.steps rows e last ls → IsClosed (closing run.library run.hooks levels.Scenario c.own_tags last ls) l reported →
-    IsCaseEnd run outside c (verdict_status (worse e l)) (around_status (worse b l)) reported rows
-case_closed run outside c b s cs rows e last ls l reported bm em walked stepped closed =
-    let w = begun run.library run.hooks levels.Scenario c.own_tags outside in
-    let es = alone run outside c in
-    let b_is = (exact w b s cs bm walked).0 in
-    let known_steps = steps_are run outside c b s cs rows e last ls bm walked stepped in
-    let x = steps_after run.library (ended_of w.marks) w.state w.cleanups c.steps in
-    let known = exact_steps x (ended_of w.marks) c.steps rows e last ls em known_steps in
-    let not : ended_of w.marks ≡ endings.Memory → ⊥ = λ m. bm (b_is ∙ m) in
-    let here : IsClosed (closing run.library run.hooks levels.Scenario c.own_tags x.state x.cleanups) l reported =
-    subst (λ k. IsClosed (closing run.library run.hooks levels.Scenario c.own_tags x.state k) l reported) known.3 (subst (λ t. IsClosed (closing run.library run.hooks levels.Scenario c.own_tags t ls) l reported) known.2 closed) in
-    closed_by run outside c b e l rows reported (record {
-      before = b_is;
-      ended = known.1 ∙ after_worse run.library (ended_of w.marks) w.state w.cleanups c.steps not ∙ ap (λ y. worse y (ended_of x.marks)) (sym b_is);
-      stepped = known.0;
-    }) here
-
--- the case ended before it was closed
-pub case_ends_early : (run : Run) (outside : State) (c : CaseValue) (b : Ending) (s : State) (cs : List CleanupValue) (rows : List StepRow) (e : Ending) (last : State) (ls : List CleanupValue) →
-    IsWalked (begun run.library run.hooks levels.Scenario c.own_tags outside) b s cs → AreStepped run.library b s cs c.steps rows e last ls → e ≡ endings.Memory →
-    IsCaseEnd run outside c statuses.Memory (around_status b) [] rows
-case_ends_early run outside c endings.Memory s cs rows e last ls walked stepped m = case_in_before run outside c s cs rows e last ls walked stepped
-case_ends_early run outside c endings.Passed s cs rows e last ls walked stepped m =
-    case_in_steps run outside c endings.Passed s cs rows last ls (λ n. let no : ⊥ = cc in no) walked (subst (λ x. AreStepped run.library endings.Passed s cs c.steps rows x last ls) m stepped)
-case_ends_early run outside c endings.Failed s cs rows e last ls walked stepped m =
-    case_in_steps run outside c endings.Failed s cs rows last ls (λ n. let no : ⊥ = cc in no) walked (subst (λ x. AreStepped run.library endings.Failed s cs c.steps rows x last ls) m stepped)
-case_ends_early run outside c endings.Skipped s cs rows e last ls walked stepped m =
-    case_in_steps run outside c endings.Skipped s cs rows last ls (λ n. let no : ⊥ = cc in no) walked (subst (λ x. AreStepped run.library endings.Skipped s cs c.steps rows x last ls) m stepped)
-
-pub before_not : (library : LibraryValue) (b : Ending) (s : State) (cs : List CleanupValue) (steps : List StepValue) (rows : List StepRow) (e : Ending) (last : State) (ls : List CleanupValue) →
-    AreStepped library b s cs steps rows e last ls → (e ≡ endings.Memory → ⊥) → b ≡ endings.Memory → ⊥
-before_not library endings.Memory s cs steps rows e last ls stepped m h = m stepped.1
-before_not library endings.Passed s cs steps rows e last ls stepped m h = let no : ⊥ = cc in no
-before_not library endings.Failed s cs steps rows e last ls stepped m h = let no : ⊥ = cc in no
-before_not library endings.Skipped s cs steps rows e last ls stepped m h = let no : ⊥ = cc in no
-
--- a case ended, whatever was closed of it
-pub case_ends : (run : Run) (outside : State) (c : CaseValue) (b : Ending) (s : State) (cs : List CleanupValue) (rows : List StepRow) (e : Ending) (last : State) (ls : List CleanupValue) (l : Ending) (reported : List Outcome) →
-    IsWalked (begun run.library run.hooks levels.Scenario c.own_tags outside) b s cs → AreStepped run.library b s cs c.steps rows e last ls → IsClosedAfter e (closing run.library run.hooks levels.Scenario c.own_tags last ls) l reported →
-    IsCaseEnd run outside c (verdict_status (worse e l)) (around_status (worse b l)) reported rows
-case_ends run outside c b s cs rows endings.Memory last ls l reported walked stepped closed =
-    subst (λ x. IsCaseEnd run outside c statuses.Memory (around_status (worse b x)) reported rows) (sym closed.0)
-    (subst (λ x. IsCaseEnd run outside c statuses.Memory (around_status x) reported rows) (sym (worse_passed b))
-    (subst (λ x. IsCaseEnd run outside c statuses.Memory (around_status b) x rows) (sym closed.1) (case_ends_early run outside c b s cs rows endings.Memory last ls walked stepped refl)))
-case_ends run outside c b s cs rows endings.Passed last ls l reported walked stepped closed =
-    case_closed run outside c b s cs rows endings.Passed last ls l reported (before_not run.library b s cs c.steps rows endings.Passed last ls stepped (not_memory endings.Passed refl)) (not_memory endings.Passed refl) walked stepped closed
-case_ends run outside c b s cs rows endings.Failed last ls l reported walked stepped closed =
-    case_closed run outside c b s cs rows endings.Failed last ls l reported (before_not run.library b s cs c.steps rows endings.Failed last ls stepped (not_memory endings.Failed refl)) (not_memory endings.Failed refl) walked stepped closed
-case_ends run outside c b s cs rows endings.Skipped last ls l reported walked stepped closed =
-    case_closed run outside c b s cs rows endings.Skipped last ls l reported (before_not run.library b s cs c.steps rows endings.Skipped last ls stepped (not_memory endings.Skipped refl)) (not_memory endings.Skipped refl) walked stepped closed
-
--- ---- a section beside its cases
-
-abbrev pub section_in_before : (run : Run) (level : Level) (tags : List (List ℕ)) (outside : State) (s : State) (cs : List CleanupValue) → IsWalked (begun run.library run.hooks level tags outside) endings.Memory s cs → IsSectionEnd run level tags outside statuses.Memory false
-section_in_before run level tags outside s cs walked =
-    let w = begun run.library run.hooks level tags outside in
+pub section_ends : {S : Type 0} (hears : S → Event → S → Type 0) (run : Run) (level : Level) (tags : List (List ℕ)) (opened : OpenSection) (now : SandboxValue) (l : Ending) (reported : List Outcome) (first last : S) →
+    IsClosing hears run.library level (after_lists run.hooks level tags) opened.before (stand_of now opened.cleanups) l reported first last → EndsAround hears run level tags opened now (around_status (worse opened.before l)) first last
+section_ends hears run level tags opened now l reported first last closing outside xs begins =
+    let b = opened.before in
     let es = section_events run level tags outside in
-    let n = walked.0 in
-    let now : Events = record { before = cut_marks n w.marks; steps = []; after = []; cleanups = [] } in
-    let is : now ≡ happened (in_before n) es = cut_is (is_place n w.marks) now es walked.1 in
-    let ends = cut_ends w.marks n walked.1 in
-    record {
-      cut = in_before n;
-      hooks = ap around_status (sym (memory_first (cut_marks n w.marks) [] ends)) ∙ ap around_of is;
-      ready = ap has_passed (sym ends) ∙ ap before_passed is;
-    }
-
-abbrev pub section_after : (run : Run) (level : Level) (tags : List (List ℕ)) (outside : State) (b : Ending) (n : ℕ) → (let es = section_events run level tags outside in (b ≡ ended_of es.before) × (is_place n es.after ≡ true)) →
-    IsSectionEnd run level tags outside statuses.Memory (has_passed b)
-section_after run level tags outside b n h =
-    let es = section_events run level tags outside in
-    let now : Events = record es { after = cut_marks n es.after; cleanups = [] } in
-    let is : now ≡ happened (in_after n) es = cut_is (is_place n es.after) now es h.1 in
-    let ends = memory_later es.before (cut_marks n es.after ++ []) (memory_first (cut_marks n es.after) [] (cut_ends es.after n h.1)) in
-    record { cut = in_after n; hooks = ap around_status (sym ends) ∙ ap around_of is; ready = ap has_passed h.0 ∙ ap before_passed is }
-
-abbrev pub section_cleanups : (run : Run) (level : Level) (tags : List (List ℕ)) (outside : State) (b : Ending) (n : ℕ) → (let es = section_events run level tags outside in (b ≡ ended_of es.before) × (is_place n es.cleanups ≡ true)) →
-    IsSectionEnd run level tags outside statuses.Memory (has_passed b)
-section_cleanups run level tags outside b n h =
-    let es = section_events run level tags outside in
-    let now : Events = record es { cleanups = cut_outcomes n es.cleanups } in
-    let is : now ≡ happened (in_cleanups n) es = cut_is (is_place n es.cleanups) now es h.1 in
-    let tail = es.after ++ map Acted (cut_outcomes n es.cleanups) in
-    let ends = memory_later es.before tail (memory_later es.after (map Acted (cut_outcomes n es.cleanups)) (outcomes_cut es.cleanups n h.1)) in
-    record { cut = in_cleanups n; hooks = ap around_status (sym ends) ∙ ap around_of is; ready = ap has_passed h.0 ∙ ap before_passed is }
-
-abbrev pub section_whole : (run : Run) (level : Level) (tags : List (List ℕ)) (outside : State) (b l : Ending) → (let es = section_events run level tags outside in (b ≡ ended_of es.before) × (l ≡ ended_of (es.after ++ map Acted es.cleanups))) →
-    IsSectionEnd run level tags outside (around_status (worse b l)) (has_passed b)
-section_whole run level tags outside b l h =
-    let es = section_events run level tags outside in
-    let tail = es.after ++ map Acted es.cleanups in
-    let around : worse b l ≡ ended_of (es.before ++ tail) = ap (λ x. worse x l) h.0 ∙ ap (worse (ended_of es.before)) h.1 ∙ sym (ended_append es.before tail) in
-    record { cut = nowhere; hooks = ap around_status around; ready = ap has_passed h.0 }
-
-section_memory : (run : Run) (level : Level) (tags : List (List ℕ)) (outside : State) (b : Ending) (reported : List Outcome) → (let es = section_events run level tags outside in b ≡ ended_of es.before) →
-    (let es = section_events run level tags outside in IsClosed (record { after = es.after; cleanups = es.cleanups }) endings.Memory reported) → IsSectionEnd run level tags outside statuses.Memory (has_passed b)
-section_memory run level tags outside b reported p (inl h) = section_after run level tags outside b h.0 (p, h.1)
-section_memory run level tags outside b reported p (inr h) = section_cleanups run level tags outside b h.0 (p, h.1)
-
-section_by : (run : Run) (level : Level) (tags : List (List ℕ)) (outside : State) (b l : Ending) (reported : List Outcome) → (let es = section_events run level tags outside in b ≡ ended_of es.before) →
-    (let es = section_events run level tags outside in IsClosed (record { after = es.after; cleanups = es.cleanups }) l reported) → IsSectionEnd run level tags outside (around_status (worse b l)) (has_passed b)
-section_by run level tags outside b endings.Passed reported p h = section_whole run level tags outside b endings.Passed (p, h.0)
-section_by run level tags outside b endings.Failed reported p h = section_whole run level tags outside b endings.Failed (p, h.0)
-section_by run level tags outside b endings.Skipped reported p h = section_whole run level tags outside b endings.Skipped (p, h.0)
-section_by run level tags outside b endings.Memory reported p h = subst (λ x. IsSectionEnd run level tags outside (around_status x) (has_passed b)) (sym (worse_memory b)) (section_memory run level tags outside b reported p h)
-
-pub section_closed : (run : Run) (level : Level) (tags : List (List ℕ)) (outside : State) (b : Ending) (s : State) (cs : List CleanupValue) (l : Ending) (reported : List Outcome) → (b ≡ endings.Memory → ⊥) →
-    IsWalked (begun run.library run.hooks level tags outside) b s cs → IsClosed (closing run.library run.hooks level tags s cs) l reported → IsSectionEnd run level tags outside (around_status (worse b l)) (has_passed b)
-section_closed run level tags outside b s cs l reported m walked closed =
-    let w = begun run.library run.hooks level tags outside in
-    let x = exact w b s cs m walked in
-    section_by run level tags outside b l reported x.0
-    (subst (λ k. IsClosed (closing run.library run.hooks level tags w.state k) l reported) x.2 (subst (λ t. IsClosed (closing run.library run.hooks level tags t cs) l reported) x.1 closed))
-
--- a section ended, whatever was closed of it
-pub section_ends : (run : Run) (level : Level) (tags : List (List ℕ)) (outside : State) (b : Ending) (s : State) (cs : List CleanupValue) (l : Ending) (reported : List Outcome) →
-    IsWalked (begun run.library run.hooks level tags outside) b s cs → IsClosedAfter b (closing run.library run.hooks level tags s cs) l reported → IsSectionEnd run level tags outside (around_status (worse b l)) (has_passed b)
-section_ends run level tags outside endings.Memory s cs l reported walked closed = section_in_before run level tags outside s cs walked
-section_ends run level tags outside endings.Passed s cs l reported walked closed = section_closed run level tags outside endings.Passed s cs l reported (not_memory endings.Passed refl) walked closed
-section_ends run level tags outside endings.Failed s cs l reported walked closed = section_closed run level tags outside endings.Failed s cs l reported (not_memory endings.Failed refl) walked closed
-section_ends run level tags outside endings.Skipped s cs l reported walked closed = section_closed run level tags outside endings.Skipped s cs l reported (not_memory endings.Skipped refl) walked closed
+    let lists = after_lists run.hooks level tags in
+    let after = closing.after in
+    let cleanups = closing.cleanups in
+    let mb = is_memory_ending b in
+    let ma = is_memory_ending closing.between in
+    let k2 : mb ≡ true → ma ≡ true = stays_refused b (ended_in after.told) closing.between after.ends in
+    let k3 : ma ≡ true → is_memory_ending closing.end ≡ true = stays_refused closing.between (ended_in cleanups.told) closing.end cleanups.ends in
+    let opens : mb ≡ false → stand_of now opened.cleanups ≡ left_by (entered outside) es.before = λ n. left_whole mb es.before xs (entered outside) (stand_of now opened.cleanups) n begins.so_far begins.stands in
+    let after_is : SoFar mb ma es.after [] after.told = of_other mb ma (walk_each run.library level (stand_of now opened.cleanups) lists) es.after after.told (λ n. ap (λ x. walk_each run.library level x lists) (opens n)) after.so_far in
+    let lasts : ma ≡ false → closing.mid ≡ left_by (left_by (entered outside) es.before) es.after = λ n.
+    let m = earlier mb ma k2 n in
+    left_whole ma es.after after.told (stand_of now opened.cleanups) closing.mid n (subst (λ x. SoFar x ma es.after [] after.told) m after_is) after.stands ∙ ap (λ x. left_by x es.after) (opens m) in
+    let cleanups_are : SoFar ma (is_memory_ending closing.end) es.cleanups [] cleanups.told =
+    of_other ma (is_memory_ending closing.end) (cleaned run.library level closing.mid) es.cleanups cleanups.told (λ n. ap (cleaned run.library level) (lasts n)) cleanups.so_far in
+    let told = parts xs [] after.told cleanups.told in
+    let cut : IsCut es told = parts_cut es xs [] after.told cleanups.told mb mb ma (is_memory_ending closing.end) (λ h. h) k2 k3 begins.so_far (no_steps mb) after_is cleanups_are in
+    let tail = after.told ++ cleanups.told in
+    let around : worse b l ≡ ended_in (xs ++ tail) = ap (λ x. worse x l) begins.ends ∙ ap (worse (ended_in xs)) closing.ending ∙ sym (ended_both xs tail) in (
+      tail,
+      heard_both hears first after.told closing.here cleanups.told last after.heard cleanups.heard,
+      record { cut = cut.0; hooks = ap around_status around ∙ ap around_of cut.1; opening = ap (λ (x : Events). x.before) cut.1; closing = ap (λ (x : Events). x.after ++ x.cleanups) cut.1 },
+    )
 
 -- a section whose before list passed whole has its state
-pub passed_state : (w : Walked) (b : Ending) (s : State) (cs : List CleanupValue) → IsWalked w b s cs → has_passed b ≡ true → s ≡ w.state
-passed_state w endings.Passed s cs h p = h.1
-passed_state w endings.Failed s cs h p = let no : ⊥ = cc in absurd no
-passed_state w endings.Skipped s cs h p = let no : ⊥ = cc in absurd no
-passed_state w endings.Memory s cs h p = let no : ⊥ = cc in absurd no
+pub passed_state : (run : Run) (level : Level) (tags : List (List ℕ)) (outside : State) (first : List Event) (section : OpenSection) (now : SandboxValue) → IsBegun run level tags outside first section now → has_passed section.before ≡ true →
+    state_of now.now ≡ section_state run level tags outside
+passed_state run level tags outside first section now begins p =
+    ap (λ (x : Stand). x.state) (left_whole (is_memory_ending section.before) (begun run.library run.hooks level tags outside) first (entered outside) (stand_of now section.cleanups) (passed_unrefused section.before p) begins.so_far begins.stands)
+
+-- a section that was begun is so still where the sandbox has the same contents
+pub begun_still : (run : Run) (level : Level) (tags : List (List ℕ)) (outside : State) (first : List Event) (section : OpenSection) (old new : SandboxValue) → new.now ≡ old.now → IsBegun run level tags outside first section old → IsBegun run level tags outside first section new
+begun_still run level tags outside first section old new same begins =
+    record { so_far = begins.so_far; ends = begins.ends; stands = ap (λ x. at (state_of x) (cleanups_value section.cleanups)) same ∙ begins.stands }
+
+-- whether it passed whole is that of the cut
+pub ready : (run : Run) (level : Level) (tags : List (List ℕ)) (outside : State) (around : Status) (first last : List Event) (section : OpenSection) → section.before ≡ ended_in first → (end : IsSectionEnd run level tags outside around first last) →
+    has_passed section.before ≡ before_passed (happened end.cut (section_events run level tags outside))
+ready run level tags outside around first last section ends end = ap has_passed ends ∙ ap (λ es. has_passed (ended_in es)) end.opening
 
 -- what a section comes to that was begun, from how it ended and from what is inside of it
-pub section_is : {A : Type 0} (run : Run) (level : Level) (tags : List (List ℕ)) (outside : State) (b : Ending) (passed : Bool) (around : Status) (x : A) (inside : State → Bool → A) → passed ≡ has_passed b →
-    IsSectionEnd run level tags outside around (has_passed b) → x ≡ inside (section_state run level tags outside) passed → (cut : Cut) × (record { around = around; inside = x } ≡ section_of run level tags outside true cut inside)
-section_is {A} run level tags outside b passed around x inside passes end known =
+pub section_is : {A : Type 0} (run : Run) (level : Level) (tags : List (List ℕ)) (outside : State) (passed : Bool) (around : Status) (first last : List Event) (x : A) (inside : State → Bool → A) → (end : IsSectionEnd run level tags outside around first last) →
+    passed ≡ before_passed (happened end.cut (section_events run level tags outside)) → x ≡ inside (section_state run level tags outside) passed → (cut : Cut) × (record { around = around; inside = x } ≡ section_of run level tags outside true cut inside)
+section_is {A} run level tags outside passed around first last x inside end passes known =
     let events = happened end.cut (section_events run level tags outside) in
     let with_around : Status → SectionRow A = λ a. record { around = a; inside = x } in
     let with_inside : A → SectionRow A = λ i. record { around = around_of events; inside = i } in
-    (end.cut, ap with_around end.hooks ∙ ap with_inside (known ∙ ap (inside (section_state run level tags outside)) (passes ∙ end.ready)))
+    (end.cut, ap with_around end.hooks ∙ ap with_inside (known ∙ ap (inside (section_state run level tags outside)) passes))
 
--- the row of a case, from what it came to
-abbrev pub row_is : (run : Run) (section : State) (c : CaseValue) (status around : Status) (reported : List Outcome) (rows : List StepRow) →
-    IsCaseEnd run section (ran c.own_tags c.steps) status around reported rows → IsReached run section c (record { keyword = c.keyword; name = c.name; line = c.line; status = status; around = around; cleanups = reported; steps = rows })
-row_is run section c status around reported rows end =
-    let e = happened end.cut (alone run section c) in
-    let row : Status → Status → List Outcome → List StepRow → CaseRow = λ v a os rs. record { keyword = c.keyword; name = c.name; line = c.line; status = v; around = a; cleanups = os; steps = rs } in
-    (end.cut, ap (λ v. row v around reported rows) end.verdict ∙ ap (λ a. row (verdict_of e) a reported rows) end.hooks ∙ ap (λ os. row (verdict_of e) (around_of e) os rows) end.cleaned ∙ ap (λ rs. row (verdict_of e) (around_of e) e.cleanups rs) end.stepped)
+-- a cut of a section that leaves it open, or doesn't, as its before list ended
+pub opened_cut : (es : Events) (first : List Event) (b : Bool) → SoFar false b es.before [] first → (cut : Cut) × (first ≡ (let e = happened cut es in e.before))
+opened_cut es first true h =
+    let n = count h.front in
+    let now = parts (cut_at n h.left es.before) [] [] [] in
+    (in_before n h.left, cut_told es.before first h ∙ ap (λ (x : Events). x.before) (cut_is (is_place n es.before) now es (cut_place es.before first h)))
+opened_cut es first false h = (nowhere, all_told false es.before first refl h)

@@ -1,9 +1,9 @@
 -- What the code's steps make of a walk.
-use Rattle.std.proofs.Common.{Bool, List, None, Some, [], ap, cond, drop, false, get_or, inl, inr, is_some, length, map, refl, subst, sym, true, ℕ, ◌++◌, ◌+◌, ◌<◌, ◌∙◌, ◌∷◌, ◌≡◌, ◌≤◌, Option, find}
+use Rattle.std.specs.List.{FoldsTo}
+use Rattle.std.proofs.Common.{Bool, List, None, Some, [], ap, append_assoc, cond, drop, false, get_or, inl, inr, is_some, length, map, refl, subst, sym, true, ℕ, ◌++◌, ◌+◌, ◌<◌, ◌∙◌, ◌∷◌, ◌≡◌, ◌≤◌, Option, find}
 use Rattle.std.specs.Option.{option_map_or}
 use Rattle.std.proofs.lemmas.Bool.{true≢false}
-use Rattle.std.proofs.lemmas.List.{at_drop_all, at_drop_more}
-use Rattle.gk_gherkin.specs.declared.hooks.HookKind.TheVariants as kinds
+use Rattle.std.proofs.lemmas.List.{append-nil, at_drop_all, at_drop_more}
 use Rattle.gk_gherkin.specs.Feature.{StepValue}
 use Rattle.gk_gherkin.specs.declared.hooks.HookKind.{HookKind}
 use Rattle.gk_gherkin.specs.Hooks.{HookValue, is_for}
@@ -21,279 +21,322 @@ use Rattle.gk_run.specs.declared.results.Mark.TheVariants.{Acted, Skipped, Undef
 use Rattle.gk_run.specs.declared.results.Outcome.{Outcome}
 use Rattle.gk_run.specs.declared.results.Outcome.TheVariants as outcomes
 use Rattle.gk_run.specs.declared.section.Level.{Level}
+use Rattle.gk_run.specs.declared.section.Place.{Place}
 use Rattle.gk_run.specs.Acting.{Acted as ActedValue, CleanupValue, Given, given, given_by, act, at_site, done_of, files_of, IsDone, HasRegistered, WritesFirst}
+use Rattle.gk_run.specs.Ending.{ending_of, has_passed, is_memory_ending, is_memory_mark, worse}
+use Rattle.gk_run.specs.Events.{Event, Stand, ended_in, event_marks, left_by, of_step}
+use Rattle.gk_run.specs.Results.{StepRow}
+use Rattle.gk_run.specs.Section.{after_of, site_of, steps_of_case}
+use Rattle.gk_run.specs.SectionHooks.{hook_steps, walk_each}
+use Rattle.gk_run.specs.Walk.{Stepped, event_of, looked_up, one_step, row_of_step, rows_of_steps, stepped, steps_from, unrun_step, walk}
+use Rattle.gk_run.specs.WalkContracts.{Goes, Happens, IsLookedUp, IsNext, IsStepRun, SoFar, step_files, told_next}
 use Rattle.gk_run.proofs.ActingLemmas.{called_is, used_given}
-use Rattle.gk_run.specs.Ending.{ended_of, ending_of, has_passed, is_memory_mark, worse}
-use Rattle.gk_run.specs.Walk.{IsLookedUp, IsStepRun, IsWalked, Walked, followed_by, one_step, step_files, stepped, walk}
-use Rattle.gk_run.specs.Section.{is_place}
-use Rattle.gk_run.specs.SectionHooks.{before_kind, before_list, hook_steps, tag_lists, walk_each}
-use Rattle.gk_run.proofs.EndingLemmas.{ended_append, past, place_before, place_past, worse_assoc, worse_memory, worse_passed}
+use Rattle.gk_run.proofs.EndingLemmas.{passed_is}
+use Rattle.gk_run.proofs.EventLemmas.{marks_append}
+use Rattle.gk_run.proofs.GoesLemmas.{all_told, begin, behind, chain, unrefused, with_rest}
 
--- the walk of a list of whose first step this becomes, and which leaves this state and these cleanups
-abbrev pub from_first : LibraryValue → Site → Mark → State → List CleanupValue → List StepValue → Walked
-from_first library site m s cleanups steps = followed_by m s cleanups steps (walk library site s cleanups steps)
+-- where a section stands
+abbrev pub at : State → List CleanupValue → Stand
+at s cleanups = record { state = s; cleanups = cleanups }
 
-pub first_is : (library : LibraryValue) (site : Site) (s new : State) (cleanups new_cleanups : List CleanupValue) (step : StepValue) (steps : List StepValue) (m : Mark) →
-    (let this = one_step library site s step in (m ≡ this.mark) × (new ≡ this.state) × (new_cleanups ≡ cleanups ++ this.registered)) →
-    from_first library site m new new_cleanups steps ≡ walk library site s cleanups (step ∷ steps)
-first_is library site s new cleanups new_cleanups step steps m t =
-    let this = one_step library site s step in
-    ap (λ x. from_first library site x new new_cleanups steps) t.0
-    ∙ ap (λ n. from_first library site this.mark n new_cleanups steps) t.1
-    ∙ ap (λ l. from_first library site this.mark this.state l steps) t.2
+-- ---- one step
 
--- after a list that passed
-more_all : (ms : List Mark) (w : Walked) (e : Ending) (s : State) (cs : List CleanupValue) → endings.Passed ≡ ended_of ms → IsWalked w e s cs → IsWalked (record w { marks = ms ++ w.marks }) e s cs
-more_all ms w endings.Memory s cs p h = (past ms h.0, place_past ms w.marks h.0 h.1)
-more_all ms w endings.Passed s cs p h = (h.0 ∙ ap (λ x. worse x (ended_of w.marks)) p ∙ sym (ended_append ms w.marks), h.1, h.2)
-more_all ms w endings.Failed s cs p h = (h.0 ∙ ap (λ x. worse x (ended_of w.marks)) p ∙ sym (ended_append ms w.marks), h.1, h.2)
-more_all ms w endings.Skipped s cs p h = (h.0 ∙ ap (λ x. worse x (ended_of w.marks)) p ∙ sym (ended_append ms w.marks), h.1, h.2)
+-- a step in which memory wasn't refused
+pub exact_step : (this : Stepped) (cs : List CleanupValue) (m : Mark) (new : State) (left : List CleanupValue) → is_memory_ending (ending_of m) ≡ false → IsStepRun this cs m new left → (m ≡ this.mark) × (new ≡ this.state) × (left ≡ cs ++ this.registered)
+exact_step this cs (Acted outcomes.Memory) new left n t = absurd (true≢false n)
+exact_step this cs (Acted outcomes.Passed) new left n t = t
+exact_step this cs (Acted (outcomes.Failed why)) new left n t = t
+exact_step this cs (Acted outcomes.Skip) new left n t = t
+exact_step this cs Undefined new left n t = t
+exact_step this cs Skipped new left n t = t
+exact_step this cs Untested new left n t = t
 
--- a step that passed
-walk_on : (library : LibraryValue) (site : Site) (s new : State) (cleanups new_cleanups : List CleanupValue) (step : StepValue) (steps : List StepValue) (m : Mark) → endings.Passed ≡ ended_of (m ∷ []) →
-    (let next = walk library site new new_cleanups steps in record next { marks = m ∷ next.marks } ≡ walk library site s cleanups (step ∷ steps)) →
-    (e : Ending) (last : State) (cs : List CleanupValue) → IsWalked (walk library site new new_cleanups steps) e last cs → IsWalked (walk library site s cleanups (step ∷ steps)) e last cs
-walk_on library site s new cleanups new_cleanups step steps m p is e last cs h =
-    subst (λ w. IsWalked w e last cs) is (more_all (m ∷ []) (walk library site new new_cleanups steps) e last cs p h)
+-- one event happened, of which this became
+abbrev pub OneEvent : {S : Type 0} → (S → Event → S → Type 0) → Ending → Event → Mark → Stand → Stand → Ending → S → S → Type 0
+OneEvent hears before event m start now ended first last = (g : Happens hears before (event ∷ []) start now ended first last) × (event_marks g.told ≡ m ∷ [])
 
--- whether or not a step ends a walk, its mark is the first
-first_place : (b : Bool) (m : Mark) (s : State) (cs : List CleanupValue) (steps : List StepValue) (next : Walked) →
-    (let w : Walked = cond b (record next { marks = m ∷ next.marks }) (record { marks = m ∷ []; left = steps; state = s; cleanups = cs }) in is_place 0 w.marks ≡ true)
-first_place true m s cs steps next = refl
-first_place false m s cs steps next = refl
+told_exactly : (m : Mark) (event told : Event) → is_memory_ending (ending_of m) ≡ false → event ≡ told → SoFar false (is_memory_ending (ending_of m)) (event ∷ []) [] (told ∷ [])
+told_exactly m event told n is = subst (λ b. SoFar false b (event ∷ []) [] (told ∷ [])) (sym n) (ap (λ x. x ∷ []) is)
 
--- a step that ended the walk
-walk_off : (library : LibraryValue) (site : Site) (s new : State) (cleanups new_cleanups : List CleanupValue) (step : StepValue) (steps : List StepValue) (m : Mark) →
-    IsStepRun (one_step library site s step) cleanups m new new_cleanups → has_passed (ending_of m) ≡ false → IsWalked (walk library site s cleanups (step ∷ steps)) (ending_of m) new new_cleanups
-walk_off library site s new cleanups new_cleanups step steps Undefined t h =
-    subst (λ w. IsWalked w endings.Failed new new_cleanups) (first_is library site s new cleanups new_cleanups step steps Undefined t) (refl, refl, refl)
-walk_off library site s new cleanups new_cleanups step steps (Acted (outcomes.Failed why)) t h =
-    subst (λ w. IsWalked w endings.Failed new new_cleanups) (first_is library site s new cleanups new_cleanups step steps (Acted (outcomes.Failed why)) t) (refl, refl, refl)
-walk_off library site s new cleanups new_cleanups step steps (Acted outcomes.Skip) t h =
-    subst (λ w. IsWalked w endings.Skipped new new_cleanups) (first_is library site s new cleanups new_cleanups step steps (Acted outcomes.Skip) t) (refl, refl, refl)
-walk_off library site s new cleanups new_cleanups step steps (Acted outcomes.Memory) t h =
-    let this = one_step library site s step in
-    (0, first_place (has_passed (ending_of this.mark)) this.mark this.state (cleanups ++ this.registered) steps (walk library site this.state (cleanups ++ this.registered) steps))
-walk_off library site s new cleanups new_cleanups step steps (Acted outcomes.Passed) t h = absurd (true≢false h)
-walk_off library site s new cleanups new_cleanups step steps Skipped t h = absurd (true≢false h)
-walk_off library site s new cleanups new_cleanups step steps Untested t h = absurd (true≢false h)
+exact_goes : {S : Type 0} (hears : S → Event → S → Type 0) (place : Place) (step : StepValue) (this : Stepped) (s new : State) (cs left : List CleanupValue) (m : Mark) (first last : S) → is_memory_ending (ending_of m) ≡ false →
+    (m ≡ this.mark) × (new ≡ this.state) × (left ≡ cs ++ this.registered) → FoldsTo hears first (of_step place step m this.registered new ∷ []) last → OneEvent hears endings.Passed (event_of place step this) m (at s cs) (at new left) (ending_of m) first last
+exact_goes hears place step this s new cs left m first last n t h = (
+  record {
+    told = of_step place step m this.registered new ∷ [];
+    heard = h;
+    so_far = told_exactly m (event_of place step this) (of_step place step m this.registered new) n (sym (ap (λ x. of_step place step x this.registered new) t.0 ∙ ap (λ x. of_step place step this.mark this.registered x) t.1));
+    ends = refl;
+    stands = ap (at new) t.2;
+  },
+  refl,
+)
 
--- ---- one list after another
+-- a step was carried out
+pub step_goes : {S : Type 0} (hears : S → Event → S → Type 0) (place : Place) (step : StepValue) (this : Stepped) (s new : State) (cs left : List CleanupValue) (m : Mark) (first last : S) → IsStepRun this cs m new left →
+    ((registered : List CleanupValue) → FoldsTo hears first (of_step place step m registered new ∷ []) last) → OneEvent hears endings.Passed (event_of place step this) m (at s cs) (at new left) (ending_of m) first last
+step_goes hears place step this s new cs left (Acted outcomes.Memory) first last t h = (
+  record {
+    told = of_step place step (Acted outcomes.Memory) [] new ∷ [];
+    heard = h [];
+    so_far = record { front = []; event = event_of place step this; rest = []; left = new; whole = refl; cut = refl };
+    ends = refl;
+    stands = ap (at new) (t ∙ sym (append-nil cs));
+  },
+  refl,
+)
+step_goes hears place step this s new cs left (Acted outcomes.Passed) first last t h = exact_goes hears place step this s new cs left (Acted outcomes.Passed) first last refl t (h this.registered)
+step_goes hears place step this s new cs left (Acted (outcomes.Failed why)) first last t h = exact_goes hears place step this s new cs left (Acted (outcomes.Failed why)) first last refl t (h this.registered)
+step_goes hears place step this s new cs left (Acted outcomes.Skip) first last t h = exact_goes hears place step this s new cs left (Acted outcomes.Skip) first last refl t (h this.registered)
+step_goes hears place step this s new cs left Undefined first last t h = exact_goes hears place step this s new cs left Undefined first last refl t (h this.registered)
+step_goes hears place step this s new cs left Skipped first last t h = exact_goes hears place step this s new cs left Skipped first last refl t (h this.registered)
+step_goes hears place step this s new cs left Untested first last t h = exact_goes hears place step this s new cs left Untested first last refl t (h this.registered)
 
--- a walk through one list, and then one through another where it passed
-abbrev joined : Walked → List StepValue → Walked → Walked
-joined w ys next = cond (has_passed (ended_of w.marks)) (record next { marks = w.marks ++ next.marks }) (record w { left = w.left ++ ys })
+-- ---- a walk
 
-joined_first : (b : Bool) (m : Mark) (ms : List Mark) (ls : List StepValue) (s : State) (cs : List CleanupValue) (next : Walked) (ys : List StepValue) →
-    (let x : Walked = cond b (record next { marks = ms ++ next.marks }) (record { marks = ms; left = ls ++ ys; state = s; cleanups = cs }) in
-    record x { marks = m ∷ x.marks }) ≡
-    cond b (record next { marks = m ∷ (ms ++ next.marks) }) (record { marks = m ∷ ms; left = ls ++ ys; state = s; cleanups = cs })
-joined_first true m ms ls s cs next ys = refl
-joined_first false m ms ls s cs next ys = refl
+-- one step more of a walk
+pub walk_on : {S : Type 0} (hears : S → Event → S → Type 0) (library : LibraryValue) (place : Place) (step : StepValue) (steps : List StepValue) (s new : State) (cs left : List CleanupValue) (m : Mark) (all : List Event) (start : Stand) (first here last : S) →
+    Goes hears endings.Passed all (walk library place s (step ∷ steps)) start (at s cs) endings.Passed first here → IsStepRun (one_step library (site_of place) s step) cs m new left →
+    ((registered : List CleanupValue) → FoldsTo hears here (of_step place step m registered new ∷ []) last) → Goes hears endings.Passed all (cond (has_passed (ending_of m)) (walk library place new steps) []) start (at new left) (ending_of m) first last
+walk_on hears library place step steps s new cs left m all start first here last g t h =
+    let this = one_step library (site_of place) s step in
+    let rest : Mark → State → List Event = λ x n. cond (has_passed (ending_of x)) (walk library place n steps) [] in
+    with_rest (rest m new) (chain (rest this.mark this.state) g (λ _. refl) (step_goes hears place step this s new cs left m here last t h).0)
+    (λ n. let known = exact_step this cs m new left n t in sym (ap (λ x. rest x new) known.0 ∙ ap (rest this.mark) known.1))
 
-followed_by_joined : (m : Mark) (s : State) (cs : List CleanupValue) (xs ys : List StepValue) (w : Walked) (f : State → List CleanupValue → Walked) →
-    followed_by m s cs (xs ++ ys) (joined w ys (f w.state w.cleanups)) ≡ (let g = followed_by m s cs xs w in joined g ys (f g.state g.cleanups))
-followed_by_joined (Acted outcomes.Passed) s cs xs ys w f = joined_first (has_passed (ended_of w.marks)) (Acted outcomes.Passed) w.marks w.left w.state w.cleanups (f w.state w.cleanups) ys
-followed_by_joined Skipped s cs xs ys w f = joined_first (has_passed (ended_of w.marks)) Skipped w.marks w.left w.state w.cleanups (f w.state w.cleanups) ys
-followed_by_joined Untested s cs xs ys w f = joined_first (has_passed (ended_of w.marks)) Untested w.marks w.left w.state w.cleanups (f w.state w.cleanups) ys
-followed_by_joined Undefined s cs xs ys w f = refl
-followed_by_joined (Acted (outcomes.Failed why)) s cs xs ys w f = refl
-followed_by_joined (Acted outcomes.Skip) s cs xs ys w f = refl
-followed_by_joined (Acted outcomes.Memory) s cs xs ys w f = refl
+-- a walk whose first step becomes this, through one list and then another
+after_step : (place : Place) (step : StepValue) (registered : List CleanupValue) (s new : State) (cs : List CleanupValue) (m : Mark) (later : Stand → List Event) (xs both : List Event) →
+    both ≡ xs ++ cond (has_passed (ended_in xs)) (later (left_by (at new (cs ++ registered)) xs)) [] →
+    of_step place step m registered new ∷ cond (has_passed (ending_of m)) both [] ≡
+    (let w = of_step place step m registered new ∷ cond (has_passed (ending_of m)) xs [] in w ++ cond (has_passed (ended_in w)) (later (left_by (at s cs) w)) [])
+after_step place step registered s new cs (Acted outcomes.Passed) later xs both h = ap (λ ys. of_step place step (Acted outcomes.Passed) registered new ∷ ys) h
+after_step place step registered s new cs Skipped later xs both h = ap (λ ys. of_step place step Skipped registered new ∷ ys) h
+after_step place step registered s new cs Untested later xs both h = ap (λ ys. of_step place step Untested registered new ∷ ys) h
+after_step place step registered s new cs Undefined later xs both h = refl
+after_step place step registered s new cs (Acted (outcomes.Failed why)) later xs both h = refl
+after_step place step registered s new cs (Acted outcomes.Skip) later xs both h = refl
+after_step place step registered s new cs (Acted outcomes.Memory) later xs both h = refl
 
-pub walk_append : (library : LibraryValue) (site : Site) (s : State) (cs : List CleanupValue) (xs ys : List StepValue) →
-    walk library site s cs (xs ++ ys) ≡ (let w = walk library site s cs xs in joined w ys (walk library site w.state w.cleanups ys))
-walk_append library site s cs [] ys = refl
-walk_append library site s cs (x ∷ xs) ys =
-    let this = one_step library site s x in
-    let new_cleanups = cs ++ this.registered in
-    ap (followed_by this.mark this.state new_cleanups (xs ++ ys)) (walk_append library site this.state new_cleanups xs ys)
-    ∙ followed_by_joined this.mark this.state new_cleanups xs ys (walk library site this.state new_cleanups xs) (λ t ls. walk library site t ls ys)
+-- a walk through one list, and then through another where it passed
+walk_append : (library : LibraryValue) (place : Place) (s : State) (cs : List CleanupValue) (xs ys : List StepValue) →
+    walk library place s (xs ++ ys) ≡ (let w = walk library place s xs in w ++ cond (has_passed (ended_in w)) (let left = left_by (at s cs) w in walk library place left.state ys) [])
+walk_append library place s cs [] ys = refl
+walk_append library place s cs (x ∷ xs) ys =
+    let this = one_step library (site_of place) s x in
+    after_step place x this.registered s this.state cs this.mark (λ left. walk library place left.state ys) (walk library place this.state xs) (walk library place this.state (xs ++ ys)) (walk_append library place this.state (cs ++ this.registered) xs ys)
 
-pub walk_both : (library : LibraryValue) (site : Site) (s new : State) (cleanups new_cleanups : List CleanupValue) (xs ys : List StepValue) →
-    IsWalked (walk library site s cleanups xs) endings.Passed new new_cleanups →
-    (e : Ending) (last : State) (cs : List CleanupValue) → IsWalked (walk library site new new_cleanups ys) e last cs → IsWalked (walk library site s cleanups (xs ++ ys)) e last cs
-walk_both library site s new cleanups new_cleanups xs ys p e last cs h =
-    let w = walk library site s cleanups xs in
-    let next : State → List CleanupValue → Walked = λ t ls. walk library site t ls ys in
-    let here : IsWalked (next w.state w.cleanups) e last cs = subst (λ l. IsWalked (next w.state l) e last cs) p.2 (subst (λ t. IsWalked (next t new_cleanups) e last cs) p.1 h) in
-    let both : IsWalked (record (next w.state w.cleanups) { marks = w.marks ++ (walk library site w.state w.cleanups ys).marks }) e last cs = more_all w.marks (next w.state w.cleanups) e last cs p.0 here in
-    let is : record (next w.state w.cleanups) { marks = w.marks ++ (walk library site w.state w.cleanups ys).marks } ≡ joined w ys (next w.state w.cleanups) =
-    ap (λ x. cond (has_passed x) (record (next w.state w.cleanups) { marks = w.marks ++ (walk library site w.state w.cleanups ys).marks }) (record w { left = w.left ++ ys })) p.0 in
-    subst (λ x. IsWalked x e last cs) (is ∙ sym (walk_append library site s cleanups xs ys)) both
-
-short_place : (b : Bool) (w next : Walked) (ys : List StepValue) (n : ℕ) → is_place n w.marks ≡ true →
-    (let x : Walked = cond b (record next { marks = w.marks ++ next.marks }) (record w { left = w.left ++ ys }) in (k : ℕ) × (is_place k x.marks ≡ true))
-short_place true w next ys n h = (n, place_before w.marks next.marks n h)
-short_place false w next ys n h = (n, h)
-
-short : (w next : Walked) (ys : List StepValue) (e : Ending) (s : State) (cs : List CleanupValue) → IsWalked w e s cs → has_passed e ≡ false → IsWalked (joined w ys next) e s cs
-short w next ys endings.Passed s cs h p = let no : ⊥ = cc in absurd no
-short w next ys endings.Memory s cs h p = short_place (has_passed (ended_of w.marks)) w next ys h.0 h.1
-short w next ys endings.Failed s cs h p =
-    subst (λ x. IsWalked (cond (has_passed x) (record next { marks = w.marks ++ next.marks }) (record w { left = w.left ++ ys })) endings.Failed s cs) h.0 h
-short w next ys endings.Skipped s cs h p =
-    subst (λ x. IsWalked (cond (has_passed x) (record next { marks = w.marks ++ next.marks }) (record w { left = w.left ++ ys })) endings.Skipped s cs) h.0 h
-
-pub walk_short : (library : LibraryValue) (site : Site) (s new : State) (cleanups new_cleanups : List CleanupValue) (xs ys : List StepValue) (e : Ending) →
-    IsWalked (walk library site s cleanups xs) e new new_cleanups → has_passed e ≡ false → IsWalked (walk library site s cleanups (xs ++ ys)) e new new_cleanups
-walk_short library site s new cleanups new_cleanups xs ys e h p =
-    let w = walk library site s cleanups xs in
-    subst (λ x. IsWalked x e new new_cleanups) (sym (walk_append library site s cleanups xs ys)) (short w (walk library site w.state w.cleanups ys) ys e new new_cleanups h p)
+-- one list more of a list that is walked as one
+pub list_on : {S : Type 0} (hears : S → Event → S → Type 0) (library : LibraryValue) (place : Place) (xs ys : List StepValue) (s : State) (cs : List CleanupValue) (now : Stand) (e : Ending) (all : List Event) (start : Stand) (first here last : S) →
+    Goes hears endings.Passed all (walk library place s (xs ++ ys)) start (at s cs) endings.Passed first here → Happens hears endings.Passed (walk library place s xs) (at s cs) now e here last →
+    Goes hears endings.Passed all (cond (has_passed e) (walk library place now.state ys) []) start now e first last
+list_on hears library place xs ys s cs now e all start first here last g h =
+    let w = walk library place s xs in
+    let rest : Ending → Stand → List Event = λ x left. cond (has_passed x) (walk library place left.state ys) [] in
+    with_rest (rest e now) (chain (rest (ended_in w) (left_by (at s cs) w)) g (λ _. walk_append library place s cs xs ys) h)
+    (λ n. let told = all_told (is_memory_ending e) w h.told n h.so_far in
+    sym (ap (λ x. rest x now) h.ends ∙ ap (rest (ended_in h.told)) h.stands ∙ ap (λ es. rest (ended_in es) (left_by (at s cs) es)) told))
 
 -- ---- lists that are walked each by itself
 
-both_end : (ms ns : List Mark) (this e : Ending) → this ≡ ended_of ms → e ≡ ended_of ns → worse this e ≡ ended_of (ms ++ ns)
-both_end ms ns this e p q = ap (λ x. worse x e) p ∙ ap (worse (ended_of ms)) q ∙ sym (ended_append ms ns)
+pub each_on : {S : Type 0} (hears : S → Event → S → Type 0) (library : LibraryValue) (level : Level) (xs : List StepValue) (others : List (List StepValue)) (mid now : Stand) (ended e : Ending) (all : List Event) (start : Stand) (first here last : S) → is_memory_ending ended ≡ false →
+    Goes hears endings.Passed all (walk_each library level mid (xs ∷ others)) start mid ended first here → Happens hears endings.Passed (walk library (after_of level) mid.state xs) mid now e here last →
+    Goes hears endings.Passed all (walk_each library level now others) start now (worse ended e) first last
+each_on hears library level xs others mid now ended e all start first here last m g h =
+    let w = walk library (after_of level) mid.state xs in
+    with_rest (walk_each library level now others) (chain (walk_each library level (left_by mid w) others) g (λ _. refl) (behind ended m h))
+    (λ n. let told = all_told (is_memory_ending e) w h.told (unrefused ended e m ∙ n) h.so_far in
+    sym (ap (λ left. walk_each library level left others) h.stands ∙ ap (λ es. walk_each library level (left_by mid es) others) told))
 
-both_walked : (ms : List Mark) (this : Ending) (w : Walked) (e : Ending) (s : State) (cs : List CleanupValue) → this ≡ ended_of ms → (this ≡ endings.Memory → ⊥) → IsWalked w e s cs → IsWalked (record w { marks = ms ++ w.marks }) (worse this e) s cs
-both_walked ms endings.Memory w e s cs p m h = absurd (m refl)
-both_walked ms endings.Passed w endings.Memory s cs p m h = (past ms h.0, place_past ms w.marks h.0 h.1)
-both_walked ms endings.Failed w endings.Memory s cs p m h = (past ms h.0, place_past ms w.marks h.0 h.1)
-both_walked ms endings.Skipped w endings.Memory s cs p m h = (past ms h.0, place_past ms w.marks h.0 h.1)
-both_walked ms endings.Passed w endings.Passed s cs p m h = (both_end ms w.marks endings.Passed endings.Passed p h.0, h.1, h.2)
-both_walked ms endings.Passed w endings.Failed s cs p m h = (both_end ms w.marks endings.Passed endings.Failed p h.0, h.1, h.2)
-both_walked ms endings.Passed w endings.Skipped s cs p m h = (both_end ms w.marks endings.Passed endings.Skipped p h.0, h.1, h.2)
-both_walked ms endings.Failed w endings.Passed s cs p m h = (both_end ms w.marks endings.Failed endings.Passed p h.0, h.1, h.2)
-both_walked ms endings.Failed w endings.Failed s cs p m h = (both_end ms w.marks endings.Failed endings.Failed p h.0, h.1, h.2)
-both_walked ms endings.Failed w endings.Skipped s cs p m h = (both_end ms w.marks endings.Failed endings.Skipped p h.0, h.1, h.2)
-both_walked ms endings.Skipped w endings.Passed s cs p m h = (both_end ms w.marks endings.Skipped endings.Passed p h.0, h.1, h.2)
-both_walked ms endings.Skipped w endings.Failed s cs p m h = (both_end ms w.marks endings.Skipped endings.Failed p h.0, h.1, h.2)
-both_walked ms endings.Skipped w endings.Skipped s cs p m h = (both_end ms w.marks endings.Skipped endings.Skipped p h.0, h.1, h.2)
+-- ---- the steps of a case
 
--- what a walk that wasn't cut gave
-pub exact : (w : Walked) (this : Ending) (s : State) (cs : List CleanupValue) → (this ≡ endings.Memory → ⊥) → IsWalked w this s cs → (this ≡ ended_of w.marks) × (s ≡ w.state) × (cs ≡ w.cleanups)
-exact w endings.Memory s cs m h = absurd (m refl)
-exact w endings.Passed s cs m h = h
-exact w endings.Failed s cs m h = h
-exact w endings.Skipped s cs m h = h
+-- what becomes of the next step, where it happens
+abbrev pub next_marks : Ending → Mark → List Mark
+next_marks endings.Memory m = []
+next_marks endings.Passed m = m ∷ []
+next_marks endings.Failed m = m ∷ []
+next_marks endings.Skipped m = m ∷ []
 
-pub each_on : (library : LibraryValue) (s new : State) (cleanups new_cleanups : List CleanupValue) (steps : List StepValue) (others : List (List StepValue)) (this : Ending) →
-    IsWalked (walk library sites.Hook s cleanups steps) this new new_cleanups → (this ≡ endings.Memory → ⊥) →
-    (e : Ending) (last : State) (cs : List CleanupValue) → IsWalked (walk_each library new new_cleanups others) e last cs → IsWalked (walk_each library s cleanups (steps ∷ others)) (worse this e) last cs
-each_on library s new cleanups new_cleanups steps others this t m e last cs h =
-    let w = walk library sites.Hook s cleanups steps in
-    let x = exact w this new new_cleanups m t in
-    let here = subst (λ l. IsWalked (walk_each library w.state l others) e last cs) x.2 (subst (λ n. IsWalked (walk_each library n new_cleanups others) e last cs) x.1 h) in
-    both_walked w.marks this (walk_each library w.state w.cleanups others) e last cs x.0 m here
+-- one step more of a case that stood so
+pub record Next {S : Type 0} (hears : S → Event → S → Type 0) (library : LibraryValue) (stood : Ending) (s new : State) (cs left : List CleanupValue) (step : StepValue) (steps : List StepValue) (m : Mark) (first last : S) : Type 0 where
+  pub part : List Event
+  pub more : List Event
+  pub splits : steps_from library stood s (step ∷ steps) ≡ part ++ more
+  pub goes : Happens hears stood part (at s cs) (at new left) (worse stood (ending_of m)) first last
+  pub marks : event_marks goes.told ≡ next_marks stood m
+  pub later : is_memory_ending (worse stood (ending_of m)) ≡ false → more ≡ steps_from library (worse stood (ending_of m)) new steps
 
--- a list in which memory was refused
-pub each_off : (library : LibraryValue) (s new : State) (cleanups new_cleanups : List CleanupValue) (steps : List StepValue) (others : List (List StepValue)) →
-    IsWalked (walk library sites.Hook s cleanups steps) endings.Memory new new_cleanups → IsWalked (walk_each library s cleanups (steps ∷ others)) endings.Memory new new_cleanups
-each_off library s new cleanups new_cleanups steps others t =
-    let w = walk library sites.Hook s cleanups steps in
-    let next = walk_each library w.state w.cleanups others in
-    (t.0, place_before w.marks next.marks t.0 t.1)
+-- where it stands that nothing was changed
+unchanged : (s new : State) (cs left : List CleanupValue) → new ≡ s → left ≡ cs → at new left ≡ at s (cs ++ [])
+unchanged s new cs left p q = ap (λ n. at n left) p ∙ ap (at s) (q ∙ sym (append-nil cs))
 
--- ---- a list that the code walks through by a place in it
+-- a step that isn't carried out
+unrun_goes : {S : Type 0} (hears : S → Event → S → Type 0) (stood : Ending) (s new : State) (cs left : List CleanupValue) (step : StepValue) (m planned : Mark) (first last : S) → is_memory_ending stood ≡ false → worse stood (ending_of m) ≡ stood → m ≡ planned → new ≡ s → left ≡ cs →
+    FoldsTo hears first (of_step steps_of_case step m [] new ∷ []) last → OneEvent hears stood (unrun_step step planned s) m (at s cs) (at new left) (worse stood (ending_of m)) first last
+unrun_goes hears stood s new cs left step m planned first last n stays is p q h = (
+  record {
+    told = of_step steps_of_case step m [] new ∷ [];
+    heard = h;
+    so_far = subst (λ b. SoFar b (is_memory_ending (worse stood (ending_of m))) (unrun_step step planned s ∷ []) [] (of_step steps_of_case step m [] new ∷ [])) (sym n)
+        (subst (λ b. SoFar false b (unrun_step step planned s ∷ []) [] (of_step steps_of_case step m [] new ∷ [])) (sym (ap is_memory_ending stays ∙ n))
+        (sym (ap (λ x. unrun_step step x new ∷ []) is ∙ ap (λ x. unrun_step step planned x ∷ []) p)));
+    ends = refl;
+    stands = unchanged s new cs left p q ∙ ap (λ x. at x (cs ++ [])) (sym p);
+  },
+  refl,
+)
+
+-- a step that was only looked up doesn't change how the case stands
+failed_stays : (b : Bool) → worse endings.Failed (ending_of (cond b Skipped Undefined)) ≡ endings.Failed
+failed_stays true = refl
+failed_stays false = refl
+
+unrun_later : (library : LibraryValue) (stood e : Ending) (s new : State) (steps : List StepValue) → e ≡ stood → new ≡ s → steps_from library stood s steps ≡ steps_from library e new steps
+unrun_later library stood e s new steps is p = sym (ap (λ x. steps_from library x new steps) is ∙ ap (λ x. steps_from library stood x steps) p)
+
+-- memory was refused while a step was looked up
+refused_goes : {S : Type 0} (hears : S → Event → S → Type 0) (s new : State) (cs left : List CleanupValue) (step : StepValue) (m planned : Mark) (first last : S) → m ≡ Acted outcomes.Memory → new ≡ s → left ≡ cs →
+    FoldsTo hears first (of_step steps_of_case step m [] new ∷ []) last → OneEvent hears endings.Failed (unrun_step step planned s) m (at s cs) (at new left) (worse endings.Failed (ending_of m)) first last
+refused_goes hears s new cs left step m planned first last is p q h =
+    subst (λ x. OneEvent hears endings.Failed (unrun_step step planned s) x (at s cs) (at new left) (worse endings.Failed (ending_of x)) first last) (sym is) (
+      record {
+        told = of_step steps_of_case step (Acted outcomes.Memory) [] new ∷ [];
+        heard = subst (λ x. FoldsTo hears first (of_step steps_of_case step x [] new ∷ []) last) is h;
+        so_far = record { front = []; event = unrun_step step planned s; rest = []; left = new; whole = refl; cut = refl };
+        ends = refl;
+        stands = unchanged s new cs left p q ∙ ap (λ x. at x (cs ++ [])) (sym p);
+      },
+      refl,
+    )
+
+pub next_goes : {S : Type 0} (hears : S → Event → S → Type 0) (library : LibraryValue) (stood : Ending) (s new : State) (cs left : List CleanupValue) (step : StepValue) (steps : List StepValue) (m : Mark) (first last : S) → IsNext library stood s cs step m new left →
+    ((registered : List CleanupValue) → FoldsTo hears first (told_next stood (of_step steps_of_case step m registered new)) last) → Next hears library stood s new cs left step steps m first last
+next_goes hears library endings.Memory s new cs left step steps m first last t h = record {
+  part = steps_from library endings.Memory s (step ∷ steps);
+  more = [];
+  splits = sym (append-nil (steps_from library endings.Memory s (step ∷ steps)));
+  goes = record { told = []; heard = h []; so_far = refl; ends = refl; stands = ap (λ x. at x left) t.1 ∙ ap (at s) t.2 };
+  marks = refl;
+  later = λ n. absurd (true≢false n);
+}
+next_goes hears library endings.Passed s new cs left step steps m first last t h =
+    let this = one_step library sites.Step s step in
+    let one = step_goes hears steps_of_case step this s new cs left m first last t h in
+    record {
+      part = event_of steps_of_case step this ∷ [];
+      more = steps_from library (ending_of this.mark) this.state steps;
+      splits = refl;
+      goes = one.0;
+      marks = one.1;
+      later = λ n. let known = exact_step this cs m new left n t in sym (ap (λ x. steps_from library (ending_of x) new steps) known.0 ∙ ap (λ x. steps_from library (ending_of this.mark) x steps) known.1);
+    }
+next_goes hears library endings.Failed s new cs left step steps m first last (inl t, p, q) h =
+    let one = refused_goes hears s new cs left step m (looked_up library Skipped step) first last t.0 p q (h []) in
+    record {
+      part = unrun_step step (looked_up library Skipped step) s ∷ [];
+      more = steps_from library endings.Failed s steps;
+      splits = refl;
+      goes = one.0;
+      marks = one.1;
+      later = λ n. absurd (true≢false (sym (ap (λ x. is_memory_ending (worse endings.Failed (ending_of x))) t.0) ∙ n));
+    }
+next_goes hears library endings.Failed s new cs left step steps m first last (inr t, p, q) h =
+    let stays : worse endings.Failed (ending_of m) ≡ endings.Failed = ap (λ x. worse endings.Failed (ending_of x)) t ∙ failed_stays (is_some (found library step.step_type step.text)) in
+    let one = unrun_goes hears endings.Failed s new cs left step m (looked_up library Skipped step) first last refl stays t p q (h []) in
+    record {
+      part = unrun_step step (looked_up library Skipped step) s ∷ [];
+      more = steps_from library endings.Failed s steps;
+      splits = refl;
+      goes = one.0;
+      marks = one.1;
+      later = λ n. unrun_later library endings.Failed (worse endings.Failed (ending_of m)) s new steps stays p;
+    }
+next_goes hears library endings.Skipped s new cs left step steps m first last t h =
+    let stays : worse endings.Skipped (ending_of m) ≡ endings.Skipped = ap (λ x. worse endings.Skipped (ending_of x)) t.0 in
+    let one = unrun_goes hears endings.Skipped s new cs left step m Skipped first last refl stays t.0 t.1 t.2 (h []) in
+    record {
+      part = unrun_step step Skipped s ∷ [];
+      more = steps_from library endings.Skipped s steps;
+      splits = refl;
+      goes = one.0;
+      marks = one.1;
+      later = λ n. unrun_later library endings.Skipped (worse endings.Skipped (ending_of m)) s new steps stays t.1;
+    }
+
+-- the rows so far, and those of what is left, are those of all by the marks so far
+abbrev pub Shows : Ending → List StepValue → List StepRow → List StepValue → List Mark → Type 0
+Shows endings.Memory left rows all ms = rows ++ rows_of_steps left [] ≡ rows_of_steps all ms
+Shows endings.Passed left rows all ms = (more : List Mark) → rows ++ rows_of_steps left more ≡ rows_of_steps all (ms ++ more)
+Shows endings.Failed left rows all ms = (more : List Mark) → rows ++ rows_of_steps left more ≡ rows_of_steps all (ms ++ more)
+Shows endings.Skipped left rows all ms = (more : List Mark) → rows ++ rows_of_steps left more ≡ rows_of_steps all (ms ++ more)
+
+shown_any : (e : Ending) (left : List StepValue) (rows : List StepRow) (all : List StepValue) (ms : List Mark) → ((more : List Mark) → rows ++ rows_of_steps left more ≡ rows_of_steps all (ms ++ more)) → Shows e left rows all ms
+shown_any endings.Memory left rows all ms h = h [] ∙ ap (rows_of_steps all) (append-nil ms)
+shown_any endings.Passed left rows all ms h = h
+shown_any endings.Failed left rows all ms h = h
+shown_any endings.Skipped left rows all ms h = h
+
+shown_more : (e : Ending) (rows : List StepRow) (step : StepValue) (steps all : List StepValue) (ms : List Mark) (m : Mark) → ((more : List Mark) → rows ++ rows_of_steps (step ∷ steps) more ≡ rows_of_steps all (ms ++ more)) →
+    Shows e steps (rows ++ row_of_step step m ∷ []) all (ms ++ m ∷ [])
+shown_more e rows step steps all ms m h =
+    shown_any e steps (rows ++ row_of_step step m ∷ []) all (ms ++ m ∷ [])
+    (λ more. append_assoc rows (row_of_step step m ∷ []) (rows_of_steps steps more) ∙ h (m ∷ more) ∙ ap (rows_of_steps all) (sym (append_assoc ms (m ∷ []) more)))
+
+shown_next : (library : LibraryValue) (stood : Ending) (s new : State) (cs left : List CleanupValue) (step : StepValue) (steps all : List StepValue) (rows : List StepRow) (ms : List Mark) (m : Mark) → IsNext library stood s cs step m new left →
+    Shows stood (step ∷ steps) rows all ms → Shows (worse stood (ending_of m)) steps (rows ++ row_of_step step m ∷ []) all (ms ++ next_marks stood m)
+shown_next library endings.Memory s new cs left step steps all rows ms m t h =
+    ap (λ x. (rows ++ row_of_step step x ∷ []) ++ rows_of_steps steps []) t.0 ∙ append_assoc rows (row_of_step step Untested ∷ []) (rows_of_steps steps []) ∙ h ∙ ap (rows_of_steps all) (sym (append-nil ms))
+shown_next library endings.Passed s new cs left step steps all rows ms m t h = shown_more (ending_of m) rows step steps all ms m h
+shown_next library endings.Failed s new cs left step steps all rows ms m t h = shown_more (worse endings.Failed (ending_of m)) rows step steps all ms m h
+shown_next library endings.Skipped s new cs left step steps all rows ms m t h = shown_more (worse endings.Skipped (ending_of m)) rows step steps all ms m h
+
+shown_last : (e : Ending) (rows : List StepRow) (all : List StepValue) (ms : List Mark) → Shows e [] rows all ms → rows ≡ rows_of_steps all ms
+shown_last endings.Memory rows all ms h = sym (append-nil rows) ∙ h
+shown_last endings.Passed rows all ms h = sym (append-nil rows) ∙ h [] ∙ ap (rows_of_steps all) (append-nil ms)
+shown_last endings.Failed rows all ms h = sym (append-nil rows) ∙ h [] ∙ ap (rows_of_steps all) (append-nil ms)
+shown_last endings.Skipped rows all ms h = sym (append-nil rows) ∙ h [] ∙ ap (rows_of_steps all) (append-nil ms)
+
+-- what a loop over a case's steps keeps
+pub record StepsSoFar {S : Type 0} (hears : S → Event → S → Type 0) (library : LibraryValue) (before : Ending) (start : Stand) (all : List StepValue) (stood : Ending) (now : Stand) (left : List StepValue) (rows : List StepRow) (first last : S) : Type 0 where
+  pub goes : Goes hears before (steps_from library before start.state all) (steps_from library stood now.state left) start now stood first last
+  pub shown : Shows stood left rows all (event_marks goes.told)
+
+pub steps_first : {S : Type 0} (hears : S → Event → S → Type 0) (library : LibraryValue) (before : Ending) (start : Stand) (all : List StepValue) (first : S) → StepsSoFar hears library before start all before start all [] first first
+steps_first hears library before start all first =
+    record { goes = begin hears before (steps_from library before start.state all) start first; shown = shown_any before all [] all [] (λ more. refl) }
+
+pub steps_on : {S : Type 0} (hears : S → Event → S → Type 0) (library : LibraryValue) (before : Ending) (start : Stand) (all : List StepValue) (stood next : Ending) (s new : State) (cs left : List CleanupValue) (step : StepValue) (steps : List StepValue) (m : Mark) (rows more : List StepRow) (first here last : S) →
+    IsNext library stood s cs step m new left → ((registered : List CleanupValue) → FoldsTo hears here (told_next stood (of_step steps_of_case step m registered new)) last) → next ≡ worse stood (ending_of m) → more ≡ rows ++ row_of_step step m ∷ [] →
+    StepsSoFar hears library before start all stood (at s cs) (step ∷ steps) rows first here → StepsSoFar hears library before start all next (at new left) steps more first last
+steps_on hears library before start all stood next s new cs left step steps m rows more first here last t h ends pushed so_far =
+    let one = next_goes hears library stood s new cs left step steps m here last t h in
+    let e = worse stood (ending_of m) in
+    let goes = with_rest (steps_from library e new steps) (chain one.more so_far.goes (λ _. one.splits) one.goes) one.later in
+    let marks : event_marks (so_far.goes.told ++ one.goes.told) ≡ event_marks so_far.goes.told ++ next_marks stood m =
+    marks_append so_far.goes.told one.goes.told ∙ ap (λ ms. event_marks so_far.goes.told ++ ms) one.marks in
+    let whole : StepsSoFar hears library before start all e (at new left) steps (rows ++ row_of_step step m ∷ []) first last = record {
+      goes = goes;
+      shown = subst (Shows e steps (rows ++ row_of_step step m ∷ []) all) (sym marks) (shown_next library stood s new cs left step steps all rows (event_marks so_far.goes.told) m t so_far.shown);
+    } in
+    subst (λ x. StepsSoFar hears library before start all x (at new left) steps more first last) (sym ends)
+    (subst (λ rs. StepsSoFar hears library before start all e (at new left) steps rs first last) (sym pushed) whole)
+
+-- after the last step
+pub record AllSteps {S : Type 0} (hears : S → Event → S → Type 0) (library : LibraryValue) (before : Ending) (start now : Stand) (all : List StepValue) (ended : Ending) (rows : List StepRow) (first last : S) : Type 0 where
+  pub goes : Happens hears before (steps_from library before start.state all) start now ended first last
+  pub rows_are : rows ≡ rows_of_steps all (event_marks goes.told)
+
+pub steps_last : {S : Type 0} (hears : S → Event → S → Type 0) (library : LibraryValue) (before : Ending) (start now : Stand) (all : List StepValue) (ended : Ending) (left : List StepValue) (rows : List StepRow) (first last : S) → left ≡ [] →
+    StepsSoFar hears library before start all ended now left rows first last → AllSteps hears library before start now all ended rows first last
+steps_last hears library before start now all ended left rows first last none so_far =
+    let here : StepsSoFar hears library before start all ended now [] rows first last = subst (λ xs. StepsSoFar hears library before start all ended now xs rows first last) none so_far in
+    record { goes = here.goes; rows_are = shown_last ended rows all (event_marks here.goes.told) here.shown }
+
+-- ---- the code's loops
 
 pub drop_next : {X Y : Type 0} (f : X → Y) (xs : List X) (i : ℕ) (x : X) → i < length xs → x ≡ get_or xs i x → map f (drop i xs) ≡ f x ∷ map f (drop (i + 1) xs)
 drop_next f xs i x lt is = at_drop_more (map f) xs i x lt ∙ ap (λ y. f y ∷ map f (drop (i + 1) xs)) (sym is)
 
 pub drop_none : {X Y : Type 0} (f : X → Y) (xs : List X) (i : ℕ) → length xs ≤ i → map f (drop i xs) ≡ []
 drop_none f xs i le = at_drop_all (map f) xs i le
-
--- ---- the code's loops: whatever the walk of what is left comes to, the walk of all comes to
-
-abbrev pub Goes : LibraryValue → Site → State → List CleanupValue → List StepValue → State → List CleanupValue → List StepValue → Type 0
-Goes library site s cleanups left first cleanups_first all =
-    (e : Ending) (last : State) (cs : List CleanupValue) → IsWalked (walk library site s cleanups left) e last cs → IsWalked (walk library site first cleanups_first all) e last cs
-
-pub hook_on : (library : LibraryValue) (site : Site) (first : State) (cs0 : List CleanupValue) (all rest steps : List StepValue) (step : StepValue) (s new : State) (cs new_cleanups : List CleanupValue) (m : Mark) →
-    rest ≡ step ∷ steps → IsStepRun (one_step library site s step) cs m new new_cleanups → has_passed (ending_of m) ≡ true →
-    Goes library site s cs rest first cs0 all → Goes library site new new_cleanups steps first cs0 all
-hook_on library site first cs0 all rest steps step s new cs new_cleanups (Acted outcomes.Passed) is t p goes e last ls h =
-    goes e last ls (subst (λ xs. IsWalked (walk library site s cs xs) e last ls) (sym is)
-    (walk_on library site s new cs new_cleanups step steps (Acted outcomes.Passed) refl (first_is library site s new cs new_cleanups step steps (Acted outcomes.Passed) t) e last ls h))
-hook_on library site first cs0 all rest steps step s new cs new_cleanups Skipped is t p goes e last ls h =
-    goes e last ls (subst (λ xs. IsWalked (walk library site s cs xs) e last ls) (sym is)
-    (walk_on library site s new cs new_cleanups step steps Skipped refl (first_is library site s new cs new_cleanups step steps Skipped t) e last ls h))
-hook_on library site first cs0 all rest steps step s new cs new_cleanups Untested is t p goes e last ls h =
-    goes e last ls (subst (λ xs. IsWalked (walk library site s cs xs) e last ls) (sym is)
-    (walk_on library site s new cs new_cleanups step steps Untested refl (first_is library site s new cs new_cleanups step steps Untested t) e last ls h))
-hook_on library site first cs0 all rest steps step s new cs new_cleanups Undefined is t p goes e last ls h = absurd (true≢false (sym p))
-hook_on library site first cs0 all rest steps step s new cs new_cleanups (Acted (outcomes.Failed why)) is t p goes e last ls h = absurd (true≢false (sym p))
-hook_on library site first cs0 all rest steps step s new cs new_cleanups (Acted outcomes.Skip) is t p goes e last ls h = absurd (true≢false (sym p))
-hook_on library site first cs0 all rest steps step s new cs new_cleanups (Acted outcomes.Memory) is t p goes e last ls h = absurd (true≢false (sym p))
-
-pub hook_off : (library : LibraryValue) (site : Site) (first : State) (cs0 : List CleanupValue) (all rest steps : List StepValue) (step : StepValue) (s new : State) (cs new_cleanups : List CleanupValue) (m : Mark) →
-    rest ≡ step ∷ steps → IsStepRun (one_step library site s step) cs m new new_cleanups → has_passed (ending_of m) ≡ false →
-    Goes library site s cs rest first cs0 all → IsWalked (walk library site first cs0 all) (ending_of m) new new_cleanups
-hook_off library site first cs0 all rest steps step s new cs new_cleanups m is t p goes =
-    goes (ending_of m) new new_cleanups (subst (λ xs. IsWalked (walk library site s cs xs) (ending_of m) new new_cleanups) (sym is) (walk_off library site s new cs new_cleanups step steps m t p))
-
-pub hook_done : (library : LibraryValue) (site : Site) (first : State) (cs0 : List CleanupValue) (all rest : List StepValue) (s : State) (cs : List CleanupValue) →
-    rest ≡ [] → Goes library site s cs rest first cs0 all → IsWalked (walk library site first cs0 all) endings.Passed s cs
-hook_done library site first cs0 all rest s cs none goes =
-    goes endings.Passed s cs (subst (λ xs. IsWalked (walk library site s cs xs) endings.Passed s cs) (sym none) (refl, refl, refl))
-
--- ---- the loop over the tags of a before list
-
--- the walk of a hook's steps, at the site and with the steps that the section has
-pub walked_at : (library : LibraryValue) (x site : Site) (s new : State) (cs new_cleanups : List CleanupValue) (steps wanted : List StepValue) (this : Ending) → x ≡ site → steps ≡ wanted →
-    IsWalked (walk library x s cs steps) this new new_cleanups → IsWalked (walk library site s cs wanted) this new new_cleanups
-walked_at library x site s new cs new_cleanups steps wanted this e h walked =
-    subst (λ (ys : List StepValue). IsWalked (walk library site s cs ys) this new new_cleanups) h (subst (λ (y : Site). IsWalked (walk library y s cs steps) this new new_cleanups) e walked)
-
--- the walk of the before list of the tags that are left
-abbrev pub GoesBefore : LibraryValue → Site → List HookValue → Level → State → List CleanupValue → List (List ℕ) → State → List CleanupValue → List (List ℕ) → Type 0
-GoesBefore library site hooks level s cs left first cs0 all = Goes library site s cs (before_list hooks level left) first cs0 (before_list hooks level all)
-
-pub before_on : (library : LibraryValue) (site : Site) (hooks : List HookValue) (level : Level) (first : State) (cs0 : List CleanupValue) (all rest tags : List (List ℕ)) (tag : List ℕ) (s new : State) (cs new_cleanups : List CleanupValue) (this : Ending) →
-    rest ≡ tag ∷ tags → IsWalked (walk library site s cs (hook_steps hooks kinds.BeforeTag (Some tag))) this new new_cleanups → has_passed this ≡ true →
-    GoesBefore library site hooks level s cs rest first cs0 all → GoesBefore library site hooks level new new_cleanups tags first cs0 all
-before_on library site hooks level first cs0 all rest tags tag s new cs new_cleanups endings.Passed is t p goes e last ls h =
-    goes e last ls (subst (λ ts. IsWalked (walk library site s cs (before_list hooks level ts)) e last ls) (sym is)
-    (walk_both library site s new cs new_cleanups (hook_steps hooks kinds.BeforeTag (Some tag)) (before_list hooks level tags) t e last ls h))
-before_on library site hooks level first cs0 all rest tags tag s new cs new_cleanups endings.Failed is t p goes e last ls h = let no : ⊥ = cc in absurd no
-before_on library site hooks level first cs0 all rest tags tag s new cs new_cleanups endings.Skipped is t p goes e last ls h = let no : ⊥ = cc in absurd no
-before_on library site hooks level first cs0 all rest tags tag s new cs new_cleanups endings.Memory is t p goes e last ls h = let no : ⊥ = cc in absurd no
-
-pub before_off : (library : LibraryValue) (site : Site) (hooks : List HookValue) (level : Level) (first : State) (cs0 : List CleanupValue) (all rest tags : List (List ℕ)) (tag : List ℕ) (s new : State) (cs new_cleanups : List CleanupValue) (this : Ending) →
-    rest ≡ tag ∷ tags → IsWalked (walk library site s cs (hook_steps hooks kinds.BeforeTag (Some tag))) this new new_cleanups → has_passed this ≡ false →
-    GoesBefore library site hooks level s cs rest first cs0 all → IsWalked (walk library site first cs0 (before_list hooks level all)) this new new_cleanups
-before_off library site hooks level first cs0 all rest tags tag s new cs new_cleanups this is t p goes =
-    goes this new new_cleanups (subst (λ ts. IsWalked (walk library site s cs (before_list hooks level ts)) this new new_cleanups) (sym is)
-    (walk_short library site s new cs new_cleanups (hook_steps hooks kinds.BeforeTag (Some tag)) (before_list hooks level tags) this t p))
-
-pub before_done : (library : LibraryValue) (site : Site) (hooks : List HookValue) (level : Level) (first : State) (cs0 : List CleanupValue) (all rest : List (List ℕ)) (s : State) (cs : List CleanupValue) →
-    rest ≡ [] → GoesBefore library site hooks level s cs rest first cs0 all →
-    (e : Ending) (last : State) (ls : List CleanupValue) → IsWalked (walk library site s cs (hook_steps hooks (before_kind level) None)) e last ls → IsWalked (walk library site first cs0 (before_list hooks level all)) e last ls
-before_done library site hooks level first cs0 all rest s cs none goes e last ls h =
-    goes e last ls (subst (λ ts. IsWalked (walk library site s cs (before_list hooks level ts)) e last ls) (sym none) h)
-
--- ---- the loop over the tags of after lists
-
-abbrev pub GoesEach : LibraryValue → List HookValue → State → List CleanupValue → List (List ℕ) → Ending → State → List CleanupValue → List (List ℕ) → Type 0
-GoesEach library hooks s cleanups left ended first cleanups_first all =
-    (e : Ending) (last : State) (cs : List CleanupValue) → IsWalked (walk_each library s cleanups (tag_lists hooks left)) e last cs → IsWalked (walk_each library first cleanups_first (tag_lists hooks all)) (worse ended e) last cs
-
-pub tags_on : (library : LibraryValue) (hooks : List HookValue) (first : State) (cs0 : List CleanupValue) (all rest tags : List (List ℕ)) (tag : List ℕ) (s new : State) (cs new_cleanups : List CleanupValue) (ended this : Ending) →
-    rest ≡ tag ∷ tags → IsWalked (walk library sites.Hook s cs (hook_steps hooks kinds.AfterTag (Some tag))) this new new_cleanups → (this ≡ endings.Memory → ⊥) →
-    GoesEach library hooks s cs rest ended first cs0 all → GoesEach library hooks new new_cleanups tags (worse ended this) first cs0 all
-tags_on library hooks first cs0 all rest tags tag s new cs new_cleanups ended this is t m goes e last ls h =
-    let whole = walk_each library first cs0 (tag_lists hooks all) in
-    subst (λ x. IsWalked whole x last ls) (sym (worse_assoc ended this e))
-    (goes (worse this e) last ls (subst (λ ts. IsWalked (walk_each library s cs (tag_lists hooks ts)) (worse this e) last ls) (sym is)
-    (each_on library s new cs new_cleanups (hook_steps hooks kinds.AfterTag (Some tag)) (tag_lists hooks tags) this t m e last ls h)))
-
-pub tags_off : (library : LibraryValue) (hooks : List HookValue) (first : State) (cs0 : List CleanupValue) (all rest tags : List (List ℕ)) (tag : List ℕ) (s new : State) (cs new_cleanups : List CleanupValue) (ended this : Ending) →
-    rest ≡ tag ∷ tags → IsWalked (walk library sites.Hook s cs (hook_steps hooks kinds.AfterTag (Some tag))) this new new_cleanups → this ≡ endings.Memory →
-    GoesEach library hooks s cs rest ended first cs0 all → IsWalked (walk_each library first cs0 (tag_lists hooks all)) this new new_cleanups
-tags_off library hooks first cs0 all rest tags tag s new cs new_cleanups ended this is t m goes =
-    let whole = walk_each library first cs0 (tag_lists hooks all) in
-    let steps = hook_steps hooks kinds.AfterTag (Some tag) in
-    let here = subst (λ x. IsWalked (walk library sites.Hook s cs steps) x new new_cleanups) m t in
-    subst (λ x. IsWalked whole x new new_cleanups) (worse_memory ended ∙ sym m)
-    (goes endings.Memory new new_cleanups (subst (λ ts. IsWalked (walk_each library s cs (tag_lists hooks ts)) endings.Memory new new_cleanups) (sym is)
-    (each_off library s new cs new_cleanups steps (tag_lists hooks tags) here)))
-
-pub tags_done : (library : LibraryValue) (hooks : List HookValue) (first : State) (cs0 : List CleanupValue) (all rest : List (List ℕ)) (s : State) (cs : List CleanupValue) (ended : Ending) →
-    rest ≡ [] → GoesEach library hooks s cs rest ended first cs0 all → IsWalked (walk_each library first cs0 (tag_lists hooks all)) ended s cs
-tags_done library hooks first cs0 all rest s cs ended none goes =
-    let whole = walk_each library first cs0 (tag_lists hooks all) in
-    subst (λ x. IsWalked whole x s cs) (worse_passed ended)
-    (goes endings.Passed s cs (subst (λ ts. IsWalked (walk_each library s cs (tag_lists hooks ts)) endings.Passed s cs) (sym none) (refl, refl, refl)))
 
 step_found : (hook : HookValue) (hooks : List HookValue) (kind : HookKind) (tag : Option (List ℕ)) (b : Bool) → option_map_or (λ (h : HookValue). h.steps) (find (λ (h : HookValue). is_for h kind tag) hooks) [] ≡ hook_steps hooks kind tag
     → option_map_or (λ (h : HookValue). h.steps) (cond b (Some hook) (find (λ (h : HookValue). is_for h kind tag) hooks)) [] ≡ cond b hook.steps (hook_steps hooks kind tag)

@@ -9,7 +9,6 @@ use Rattle.gk_select.specs.RuleOrder as order
 use Rattle.gk_world.specs.State.{State}
 use Rattle.gk_run.specs.declared.cases.Cases.{Cases}
 use Rattle.gk_run.specs.declared.cases.Member.{Member}
-use Rattle.gk_run.specs.declared.ending.Ending.{Ending}
 use Rattle.gk_run.specs.declared.results.CaseResult.{CaseResult}
 use Rattle.gk_run.specs.declared.results.RuleResult.{RuleResult}
 use Rattle.gk_run.specs.declared.results.Status.{Status}
@@ -19,14 +18,16 @@ use Rattle.gk_run.specs.declared.section.Level.{Level}
 use Rattle.gk_run.specs.declared.section.Level.TheVariants as levels
 use Rattle.gk_run.specs.Cases.{IsLeft, TakesMember, all_stay_open, members_in, stays_open}
 use Rattle.gk_run.specs.Chosen.{HeadValue, MemberValue, has_selected, member_of}
-use Rattle.gk_run.specs.Ending.{has_passed}
 use Rattle.gk_run.specs.Grouping.{Group, falls_from, groups_from, members_of_rank}
-use Rattle.gk_run.specs.OpenSection.{SectionRow, section_state}
+use Rattle.gk_run.specs.OpenSection.{SectionRow, section_events, section_state}
 use Rattle.gk_run.specs.Results.{CaseRow, RuleRow, case_row, rule_row}
 use Rattle.gk_run.specs.Rules.{Inside, rule_stays_open}
 use Rattle.gk_run.specs.Run.{Run}
-use Rattle.gk_run.specs.Section.{nowhere}
-use Rattle.gk_run.specs.Watching.{AreCasesTold, AreEventsTold, AreRulesTold, Ended, IsAroundTold, IsInsideTold, IsMemberTold, IsRuleTold, IsSectionTold, TellsCases, TellsRules, Told, Whether, of_case, of_rule, row_of_rule, rules_inside}
+use Rattle.gk_run.specs.Section.{before_passed, happened, nowhere}
+use Rattle.gk_run.specs.Watching.{AreCasesTold, AreEventsTold, AreRulesTold, Ended, IsInsideTold, IsMemberTold, IsRuleTold, IsSectionTold, Whether, of_case, of_rule, row_of_rule, rules_inside}
+use Rattle.gk_run.specs.Events.{Event}
+use Rattle.gk_run.specs.SectionContracts.{IsSectionEnd}
+use Rattle.gk_run.specs.TellingContracts.{TellsCases, TellsRules}
 use Rattle.gk_run.proofs.CasesLemmas.{and_assoc, and_true}
 use Rattle.gk_run.proofs.CasesLemmas as lemmas
 use Rattle.gk_run.proofs.FeaturesLemmas.{later_rank}
@@ -40,17 +41,17 @@ ok_at_all P Q (Ok a) h f = f a
 ok_at_all P Q (Err e) h f = h
 
 -- nothing happens in an unselected case
-pub unselected_told : {S : Type 0} (hears : S → Told → S → Type 0) (run : Run) (section : State) (is_open : Bool) (m : MemberValue) (row : CaseRow) (old : S) → m.selected ≡ false → IsMemberTold hears run section is_open m row old old
+pub unselected_told : {S : Type 0} (hears : S → Event → S → Type 0) (run : Run) (section : State) (is_open : Bool) (m : MemberValue) (row : CaseRow) (old : S) → m.selected ≡ false → IsMemberTold hears run section is_open m row old old
 unselected_told hears run section is_open m row old h =
     subst (λ b. Whether (b && is_open) (AreEventsTold hears run section m.scenario row old old) (old ≡ old)) (sym h) refl
 
 -- nor in one that isn't reached
-pub unreached_told : {S : Type 0} (hears : S → Told → S → Type 0) (run : Run) (section : State) (is_open : Bool) (m : MemberValue) (row : CaseRow) (old : S) → m.selected ≡ true → is_open ≡ false → IsMemberTold hears run section is_open m row old old
+pub unreached_told : {S : Type 0} (hears : S → Event → S → Type 0) (run : Run) (section : State) (is_open : Bool) (m : MemberValue) (row : CaseRow) (old : S) → m.selected ≡ true → is_open ≡ false → IsMemberTold hears run section is_open m row old old
 unreached_told hears run section is_open m row old h o =
     subst (λ b. Whether (b && is_open) (AreEventsTold hears run section m.scenario row old old) (old ≡ old)) (sym h)
     (subst (λ b. Whether b (AreEventsTold hears run section m.scenario row old old) (old ≡ old)) (sym o) refl)
 
-pub reached_told : {S : Type 0} (hears : S → Told → S → Type 0) (run : Run) (section : State) (is_open : Bool) (m : MemberValue) (row : CaseRow) (old new : S) → m.selected ≡ true → is_open ≡ true → AreEventsTold hears run section m.scenario row old new → IsMemberTold hears run section is_open m row old new
+pub reached_told : {S : Type 0} (hears : S → Event → S → Type 0) (run : Run) (section : State) (is_open : Bool) (m : MemberValue) (row : CaseRow) (old new : S) → m.selected ≡ true → is_open ≡ true → AreEventsTold hears run section m.scenario row old new → IsMemberTold hears run section is_open m row old new
 reached_told hears run section is_open m row old new h o told =
     subst (λ b. Whether (b && is_open) (AreEventsTold hears run section m.scenario row old new) (old ≡ new)) (sym h)
     (subst (λ b. Whether b (AreEventsTold hears run section m.scenario row old new) (old ≡ new)) (sym o) told)
@@ -58,7 +59,7 @@ reached_told hears run section is_open m row old new h o told =
 -- ---- the cases of a rank
 
 -- the cases told so far: whatever is told of those that are left, all of the rank are told with these rows before the others
-pub record GoesTold {S : Type 0} (hears : S → Told → S → Type 0) (ends : S → Ended → S → Type 0) (run : Run) (first : State) (is_open : Bool) (old now : Cases) (all_stay : Bool) (begin here : S) : Type 0 where
+pub record GoesTold {S : Type 0} (hears : S → Event → S → Type 0) (ends : S → Ended → S → Type 0) (run : Run) (first : State) (is_open : Bool) (old now : Cases) (all_stay : Bool) (begin here : S) : Type 0 where
   pub rows : List CaseRow
   pub told : map case_row now.results.items ≡ map case_row old.results.items ++ rows
   pub stay : all_stay ≡ all_stay_open run rows
@@ -66,7 +67,7 @@ pub record GoesTold {S : Type 0} (hears : S → Told → S → Type 0) (ends : S
   pub goes : (section : State) → (is_open ≡ true → first ≡ section) → (more : List CaseRow) (last : S) → AreCasesTold hears ends run section (is_open && all_stay) (members_of_rank old.rank (members_in now)) more here last →
       AreCasesTold hears ends run section is_open (members_of_rank old.rank (members_in old)) (rows ++ more) begin last
 
-pub told_first : {S : Type 0} (hears : S → Told → S → Type 0) (ends : S → Ended → S → Type 0) (run : Run) (first : State) (is_open : Bool) (old : Cases) (begin : S) → GoesTold hears ends run first is_open old old true begin begin
+pub told_first : {S : Type 0} (hears : S → Event → S → Type 0) (ends : S → Ended → S → Type 0) (run : Run) (first : State) (is_open : Bool) (old : Cases) (begin : S) → GoesTold hears ends run first is_open old old true begin begin
 told_first hears ends run first is_open old begin = record {
   rows = [];
   told = sym (append-nil (map case_row old.results.items));
@@ -75,7 +76,7 @@ told_first hears ends run first is_open old begin = record {
   goes = λ section opens more last h. subst (λ b. AreCasesTold hears ends run section b (members_of_rank old.rank (members_in old)) more begin last) (and_true is_open) h;
 }
 
-pub told_next : {S : Type 0} (hears : S → Told → S → Type 0) (ends : S → Ended → S → Type 0) (run : Run) (first now_state : State) (is_open : Bool) (old now taken next : Cases) (m : Member) (row : CaseResult) (all_stay opens stays : Bool) (begin here ran after : S) →
+pub told_next : {S : Type 0} (hears : S → Event → S → Type 0) (ends : S → Ended → S → Type 0) (run : Run) (first now_state : State) (is_open : Bool) (old now taken next : Cases) (m : Member) (row : CaseResult) (all_stay opens stays : Bool) (begin here ran after : S) →
     GoesTold hears ends run first is_open old now all_stay begin here → TakesMember now (Some m) taken → opens ≡ (is_open && all_stay) → now_state ≡ first →
     ((section : State) → (opens ≡ true → now_state ≡ section) → IsMemberTold hears run section opens (member_of m.case m.selected) (case_row row) here ran) → ends ran (of_case (case_row row)) after → stays ≡ (all_stay && stays_open run row.status) →
     next.rank ≡ taken.rank → members_in next ≡ members_in taken → next.results.items ≡ taken.results.items ++ row ∷ [] → GoesTold hears ends run first is_open old next stays begin after
@@ -107,7 +108,7 @@ told_next hears ends run first now_state is_open old now taken next m row all_st
           (so_far.goes section open_at (case_row row ∷ more) last (subst (λ (ms : List MemberValue). AreCasesTold hears ends run section (is_open && all_stay) ms (case_row row ∷ more) here last) (sym first_is) both));
     }
 
-pub told_last : {S : Type 0} (hears : S → Told → S → Type 0) (ends : S → Ended → S → Type 0) (run : Run) (first : State) (is_open : Bool) (old now last : Cases) (all_stay : Bool) (begin here : S) →
+pub told_last : {S : Type 0} (hears : S → Event → S → Type 0) (ends : S → Ended → S → Type 0) (run : Run) (first : State) (is_open : Bool) (old now last : Cases) (all_stay : Bool) (begin here : S) →
     GoesTold hears ends run first is_open old now all_stay begin here → TakesMember now None last → TellsCases hears ends run first is_open old last begin here all_stay
 told_last hears ends run first is_open old now last all_stay begin here so_far none =
     let r = old.rank in
@@ -124,29 +125,28 @@ told_last hears ends run first is_open old now last all_stay begin here so_far n
 -- ---- a section
 
 -- a section that was begun was told
-pub section_begun : {S : Type 0} (hears : S → Told → S → Type 0) (run : Run) (level : Level) (tags : List (List ℕ)) (outside : State) (b : Ending) (passed : Bool) (around : Status) (Inside : State → Bool → S → S → Type 0) (begin opened mid end : S) (us ws : List Told) →
-    passed ≡ has_passed b → FoldsTo hears begin us opened → Inside (section_state run level tags outside) passed opened mid → FoldsTo hears mid ws end → IsAroundTold run level tags outside b around us ws →
+pub section_begun : {S : Type 0} (hears : S → Event → S → Type 0) (run : Run) (level : Level) (tags : List (List ℕ)) (outside : State) (passed : Bool) (around : Status) (Inside : State → Bool → S → S → Type 0) (begin opened mid end : S) (us ws : List Event) →
+    (is : IsSectionEnd run level tags outside around us ws) → passed ≡ before_passed (happened is.cut (section_events run level tags outside)) → FoldsTo hears begin us opened → Inside (section_state run level tags outside) passed opened mid → FoldsTo hears mid ws end →
     IsSectionTold hears run level tags outside true around Inside begin end
-section_begun hears run level tags outside b passed around Inside begin opened mid end us ws passes first inside last is = record {
-  cut = is.0.cut;
-  is = is.0.hooks;
-  refusing = is.1;
+section_begun hears run level tags outside passed around Inside begin opened mid end us ws is passes first inside last = record {
+  cut = is.cut;
+  is = is.hooks;
   opened = opened;
   last = mid;
-  before = subst (λ xs. FoldsTo hears begin xs opened) is.2 first;
-  inside = subst (λ p. Inside (section_state run level tags outside) p opened mid) (passes ∙ is.0.ready) inside;
-  closed = subst (λ xs. FoldsTo hears mid xs end) is.3 last;
+  before = subst (λ xs. FoldsTo hears begin xs opened) is.opening first;
+  inside = subst (λ p. Inside (section_state run level tags outside) p opened mid) passes inside;
+  closed = subst (λ xs. FoldsTo hears mid xs end) is.closing last;
 }
 
 -- one that isn't begun
-pub section_unbegun : {S : Type 0} (hears : S → Told → S → Type 0) (run : Run) (level : Level) (tags : List (List ℕ)) (outside : State) (Inside : State → Bool → S → S → Type 0) (begin end : S) → Inside (section_state run level tags outside) false begin end →
+pub section_unbegun : {S : Type 0} (hears : S → Event → S → Type 0) (run : Run) (level : Level) (tags : List (List ℕ)) (outside : State) (Inside : State → Bool → S → S → Type 0) (begin end : S) → Inside (section_state run level tags outside) false begin end →
     IsSectionTold hears run level tags outside false statuses.Passed Inside begin end
-section_unbegun hears run level tags outside Inside begin end inside = record { cut = nowhere; is = refl; refusing = outside; opened = begin; last = end; before = refl; inside = inside; closed = refl }
+section_unbegun hears run level tags outside Inside begin end inside = record { cut = nowhere; is = refl; opened = begin; last = end; before = refl; inside = inside; closed = refl }
 
 -- ---- rules
 
 -- a rule that was begun
-pub rule_begun : {S : Type 0} (hears : S → Told → S → Type 0) (ends : S → Ended → S → Type 0) (run : Run) (now outside : State) (is_open is_begun : Bool) (tags : List (List ℕ)) (g : Group) (end : SectionRow (List CaseRow)) (first last : S) →
+pub rule_begun : {S : Type 0} (hears : S → Event → S → Type 0) (ends : S → Ended → S → Type 0) (run : Run) (now outside : State) (is_open is_begun : Bool) (tags : List (List ℕ)) (g : Group) (end : SectionRow (List CaseRow)) (first last : S) →
     is_begun ≡ (is_open && has_selected g.members) → is_begun ≡ true → tags ≡ g.head.tags → (is_open ≡ true → now ≡ outside) →
     IsSectionTold hears run levels.Rule tags now true end.around (λ section is_ready a b. AreCasesTold hears ends run section is_ready g.members end.inside a b) first last → IsRuleTold hears ends run outside is_open g end first last
 rule_begun {S} hears ends run now outside is_open is_begun tags g end first last begins begun same opens told =
@@ -156,7 +156,7 @@ rule_begun {S} hears ends run now outside is_open is_begun tags g end first last
     (subst (λ ts. IsSectionTold hears run levels.Rule ts now true end.around Inside first last) same told))
 
 -- a rule that isn't begun
-pub rule_unbegun : {S : Type 0} (hears : S → Told → S → Type 0) (ends : S → Ended → S → Type 0) (run : Run) (now outside : State) (is_open is_begun : Bool) (g : Group) (rows : List CaseRow) (first last : S) → is_begun ≡ (is_open && has_selected g.members) → is_begun ≡ false →
+pub rule_unbegun : {S : Type 0} (hears : S → Event → S → Type 0) (ends : S → Ended → S → Type 0) (run : Run) (now outside : State) (is_open is_begun : Bool) (g : Group) (rows : List CaseRow) (first last : S) → is_begun ≡ (is_open && has_selected g.members) → is_begun ≡ false →
     ((section : State) → (false ≡ true → now ≡ section) → AreCasesTold hears ends run section false g.members rows first last) → IsRuleTold hears ends run outside is_open g (record { around = statuses.Passed; inside = rows }) first last
 rule_unbegun {S} hears ends run now outside is_open is_begun g rows first last begins unbegun told =
     let Inside : State → Bool → S → S → Type 0 = λ section is_ready a b. AreCasesTold hears ends run section is_ready g.members rows a b in
@@ -164,7 +164,7 @@ rule_unbegun {S} hears ends run now outside is_open is_begun g rows first last b
     (section_unbegun hears run levels.Rule g.head.tags outside Inside first last (told (section_state run levels.Rule g.head.tags outside) (λ o. let no : ⊥ = cc in absurd no)))
 
 -- the rules told so far: whatever is told of those that are left, all are told with these results before the others
-pub record GoesRulesTold {S : Type 0} (hears : S → Told → S → Type 0) (ends : S → Ended → S → Type 0) (run : Run) (first : State) (first_open : Bool) (heads : List HeadValue) (old now : Cases) (is_open : Bool) (results : List RuleResult) (left : List HeadValue) (begin here : S) : Type 0 where
+pub record GoesRulesTold {S : Type 0} (hears : S → Event → S → Type 0) (ends : S → Ended → S → Type 0) (run : Run) (first : State) (first_open : Bool) (heads : List HeadValue) (old now : Cases) (is_open : Bool) (results : List RuleResult) (left : List HeadValue) (begin here : S) : Type 0 where
   pub rows : List CaseRow
   pub told : map case_row now.results.items ≡ map case_row old.results.items ++ rows
   pub rules : List (SectionRow (List CaseRow))
@@ -174,7 +174,7 @@ pub record GoesRulesTold {S : Type 0} (hears : S → Told → S → Type 0) (end
   pub goes : (outside : State) → (first_open ≡ true → first ≡ outside) → (more : List (SectionRow (List CaseRow))) (last : S) → AreRulesTold hears ends run outside is_open (groups_from (suc now.rank) left (members_in now)) more here last →
       AreRulesTold hears ends run outside first_open (groups_from (suc old.rank) heads (members_in old)) (rules ++ more) begin last
 
-pub rules_told_first : {S : Type 0} (hears : S → Told → S → Type 0) (ends : S → Ended → S → Type 0) (run : Run) (first : State) (first_open : Bool) (heads : List HeadValue) (old : Cases) (begin : S) → GoesRulesTold hears ends run first first_open heads old old first_open [] heads begin begin
+pub rules_told_first : {S : Type 0} (hears : S → Event → S → Type 0) (ends : S → Ended → S → Type 0) (run : Run) (first : State) (first_open : Bool) (heads : List HeadValue) (old : Cases) (begin : S) → GoesRulesTold hears ends run first first_open heads old old first_open [] heads begin begin
 rules_told_first hears ends run first first_open heads old begin = record {
   rows = [];
   told = sym (append-nil (map case_row old.results.items));
@@ -184,7 +184,7 @@ rules_told_first hears ends run first first_open heads old begin = record {
   goes = λ outside opens more last h. h;
 }
 
-pub rules_told_next : {S : Type 0} (hears : S → Told → S → Type 0) (ends : S → Ended → S → Type 0) (run : Run) (first now_state : State) (first_open : Bool) (heads : List HeadValue) (old now taken next : Cases) (is_open opens : Bool) (results pushed : List RuleResult) (head : HeadValue) (left : List HeadValue) (end : RuleEnd) (result : RuleResult) (begin here ran after : S) (rows : List CaseRow) →
+pub rules_told_next : {S : Type 0} (hears : S → Event → S → Type 0) (ends : S → Ended → S → Type 0) (run : Run) (first now_state : State) (first_open : Bool) (heads : List HeadValue) (old now taken next : Cases) (is_open opens : Bool) (results pushed : List RuleResult) (head : HeadValue) (left : List HeadValue) (end : RuleEnd) (result : RuleResult) (begin here ran after : S) (rows : List CaseRow) →
     GoesRulesTold hears ends run first first_open heads old now is_open results (head ∷ left) begin here → now_state ≡ first →
     taken.rank ≡ suc now.rank → members_in taken ≡ members_in now → taken.results ≡ now.results → IsLeft taken next → map case_row next.results.items ≡ map case_row taken.results.items ++ rows → end.stays_open ≡ rule_stays_open run (record { around = end.around; inside = rows }) →
     ((outside : State) → (is_open ≡ true → now_state ≡ outside) → IsRuleTold hears ends run outside is_open (record { head = head; members = members_of_rank taken.rank (members_in taken) }) (record { around = end.around; inside = rows }) here ran) →
@@ -223,7 +223,7 @@ rules_told_next hears ends run first now_state first_open heads old now taken ne
           subst (λ xs. AreRulesTold hears ends run outside first_open (groups_from (suc old.rank) heads (members_in old)) xs begin last) (sym (append_assoc so_far.rules (row ∷ []) more)) (so_far.goes outside open_at (row ∷ more) last both);
     }
 
-pub rules_told_last : {S : Type 0} (hears : S → Told → S → Type 0) (ends : S → Ended → S → Type 0) (run : Run) (first : State) (first_open : Bool) (heads : List HeadValue) (old now : Cases) (is_open : Bool) (results : List RuleResult) (begin here : S) →
+pub rules_told_last : {S : Type 0} (hears : S → Event → S → Type 0) (ends : S → Ended → S → Type 0) (run : Run) (first : State) (first_open : Bool) (heads : List HeadValue) (old now : Cases) (is_open : Bool) (results : List RuleResult) (begin here : S) →
     GoesRulesTold hears ends run first first_open heads old now is_open results [] begin here → TellsRules hears ends run first first_open heads old now results begin here
 rules_told_last hears ends run first first_open heads old now is_open results begin here so_far =
     let groups = groups_from (suc old.rank) heads (members_in old) in
@@ -237,7 +237,7 @@ rules_told_last hears ends run first first_open heads old now is_open results be
 
 -- ---- what is inside of a feature
 
-pub inside_told : {S : Type 0} (hears : S → Told → S → Type 0) (ends : S → Ended → S → Type 0) (run : Run) (now then : State) (is_open all_stay opens : Bool) (heads : List HeadValue) (old mid new : Cases) (results : List RuleResult) (begin here last : S) → old.rank ≡ 0 → old.results.items ≡ [] → then ≡ now → opens ≡ (is_open && all_stay) → IsLeft old mid →
+pub inside_told : {S : Type 0} (hears : S → Event → S → Type 0) (ends : S → Ended → S → Type 0) (run : Run) (now then : State) (is_open all_stay opens : Bool) (heads : List HeadValue) (old mid new : Cases) (results : List RuleResult) (begin here last : S) → old.rank ≡ 0 → old.results.items ≡ [] → then ≡ now → opens ≡ (is_open && all_stay) → IsLeft old mid →
     TellsCases hears ends run now is_open old mid begin here all_stay → TellsRules hears ends run then opens heads mid new results here last → (section : State) → (is_open ≡ true → now ≡ section) →
     IsInsideTold hears ends run section is_open (members_of_rank 0 (members_in old)) (groups_from 1 heads (members_in old)) (record { rules = map rule_row results; cases = map case_row new.results.items }) begin last
 inside_told hears ends run now then is_open all_stay opens heads old mid new results begin here last first nothing same open_is are_left cases rules section open_at =

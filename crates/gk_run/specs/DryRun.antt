@@ -1,29 +1,34 @@
 -- A dry run: the steps of selected cases are only looked up.
-use Rattle.std.specs.Prelude.{◌≡◌, ℕ, Bool, true, false, cond, List, [], ◌∷◌, map}
+use Rattle.std.specs.Prelude.{◌≡◌, cond, List, [], ◌∷◌, map}
 use Rattle.std.specs.List.{list_any}
 use Rattle.gk_gherkin.specs.Feature.{StepValue}
 use Rattle.gk_select.specs.Case.{CaseValue}
 use Rattle.gk_steps.specs.Finding.{LibraryValue}
+use Rattle.gk_world.specs.State.{nothing_yet, state_of}
 use Rattle.gk_run.specs.declared.results.Status.{Status}
 use Rattle.gk_run.specs.declared.results.Status.TheVariants as statuses
-use Rattle.gk_run.specs.declared.results.Mark.{Mark}
 use Rattle.gk_run.specs.declared.results.Mark.TheVariants.{Untested}
-use Rattle.gk_run.specs.Results.{StepRow, CaseRow, RuleRow, FeatureRow}
+use Rattle.gk_run.specs.Results.{CaseRow, RuleRow, FeatureRow}
 use Rattle.gk_run.specs.Ending.{is_memory_mark}
-use Rattle.gk_run.specs.Section.{is_place, cut_marks, Events, Cut, nowhere, happened}
-use Rattle.gk_run.specs.Walk.{rows_of_steps, looked_up, IsLookedUp}
+use Rattle.gk_run.specs.Events.{Event, event_marks}
+use Rattle.gk_run.specs.Section.{Events, Cut, nowhere, happened}
+use Rattle.gk_run.specs.Walk.{looked_up, unrun_step}
 use Rattle.gk_run.specs.Running.{row_of_case, unselected_row}
 use Rattle.gk_run.specs.Chosen.{HeadValue, MemberValue, ChosenValue}
 use Rattle.gk_run.specs.Cases.{first_or, later}
 use Rattle.gk_run.specs.Features.{FeatureCuts, uncut_feature, feature_row_of}
 
--- The events of a selected case: its steps alone, which are looked up, and untested where the library matches them. (behave's documentation: `--dry-run`)
+-- A step of a dry run: it is looked up, and untested where the library matches it. Nothing is carried out, so the state is that in which nothing is there. (behave's documentation: `--dry-run`)
+abbrev pub dry_step : LibraryValue → StepValue → Event
+dry_step library step = unrun_step step (looked_up library Untested step) (state_of nothing_yet)
+
+-- The events of a selected case: its steps alone.
 abbrev pub dry_events : LibraryValue → CaseValue → Events
-dry_events library c = record { before = []; steps = map (looked_up library Untested) c.steps; after = []; cleanups = [] }
+dry_events library c = record { before = []; steps = map (dry_step library) c.steps; after = []; cleanups = [] }
 
 -- The verdict of a selected case in which this happened: memory where memory was refused at a step, else untested.
 abbrev pub dry_verdict : Events → Status
-dry_verdict e = cond (list_any is_memory_mark e.steps) statuses.Memory statuses.Untested
+dry_verdict e = cond (list_any is_memory_mark (event_marks e.steps)) statuses.Memory statuses.Untested
 
 -- The result of a selected case, or that cut at one step: memory at this, and untested after it.
 abbrev pub dry_row : LibraryValue → Cut → CaseValue → CaseRow
@@ -54,16 +59,3 @@ dry_features_of library cuts (f ∷ fs) = dry_feature_of library (first_or uncut
 -- The rows of features are those of some cuts.
 abbrev pub AreDryFeatures : LibraryValue → List ChosenValue → List FeatureRow → Type 0
 AreDryFeatures library features rows = (cuts : List FeatureCuts) × (rows ≡ dry_features_of library cuts features)
-
--- Proof machinery, from here on: what the code's calls do.
-
--- The next step, where memory was refused before it or not: where it was, the step is untested.
-abbrev pub IsDryStep : LibraryValue → Bool → StepValue → Mark → Type 0
-IsDryStep library true step mark = mark ≡ Untested
-IsDryStep library false step mark = IsLookedUp library Untested step mark
-
--- Steps were looked up, from where memory was refused already or not, to where it was or not.
-abbrev pub AreDrySteps : LibraryValue → Bool → List StepValue → List StepRow → Bool → Type 0
-AreDrySteps library true steps rows refused = (rows ≡ rows_of_steps steps []) × (refused ≡ true)
-AreDrySteps library false steps rows true = (n : ℕ) × (is_place n (map (looked_up library Untested) steps) ≡ true) × (rows ≡ rows_of_steps steps (cut_marks n (map (looked_up library Untested) steps)))
-AreDrySteps library false steps rows false = rows ≡ rows_of_steps steps (map (looked_up library Untested) steps)

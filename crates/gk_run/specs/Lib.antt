@@ -3,6 +3,7 @@ pub mod Results
 pub mod Acting
 pub mod Cleanups
 pub mod Ending
+pub mod Events
 pub mod Section
 pub mod Run
 pub mod Walk
@@ -21,3 +22,7 @@ pub mod OpenRun
 pub mod Watching
 -- Proof machinery: what contracts of private functions cite.
 pub mod Reserved
+pub mod WalkContracts
+pub mod SectionContracts
+pub mod TellingContracts
+pub mod DryRunContracts

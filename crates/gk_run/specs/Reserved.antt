@@ -1,23 +1,17 @@
 -- Cases and steps, with room reserved for their results.
 use Rattle.std.specs.Prelude.{◌≡◌, Bool, List, Vec}
 use Rattle.std.specs.declared.alloc.Global.{Global}
+use Rattle.gk_gherkin.specs.declared.feature.Step.{Step}
 use Rattle.gk_select.specs.declared.case.Case.{Case}
-use Rattle.gk_run.specs.declared.reserved.Heading.{Heading}
-use Rattle.gk_run.specs.declared.reserved.ReservedCase.{ReservedCase}
 use Rattle.gk_run.specs.declared.reserved.ReservedCases.{ReservedCases}
 use Rattle.gk_run.specs.declared.reserved.ReservedRules.{ReservedRules}
+use Rattle.gk_run.specs.declared.reserved.ReservedSteps.{ReservedSteps}
 use Rattle.gk_run.specs.declared.chosen.RuleHead.{RuleHead}
 use Rattle.gk_run.specs.Chosen.{MemberValue, members_of}
 
--- The heading of a case.
-abbrev pub heading_of : Case → Heading
-heading_of case = record { keyword = case.keyword; name = case.name; line = case.line }
-
--- The same case, now with room for its results, which the record itself holds.
-pub record IsCaseReserved (case : Case) (reserved : ReservedCase) : Type 0 where
-  pub heading : reserved.heading ≡ heading_of case
-  pub own_tags : reserved.own_tags ≡ case.own_tags
-  pub steps : reserved.steps.steps ≡ case.steps
+-- The same steps, now with room for their results, which the record itself holds.
+abbrev pub AreStepsReserved : Vec Step Global → ReservedSteps → Type 0
+AreStepsReserved steps reserved = reserved.steps ≡ steps
 
 -- The same cases, now with room for their results, which the record itself holds.
 pub record AreCasesReserved (cases : Vec Case Global) (selected : Vec Bool Global) (reserved : ReservedCases) : Type 0 where

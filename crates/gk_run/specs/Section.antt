@@ -1,18 +1,16 @@
 -- What happens in a section, and where a refused growth cuts it.
-use Rattle.std.specs.Prelude.{zero, suc, Bool, true, false, cond, List, [], ◌∷◌, ◌++◌, map, ℕ}
+use Rattle.std.specs.Prelude.{zero, suc, Bool, true, false, cond, List, [], ◌∷◌, ◌++◌, ℕ}
+use Rattle.gk_world.specs.State.{State}
 use Rattle.gk_run.specs.declared.acting.Site.{Site}
 use Rattle.gk_run.specs.declared.acting.Site.TheVariants as sites
-use Rattle.gk_run.specs.declared.results.Mark.{Mark}
-use Rattle.gk_run.specs.declared.results.Mark.TheVariants.{Acted}
-use Rattle.gk_run.specs.declared.results.Outcome.{Outcome}
-use Rattle.gk_run.specs.declared.results.Outcome.TheVariants as outcomes
 use Rattle.gk_run.specs.declared.results.Status.{Status}
 use Rattle.gk_run.specs.declared.section.Level.{Level}
 use Rattle.gk_run.specs.declared.section.Level.TheVariants as levels
 use Rattle.gk_run.specs.declared.section.Part.{Part}
 use Rattle.gk_run.specs.declared.section.Part.TheVariants as parts
 use Rattle.gk_run.specs.declared.section.Place.{Place}
-use Rattle.gk_run.specs.Ending.{ended_of, has_passed, around_status}
+use Rattle.gk_run.specs.Ending.{has_passed, around_status}
+use Rattle.gk_run.specs.Events.{Event, cut_at, ended_in}
 
 -- Where the steps of a before hook are carried out: only in that of a scenario may they skip.
 abbrev pub before_site : Level → Site
@@ -31,57 +29,59 @@ site_in level parts.After = sites.Hook
 abbrev pub site_of : Place → Site
 site_of place = site_in place.level place.part
 
+-- Where the steps of a section's before list stand.
+abbrev pub before_of : Level → Place
+before_of level = record { level = level; part = parts.Before }
+
+-- Where the steps of a case stand.
+abbrev pub steps_of_case : Place
+steps_of_case = record { level = levels.Scenario; part = parts.Steps }
+
+-- Where the steps of after hooks stand.
+abbrev pub after_of : Level → Place
+after_of level = record { level = level; part = parts.After }
+
 -- The events of a section, in four parts, one after another: the steps of its before list; the steps of the scenario, where it is a scenario's; the steps of its after lists; its cleanups.
 pub record Events : Type 0 where
-  pub before : List Mark
-  pub steps : List Mark
-  pub after : List Mark
-  pub cleanups : List Outcome
+  pub before : List Event
+  pub steps : List Event
+  pub after : List Event
+  pub cleanups : List Event
 
--- Where a refused growth cuts a section: at none of its events, or at the event of a number, counted from 0, in one of its parts.
+-- The four parts, one after another.
+abbrev pub in_order : Events → List Event
+in_order e = e.before ++ (e.steps ++ (e.after ++ e.cleanups))
+
+-- Where a refused growth cuts a section: at none of its events, or at the event of a number, counted from 0, in one of its parts, which leaves this state.
 pub data Cut : Type 0 where
   nowhere : Cut
-  in_before : ℕ → Cut
-  in_steps : ℕ → Cut
-  in_after : ℕ → Cut
-  in_cleanups : ℕ → Cut
+  in_before : ℕ → State → Cut
+  in_steps : ℕ → State → Cut
+  in_after : ℕ → State → Cut
+  in_cleanups : ℕ → State → Cut
 
 -- There is an event of this number.
-abbrev pub is_place : {A : Type 0} → ℕ → List A → Bool
+abbrev pub is_place : ℕ → List Event → Bool
 is_place n [] = false
-is_place zero (x ∷ xs) = true
-is_place (suc n) (x ∷ xs) = is_place n xs
-
--- Events of one part, cut at the event of a number: those before it stay, it is memory, and those after it didn't happen.
-abbrev pub cut_at : {A : Type 0} → A → ℕ → List A → List A
-cut_at memory n [] = []
-cut_at memory zero (x ∷ xs) = memory ∷ []
-cut_at memory (suc n) (x ∷ xs) = x ∷ cut_at memory n xs
-
--- The events of steps, cut at the event of a number.
-abbrev pub cut_marks : ℕ → List Mark → List Mark
-cut_marks n marks = cut_at (Acted outcomes.Memory) n marks
-
--- The events of cleanups, cut at the event of a number.
-abbrev pub cut_outcomes : ℕ → List Outcome → List Outcome
-cut_outcomes n cleanups = cut_at outcomes.Memory n cleanups
+is_place zero (event ∷ events) = true
+is_place (suc n) (event ∷ events) = is_place n events
 
 -- What happens of a section that is cut: the parts before the cut stay, and those after it didn't happen; a cut at an event that there isn't is none.
 abbrev pub happened : Cut → Events → Events
 happened nowhere e = e
-happened (in_before n) e = cond (is_place n e.before) (record { before = cut_marks n e.before; steps = []; after = []; cleanups = [] }) e
-happened (in_steps n) e = cond (is_place n e.steps) (record e { steps = cut_marks n e.steps; after = []; cleanups = [] }) e
-happened (in_after n) e = cond (is_place n e.after) (record e { after = cut_marks n e.after; cleanups = [] }) e
-happened (in_cleanups n) e = cond (is_place n e.cleanups) (record e { cleanups = cut_outcomes n e.cleanups }) e
+happened (in_before n s) e = cond (is_place n e.before) (record { before = cut_at n s e.before; steps = []; after = []; cleanups = [] }) e
+happened (in_steps n s) e = cond (is_place n e.steps) (record e { steps = cut_at n s e.steps; after = []; cleanups = [] }) e
+happened (in_after n s) e = cond (is_place n e.after) (record e { after = cut_at n s e.after; cleanups = [] }) e
+happened (in_cleanups n s) e = cond (is_place n e.cleanups) (record e { cleanups = cut_at n s e.cleanups }) e
 
--- What became of a section's hooks and cleanups.
-abbrev pub marks_around : Events → List Mark
-marks_around e = e.before ++ (e.after ++ map Acted e.cleanups)
+-- The events of a section's hooks and cleanups.
+abbrev pub around_events : Events → List Event
+around_events e = e.before ++ (e.after ++ e.cleanups)
 
 -- How a section's hooks and cleanups ended: memory where memory was refused in one of them, else failed where one failed or is undefined, else passed.
 abbrev pub around_of : Events → Status
-around_of e = around_status (ended_of (marks_around e))
+around_of e = around_status (ended_in (around_events e))
 
 -- The before list of a section passed whole.
 abbrev pub before_passed : Events → Bool
-before_passed e = has_passed (ended_of e.before)
+before_passed e = has_passed (ended_in e.before)

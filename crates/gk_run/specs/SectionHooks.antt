@@ -1,23 +1,16 @@
 -- The hooks of a section: of the run, of a feature, of a rule, of a scenario.
 use Rattle.std.specs.Prelude.{cond, List, [], ◌∷◌, ◌++◌, map, Option, Some, None, ℕ}
-use Rattle.gk_gherkin.specs.Feature.{StepValue, texts}
-use Rattle.gk_gherkin.specs.Hooks.{HookValue, hooks_value, is_for}
+use Rattle.gk_gherkin.specs.Feature.{StepValue}
+use Rattle.gk_gherkin.specs.Hooks.{HookValue, is_for}
 use Rattle.gk_gherkin.specs.declared.hooks.HookKind.{HookKind}
 use Rattle.gk_gherkin.specs.declared.hooks.HookKind.TheVariants as kinds
-use Rattle.gk_steps.specs.Finding.{LibraryValue, library_value}
-use Rattle.gk_world.specs.Sandbox.{SandboxValue}
-use Rattle.gk_world.specs.State.{State, state_of, enter}
-use Rattle.gk_run.specs.declared.acting.Site.TheVariants as sites
-use Rattle.gk_run.specs.declared.cleanups.Cleanups.{Cleanups}
-use Rattle.gk_run.specs.declared.ending.Ending.{Ending}
-use Rattle.gk_run.specs.declared.run.Run as shared
+use Rattle.gk_steps.specs.Finding.{LibraryValue}
+use Rattle.gk_world.specs.State.{State, enter}
 use Rattle.gk_run.specs.declared.section.Level.{Level}
 use Rattle.gk_run.specs.declared.section.Level.TheVariants as levels
-use Rattle.gk_run.specs.declared.section.Section.{Section}
-use Rattle.gk_run.specs.Acting.{CleanupValue}
-use Rattle.gk_run.specs.Cleanups.{cleanups_value}
-use Rattle.gk_run.specs.Section.{before_site}
-use Rattle.gk_run.specs.Walk.{walk, IsWalked, Walked, at_rest}
+use Rattle.gk_run.specs.Events.{Event, Stand, left_by}
+use Rattle.gk_run.specs.Section.{after_of, before_of}
+use Rattle.gk_run.specs.Walk.{walk}
 
 -- The hook before a section. (behave's documentation: environment file functions)
 abbrev pub before_kind : Level → HookKind
@@ -51,31 +44,17 @@ tag_lists hooks tags = map (λ tag. hook_steps hooks kinds.AfterTag (Some tag)) 
 abbrev pub after_lists : List HookValue → Level → List (List ℕ) → List (List StepValue)
 after_lists hooks level tags = hook_steps hooks (after_kind level) None ∷ tag_lists hooks tags
 
--- A section begins: its layer is entered, with no cleanups yet, and its before list is walked as one. (behave's documentation: context layers)
-abbrev pub begun : LibraryValue → List HookValue → Level → List (List ℕ) → State → Walked
-begun library hooks level tags outside = walk library (before_site level) (enter outside) [] (before_list hooks level tags)
+-- A section begins: its layer is entered, with no cleanups yet. (behave's documentation: context layers)
+abbrev pub entered : State → Stand
+entered outside = record { state = enter outside; cleanups = [] }
 
--- Each after list is walked by itself, from the state that the one before left, whatever the others did.
-abbrev pub walk_each : LibraryValue → State → List CleanupValue → List (List StepValue) → Walked
-walk_each library s cleanups [] = at_rest s cleanups
-walk_each library s cleanups (steps ∷ others) =
-    let this = walk library sites.Hook s cleanups steps in
-    let next = walk_each library this.state this.cleanups others in
-    record next { marks = this.marks ++ next.marks }
+-- The before list of a section from the state outside is walked as one.
+abbrev pub begun : LibraryValue → List HookValue → Level → List (List ℕ) → State → List Event
+begun library hooks level tags outside = walk library (before_of level) (enter outside) (before_list hooks level tags)
 
--- Proof machinery, from here on: what the code's calls do.
-
--- A section's before list was walked through.
-abbrev pub WalksBefore : shared.Run → Section → SandboxValue → Cleanups → Ending → SandboxValue → Cleanups → Type 0
-WalksBefore run section old cleanups ending new new_cleanups =
-    IsWalked (walk (library_value run.library.now) (before_site section.level) (state_of old.now) (cleanups_value cleanups) (before_list (hooks_value run.hooks.now.file.now) section.level (texts section.tags.now))) ending (state_of new.now) (cleanups_value new_cleanups)
-
--- Each after_tag hook of a section's tags was walked through by itself.
-abbrev pub WalksTags : shared.Run → Section → SandboxValue → Cleanups → Ending → SandboxValue → Cleanups → Type 0
-WalksTags run section old cleanups ending new new_cleanups =
-    IsWalked (walk_each (library_value run.library.now) (state_of old.now) (cleanups_value cleanups) (tag_lists (hooks_value run.hooks.now.file.now) (texts section.tags.now))) ending (state_of new.now) (cleanups_value new_cleanups)
-
--- Each of a section's after lists was walked through by itself.
-abbrev pub WalksAfter : shared.Run → Section → SandboxValue → Cleanups → Ending → SandboxValue → Cleanups → Type 0
-WalksAfter run section old cleanups ending new new_cleanups =
-    IsWalked (walk_each (library_value run.library.now) (state_of old.now) (cleanups_value cleanups) (after_lists (hooks_value run.hooks.now.file.now) section.level (texts section.tags.now))) ending (state_of new.now) (cleanups_value new_cleanups)
+-- Each after list is walked by itself, from where the one before left the section, whatever the others did.
+abbrev pub walk_each : LibraryValue → Level → Stand → List (List StepValue) → List Event
+walk_each library level stand [] = []
+walk_each library level stand (steps ∷ others) =
+    let this = walk library (after_of level) stand.state steps in
+    this ++ walk_each library level (left_by stand this) others

@@ -1,11 +1,12 @@
 //! The end of a section: its after hooks, and then its cleanups.
 ghost use Rattle.std.specs.Prelude.{◌<◌};
+ghost use Rattle.gk_run.specs.declared.ending.Ending.TheVariants as endings;
 ghost use Rattle.gk_world.specs.State.{state_of};
 ghost use Rattle.gk_world.specs.Sandbox.{depth, KeepsLayers};
 ghost use Rattle.gk_run.specs.Acting.{carried_out_of, IsExact, KeepsAtMemory};
 ghost use Rattle.gk_run.specs.Cleanups.{cleanup_value, cleanups_value};
-ghost use Rattle.gk_run.specs.Closing.{CleansOne, Cleans, Closes};
-ghost use Rattle.gk_run.specs.Watching.{of_cleanup, TellsCleanups, TellsClosing};
+ghost use Rattle.gk_run.specs.Events.{of_cleanup};
+ghost use Rattle.gk_run.specs.WalkContracts.{CleansOne, Cleans, Closes};
 
 use crate::acting::carry_out;
 use crate::cleanups::{Cleanup, Cleanups};
@@ -63,9 +64,8 @@ fn clean<O: Observer>(
     observer: &mut O,
 ) -> Closed
     requires in_layer { 0 < depth sandbox.old }
-    ensures cleaned { Cleans run.now (cleanups_value cleanups) sandbox.old result }
-    ensures told { TellsCleanups O.hears run.now level (cleanups_value cleanups)
-        sandbox.old result observer.old observer.new }
+    ensures cleaned { Cleans O.hears run.now level (cleanups_value cleanups)
+        sandbox.old result sandbox.new observer.old observer.new }
     ensures layers { KeepsLayers sandbox.old sandbox.new }
 {
     let Cleanups {
@@ -97,8 +97,7 @@ pub fn close<O: Observer>(
     observer: &mut O,
 ) -> Closed
     requires in_layer { 0 < depth sandbox.old }
-    ensures closed { Closes run.now section.now cleanups sandbox.old result }
-    ensures told { TellsClosing O.hears run.now section.now cleanups
+    ensures closed { Closes O.hears endings.Passed run.now section.now cleanups
         sandbox.old result observer.old observer.new }
     ensures layers { KeepsLayers sandbox.old sandbox.new }
 {

@@ -8,7 +8,8 @@ ghost use Rattle.gk_run.specs.Results.{step_row, case_row, rule_row, feature_row
 ghost use Rattle.gk_run.specs.Section.{Cut};
 ghost use Rattle.gk_run.specs.Chosen.{head_value, member_of, chosen_value, IsPaired};
 ghost use Rattle.gk_run.specs.Features.{FeatureCuts};
-ghost use Rattle.gk_run.specs.DryRun.{dry_row, dry_case_of, dry_cases_of, dry_rules_of, dry_feature_of, IsDryStep, AreDrySteps};
+ghost use Rattle.gk_run.specs.DryRun.{dry_row, dry_case_of, dry_cases_of, dry_rules_of, dry_feature_of};
+ghost use Rattle.gk_run.specs.DryRunContracts.{IsDryStep, AreDrySteps};
 ghost use Rattle.gk_run.specs.Reserved.{members_in};
 
 use crate::cases::either;
@@ -16,11 +17,10 @@ use crate::chosen::Chosen;
 use crate::ending::is_memory_mark;
 use crate::features::feature_status;
 use crate::reserved::{
-    ReservedCase, ReservedCases, ReservedRules, ReservedSteps, reserve_case, reserve_cases,
-    reserve_rules,
+    ReservedCases, ReservedRules, ReservedSteps, reserve_cases, reserve_rules, reserve_steps,
 };
 use crate::results::{CaseResult, FeatureResult, Mark, NoRoom, RuleResult, Status, StepResult};
-use crate::running::{CaseEnd, case_result, unrun_case};
+use crate::running::unrun_case;
 use crate::walk::{look_up, row_of};
 use gk_gherkin::Step;
 use gk_select::Case;
@@ -76,20 +76,25 @@ fn dry_case(alloc: Global, library: &Library, case: Case) -> Result<CaseResult, 
     ensures { IfOk result (λ r. (cut : Cut) × (case_row r
         ≡ dry_row (library_value library.now) cut (case_value case))) }
 {
-    let reserved = reserve_case(alloc, case)?;
-    let ReservedCase {
-        heading,
-        own_tags: _,
+    let Case {
+        keyword,
+        name,
+        line,
         steps,
-    } = reserved;
-    let looked = dry_steps(alloc, library, steps);
-    let end = CaseEnd {
+        own_tags: _,
+        rule: _,
+        tags: _,
+    } = case;
+    let looked = dry_steps(alloc, library, reserve_steps(alloc, steps)?);
+    Ok(CaseResult {
+        keyword,
+        name,
+        line,
         status: dry_status(looked.is_refused),
         around: Status::Passed,
         cleanups: Vec::new(alloc),
         steps: looked.results,
-    };
-    Ok(case_result(heading, end))
+    })
 }
 
 // The result of a case, selected or not.

@@ -11,7 +11,8 @@ ghost use Rattle.gk_run.specs.Chosen.{chosen_value, IsFormed};
 ghost use Rattle.gk_run.specs.Features as spec;
 ghost use Rattle.gk_run.specs.Features.{FeatureCuts, feature_of, rule_statuses, feature_verdict, EndsFeature, IsFeatureResult, RunsInside};
 ghost use Rattle.gk_run.specs.Running.{IsSame};
-ghost use Rattle.gk_run.specs.Watching.{IsFeatureTold, TellsFeature, TellsInside};
+ghost use Rattle.gk_run.specs.TellingContracts.{TellsFeature, TellsInside};
+ghost use Rattle.gk_run.specs.Watching.{IsFeatureTold};
 
 use crate::cases::{Cases, both, either, run_cases};
 use crate::chosen::Chosen;

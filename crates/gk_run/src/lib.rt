@@ -46,4 +46,4 @@ pub use results::{
 };
 pub use running::{run_case, run_case_watched};
 pub use section::{Level, Part, Place};
-pub use watching::{Observer, Unwatched, told_events_are_the_cases_own};
+pub use watching::{Observer, Unwatched};

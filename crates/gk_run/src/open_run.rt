@@ -1,17 +1,16 @@
 //! A run that was begun and isn't finished.
 ghost use Rattle.std.specs.Prelude.{◌≡◌, ◌<◌, ◌&&◌, ◌||◌, Bool, suc, [], IfOk, OnErr};
-ghost use Rattle.gk_world.specs.State.{State, state_of, layers};
+ghost use Rattle.gk_world.specs.State.{state_of, layers};
 ghost use Rattle.gk_world.specs.Sandbox.{depth, Ends};
 ghost use Rattle.gk_run.specs.Results.{feature_row};
-ghost use Rattle.gk_run.specs.Ending as endings;
 ghost use Rattle.gk_run.specs.Run.{run_of};
 ghost use Rattle.gk_run.specs.Chosen.{chosen_value, IsFormed};
 ghost use Rattle.gk_run.specs.Cases.{is_bad, stays_open_by};
 ghost use Rattle.gk_run.specs.Features.{IsFeatureResult};
-ghost use Rattle.gk_run.specs.OpenSection.{IsBegun, IsSectionEnd};
+ghost use Rattle.gk_run.specs.SectionContracts.{EndsAround};
 ghost use Rattle.gk_run.specs.Running.{IsSame};
-ghost use Rattle.gk_run.specs.Watching.{IsFeatureTold, IsFinishTold, IsStartTold};
-ghost use Rattle.gk_run.specs.OpenRun.{IsStarted, IsKept, FinishedRunsAreJudged, UnfinishedRunsAreJudged};
+ghost use Rattle.gk_run.specs.Watching.{IsFeatureTold};
+ghost use Rattle.gk_run.specs.OpenRun.{IsStarted, IsStartTold, IsKept, IsFinished, FinishedRunsAreJudged, UnfinishedRunsAreJudged};
 
 mod state;
 
@@ -58,10 +57,8 @@ impl Suite {
         observer: &mut O,
     ) -> Suite
         requires { suc (suc (suc (depth sandbox.old))) < layers }
-        ensures started { IsStarted (run_of library.now hooks.now stop)
-            sandbox.old sandbox.new result }
-        ensures told { IsStartTold O.hears (run_of library.now hooks.now stop)
-            (state_of sandbox.old.now) result.section.before observer.old observer.new }
+        ensures { IsStartTold O.hears (run_of library.now hooks.now stop)
+            sandbox.old sandbox.new result observer.old observer.new }
     {
         let hooks = HookTable::without_index(hooks);
         let run = Run {
@@ -168,11 +165,8 @@ impl Suite {
         hooks: &HookFile,
     ) -> Status
         requires innermost { self.section.layer ≡ depth sandbox.old }
-        ensures around { (outside : State) (stop : Bool) →
-            IsBegun (run_of library.now hooks.now stop) Level.Run [] outside self.section
-            sandbox.old →
-            IsSectionEnd (run_of library.now hooks.now stop) Level.Run [] outside result
-            (endings.has_passed self.section.before) }
+        ensures around { (stop : Bool) → IsFinished
+            (run_of library.now hooks.now stop) self.section sandbox.old result }
         ensures ends { Ends sandbox.old sandbox.new }
     {
         self.finish_watched(alloc, sandbox, library, hooks, &mut Unwatched)
@@ -189,16 +183,9 @@ impl Suite {
         observer: &mut O,
     ) -> Status
         requires innermost { self.section.layer ≡ depth sandbox.old }
-        ensures around { (outside : State) (stop : Bool) →
-            IsBegun (run_of library.now hooks.now stop) Level.Run [] outside self.section
-            sandbox.old →
-            IsSectionEnd (run_of library.now hooks.now stop) Level.Run [] outside result
-            (endings.has_passed self.section.before) }
-        ensures told { (outside : State) (stop : Bool) →
-            IsBegun (run_of library.now hooks.now stop) Level.Run [] outside self.section
-            sandbox.old →
-            IsFinishTold O.hears (run_of library.now hooks.now stop) outside
-            self.section.before result observer.old observer.new }
+        ensures told { (stop : Bool) → EndsAround O.hears
+            (run_of library.now hooks.now stop) Level.Run [] self.section
+            sandbox.old result observer.old observer.new }
         ensures ends { Ends sandbox.old sandbox.new }
     {
         let Suite {

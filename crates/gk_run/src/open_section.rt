@@ -2,13 +2,11 @@
 //! runs, and it is closed and ended. The run, a feature, a rule and a scenario go it.
 ghost use Rattle.std.specs.Prelude.{◌≡◌, ◌<◌, Bool};
 ghost use Rattle.gk_gherkin.specs.Feature.{texts};
-ghost use Rattle.gk_world.specs.State.{State, layers};
+ghost use Rattle.gk_world.specs.State.{layers};
 ghost use Rattle.gk_world.specs.Sandbox.{depth, KeepsLayers, Ends};
-ghost use Rattle.gk_run.specs.Ending as endings;
-ghost use Rattle.gk_run.specs.Closing.{ClosesAfter};
-ghost use Rattle.gk_run.specs.OpenSection.{IsBegun, IsOpened, IsSectionEnd};
-ghost use Rattle.gk_run.specs.Run.{run_of, run_value};
-ghost use Rattle.gk_run.specs.Watching.{TellsAround, TellsClosingAfter, TellsOpening};
+ghost use Rattle.gk_run.specs.Run.{run_of};
+ghost use Rattle.gk_run.specs.SectionContracts.{EndsAround, Opens};
+ghost use Rattle.gk_run.specs.WalkContracts.{Closes};
 
 use crate::cleanups::Cleanups;
 use crate::closing::{Closed, close};
@@ -37,10 +35,8 @@ pub fn open_section<O: Observer>(
     observer: &mut O,
 ) -> OpenSection
     requires room { depth sandbox.old < layers }
-    ensures opened { IsOpened (run_value run.now) section.now.level (texts section.now.tags.now)
-        sandbox.old sandbox.new result }
-    ensures told { TellsOpening O.hears run.now section.now
-        sandbox.old result observer.old observer.new }
+    ensures { Opens O.hears run.now section.now sandbox.old result sandbox.new
+        observer.old observer.new }
 {
     // No code runs here: the law says that the layer's state is the one outside, entered.
     layers_enter();
@@ -54,28 +50,20 @@ pub fn open_section<O: Observer>(
     }
 }
 
-// What is left to be closed of a section: how it ended before, and its cleanups.
-struct Unclosed {
-    ending: Ending,
-    cleanups: Cleanups,
-}
-
-// Closes a section. After refused memory nothing more runs in it.
+// Closes a section that ended so before. After refused memory nothing more runs in it.
 fn close_after<O: Observer>(
     run: &Run<'_>,
     sandbox: &mut Sandbox,
     section: &Section<'_>,
-    left: Unclosed,
+    ending: Ending,
+    cleanups: Cleanups,
     observer: &mut O,
 ) -> Closed
     requires in_layer { 0 < depth sandbox.old }
-    ensures closed { ClosesAfter left.ending run.now section.now left.cleanups
-        sandbox.old result }
-    ensures told { TellsClosingAfter O.hears left.ending run.now section.now left.cleanups
+    ensures closed { Closes O.hears ending run.now section.now cleanups
         sandbox.old result observer.old observer.new }
     ensures layers { KeepsLayers sandbox.old sandbox.new }
 {
-    let Unclosed { ending, cleanups } = left;
     if is_memory(ending) {
         return Closed {
             ending: Ending::Passed,
@@ -95,8 +83,7 @@ pub fn end_section<O: Observer>(
     observer: &mut O,
 ) -> Closed
     requires innermost { opened.layer ≡ depth sandbox.old }
-    ensures closed { ClosesAfter ending run.now section.now opened.cleanups sandbox.old result }
-    ensures told { TellsClosingAfter O.hears ending run.now section.now opened.cleanups
+    ensures closed { Closes O.hears ending run.now section.now opened.cleanups
         sandbox.old result observer.old observer.new }
     ensures ends { Ends sandbox.old sandbox.new }
 {
@@ -105,8 +92,7 @@ pub fn end_section<O: Observer>(
         before: _,
         cleanups,
     } = opened;
-    let left = Unclosed { ending, cleanups };
-    let closed = close_after(run, sandbox, section, left, observer);
+    let closed = close_after(run, sandbox, section, ending, cleanups, observer);
     sandbox.end(layer);
     closed
 }
@@ -120,13 +106,9 @@ pub fn end_around<O: Observer>(
     observer: &mut O,
 ) -> Status
     requires innermost { opened.layer ≡ depth sandbox.old }
-    ensures around { (outside : State) (stop : Bool) →
-        IsBegun (run_of run.now.library.now run.now.hooks.now.file.now stop) section.now.level
-        (texts section.now.tags.now) outside opened sandbox.old →
-        IsSectionEnd (run_of run.now.library.now run.now.hooks.now.file.now stop) section.now.level
-        (texts section.now.tags.now) outside result (endings.has_passed opened.before) }
-    ensures told { TellsAround O.hears run.now section.now opened sandbox.old result
-        observer.old observer.new }
+    ensures around { (stop : Bool) → EndsAround O.hears
+        (run_of run.now.library.now run.now.hooks.now.file.now stop) section.now.level
+        (texts section.now.tags.now) opened sandbox.old result observer.old observer.new }
     ensures ends { Ends sandbox.old sandbox.new }
 {
     let before = opened.before;

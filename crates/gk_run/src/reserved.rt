@@ -8,15 +8,7 @@ use crate::chosen::RuleHead;
 use crate::results::{CaseResult, RuleResult, StepResult};
 use gk_gherkin::Step;
 use gk_select::Case;
-pub use reserving::{reserve_case, reserve_cases, reserve_rules};
-
-/// The heading of a case.
-#[derive(Drop)]
-pub struct Heading {
-    pub keyword: String,
-    pub name: String,
-    pub line: u32,
-}
+pub use reserving::{reserve_cases, reserve_rules, reserve_steps};
 
 /// Steps, with room for the result of each.
 #[derive(Drop)]
@@ -25,14 +17,6 @@ pub struct ReservedSteps {
     pub results: Vec<StepResult>,
     ghost empty: { results.items ≡ [] },
     ghost room: { length steps.items ≤ vec_capacity results },
-}
-
-/// A case, with room for the result of each of its steps.
-#[derive(Drop)]
-pub struct ReservedCase {
-    pub heading: Heading,
-    pub own_tags: Vec<String>,
-    pub steps: ReservedSteps,
 }
 
 /// The headings of rules, with room for the result of each.

@@ -7,7 +7,7 @@ ghost use Rattle.gk_run.specs.Chosen.{head_value};
 ghost use Rattle.gk_run.specs.Rules.{BeginsRule, RunsRule, RunsRules};
 ghost use Rattle.gk_run.specs.Run.{run_value};
 ghost use Rattle.gk_run.specs.Running.{IsSame};
-ghost use Rattle.gk_run.specs.Watching.{BeginsAndTellsRule, TellsRule, TellsRules};
+ghost use Rattle.gk_run.specs.TellingContracts.{BeginsAndTellsRule, TellsRule, TellsRules};
 
 use crate::cases::{Cases, both, run_cases, stays_open};
 use crate::chosen::RuleHead;

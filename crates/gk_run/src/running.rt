@@ -6,14 +6,14 @@ ghost use Rattle.gk_world.specs.State.{state_of, layers};
 ghost use Rattle.gk_world.specs.Sandbox.{depth};
 ghost use Rattle.gk_run.specs.Results.{step_row, case_row};
 ghost use Rattle.gk_run.specs.Run.{run_of, run_value};
-ghost use Rattle.gk_run.specs.Running.{unrun_row, IsSame, IsReached, marks_of, EndsCase, row_with};
+ghost use Rattle.gk_run.specs.Running.{unrun_row, IsSame, IsReached, same_marks};
 ghost use Rattle.gk_run.specs.Walk.{row_of_step};
-ghost use Rattle.gk_run.specs.Watching.{AreEventsTold, IsCaseTold, TellsCase};
+ghost use Rattle.gk_run.specs.Watching.{AreEventsTold, IsCaseTold};
 
 use crate::ending::{around_status, verdict_status, worse};
 use crate::open_section::{end_section, open_section};
-use crate::reserved::{Heading, ReservedCase, ReservedSteps, reserve_case};
-use crate::results::{CaseResult, Mark, NoRoom, Outcome, Status, StepResult};
+use crate::reserved::{ReservedSteps, reserve_steps};
+use crate::results::{CaseResult, Mark, NoRoom, Status, StepResult};
 use crate::run::Run;
 use crate::section::{Level, Section};
 use crate::walk::{StepsEnd, row_of, run_steps};
@@ -24,58 +24,32 @@ use gk_steps::Library;
 use gk_world::Sandbox;
 use std::alloc::Global;
 
-/// What a case comes to.
-#[derive(Drop)]
-pub struct CaseEnd {
-    pub status: Status,
-    pub around: Status,
-    pub cleanups: Vec<Outcome>,
-    pub steps: Vec<StepResult>,
-}
-
-/// The result of a case, from its heading and from how its run ended.
-pub fn case_result(heading: Heading, end: CaseEnd) -> CaseResult
-    ensures { case_row result ≡ row_with heading end }
-{
-    let Heading {
-        keyword,
-        name,
-        line,
-    } = heading;
-    let CaseEnd {
-        status,
-        around,
-        cleanups,
-        steps,
-    } = end;
-    CaseResult {
-        keyword,
-        name,
-        line,
-        status,
-        around,
-        cleanups,
-        steps,
-    }
-}
-
-// Runs a case in a layer of its own.
-fn run_alone<O: Observer>(
+/// Runs a case of a run in a layer of its own, and tells an observer its events.
+pub(crate) fn case_in<O: Observer>(
     run: &Run<'_>,
     sandbox: &mut Sandbox,
-    tags: &[String],
-    steps: ReservedSteps,
+    case: Case,
     observer: &mut O,
-) -> CaseEnd
+) -> Result<CaseResult, NoRoom>
     requires room { depth sandbox.old < layers }
-    ensures end { EndsCase run.now tags.now steps (state_of sandbox.old.now) result }
-    ensures told { TellsCase O.hears run.now tags.now steps
-        sandbox.old result observer.old observer.new }
+    ensures told { IfOk result (λ r. AreEventsTold O.hears (run_value run.now)
+        (state_of sandbox.old.now) (case_value case) (case_row r) observer.old observer.new) }
+    ensures untold { OnErr result (observer.new ≡ observer.old) }
     ensures same { IsSame sandbox.old sandbox.new }
 {
+    let Case {
+        keyword,
+        name,
+        line,
+        steps,
+        own_tags,
+        rule: _,
+        tags: _,
+    } = case;
+    let steps = reserve_steps(run.alloc, steps)?;
     let section = Section {
         level: Level::Scenario,
-        tags,
+        tags: own_tags.as_slice(),
     };
     let mut opened = open_section(run, sandbox, &section, observer);
     let before = opened.before;
@@ -88,37 +62,15 @@ fn run_alone<O: Observer>(
         observer,
     );
     let closed = end_section(run, sandbox, &section, opened, ending, observer);
-    CaseEnd {
+    Ok(CaseResult {
+        keyword,
+        name,
+        line,
         status: verdict_status(worse(ending, closed.ending)),
         around: around_status(worse(before, closed.ending)),
         cleanups: closed.outcomes,
         steps: results,
-    }
-}
-
-/// Runs a case of a run in a layer of its own, and tells an observer its events.
-pub(crate) fn case_in<O: Observer>(
-    run: &Run<'_>,
-    sandbox: &mut Sandbox,
-    case: Case,
-    observer: &mut O,
-) -> Result<CaseResult, NoRoom>
-    requires room { depth sandbox.old < layers }
-    ensures row { IfOk result (λ r. IsReached (run_value run.now)
-        (state_of sandbox.old.now) (case_value case) (case_row r)) }
-    ensures told { IfOk result (λ r. AreEventsTold O.hears (run_value run.now)
-        (state_of sandbox.old.now) (case_value case) (case_row r) observer.old observer.new) }
-    ensures untold { OnErr result (observer.new ≡ observer.old) }
-    ensures same { IsSame sandbox.old sandbox.new }
-{
-    let reserved = reserve_case(run.alloc, case)?;
-    let ReservedCase {
-        heading,
-        own_tags,
-        steps,
-    } = reserved;
-    let end = run_alone(run, sandbox, own_tags.as_slice(), steps, observer);
-    Ok(case_result(heading, end))
+    })
 }
 
 /// Runs a case in a layer of its own: its before hooks, its steps, its after hooks and its cleanups.
@@ -195,19 +147,25 @@ pub fn unrun_case(
     mark: Mark,
 ) -> Result<CaseResult, NoRoom>
     ensures { IfOk result (λ r. case_row r
-        ≡ unrun_row (case_value case) status (marks_of mark (case_value case))) }
+        ≡ unrun_row (case_value case) status (same_marks mark (case_value case))) }
 {
-    let reserved = reserve_case(alloc, case)?;
-    let ReservedCase {
-        heading,
-        own_tags: _,
+    let Case {
+        keyword,
+        name,
+        line,
         steps,
-    } = reserved;
-    let end = CaseEnd {
+        own_tags: _,
+        rule: _,
+        tags: _,
+    } = case;
+    let steps = reserve_steps(alloc, steps)?;
+    Ok(CaseResult {
+        keyword,
+        name,
+        line,
         status,
         around: Status::Passed,
         cleanups: Vec::new(alloc),
         steps: unrun_steps(steps, mark),
-    };
-    Ok(case_result(heading, end))
+    })
 }

@@ -4,8 +4,7 @@ ghost use Rattle.gk_gherkin.specs.Feature.{step_value};
 ghost use Rattle.gk_gherkin.specs.Hooks.{hooks_value};
 ghost use Rattle.gk_world.specs.Sandbox.{depth, KeepsLayers};
 ghost use Rattle.gk_run.specs.SectionHooks as spec;
-ghost use Rattle.gk_run.specs.SectionHooks.{WalksBefore, WalksTags, WalksAfter};
-ghost use Rattle.gk_run.specs.Watching.{TellsBefore, TellsTags, TellsAfter};
+ghost use Rattle.gk_run.specs.WalkContracts.{WalksBefore, WalksTags, WalksAfter};
 
 use crate::cleanups::Cleanups;
 use crate::ending::{Ending, has_passed, is_memory, worse};
@@ -60,10 +59,8 @@ pub fn walk_before<O: Observer>(
     observer: &mut O,
 ) -> Ending
     requires in_layer { 0 < depth sandbox.old }
-    ensures walked { WalksBefore run.now section.now
-        sandbox.old cleanups.old result sandbox.new cleanups.new }
-    ensures told { TellsBefore O.hears run.now section.now
-        sandbox.old result observer.old observer.new }
+    ensures walked { WalksBefore O.hears run.now section.now sandbox.old cleanups.old result
+        sandbox.new cleanups.new observer.old observer.new }
     ensures layers { KeepsLayers sandbox.old sandbox.new }
 {
     let place = Place {
@@ -90,10 +87,8 @@ fn walk_tags<O: Observer>(
     observer: &mut O,
 ) -> Ending
     requires in_layer { 0 < depth sandbox.old }
-    ensures told { TellsTags O.hears run.now section.now
-        sandbox.old cleanups.old result observer.old observer.new }
-    ensures walked { WalksTags run.now section.now
-        sandbox.old cleanups.old result sandbox.new cleanups.new }
+    ensures walked { WalksTags O.hears run.now section.now sandbox.old cleanups.old result
+        sandbox.new cleanups.new observer.old observer.new }
     ensures layers { KeepsLayers sandbox.old sandbox.new }
 {
     let place = Place {
@@ -121,11 +116,9 @@ pub fn walk_after<O: Observer>(
     observer: &mut O,
 ) -> Ending
     requires in_layer { 0 < depth sandbox.old }
+    ensures walked { WalksAfter O.hears run.now section.now sandbox.old cleanups.old result
+        sandbox.new cleanups.new observer.old observer.new }
     ensures layers { KeepsLayers sandbox.old sandbox.new }
-    ensures walked { WalksAfter run.now section.now
-        sandbox.old cleanups.old result sandbox.new cleanups.new }
-    ensures told { TellsAfter O.hears run.now section.now
-        sandbox.old cleanups.old result observer.old observer.new }
 {
     let steps = hook_steps(run.hooks, after_kind(section.level), None);
     let place = Place {

@@ -4,8 +4,8 @@ ghost use Rattle.gk_gherkin.specs.Feature.{step_value};
 ghost use Rattle.gk_steps.specs.Finding.{library_value};
 ghost use Rattle.gk_world.specs.Sandbox.{depth, KeepsLayers};
 ghost use Rattle.gk_run.specs.Results.{step_row};
-ghost use Rattle.gk_run.specs.Walk.{row_of_step, RunsStep, StepNeedsCandidate, StepKeepsAtMemory, WalksHook, IsLookedUp, TakesNext, RunsSteps};
-ghost use Rattle.gk_run.specs.Watching.{TellsHook, TellsNext, TellsSteps};
+ghost use Rattle.gk_run.specs.Walk.{row_of_step};
+ghost use Rattle.gk_run.specs.WalkContracts.{RunsStep, StepNeedsCandidate, StepKeepsAtMemory, WalksHook, IsLookedUp, TakesNext, TellsNext, RunsSteps};
 
 use crate::acting::{Call, Site, act_by, arguments_by};
 use crate::cleanups::Cleanups;
@@ -62,10 +62,8 @@ pub fn walk_hook<O: Observer>(
     observer: &mut O,
 ) -> Ending
     requires in_layer { 0 < depth sandbox.old }
-    ensures walked { WalksHook run.now place steps.now
-        sandbox.old cleanups.old result sandbox.new cleanups.new }
-    ensures told { TellsHook O.hears run.now place steps.now
-        sandbox.old result observer.old observer.new }
+    ensures walked { WalksHook O.hears run.now place steps.now sandbox.old cleanups.old result
+        sandbox.new cleanups.new observer.old observer.new }
     ensures layers { KeepsLayers sandbox.old sandbox.new }
 {
     let site = site_of(place);
@@ -165,10 +163,8 @@ pub fn run_steps<O: Observer>(
     observer: &mut O,
 ) -> StepsEnd
     requires in_layer { 0 < depth sandbox.old }
-    ensures stepped { RunsSteps run.now before steps
-        sandbox.old cleanups.old result sandbox.new cleanups.new }
-    ensures told { TellsSteps O.hears run.now before steps
-        sandbox.old result observer.old observer.new }
+    ensures stepped { RunsSteps O.hears run.now before steps sandbox.old cleanups.old result
+        sandbox.new cleanups.new observer.old observer.new }
     ensures layers { KeepsLayers sandbox.old sandbox.new }
 {
     let ReservedSteps { steps, mut results } = steps;

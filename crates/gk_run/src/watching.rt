@@ -1,9 +1,12 @@
 //! What watches a run.
+ghost use Rattle.std.specs.Prelude.{List};
 ghost use Rattle.gk_gherkin.specs.Feature.{step_value, block_value};
 ghost use Rattle.gk_steps.specs.Finding.{found_value};
 ghost use Rattle.gk_world.specs.State.{state_of};
+ghost use Rattle.gk_run.specs.Acting.{CleanupValue};
 ghost use Rattle.gk_run.specs.Results.{case_row, rule_row};
-ghost use Rattle.gk_run.specs.Watching.{Told, Ended, of_step, of_cleanup, of_case, of_rule, ToldEventsAreTheCasesOwn};
+ghost use Rattle.gk_run.specs.Events.{Event, of_step, of_cleanup};
+ghost use Rattle.gk_run.specs.Watching.{Ended, of_case, of_rule};
 
 use crate::results::{CaseResult, Mark, Outcome, RuleResult};
 use crate::section::{Level, Place};
@@ -16,15 +19,16 @@ use gk_world::Sandbox;
 /// methods answer nothing, so that memory that is refused to it is no event of the run.
 pub trait Observer {
     /// What it may become where it is told an event.
-    ghost hears: { Self → Told → Self → Type 0 };
+    ghost hears: { Self → Event → Self → Type 0 };
 
     /// What it may become where it is told that a scenario or a rule has ended.
     ghost ends: { Self → Ended → Self → Type 0 };
 
-    /// A step of a scenario or of a hook, where it stands, and what became of it.
+    /// A step of a scenario or of a hook, where it stands, and what became of it. The cleanups that it
+    /// registered aren't told.
     fn step(&mut self, place: Place, step: &Step, mark: Mark, sandbox: &Sandbox)
-        ensures { hears self.old (of_step place (step_value step.now) mark
-            (state_of sandbox.now.now)) self.new };
+        ensures { (registered : List CleanupValue) → hears self.old (of_step place
+            (step_value step.now) mark registered (state_of sandbox.now.now)) self.new };
 
     /// A registered cleanup of a section of a level, and its outcome.
     fn cleanup(
@@ -53,7 +57,7 @@ pub trait Observer {
 pub struct Unwatched;
 
 impl Observer for Unwatched {
-    ghost hears = { λ old told new. Unit {0} };
+    ghost hears = { λ old event new. Unit {0} };
 
     ghost ends = { λ old ended new. Unit {0} };
 
@@ -72,9 +76,3 @@ impl Observer for Unwatched {
 
     fn rule_ended(&mut self, _row: &RuleResult) {}
 }
-
-/// The events of a case that an observer is told are those from which the case's result comes, wherever
-/// it is cut.
-pub fn told_events_are_the_cases_own()
-    ensures { ToldEventsAreTheCasesOwn }
-{}

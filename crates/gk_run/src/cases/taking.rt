@@ -9,7 +9,7 @@ ghost use Rattle.gk_run.specs.Chosen.{has_selected, member_of};
 ghost use Rattle.gk_run.specs.Grouping.{falls_from, members_of_rank};
 ghost use Rattle.gk_run.specs.Run.{run_value};
 ghost use Rattle.gk_run.specs.Running.{IsSame};
-ghost use Rattle.gk_run.specs.Watching.{TellsCases, TellsMember};
+ghost use Rattle.gk_run.specs.TellingContracts.{TellsCases, TellsMember};
 
 use crate::cases::{Cases, Member};
 use crate::reserved::ReservedCases;

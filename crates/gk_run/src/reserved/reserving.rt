@@ -1,39 +1,23 @@
 //! Reserving room for results.
 ghost use Rattle.std.specs.Prelude.{IfOk};
-ghost use Rattle.gk_run.specs.Reserved.{IsCaseReserved, AreCasesReserved, AreRulesReserved};
+ghost use Rattle.gk_run.specs.Reserved.{AreStepsReserved, AreCasesReserved, AreRulesReserved};
 
 use crate::chosen::RuleHead;
-use crate::reserved::{Heading, ReservedCase, ReservedCases, ReservedRules, ReservedSteps};
+use crate::reserved::{ReservedCases, ReservedRules, ReservedSteps};
 use crate::results::NoRoom;
+use gk_gherkin::Step;
 use gk_select::Case;
 use std::alloc::{AllocError, Global};
 
-/// Reserves room for the results of a case's steps.
-pub fn reserve_case(alloc: Global, case: Case) -> Result<ReservedCase, NoRoom>
-    ensures { IfOk result (IsCaseReserved case) }
+/// Reserves room for the results of steps.
+pub fn reserve_steps(alloc: Global, steps: Vec<Step>) -> Result<ReservedSteps, NoRoom>
+    ensures { IfOk result (AreStepsReserved steps) }
 {
-    let Case {
-        keyword,
-        name,
-        line,
-        steps,
-        own_tags,
-        rule: _,
-        tags: _,
-    } = case;
     let results = match Vec::with_capacity(alloc, steps.len()) {
         Ok(results) => results,
         Err(AllocError) => return Err(NoRoom),
     };
-    Ok(ReservedCase {
-        heading: Heading {
-            keyword,
-            name,
-            line,
-        },
-        own_tags,
-        steps: ReservedSteps { steps, results },
-    })
+    Ok(ReservedSteps { steps, results })
 }
 
 /// Reserves room for the results of rules.

@@ -23,14 +23,14 @@ returns-in-Ok g c =
     let written = device_of g.W.Write.contents there.out in
     let new = device_of g.W.Write.contents c.write_end.new.out in
     let all : AreExplainedNext run (state_of begun.new.sandbox.now) begun.result.is_open features before so_far written there.so_far =
-    subst (λ (s : Bool). AreExplainedNext (run_of c.args.inputs.library c.args.inputs.hooks s) (state_of begun.new.sandbox.now) begun.result.is_open features before so_far written there.so_far) begun.ensures.started.stops c.in-Ok.ensures.ok in
+    subst (λ (s : Bool). AreExplainedNext (run_of c.args.inputs.library c.args.inputs.hooks s) (state_of begun.new.sandbox.now) begun.result.is_open features before so_far written there.so_far) begun.ensures.0.stops c.in-Ok.ensures.ok in
     let told = run_told c.finished_runs_are_judged.ensures run hooks c.args.sandbox.now begun.new.sandbox there.sandbox begun.result there.so_far.suite c.new-explainer.result begun.new.observer there.so_far.explainer last features all.rows c.finish_watched-around.result all.text
-    begun.ensures.started c.new-explainer.ensures.said begun.ensures.told all.results all.explained c.explain_features-written.ensures.kept c.explain_features-written.ensures.same
-    (λ outside walked. c.finish_watched-around.ensures.around outside stop walked) (λ outside walked. c.finish_watched-around.ensures.told outside stop walked) in
+    begun.ensures.0 c.new-explainer.ensures.said begun.ensures.1 all.results all.explained c.explain_features-written.ensures.kept c.explain_features-written.ensures.same
+    (c.finish_watched-around.ensures.told stop) in
     record {
-      ok = if_ok c.write_end.result (λ status end. whole_explained run hooks c.args.sandbox.now.now begun.result.section.before features all.rows c.finish_watched-around.result all.text there.so_far.explainer last before written new status
+      ok = if_ok c.write_end.result (λ status end. whole_explained run hooks c.args.sandbox.now.now begun.ensures.0.opened.first features all.rows c.finish_watched-around.result all.text there.so_far.explainer last before written new status
           there.so_far.summary (all.counted c.new.ensures) told.judged told.first told.finish all.written end) c.write_end.ensures.ok;
-      err = if_err c.write_end.result (λ fault end. whole_stopped run hooks c.args.sandbox.now.now begun.result.section.before features all.rows c.finish_watched-around.result all.text there.so_far.explainer last before written new fault
+      err = if_err c.write_end.result (λ fault end. whole_stopped run hooks c.args.sandbox.now.now begun.ensures.0.opened.first features all.rows c.finish_watched-around.result all.text there.so_far.explainer last before written new fault
           there.so_far.summary (all.counted c.new.ensures) told.judged told.first told.finish all.written end) c.write_end.ensures.err;
       same = search rules;
     }
@@ -44,7 +44,7 @@ returns-clause-err g c =
     let before = device_of g.W.Write.contents c.args.out.now in
     let new = device_of g.W.Write.contents c.explain_features-written.new.out in
     let up_to : AreExplainedUpTo run (state_of begun.new.sandbox.now) begun.result.is_open features before so_far new c.in-Err.fault =
-    subst (λ (s : Bool). AreExplainedUpTo (run_of c.args.inputs.library c.args.inputs.hooks s) (state_of begun.new.sandbox.now) begun.result.is_open features before so_far new c.in-Err.fault) begun.ensures.started.stops c.in-Err.ensures.err in
+    subst (λ (s : Bool). AreExplainedUpTo (run_of c.args.inputs.library c.args.inputs.hooks s) (state_of begun.new.sandbox.now) begun.result.is_open features before so_far new c.in-Err.fault) begun.ensures.0.stops c.in-Err.ensures.err in
     part_explained run c.args.explaining.hooks.now c.args.sandbox.now begun.new.sandbox begun.result c.new-explainer.result begun.new.observer features before so_far new c.in-Err.fault
-    begun.ensures.started c.new-explainer.ensures.said begun.ensures.told refl
-    (λ done others rows are. c.unfinished_runs_are_judged.ensures run c.args.sandbox.now begun.new.sandbox begun.result done others rows begun.ensures.started are) up_to
+    begun.ensures.0 c.new-explainer.ensures.said begun.ensures.1 refl
+    (λ done others rows are. c.unfinished_runs_are_judged.ensures run c.args.sandbox.now begun.new.sandbox begun.result done others rows begun.ensures.0 are) up_to

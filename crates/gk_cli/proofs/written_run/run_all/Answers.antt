@@ -44,12 +44,12 @@ returns-in-Ok g c =
       ok = if_ok c.finish.result (λ status reported. as_whole run run contents features style old head begun new status refl c.in_ok-report.ensures.style c.in_ok-report.ensures.ok
           (finished Give run contents features around head begun there grown new status
           (λ rows are. judged_by c.finished_runs_are_judged.ensures run c.args.sandbox.now c.start-suite.new.sandbox c.run_features-written.new.sandbox suite c.run_features-written.new.so_far.suite around features rows
-          c.start-suite.ensures c.run_features-written.ensures.kept c.run_features-written.ensures.same are (λ outside walked. c.finish-around.ensures.around outside c.args.options.now.stop walked))
+          c.start-suite.ensures c.run_features-written.ensures.kept c.run_features-written.ensures.same are (c.finish-around.ensures.around c.args.options.now.stop))
           c.run_features-written.ensures.style written reported)) c.finish.ensures.ok;
       err = if_err c.finish.result (λ fault reported. as_prefix run run contents features style old head begun new fault refl c.in_ok-report.ensures.style c.in_ok-report.ensures.ok
           (finished_short Give run contents features around head begun there grown new fault
           (λ rows are. judged_by c.finished_runs_are_judged.ensures run c.args.sandbox.now c.start-suite.new.sandbox c.run_features-written.new.sandbox suite c.run_features-written.new.so_far.suite around features rows
-          c.start-suite.ensures c.run_features-written.ensures.kept c.run_features-written.ensures.same are (λ outside walked. c.finish-around.ensures.around outside c.args.options.now.stop walked))
+          c.start-suite.ensures c.run_features-written.ensures.kept c.run_features-written.ensures.same are (c.finish-around.ensures.around c.args.options.now.stop))
           c.run_features-written.ensures.style written reported)) c.finish.ensures.err;
       same = search rules;
     }

@@ -1,23 +1,20 @@
-use Rattle.std.specs.List.{FoldsTo}
-use Rattle.std.proofs.Common.{List, ◌≡◌, ◌++◌, ◌≤◌, ◌+◌, length, map, vec_capacity}
+use Rattle.std.proofs.Common.{◌≡◌, ◌+◌, ◌≤◌, false, length, map, reverse, vec_capacity}
 use Rattle.gk_steps.specs.Finding.{library_value}
 use Rattle.gk_world.specs.State.{state_of}
 use Rattle.gk_world.specs.Sandbox.{KeepsLayers}
-use Rattle.gk_run.specs.Cleanups.{cleanup_value}
-use Rattle.gk_run.specs.declared.ending.Ending.TheVariants as endings
-use Rattle.gk_run.specs.declared.results.Mark.TheVariants.{Acted}
-use Rattle.gk_run.specs.Watching.{Told, told_cleanups, told_marks}
-use Rattle.gk_run.proofs.CleanLemmas.{GoesClean}
+use Rattle.gk_run.specs.Cleanups.{cleanup_value, cleanups_value}
+use Rattle.gk_run.specs.Closing.{clean_each, cleaned}
+use Rattle.gk_run.specs.Ending.{is_memory_ending}
+use Rattle.gk_run.specs.WalkContracts.{at_cleanups}
+use Rattle.gk_run.proofs.CleanLemmas.{CleansSoFar}
 use Rattle.gk_run.proofs.closing.clean.Given as goal
 
--- whatever the cleanups that are left come to, all come to, with these outcomes before theirs
+-- the cleanups so far were run, and those that are left are to be
 abbrev pub invariant-loop-cleanup : goal.invariant-loop-cleanup
 invariant-loop-cleanup g l = record {
-  goes : GoesClean (library_value l.fn.run.library.now) (state_of l.sandbox.now) (map cleanup_value l.list.items) l.ending l.outcomes.items (state_of l.fn.sandbox.now) (map cleanup_value l.fn.cleanups.list.items);
-  told : (ts : List Told) × FoldsTo g.O.Observer.hears l.fn.observer ts l.observer
-      × (told_cleanups (library_value l.fn.run.library.now) l.fn.level (state_of l.fn.sandbox.now) (map cleanup_value l.fn.cleanups.list.items) ≡ ts ++ told_cleanups (library_value l.fn.run.library.now) l.fn.level (state_of l.sandbox.now) (map cleanup_value l.list.items))
-      × (told_marks ts ≡ map Acted l.outcomes.items);
-  whole : l.ending ≡ endings.Memory → ⊥;
+  goes : CleansSoFar g.O.Observer.hears (cleaned (library_value l.fn.run.library.now) l.fn.level (at_cleanups l.fn.sandbox (map cleanup_value l.fn.cleanups.list.items))) (clean_each (library_value l.fn.run.library.now) l.fn.level (state_of l.sandbox.now) (reverse (map cleanup_value l.list.items)))
+      (at_cleanups l.fn.sandbox (map cleanup_value l.fn.cleanups.list.items)) (at_cleanups l.sandbox (map cleanup_value l.fn.cleanups.list.items)) l.ending l.outcomes.items l.fn.observer l.observer;
+  unrefused : is_memory_ending l.ending ≡ false;
   layers : KeepsLayers l.fn.sandbox l.sandbox;
   room : length l.outcomes.items + length l.list.items ≤ vec_capacity l.outcomes;
 }

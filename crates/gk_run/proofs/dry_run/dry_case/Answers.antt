@@ -2,12 +2,10 @@ use Rattle.std.proofs.Common.{◌∙◌, false, List, map, ap, subst}
 use Rattle.gk_gherkin.specs.Feature.{StepValue, step_value}
 use Rattle.gk_select.specs.Case.{case_value}
 use Rattle.gk_steps.specs.Finding.{library_value}
-use Rattle.gk_run.specs.declared.reserved.Heading.{Heading}
 use Rattle.gk_run.specs.declared.results.Outcome.{Outcome}
 use Rattle.gk_run.specs.declared.results.Status.TheVariants as statuses
 use Rattle.gk_run.specs.Results.{CaseRow, step_row}
-use Rattle.gk_run.specs.Running.{row_with}
-use Rattle.gk_run.specs.DryRun.{AreDrySteps}
+use Rattle.gk_run.specs.DryRunContracts.{AreDrySteps}
 use Rattle.gk_run.proofs.DryRunLemmas.{dry_is}
 use Rattle.gk_run.proofs.dry_run.dry_case.Goals as goal
 
@@ -15,11 +13,10 @@ pub returns : goal.returns
 returns c =
     let library = library_value c.args.library.now in
     let case = case_value c.args.case in
-    let reserved = c.in_ok-reserved.ensures in
     let looked = c.dry_steps-looked.result in
     let rows = map step_row looked.results.items in
-    let steps = ap (λ ss. map step_value ss.items) reserved.steps in
+    let steps = ap (λ ss. map step_value ss.items) c.in_ok-reserve_steps.ensures in
     let are = subst (λ (ss : List StepValue). AreDrySteps library false ss rows looked.is_refused) steps c.dry_steps-looked.ensures in
     let is = dry_is library case rows looked.is_refused c.dry_status.result c.dry_status.ensures are in
     let row : List Outcome → CaseRow = λ os. record { keyword = case.keyword; name = case.name; line = case.line; status = c.dry_status.result; around = statuses.Passed; cleanups = os; steps = rows } in
-    (is.0, c.case_result.ensures ∙ ap (λ (h : Heading). row_with h (record { status = c.dry_status.result; around = statuses.Passed; cleanups = c.new.result; steps = looked.results })) reserved.heading ∙ ap row c.new.ensures.items ∙ is.1)
+    (is.0, ap row c.new.ensures.items ∙ is.1)

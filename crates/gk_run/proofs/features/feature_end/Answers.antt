@@ -8,7 +8,8 @@ use Rattle.gk_run.specs.Features.{inside_value}
 use Rattle.gk_run.specs.Grouping.{groups_from, members_of_rank}
 use Rattle.gk_run.specs.Run.{run_value}
 use Rattle.gk_run.proofs.FeaturesLemmas.{feature_unbegun}
-use Rattle.gk_run.specs.Watching.{IsInsideTold, IsSectionTold, TellsFeature}
+use Rattle.gk_run.specs.TellingContracts.{TellsFeature}
+use Rattle.gk_run.specs.Watching.{IsInsideTold, IsSectionTold}
 use Rattle.gk_run.specs.OpenSection.{section_state}
 use Rattle.gk_run.specs.declared.section.Level.TheVariants as levels
 use Rattle.gk_run.specs.declared.results.Status.TheVariants as statuses

@@ -9,7 +9,7 @@ use Rattle.gk_run.specs.Rules.{BeginsRule, RunsRule}
 use Rattle.gk_run.specs.Run.{run_value}
 use Rattle.gk_run.proofs.CasesLemmas.{if_ok}
 use Rattle.gk_run.proofs.RulesLemmas.{passed_stays, rule_begun, rule_unbegun}
-use Rattle.gk_run.specs.Watching.{BeginsAndTellsRule, TellsRule}
+use Rattle.gk_run.specs.TellingContracts.{BeginsAndTellsRule, TellsRule}
 use Rattle.gk_run.proofs.WatchedRunLemmas as watched
 use Rattle.gk_run.proofs.rules.run_rule.Goals as goal
 

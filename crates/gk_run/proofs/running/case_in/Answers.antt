@@ -1,50 +1,49 @@
-use Rattle.std.specs.List.{FoldsTo}
-use Rattle.std.proofs.Common.{List, ℕ, ◌∙◌, map, ap, subst, sym}
+use Rattle.std.proofs.Common.{List, ℕ, ◌∙◌, ◌≡◌, ap, map, subst, sym}
 use Rattle.gk_gherkin.specs.Feature.{StepValue, step_value, texts}
-use Rattle.gk_select.specs.Case.{CaseValue, case_value}
-use Rattle.gk_world.specs.State.{State, state_of}
-use Rattle.gk_run.specs.declared.reserved.Heading.{Heading}
+use Rattle.gk_select.specs.Case.{case_value}
+use Rattle.gk_world.specs.State.{state_of}
+use Rattle.gk_run.specs.declared.ending.Ending.TheVariants as endings
+use Rattle.gk_run.specs.declared.results.Status.{Status}
+use Rattle.gk_run.specs.declared.section.Level.TheVariants as levels
+use Rattle.gk_run.specs.Ending.{around_status, verdict_status, worse}
 use Rattle.gk_run.specs.Results.{CaseRow, step_row}
-use Rattle.gk_run.specs.Running.{row_with, IsCaseEnd, IsReached, ran}
 use Rattle.gk_run.specs.Run.{run_value}
-use Rattle.gk_run.specs.Watching.{in_order, told_case, told_happened}
-use Rattle.gk_run.proofs.SectionLemmas.{row_is}
+use Rattle.gk_run.specs.SectionHooks.{after_lists, begun, entered}
+use Rattle.gk_run.specs.WalkContracts.{Happens, IsClosing, stand_of}
+use Rattle.gk_run.specs.Watching.{AreEventsTold}
+use Rattle.gk_run.proofs.SectionLemmas.{case_told}
+use Rattle.gk_run.proofs.WalkLemmas.{AllSteps}
 use Rattle.gk_run.proofs.running.case_in.Goals as goal
-
-pub returns-clause-row : goal.returns-clause-row
-returns-clause-row g c =
-    let run = run_value c.args.run.now in
-    let section = state_of c.args.sandbox.now.now in
-    let case = case_value c.args.case in
-    let end = c.run_alone-end.result in
-    let rows = map step_row end.steps.items in
-    let reserved = c.in_ok-reserved.ensures in
-    let tags = ap texts c.as_slice.ensures.value ∙ ap (λ ts. texts ts.items) reserved.own_tags in
-    let steps = ap (λ ss. map step_value ss.items) reserved.steps in
-    let ended = c.run_alone-end.ensures.end in
-    let known : IsCaseEnd run section (ran case.own_tags case.steps) end.status end.around end.cleanups.items rows =
-    subst (λ ss. IsCaseEnd run section (ran case.own_tags ss) end.status end.around end.cleanups.items rows) steps
-    (subst (λ ts. IsCaseEnd run section (ran ts (map step_value c.in_ok-reserved.reserved.steps.steps.items)) end.status end.around end.cleanups.items rows) tags ended) in
-    let is = row_is run section case end.status end.around end.cleanups.items rows known in
-    let row = c.case_result.ensures ∙ ap (λ (h : Heading). row_with h end) reserved.heading in
-    subst (λ (r : CaseRow). IsReached run section case r) (sym row) is
 
 pub returns-clause-told : goal.returns-clause-told
 returns-clause-told g c =
-    let first = c.args.observer.now in
-    let last = c.run_alone-end.new.observer in
+    let hears = g.O.Observer.hears in
     let run = run_value c.args.run.now in
     let section = state_of c.args.sandbox.now.now in
-    let end = c.run_alone-end.result in
     let case = case_value c.args.case in
-    let reserved = c.in_ok-reserved.ensures in
-    let rows = map step_row end.steps.items in
-    let steps = ap (λ ss. map step_value ss.items) reserved.steps in
-    let tags = ap texts c.as_slice.ensures.value ∙ ap (λ ts. texts ts.items) reserved.own_tags in
-    let IsRan : CaseValue → Type 0 = λ x. (is : IsCaseEnd run section x end.status end.around end.cleanups.items rows) × (s : State) × FoldsTo g.O.Observer.hears first (in_order (told_happened s is.cut (told_case run section x))) last in
-    let known : IsRan (ran case.own_tags case.steps) =
-    subst (λ (ss : List StepValue). IsRan (ran case.own_tags ss)) steps
-    (subst (λ (ts : List (List ℕ)). IsRan (ran ts (map step_value c.in_ok-reserved.reserved.steps.steps.items))) tags c.run_alone-end.ensures.told) in
-    let is = row_is run section case end.status end.around end.cleanups.items rows known.0 in
-    let row = c.case_result.ensures ∙ ap (λ (h : Heading). row_with h end) reserved.heading in
-    record { cut = known.0.cut; is = row ∙ is.1; refusing = known.1; told = known.2 }
+    let opened = c.open_section-opened.result in
+    let b = opened.before in
+    let e = c.run_steps-ending.result.ending in
+    let closed = c.end_section-closed.result in
+    let start = stand_of c.open_section-opened.new.sandbox opened.cleanups in
+    let mid = stand_of c.run_steps-ending.new.sandbox c.run_steps-ending.new.cleanups in
+    let rows = map step_row c.run_steps-ending.result.results.items in
+    let first = c.args.observer.now in
+    let here = c.open_section-opened.new.observer in
+    let there = c.run_steps-ending.new.observer in
+    let last = c.end_section-closed.new.observer in
+    let tags : texts c.as_slice.result.now ≡ case.own_tags = ap texts c.as_slice.ensures.value in
+    let opens = c.open_section-opened.ensures in
+    let begins = opens.0.begins in
+    let Begins : List (List ℕ) → Type 0 = λ ts. Happens hears endings.Passed (begun run.library run.hooks levels.Scenario ts section) (entered section) start b first here in
+    let before0 : Begins (texts c.as_slice.result.now) = record { told = opens.0.first; heard = opens.1; so_far = begins.so_far; ends = begins.ends; stands = begins.stands } in
+    let before : Begins case.own_tags = subst Begins tags before0 in
+    let ran = c.run_steps-ending.ensures.stepped in
+    let Ran : List StepValue → Type 0 = λ ss. AllSteps hears run.library b start mid ss e rows here there in
+    let steps0 : Ran (map step_value c.in_ok-steps.steps.steps.items) = record { goes = ran.goes; rows_are = ran.rows } in
+    let steps : Ran case.steps = subst Ran (ap (λ ss. map step_value ss.items) c.in_ok-steps.ensures) steps0 in
+    let closing = subst (λ (ts : List (List ℕ)). IsClosing hears run.library levels.Scenario (after_lists run.hooks levels.Scenario ts) e mid closed.ending closed.outcomes.items there last) tags c.end_section-closed.ensures.closed in
+    let row : Status → Status → CaseRow = λ v a. record { keyword = case.keyword; name = case.name; line = case.line; status = v; around = a; cleanups = closed.outcomes.items; steps = rows } in
+    subst (λ (v : Status). AreEventsTold hears run section case (row v c.around_status.result) first last) (sym (c.verdict_status.ensures ∙ ap verdict_status c.worse.ensures))
+    (subst (λ (a : Status). AreEventsTold hears run section case (row (verdict_status (worse e closed.ending)) a) first last) (sym (c.around_status.ensures ∙ ap around_status c.worse-2.ensures))
+    (case_told hears run section case b e closed.ending start mid closed.outcomes.items rows first here there last before steps.goes steps.rows_are closing))

@@ -1,11 +1,9 @@
 use Rattle.std.proofs.Common.{◌≡◌, List, [], map, ap, sym, ◌∙◌}
 use Rattle.gk_gherkin.specs.Feature.{StepValue, step_value}
 use Rattle.gk_select.specs.Case.{case_value}
-use Rattle.gk_run.specs.declared.reserved.Heading.{Heading}
 use Rattle.gk_run.specs.declared.results.Outcome.{Outcome}
 use Rattle.gk_run.specs.declared.results.Status.TheVariants as statuses
 use Rattle.gk_run.specs.Results.{StepRow, CaseRow, step_row}
-use Rattle.gk_run.specs.Running.{row_with}
 use Rattle.gk_run.specs.Walk.{row_of_step}
 use Rattle.gk_run.proofs.CasesLemmas.{all_unrun}
 use Rattle.gk_run.proofs.running.unrun_case.Goals as goal
@@ -14,9 +12,7 @@ pub returns : goal.returns
 returns c =
     let case = case_value c.args.case in
     let mark = c.args.mark in
-    let reserved = c.in_ok-reserved.ensures in
     let unrun : List StepValue → List StepRow = λ steps. map (λ (s : StepValue). row_of_step s mark) steps in
-    let all : map step_row c.unrun_steps.result.items ≡ unrun case.steps = c.unrun_steps.ensures ∙ ap (λ steps. unrun (map step_value steps.items)) reserved.steps in
+    let all : map step_row c.unrun_steps.result.items ≡ unrun case.steps = c.unrun_steps.ensures ∙ ap (λ steps. unrun (map step_value steps.items)) c.in_ok-steps.ensures in
     let row : List Outcome → List StepRow → CaseRow = λ cleanups steps. record { keyword = case.keyword; name = case.name; line = case.line; status = c.args.status; around = statuses.Passed; cleanups = cleanups; steps = steps } in
-    c.case_result.ensures ∙ ap (λ (h : Heading). row_with h (record { status = c.args.status; around = statuses.Passed; cleanups = c.new.result; steps = c.unrun_steps.result })) reserved.heading
-    ∙ ap (λ (cleanups : List Outcome). row cleanups (map step_row c.unrun_steps.result.items)) c.new.ensures.items ∙ ap (row []) (all ∙ sym (all_unrun mark case.steps))
+    ap (λ (cleanups : List Outcome). row cleanups (map step_row c.unrun_steps.result.items)) c.new.ensures.items ∙ ap (row []) (all ∙ sym (all_unrun mark case.steps))

@@ -6,7 +6,7 @@ use Rattle.gk_run.specs.declared.results.Status.TheVariants as statuses
 use Rattle.gk_run.specs.Results.{case_row}
 use Rattle.gk_run.specs.Section.{Cut, nowhere}
 use Rattle.gk_run.specs.Run.{run_of}
-use Rattle.gk_run.specs.Running.{unrun_row, IsReached, marks_of}
+use Rattle.gk_run.specs.Running.{unrun_row, IsReached, same_marks}
 use Rattle.gk_run.specs.Chosen.{member_of}
 use Rattle.gk_run.specs.Cases.{case_of}
 use Rattle.gk_run.proofs.CasesLemmas.{if_ok, reached_is, unselected_is, unreached_is}
@@ -18,7 +18,7 @@ pub returns-then-not-selected-clause-row : goal.returns-then-not-selected-clause
 returns-then-not-selected-clause-row g c =
     let run = run_of c.args.run.now.library.now c.args.run.now.hooks.now.file.now c.args.run.now.stop in
     let m = member_of c.args.member.case c.args.member.selected in
-    if_ok (λ (r : CaseResult). case_row r ≡ unrun_row m.scenario statuses.Skipped (marks_of marks.Skipped m.scenario))
+    if_ok (λ (r : CaseResult). case_row r ≡ unrun_row m.scenario statuses.Skipped (same_marks marks.Skipped m.scenario))
     (λ (r : CaseResult). (section : State) → (c.args.is_open ≡ true → state_of c.args.sandbox.now.now ≡ section) → (x : Cut) × (case_row r ≡ case_of run section c.args.is_open x m))
     c.unrun_case.result (λ r e section opens. (nowhere, unselected_is run section c.args.is_open m (case_row r) c.if-not-selected.true e)) c.unrun_case.ensures
 
@@ -26,7 +26,7 @@ pub returns-then-not-is_open-clause-row : goal.returns-then-not-is_open-clause-r
 returns-then-not-is_open-clause-row g c =
     let run = run_of c.args.run.now.library.now c.args.run.now.hooks.now.file.now c.args.run.now.stop in
     let m = member_of c.args.member.case c.args.member.selected in
-    if_ok (λ (r : CaseResult). case_row r ≡ unrun_row m.scenario statuses.Untested (marks_of marks.Untested m.scenario))
+    if_ok (λ (r : CaseResult). case_row r ≡ unrun_row m.scenario statuses.Untested (same_marks marks.Untested m.scenario))
     (λ (r : CaseResult). (section : State) → (c.args.is_open ≡ true → state_of c.args.sandbox.now.now ≡ section) → (x : Cut) × (case_row r ≡ case_of run section c.args.is_open x m))
     c.unrun_case-then-not-is_open.result (λ r e section opens. (nowhere, unreached_is run section c.args.is_open m (case_row r) c.if-not-selected.false c.if-not-is_open.true e)) c.unrun_case-then-not-is_open.ensures
 
@@ -35,10 +35,10 @@ returns-clause-row g c =
     let run = run_of c.args.run.now.library.now c.args.run.now.hooks.now.file.now c.args.run.now.stop in
     let m = member_of c.args.member.case c.args.member.selected in
     let now = state_of c.args.sandbox.now.now in
-    if_ok (λ (r : CaseResult). IsReached run now m.scenario (case_row r)) (λ (r : CaseResult). (section : State) → (c.args.is_open ≡ true → now ≡ section) → (x : Cut) × (case_row r ≡ case_of run section c.args.is_open x m))
+    if_ok (λ (r : CaseResult). AreEventsTold g.O.Observer.hears run now m.scenario (case_row r) c.args.observer.now c.case_in.new.observer) (λ (r : CaseResult). (section : State) → (c.args.is_open ≡ true → now ≡ section) → (x : Cut) × (case_row r ≡ case_of run section c.args.is_open x m))
     c.case_in.result
-    (λ r reached section opens. reached_is run section c.args.is_open m (case_row r) c.if-not-selected.false c.if-not-is_open.false (subst (λ (s : State). IsReached run s m.scenario (case_row r)) (opens c.if-not-is_open.false) reached))
-    c.case_in.ensures.row
+    (λ r told section opens. reached_is run section c.args.is_open m (case_row r) c.if-not-selected.false c.if-not-is_open.false (subst (λ (s : State). IsReached run s m.scenario (case_row r)) (opens c.if-not-is_open.false) (told.cut, told.is)))
+    c.case_in.ensures.told
 
 pub returns-then-not-selected-clause-told : goal.returns-then-not-selected-clause-told
 returns-then-not-selected-clause-told g c =
@@ -47,7 +47,7 @@ returns-then-not-selected-clause-told g c =
     let now = state_of c.args.sandbox.now.now in
     let old = c.args.observer.now in
     let hears = g.O.Observer.hears in
-    ok_at_all (λ (r : CaseResult). case_row r ≡ unrun_row m.scenario statuses.Skipped (marks_of marks.Skipped m.scenario))
+    ok_at_all (λ (r : CaseResult). case_row r ≡ unrun_row m.scenario statuses.Skipped (same_marks marks.Skipped m.scenario))
     (λ (r : CaseResult). (section : State) → (c.args.is_open ≡ true → now ≡ section) → IsMemberTold hears run section c.args.is_open m (case_row r) old old)
     c.unrun_case.result c.unrun_case.ensures (λ r section opens. unselected_told hears run section c.args.is_open m (case_row r) old c.if-not-selected.true)
 
@@ -58,7 +58,7 @@ returns-then-not-is_open-clause-told g c =
     let now = state_of c.args.sandbox.now.now in
     let old = c.args.observer.now in
     let hears = g.O.Observer.hears in
-    ok_at_all (λ (r : CaseResult). case_row r ≡ unrun_row m.scenario statuses.Untested (marks_of marks.Untested m.scenario))
+    ok_at_all (λ (r : CaseResult). case_row r ≡ unrun_row m.scenario statuses.Untested (same_marks marks.Untested m.scenario))
     (λ (r : CaseResult). (section : State) → (c.args.is_open ≡ true → now ≡ section) → IsMemberTold hears run section c.args.is_open m (case_row r) old old)
     c.unrun_case-then-not-is_open.result c.unrun_case-then-not-is_open.ensures (λ r section opens. unreached_told hears run section c.args.is_open m (case_row r) old c.if-not-selected.false c.if-not-is_open.true)
 

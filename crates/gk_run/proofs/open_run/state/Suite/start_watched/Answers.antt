@@ -1,11 +1,14 @@
-use Rattle.std.proofs.Common.{rules}
+use Rattle.std.specs.List.{FoldsTo}
+use Rattle.std.proofs.Common.{[], refl, subst}
+use Rattle.gk_gherkin.specs.declared.hooks.HookFile.{HookFile}
+use Rattle.gk_run.specs.declared.section.Level.TheVariants as levels
+use Rattle.gk_run.specs.Run.{run_of}
+use Rattle.gk_run.specs.SectionContracts.{IsOpened}
 use Rattle.gk_run.proofs.open_run.state.Suite.start_watched.Goals as goal
 
-pub returns-clause-started : goal.returns-clause-started
-returns-clause-started g c = record {
-  runs = search rules;
-  opened = search rules;
-  passed = search rules;
-  stops = search rules;
-  unfailed = search rules;
-}
+pub returns : goal.returns
+returns g c =
+    let section = c.open_section-section.result in
+    let opens = subst (λ (file : HookFile). (is : IsOpened (run_of c.args.library.now file c.args.stop) levels.Run [] c.args.sandbox.now c.open_section-section.new.sandbox section) × FoldsTo g.O.Observer.hears c.args.observer.now is.first c.open_section-section.new.observer)
+    c.without_index-hooks.ensures c.open_section-section.ensures in
+    (record { runs = refl; opened = opens.0; passed = c.has_passed-is_open.ensures; stops = refl; unfailed = refl }, opens.1)

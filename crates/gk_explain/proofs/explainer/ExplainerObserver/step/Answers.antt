@@ -1,0 +1,17 @@
+use Rattle.std.proofs.Common.{rules, ◌≡◌, ◌∙◌, false, [], List}
+use Rattle.gk_gherkin.specs.Feature.{step_value}
+use Rattle.gk_world.specs.State.{state_of}
+use Rattle.gk_run.specs.Acting.{CleanupValue}
+use Rattle.gk_run.specs.Events.{of_step}
+use Rattle.gk_explain.specs.Explanation.{with_event}
+use Rattle.gk_explain.specs.Explainer.{is_cut, said}
+use Rattle.gk_explain.proofs.ExplanationLemmas.{whatever_registered}
+use Rattle.gk_explain.proofs.explainer.ExplainerObserver.step.Goals as goal
+
+pub returns : goal.returns
+returns c registered uncut =
+    let old = said c.args.self.now in
+    let step = step_value c.args.step.now in
+    let s = state_of c.args.sandbox.now.now in
+    let known : is_cut c.cut_after.new.self ≡ false → (is_cut c.args.self.now ≡ false) × (said c.cut_after.new.self ≡ with_event (of_step c.args.place step c.args.mark [] s) old) = search rules in
+    ((known uncut).0, (known uncut).1 ∙ whatever_registered c.args.place step c.args.mark registered s old)

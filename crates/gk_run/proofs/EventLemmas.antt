@@ -1,0 +1,67 @@
+-- How events end, where they are cut, and where they leave a section.
+use Rattle.std.specs.List.{FoldsTo, list_any}
+use Rattle.std.proofs.Common.{Bool, List, [], ap, cond, false, refl, subst, suc, sym, true, zero, ℕ, ◌++◌, ◌||◌, ◌∙◌, ◌∷◌, ◌≡◌}
+use Rattle.std.proofs.lemmas.Bool.{true≢false}
+use Rattle.gk_world.specs.State.{State}
+use Rattle.gk_run.specs.declared.ending.Ending.TheVariants as endings
+use Rattle.gk_run.specs.Ending.{ended_of, is_bad_mark, is_memory_mark, is_skip_mark, worse}
+use Rattle.gk_run.specs.Events.{Event, Stand, after_event, cut_at, ended_in, event_marks, left_by, mark_of, of_cleanup, of_step, outcomes_of, refused}
+use Rattle.gk_run.specs.Section.{is_place}
+use Rattle.gk_run.proofs.EndingLemmas.{ended_append, or_true, worse_memory}
+
+pub marks_append : (xs ys : List Event) → event_marks (xs ++ ys) ≡ event_marks xs ++ event_marks ys
+marks_append [] ys = refl
+marks_append (x ∷ xs) ys = ap (λ ms. mark_of x ∷ ms) (marks_append xs ys)
+
+pub ended_both : (xs ys : List Event) → ended_in (xs ++ ys) ≡ worse (ended_in xs) (ended_in ys)
+ended_both xs ys = ap ended_of (marks_append xs ys) ∙ ended_append (event_marks xs) (event_marks ys)
+
+-- where one part ends with memory, all do
+pub first_refused : (xs ys : List Event) → ended_in xs ≡ endings.Memory → ended_in (xs ++ ys) ≡ endings.Memory
+first_refused xs ys h = ended_both xs ys ∙ ap (λ e. worse e (ended_in ys)) h
+
+pub later_refused : (xs ys : List Event) → ended_in ys ≡ endings.Memory → ended_in (xs ++ ys) ≡ endings.Memory
+later_refused xs ys h = ended_both xs ys ∙ ap (worse (ended_in xs)) h ∙ worse_memory (ended_in xs)
+
+pub outcomes_append : (xs ys : List Event) → outcomes_of (xs ++ ys) ≡ outcomes_of xs ++ outcomes_of ys
+outcomes_append [] ys = refl
+outcomes_append (of_step place step mark registered s ∷ xs) ys = outcomes_append xs ys
+outcomes_append (of_cleanup level cleanup outcome s ∷ xs) ys = ap (λ os. outcome ∷ os) (outcomes_append xs ys)
+
+pub left_both : (stand : Stand) (xs ys : List Event) → left_by stand (xs ++ ys) ≡ left_by (left_by stand xs) ys
+left_both stand [] ys = refl
+left_both stand (x ∷ xs) ys = left_both (after_event stand x) xs ys
+
+-- telling one after another
+pub heard_both : {S : Type 0} (hears : S → Event → S → Type 0) (a : S) (xs : List Event) (b : S) (ys : List Event) (c : S) → FoldsTo hears a xs b → FoldsTo hears b ys c → FoldsTo hears a (xs ++ ys) c
+heard_both hears a [] b ys c p q = subst (λ s. FoldsTo hears s ys c) (sym p) q
+heard_both hears a (x ∷ xs) b ys c p q = (p.0, p.1, heard_both hears p.0 xs b ys c p.2 q)
+
+-- ---- where events are cut
+
+abbrev pub count : List Event → ℕ
+count [] = zero
+count (x ∷ xs) = suc (count xs)
+
+pub place_there : (front : List Event) (event : Event) (rest : List Event) → is_place (count front) (front ++ event ∷ rest) ≡ true
+place_there [] event rest = refl
+place_there (x ∷ front) event rest = place_there front event rest
+
+pub cut_there : (s : State) (front : List Event) (event : Event) (rest : List Event) → front ++ refused s event ∷ [] ≡ cut_at (count front) s (front ++ event ∷ rest)
+cut_there s [] event rest = refl
+cut_there s (x ∷ front) event rest = ap (λ xs. x ∷ xs) (cut_there s front event rest)
+
+-- a cut is marked
+refused_is_memory : (s : State) (event : Event) → list_any is_memory_mark (event_marks (refused s event ∷ [])) ≡ true
+refused_is_memory s (of_step place step mark registered left) = refl
+refused_is_memory s (of_cleanup level cleanup outcome left) = refl
+
+pub cut_is_memory : (events : List Event) (n : ℕ) (s : State) → is_place n events ≡ true → list_any is_memory_mark (event_marks (cut_at n s events)) ≡ true
+cut_is_memory [] n s h = absurd (true≢false (sym h))
+cut_is_memory (x ∷ xs) zero s h = refused_is_memory s x
+cut_is_memory (x ∷ xs) (suc n) s h = ap (λ b. is_memory_mark (mark_of x) || b) (cut_is_memory xs n s h) ∙ or_true (is_memory_mark (mark_of x))
+
+pub cut_ends : (events : List Event) (n : ℕ) (s : State) → is_place n events ≡ true → ended_in (cut_at n s events) ≡ endings.Memory
+cut_ends events n s h =
+    let marks = event_marks (cut_at n s events) in
+    ap (λ b. cond b endings.Memory (cond (list_any is_bad_mark marks) endings.Failed (cond (list_any is_skip_mark marks) endings.Skipped endings.Passed))) (cut_is_memory events n s h)
