@@ -32,7 +32,7 @@ README_LINES = 120
 # Folders that checking and building make. A fresh clone has none of them.
 BUILT = ("out", "__pycache__")
 # Pages for users that aren't held against prose.py yet.
-UNREAD = {f"docs/guide/{it}.md" for it in ("from_python", "installing", "editors", "pytest")}
+UNREAD = {f"docs/guide/{it}.md" for it in ("from_python", "pytest")}
 # The endings of files that pages name.
 SOURCES = (".rt", ".antt", ".py", ".sh", ".awk", ".c", ".feature", ".steps", ".edit", ".arguments", ".report", ".status", ".fault")
 

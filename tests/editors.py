@@ -119,6 +119,28 @@ def in_vim(text, arguments, folder):
         return [tuple(json.loads(it)) for it in file]
 
 
+def blocks(page, kind):
+    """The fenced blocks of a page that have these words after their fence."""
+    with open(os.path.join(driver.HOME, page), encoding="utf-8") as file:
+        return re.findall(rf"^```{kind}\n(.*?)^```$", file.read(), re.MULTILINE | re.DOTALL)
+
+
+def as_the_page_says(program, folder):
+    """The places in vim's quickfix list after each block for Vim of docs/guide/editors.md."""
+    os.makedirs(os.path.join(folder, "home/bin"))
+    os.symlink(program, os.path.join(folder, "home/bin/gherkin_run"))
+    settings = {**os.environ, "HOME": os.path.join(folder, "home"), "PATH": f"{folder}/home/bin:{os.environ['PATH']}"}
+    subprocess.run(["sh", "-eu", "-c", *blocks("docs/guide/editors.md", "sh")], cwd=driver.HOME, env=settings, check=True)
+    for block in blocks("docs/guide/editors.md", "vim"):
+        script = [block.replace("login.feature", "a.feature"), "call writefile(map(filter(getqflist(), 'v:val.valid'),"
+                  " 'json_encode([bufname(v:val.bufnr), v:val.lnum])'), 'places')", "qall!"]
+        driver.write(folder, {"script.vim": "\n".join(script) + "\n"})
+        subprocess.run(["vim", "-es", "-N", "-u", "NONE", "-S", "script.vim"], cwd=folder, env=settings, check=False,
+                       stdin=subprocess.DEVNULL, stdout=subprocess.DEVNULL, stderr=subprocess.DEVNULL, timeout=60)
+        with open(os.path.join(folder, "places"), encoding="utf-8") as file:
+            yield [tuple(json.loads(it)) for it in file]
+
+
 def main():
     program, folder = sys.argv[1:]
     os.makedirs(os.path.join(folder, "in a folder"))
@@ -138,6 +160,13 @@ def main():
                 passed += 1
             else:
                 failed.append(f"{name} finds {found} in {arguments}, and not {wanted}: {text}")
+    if shutil.which("vim"):
+        wanted = [[("a.feature", line) for line in (4, 6, 7, 9, 10)], [("a.feature", 7)]]
+        found = list(as_the_page_says(program, folder))
+        if found == wanted:
+            passed += 1
+        else:
+            failed.append(f"vim finds {found} as docs/guide/editors.md says, and not {wanted}")
     for it in failed:
         print(it)
     print(f"{passed} passed, {len(failed)} failed")

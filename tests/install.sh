@@ -336,9 +336,8 @@ commands_of() {
 runs_as_printed() {
     commands_of "$1" > "$room/commands"
     [ -s "$room/commands" ] && (
-        rm -rf "$room/top"
-        mkdir "$room/top"
-        ln -s "$home/install" "$room/top/install"
+        mkdir -p "$room/top"
+        ln -sf "$home/install" "$room/top/install"
         cd "$room/top"
         HOME=$room/place sh -eu "$room/commands"
     )
@@ -349,8 +348,20 @@ page_installs_and_removes() {
         runs_as_printed remove && [ -z "$(ls -A "$room/place")" ]
 }
 
+# The line for a shell's own file, after which the shell completes the program's words.
+page_readies_bash() {
+    runs_as_printed install && commands_of bash > "$room/commands" &&
+        HOME=$room/place bash --norc -c '. "$0"; complete -p gherkin_run' "$room/commands"
+}
+
+page_readies_zsh() {
+    runs_as_printed install && commands_of zsh > "$room/commands" &&
+        [ "$(HOME=$room/place zsh -f -c '. "$0"; autoload -U compinit; compinit -D -u; echo $_comps[gherkin_run]' \
+            "$room/commands")" = _gherkin_run ]
+}
+
 page_makes_an_archive() {
-    runs_as_printed archive && tar -xzf "$room/top/gherkin_run.tar.gz" -C "$room/place" &&
+    runs_as_printed archive && runs_as_printed unpack > "$room/report" && "$program" --version | cmp - "$room/report" &&
         it_is_all_there "$room/place/gherkin_run" && an_example_runs "$room/place/gherkin_run"
 }
 
@@ -459,6 +470,14 @@ fi
 clear
 holds "the page's commands install and remove" page_installs_and_removes
 holds "the page's commands make an archive" page_makes_an_archive
+clear
+if command -v bash > /dev/null; then
+    holds "the page's line for bash lets it complete" page_readies_bash
+fi
+clear
+if command -v zsh > /dev/null; then
+    holds "the page's line for zsh lets it complete" page_readies_zsh
+fi
 clear
 if command -v dpkg-deb > /dev/null; then
     holds "the page's commands make a Debian package" page_makes_a_debian_package

@@ -30,7 +30,7 @@ MARKUP = "</textarea></pre><script>document.title = 'taken'</script> " \
          "<img src=x onerror=\"document.title = 'taken'\"> &amp; {page} ${1} \\u003c"
 SMALL = driver.feature("Given it passes")
 # Something in each field of the page.
-FULL = {"files": [["ä \"1\".feature", "Feature: ü <&> \U0001f600\n  Scenario: s\n\tGiven the lamp\n"],
+FULL = {"files": [["ä \"1\".feature", "Feature: ü <&> ~~~~~ ????? \U0001f600\n  Scenario: s\n\tGiven the lamp\n"],
                   ["b.feature", "Feature: b\n"]],
         "library": "step the lamp => pass\n", "libraryName": "my.steps",
         "hooks": "before_all:\n  Given the lamp\n", "hooksName": "my.hooks",
@@ -401,7 +401,10 @@ def link(page):
     yield holds("a run overwrites what is said of the link", page.text("#notice").startswith("The link is "))
     yield same("the address after a run", page.value("location.href"), address)
     yield same("the length of the browser's history", page.value("history.length"), before)
-    page.load("#" + address.split("#")[1])
+    fragment = address.split("#")[1]
+    good = re.fullmatch("[A-Za-z0-9_-]+", fragment) and {"-", "_"} <= set(fragment)
+    yield holds(f"a link has characters that an address can't have everywhere: {fragment}", good)
+    page.load("#" + fragment)
     yield same("the inputs of a link", page.inputs(), FULL)
     yield holds("fields that a link fills aren't open", page.value("[...document.querySelectorAll('details')].every((it) => it.open)"))
     page.load(link_to({"files": [["a.feature", SMALL]]}))
@@ -457,6 +460,9 @@ def address(page):
     time.sleep(0.3)
     found = page.value("location.hash !== '' && $('notice').textContent !== ''")
     yield holds("a key on the list of examples takes the link out of the address", found)
+    page.load("?of=a#" + link_to(FULL)[1:])
+    page.type("#files .text", "x")
+    yield same("an address with a query", page.value("location.href"), PAGE + "?of=a")
 
 
 def wrong_fragments():
@@ -526,7 +532,8 @@ def long_link(page):
 def example_key(page):
     """A key on the list of examples leaves what was typed. Open replaces it, and Undo brings it back."""
     page.load()
-    yield holds("Undo is offered before there is anything to undo", page.one("#undo", "hidden"))
+    yield same("whether Undo is hidden, and the chosen example", [page.one("#undo", "hidden"), page.one("#example", "value")],
+               [True, os.path.basename(FIRST)])
     page.type("#files .text", SMALL)
     page.settle()
     typed = page.inputs()
@@ -614,15 +621,17 @@ def order(page):
     page.load()
     page.value("$('example').value = 'kitchen.feature'; $('open').click()")
     page.settle()
-    found = []
+    found, rings = [], set()
     while len(found) < 40:
         page.press("Tab")
         if page.focused() == "nothing":
             break
         found.append(page.focused())
+        rings.add(page.value("(({ outlineStyle, outlineWidth }) => `${outlineStyle} ${outlineWidth}`)(getComputedStyle(document.activeElement))"))
     wanted = ["example", "open", "undo", "link", "Name of feature file", "Feature file", "add", "Run", "halt", "report", "format", "dryRun",
               "stop", "noSkipped", "Own steps, in place of the built-in steps", "libraryName", "library", "Hooks", "Tags, lines and variables"]
     yield same("the Tab key", found, wanted)
+    yield same("the rings around what has the focus", rings, {"solid 2px"})
     tops = [page.one(it, "getBoundingClientRect().top") for it in ("h1", "#example", "#files .text", "#add", "#format", "#library", "footer")]
     yield same("the places of the controls", tops, sorted(tops))
 
@@ -634,6 +643,7 @@ def label(page):
     good = len(names) >= 28 and "" not in names and set(names.values()) == {1}
     yield holds(f"controls without a name, or with the same: {names}", good)
     yield same("the parts that are read out when they change", len(page.tree("status")), 2)
+    yield same("the regions of the page", [it["name"]["value"] for it in page.tree("region")], ["Report", "Text of the report"])
     unlabeled = page.value("[...document.querySelectorAll('input, textarea, select')]"
                            ".filter((it) => !it.labels.length && !it.ariaLabel).length")
     yield same("fields without a label", unlabeled, 0)
@@ -641,6 +651,7 @@ def label(page):
                          ".filter((it) => it.spellcheck).length")
     yield same("fields with a spelling checker", checked, 0)
     yield same("whether the browser fills the fields", page.one("#inputs", "autocomplete"), "off")
+    yield same("the language of the page", page.one("html", "lang"), "en")
     yield same("how a feature's lines are broken", page.value("getComputedStyle(document.querySelector('#files .text')).whiteSpace"), "pre")
     yield same("what is said without scripts", page.one("noscript", "innerText").strip(), "<p>This page needs JavaScript.</p>")
 
@@ -685,6 +696,10 @@ def overtaken(page):
     page.browser.wait(f"asked > {before}")
     time.sleep(0.4)
     yield same("the runs after five keys", page.value("asked") - before, 1)
+    page.settle()
+    page.value("runNow(); halt()")
+    time.sleep(0.6)
+    yield same("the status some time after a run that was ended at once", page.text("#status"), "Nothing failed, status 0")
 
 
 def entered(page):
@@ -748,8 +763,9 @@ def markup(page):
     yield holds(f"a wrong line shows {page.text('#linesWrong')}", page.text("#linesWrong").startswith(said))
     page.click("#add")
     page.click("#link")
+    before = page.inputs()
     page.load(page.value("location.hash"))
-    yield same("markup in a link", [page.value(ELEMENTS), page.inputs()["lines"]], wanted[:2])
+    yield same("markup in a link", [page.value(ELEMENTS), page.inputs()], [wanted[0], before])
     for message in ("ended({ number: asked, error: %s })", "worker.onerror({ message: %s })"):
         page.value(message % json.dumps(MARKUP))
         state, status, text = page.shown()
@@ -793,6 +809,8 @@ def layout(page):
             page.value(f"window.scrollTo(0, {place})")
             edges = [page.one("#status", f"getBoundingClientRect().{it}") for it in ("top", "bottom")]
             yield holds(f"at {width} pixels, scrolled to {place}, the verdict is at {edges}", 0 <= edges[0] < edges[1] <= height)
+        padding = page.value("getComputedStyle(document.documentElement).scrollPaddingBottom")
+        yield same(f"at {width} pixels, what is kept free for the verdict", padding, "64px" if width < 960 else "auto")
     sides = [page.one("#files", "getBoundingClientRect().right"), page.one("#report", "getBoundingClientRect().left")]
     yield holds(f"at 1920 pixels the report isn't beside the feature: {sides}", sides[0] < sides[1])
 

@@ -310,7 +310,7 @@ def cleaning_leaves_the_program(clone):
 
 def a_word_of_the_script_stands_alone(clone):
     answers = [clone.run(word, EXAMPLE) for word in ("--which", "--build", "--clean")]
-    return all(says(answer, 2, b"stands alone") for answer in answers) and is_right(clone.run())
+    return all(says(answer, 2, b"takes no other argument") for answer in answers) and is_right(clone.run())
 
 
 def is_running(pid):

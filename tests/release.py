@@ -198,7 +198,7 @@ def stopped_at_each_step(released, how):
         status, said, _ = released.run(at=at, how=how)
         state = released.state()
         # The last step removes what the script itself made.
-        left = [it for it in released.clone.left() if at < released.first[2] - 2 or not it.startswith("release.")]
+        left = [it for it in released.clone.left() if at < released.first[2] or not it.startswith("release.")]
         last = (said.splitlines() or [""])[-1]
         is_right = state == released.after if status == 0 else (
             state == released.before and last.startswith("release: ") and said.count("release: ") == 1)

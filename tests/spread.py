@@ -180,7 +180,7 @@ def compared(name, own, options, files, program=PROGRAM, folder=None, **environm
 def of_long_names():
     """More bytes of names than one command takes, so there are more parts than --files says."""
     folder = os.path.join(ROOM, "many")
-    names = [f"a_näme_of_mäny_bytes_{'ä' * 40}_{number}.feature" for number in range(1001, 2601)]
+    names = [f"a_näme_of_mäny_bytes_{'ä' * 100}_{number}.feature" for number in range(1001, 1801)]
     driver.write(folder, {it: PASSES for it in names})
     return compared("parts that are too long", ["--files", "3000"], [], names, folder=folder, LC_ALL="C.UTF-8")
 

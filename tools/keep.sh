@@ -1,8 +1,8 @@
 #!/bin/sh
 # Keeps the program that was just built, in out/, with its sums: tools/keep.sh SOURCES
 #
-# SOURCES is what tools/sources.sh printed before the build. Where the sources have changed since, nothing is
-# kept, and the status is 1. Each file is put in its place whole.
+# SOURCES is what tools/sources.sh printed before the build. If the sources have changed since, it keeps nothing, and
+# the status is 1. Each file is renamed into place.
 set -eu
 
 cd "$(dirname -- "$(readlink -f -- "$0")")/.."
@@ -21,7 +21,7 @@ rt version > "$room/gherkin_run.kit"
 # What each crate was built as, which web/build/capture_module.sh builds the library over.
 find crates -path '*/out/rlib/*.rlib/format' -exec sha256sum {} + > "$room/gherkin_run.libraries"
 echo "$1" > "$room/gherkin_run.sources"
-# The sum of the sources comes last, so what it stands for is there.
+# The sum of the sources comes last: ./run takes the program only with it.
 rm -f out/gherkin_run.sources
 for kind in "" .sha256 .kit .libraries .sources; do
     mv "$room/gherkin_run$kind" "out/gherkin_run$kind"
