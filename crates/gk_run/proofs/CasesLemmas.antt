@@ -12,10 +12,16 @@ use Rattle.gk_run.specs.declared.results.Mark.TheVariants.{Skipped, Untested}
 use Rattle.gk_run.specs.declared.results.Status.{Status}
 use Rattle.gk_run.specs.declared.results.Status.TheVariants as statuses
 use Rattle.gk_run.specs.Run.{Run}
-use Rattle.gk_run.specs.Running.{reached_row, unrun_row, unreached_row, unselected_row, IsReached, same_marks}
+use Rattle.gk_run.specs.Running.{alone, reached_row, unrun_row, unreached_row, unselected_row, same_marks}
 use Rattle.gk_run.specs.Walk.{row_of_step, rows_of_steps}
 use Rattle.gk_run.specs.Chosen.{MemberValue, has_selected, member_of, members_of}
-use Rattle.gk_run.specs.Cases.{all_stay_open, case_of, cases_of, members_in, stays_open, AreCases, RunsCases, TakesMember}
+use Rattle.std.specs.List.{FoldsTo}
+use Rattle.gk_run.specs.Cases.{all_stay_open, case_of, cases_of, stays_open}
+use Rattle.gk_run.specs.Events.{Event}
+use Rattle.gk_run.specs.FeatureContracts.{AreCases, IsMember, RunsCases, TakesMember, members_in}
+use Rattle.gk_run.specs.Watching.{AreEventsTold, Ended, Told, case_events, cases_told, happens, has_ended, of_case, tells}
+use Rattle.gk_run.proofs.EventLemmas.{heard_both}
+use Rattle.gk_run.proofs.ToldLemmas.{heard_told}
 use Rattle.gk_run.specs.Grouping.{falls_from, members_of_rank}
 use Rattle.gk_run.proofs.GroupingLemmas.{and_left, first_of_rank, none_of_rank, not_of_rank}
 use Rattle.gk_run.specs.declared.cases.Cases.{Cases}
@@ -26,7 +32,7 @@ use Rattle.gk_select.specs.RuleOrder as order
 use Rattle.std.proofs.lemmas.Bool.{eq-eqb}
 use Rattle.gk_run.specs.declared.results.RuleResult.{RuleResult}
 use Rattle.gk_run.specs.Results.{CaseRow, RuleRow, StepRow, case_row, rule_row}
-use Rattle.gk_run.specs.Section.{Cut, nowhere}
+use Rattle.gk_run.specs.Section.{Cut, happened, in_order, nowhere}
 use Rattle.gk_run.proofs.Nothing.{nothing_in}
 
 -- a test of statuses, as the code makes it
@@ -96,35 +102,7 @@ without_marks : (steps : List StepValue) → rows_of_steps steps [] ≡ rows_of_
 without_marks [] = refl
 without_marks (step ∷ steps) = ap (λ rs. row_of_step step Untested ∷ rs) (without_marks steps)
 
--- however what is left is cut, the whole has cuts with these rows before the others
-abbrev pub GoesCases : Run → State → Bool → List MemberValue → List CaseRow → Bool → List MemberValue → Type 0
-GoesCases run first first_open all rows is_open left =
-    (section : State) → (first_open ≡ true → first ≡ section) → (cuts : List Cut) → (whole : List Cut) × (rows ++ cases_of run section is_open cuts left ≡ cases_of run section first_open whole all)
-
-pub cases_first : (run : Run) (first : State) (first_open : Bool) (all : List MemberValue) → GoesCases run first first_open all [] first_open all
-cases_first run first first_open all section opens cuts = (cuts, refl)
-
-pub cases_on : (run : Run) (first now : State) (first_open : Bool) (all : List MemberValue) (rows pushed : List CaseRow) (row : CaseRow) (is_open next : Bool) (m : MemberValue) (left : List MemberValue) →
-    now ≡ first → (is_open ≡ true → first_open ≡ true) →
-    ((section : State) → (is_open ≡ true → now ≡ section) → (cut : Cut) × (row ≡ case_of run section is_open cut m)) → next ≡ (is_open && stays_open run row.status) → pushed ≡ rows ++ row ∷ [] →
-    GoesCases run first first_open all rows is_open (m ∷ left) → GoesCases run first first_open all pushed next left
-cases_on run first now first_open all rows pushed row is_open next m left same earlier one nexts push goes section opens cuts =
-    let here = one section (λ o. same ∙ opens (earlier o)) in
-    let whole = goes section opens (here.0 ∷ cuts) in (
-      whole.0,
-      ap (λ rs. rs ++ cases_of run section next cuts left) push
-          ∙ append_assoc rows (row ∷ []) (cases_of run section next cuts left)
-          ∙ ap (λ b. rows ++ row ∷ cases_of run section b cuts left) nexts
-          ∙ ap (λ (x : CaseRow). rows ++ x ∷ cases_of run section (is_open && stays_open run x.status) cuts left) here.1
-          ∙ whole.1,
-    )
-
-pub cases_last : (run : Run) (first : State) (first_open : Bool) (all : List MemberValue) (rows : List CaseRow) (is_open : Bool) (left : List MemberValue) → left ≡ [] →
-    GoesCases run first first_open all rows is_open left → AreCases run first first_open all rows
-cases_last run first first_open all rows is_open [] none goes section opens = let whole = goes section opens [] in (whole.0, sym (append-nil rows) ∙ whole.1)
-cases_last run first first_open all rows is_open (m ∷ left) none goes section opens = let no : ⊥ = cc in absurd no
-
--- ---- a case in which nothing happens
+-- ---- a case
 
 pub unselected_is : (run : Run) (section : State) (is_open : Bool) (m : MemberValue) (row : CaseRow) → m.selected ≡ false → row ≡ unrun_row m.scenario statuses.Skipped (same_marks Skipped m.scenario) → row ≡ case_of run section is_open nowhere m
 unselected_is run section is_open m row h e =
@@ -138,23 +116,82 @@ unreached_is run section is_open m row h o e =
     e ∙ ap with_rows (sym (without_marks c.steps)) ∙ ap (λ (b : Bool). cond b (reached_row run section nowhere c) (unreached_row c)) (sym o)
     ∙ ap (λ (b : Bool). cond b (cond is_open (reached_row run section nowhere c) (unreached_row c)) (unselected_row c)) (sym h)
 
-pub reached_is : (run : Run) (section : State) (is_open : Bool) (m : MemberValue) (row : CaseRow) → m.selected ≡ true → is_open ≡ true → IsReached run section m.scenario row → (cut : Cut) × (row ≡ case_of run section is_open cut m)
-reached_is run section is_open m row h o reached =
+pub reached_is : (run : Run) (section : State) (is_open : Bool) (cut : Cut) (m : MemberValue) (row : CaseRow) → m.selected ≡ true → is_open ≡ true → row ≡ reached_row run section cut m.scenario → row ≡ case_of run section is_open cut m
+reached_is run section is_open cut m row h o is =
     let c = m.scenario in
-    let x = reached_row run section reached.0 c in
-    (reached.0, reached.1 ∙ ap (λ (b : Bool). cond b x (unreached_row c)) (sym o) ∙ ap (λ (b : Bool). cond b (cond is_open x (unreached_row c)) (unselected_row c)) (sym h))
+    let x = reached_row run section cut c in
+    is ∙ ap (λ (b : Bool). cond b x (unreached_row c)) (sym o) ∙ ap (λ (b : Bool). cond b (cond is_open x (unreached_row c)) (unselected_row c)) (sym h)
+
+-- nothing happens in an unselected case
+pub member_unselected : {S : Type 0} (hears : S → Event → S → Type 0) (run : Run) (now : State) (is_open : Bool) (m : MemberValue) (row : CaseRow) (first : S) → m.selected ≡ false → row ≡ unrun_row m.scenario statuses.Skipped (same_marks Skipped m.scenario) →
+    IsMember hears run now is_open m row first first
+member_unselected hears run now is_open m row first h e section opens =
+    let events = in_order (happened nowhere (alone run section m.scenario)) in
+    (nowhere, unselected_is run section is_open m row h e, subst (λ (b : Bool). FoldsTo hears first (cond (b && is_open) events []) first) (sym h) refl)
+
+-- nor in one that isn't reached
+pub member_unreached : {S : Type 0} (hears : S → Event → S → Type 0) (run : Run) (now : State) (is_open : Bool) (m : MemberValue) (row : CaseRow) (first : S) → m.selected ≡ true → is_open ≡ false → row ≡ unrun_row m.scenario statuses.Untested (same_marks Untested m.scenario) →
+    IsMember hears run now is_open m row first first
+member_unreached hears run now is_open m row first h o e section opens =
+    let events = in_order (happened nowhere (alone run section m.scenario)) in
+    (nowhere, unreached_is run section is_open m row h o e, subst (λ (b : Bool). FoldsTo hears first (cond (b && is_open) events []) first) (sym h) (subst (λ (b : Bool). FoldsTo hears first (cond b events []) first) (sym o) refl))
+
+pub member_reached : {S : Type 0} (hears : S → Event → S → Type 0) (run : Run) (now : State) (is_open : Bool) (m : MemberValue) (row : CaseRow) (first last : S) → m.selected ≡ true → is_open ≡ true → AreEventsTold hears run now m.scenario row first last →
+    IsMember hears run now is_open m row first last
+member_reached hears run now is_open m row first last h o told section opens =
+    let here = subst (λ (s : State). AreEventsTold hears run s m.scenario row first last) (opens o) told in
+    let events = in_order (happened here.cut (alone run section m.scenario)) in
+    (here.cut, reached_is run section is_open here.cut m row h o here.is, subst (λ (b : Bool). FoldsTo hears first (cond (b && is_open) events []) last) (sym h) (subst (λ (b : Bool). FoldsTo hears first (cond b events []) last) (sym o) here.told))
 
 pub if_ok : {A E : Type 0} (P Q : A → Type 0) (x : Result A E) → ((a : A) → P a → Q a) → IfOk x P → IfOk x Q
 if_ok P Q (Ok a) f h = f a h
 if_ok P Q (Err e) f h = h
 
+-- the same from a fact that is given first
+pub of_ok : {A E : Type 0} {P : A → Type 0} (Q : A → Type 0) (x : Result A E) → IfOk x P → ((a : A) → P a → Q a) → IfOk x Q
+of_ok Q (Ok a) h f = f a h
+of_ok Q (Err e) h f = h
+
+-- ---- cases, one after another
+
+-- however what is left is cut and told, the whole has cuts with these rows before the others, and was told so
+abbrev pub GoesCases : {S : Type 0} → (S → Told → S → Type 0) → Run → State → Bool → List MemberValue → List CaseRow → Bool → List MemberValue → S → S → Type 0
+GoesCases {S} told run first first_open all rows is_open left begin here =
+    (section : State) → (first_open ≡ true → first ≡ section) → (cuts : List Cut) (last : S) → FoldsTo told here (cases_told run section is_open cuts left) last →
+    (whole : List Cut) × (rows ++ cases_of run section is_open cuts left ≡ cases_of run section first_open whole all) × FoldsTo told begin (cases_told run section first_open whole all) last
+
+pub cases_on : {S : Type 0} (hears : S → Event → S → Type 0) (ends : S → Ended → S → Type 0) (run : Run) (first now : State) (first_open : Bool) (all : List MemberValue) (rows : List CaseRow) (row : CaseRow) (is_open next : Bool) (m : MemberValue) (left : List MemberValue) (begin here ran after : S) →
+    now ≡ first → (is_open ≡ true → first_open ≡ true) → IsMember hears run now is_open m row here ran → ends ran (of_case row) after → next ≡ (is_open && stays_open run row.status) →
+    GoesCases (tells hears ends) run first first_open all rows is_open (m ∷ left) begin here → GoesCases (tells hears ends) run first first_open all (rows ++ row ∷ []) next left begin after
+cases_on hears ends run first now first_open all rows row is_open next m left begin here ran after same earlier one ended nexts goes section opens cuts last rest =
+    let this = one section (λ o. same ∙ opens (earlier o)) in
+    let events = case_events run section is_open this.0 m in
+    let of_row = case_of run section is_open this.0 m in
+    let stays : next ≡ (is_open && stays_open run of_row.status) = nexts ∙ ap (λ (x : CaseRow). is_open && stays_open run x.status) this.1 in
+    let later : FoldsTo (tells hears ends) after (cases_told run section (is_open && stays_open run of_row.status) cuts left) last = subst (λ (b : Bool). FoldsTo (tells hears ends) after (cases_told run section b cuts left) last) stays rest in
+    let ends_so : ends ran (of_case of_row) after = subst (λ (x : CaseRow). ends ran (of_case x) after) this.1 ended in
+    let whole = goes section opens (this.0 ∷ cuts) last
+    (heard_both (tells hears ends) here (map happens events) ran (has_ended (of_case of_row) ∷ cases_told run section (is_open && stays_open run of_row.status) cuts left) last (heard_told hears ends here events ran this.2) (after, ends_so, later)) in (
+      whole.0,
+      append_assoc rows (row ∷ []) (cases_of run section next cuts left)
+          ∙ ap (λ b. rows ++ row ∷ cases_of run section b cuts left) nexts
+          ∙ ap (λ (x : CaseRow). rows ++ x ∷ cases_of run section (is_open && stays_open run x.status) cuts left) this.1
+          ∙ whole.1,
+      whole.2,
+    )
+
+pub cases_last : {S : Type 0} (told : S → Told → S → Type 0) (run : Run) (first : State) (first_open : Bool) (all : List MemberValue) (rows : List CaseRow) (is_open : Bool) (left : List MemberValue) (begin here : S) → left ≡ [] →
+    GoesCases told run first first_open all rows is_open left begin here → AreCases told run first first_open all rows begin here
+cases_last told run first first_open all rows is_open [] begin here none goes section opens = let whole = goes section opens [] here refl in (whole.0, sym (append-nil rows) ∙ whole.1, whole.2)
+cases_last told run first first_open all rows is_open (m ∷ left) begin here none goes section opens = let no : ⊥ = cc in absurd no
+
 -- ---- the cases of a rank
 
 -- the cases that were taken so far, and those of the rank that are left
-pub record GoesOn (run : Run) (first : State) (is_open : Bool) (old now : Cases) (all_stay : Bool) : Type 0 where
+pub record GoesOn {S : Type 0} (hears : S → Event → S → Type 0) (ends : S → Ended → S → Type 0) (run : Run) (first : State) (is_open : Bool) (old now : Cases) (all_stay : Bool) (begin here : S) : Type 0 where
   pub rows : List CaseRow
   pub told : map case_row now.results.items ≡ map case_row old.results.items ++ rows
-  pub goes : GoesCases run first is_open (members_of_rank old.rank (members_in old)) rows (is_open && all_stay) (members_of_rank old.rank (members_in now))
+  pub goes : GoesCases (tells hears ends) run first is_open (members_of_rank old.rank (members_in old)) rows (is_open && all_stay) (members_of_rank old.rank (members_in now)) begin here
   pub stay : all_stay ≡ all_stay_open run rows
   pub rank : now.rank ≡ old.rank
   pub others : (other : ℕ) → old.rank < other → members_of_rank other (members_in now) ≡ members_of_rank other (members_in old)
@@ -170,13 +207,13 @@ pub and_assoc : (a b c : Bool) → ((a && b) && c) ≡ (a && (b && c))
 and_assoc true b c = refl
 and_assoc false b c = refl
 
-pub goes_first : (run : Run) (first : State) (is_open : Bool) (old : Cases) → GoesOn run first is_open old old true
-goes_first run first is_open old =
+pub goes_first : {S : Type 0} (hears : S → Event → S → Type 0) (ends : S → Ended → S → Type 0) (run : Run) (first : State) (is_open : Bool) (old : Cases) (begin : S) → GoesOn hears ends run first is_open old old true begin begin
+goes_first hears ends run first is_open old begin =
     let all = members_of_rank old.rank (members_in old) in
     record {
       rows = [];
       told = sym (append-nil (map case_row old.results.items));
-      goes = subst (λ (b : Bool). GoesCases run first is_open all [] b all) (sym (and_true is_open)) (cases_first run first is_open all);
+      goes = subst (λ (b : Bool). GoesCases (tells hears ends) run first is_open all [] b all begin begin) (sym (and_true is_open)) (λ section opens cuts last h. (cuts, refl, h));
       stay = refl;
       rank = refl;
       others = λ other lt. refl;
@@ -186,39 +223,41 @@ pub all_stay_push : (run : Run) (rows : List CaseRow) (row : CaseRow) → all_st
 all_stay_push run [] row = and_true (stays_open run row.status)
 all_stay_push run (r ∷ rows) row = ap (λ b. stays_open run r.status && b) (all_stay_push run rows row) ∙ sym (and_assoc (stays_open run r.status) (all_stay_open run rows) (stays_open run row.status))
 
-pub goes_on : (run : Run) (first now_state : State) (is_open : Bool) (old now taken next : Cases) (m : Member) (row : CaseResult) (all_stay opens stays : Bool) →
-    GoesOn run first is_open old now all_stay → TakesMember now (Some m) taken → opens ≡ (is_open && all_stay) → now_state ≡ first →
-    ((section : State) → (opens ≡ true → now_state ≡ section) → (cut : Cut) × (case_row row ≡ case_of run section opens cut (member_of m.case m.selected))) → stays ≡ (all_stay && stays_open run row.status) →
-    next.rank ≡ taken.rank → members_in next ≡ members_in taken → next.results.items ≡ taken.results.items ++ row ∷ [] → GoesOn run first is_open old next stays
-goes_on run first now_state is_open old now taken next m row all_stay opens stays so_far takes open_is same one stays_is rank_is members_is pushed =
+pub goes_on : {S : Type 0} (hears : S → Event → S → Type 0) (ends : S → Ended → S → Type 0) (run : Run) (first now_state : State) (is_open : Bool) (old now taken next : Cases) (m : Member) (row : CaseResult) (all_stay opens stays : Bool) (begin here ran after : S) →
+    GoesOn hears ends run first is_open old now all_stay begin here → TakesMember now (Some m) taken → opens ≡ (is_open && all_stay) → now_state ≡ first →
+    IsMember hears run now_state opens (member_of m.case m.selected) (case_row row) here ran → ends ran (of_case (case_row row)) after → stays ≡ (all_stay && stays_open run row.status) →
+    next.rank ≡ taken.rank → members_in next ≡ members_in taken → next.results.items ≡ taken.results.items ++ row ∷ [] → GoesOn hears ends run first is_open old next stays begin after
+goes_on hears ends run first now_state is_open old now taken next m row all_stay opens stays begin here ran after so_far takes open_is same one ended stays_is rank_is members_is pushed =
     let r = old.rank in
     let all = members_of_rank r (members_in old) in
     let this = member_of m.case m.selected in
     let behind = members_in taken in
     let rows = so_far.rows in
+    let told_by = tells hears ends in
     let of_rank = takes.1 ∙ so_far.rank in
     let told : map case_row next.results.items ≡ map case_row old.results.items ++ (rows ++ case_row row ∷ []) =
     ap (map case_row) pushed ∙ map_push case_row taken.results.items row ∙ ap (λ (rs : Vec CaseResult Global). map case_row rs.items ++ case_row row ∷ []) takes.3 ∙ ap (λ rs. rs ++ case_row row ∷ []) so_far.told
     ∙ append_assoc (map case_row old.results.items) rows (case_row row ∷ []) in
     let first_is : members_of_rank r (members_in now) ≡ this ∷ members_of_rank r behind = ap (members_of_rank r) takes.0 ∙ first_of_rank r this behind (eq-eqb (order.rank m.case.rule) r of_rank) in
-    let before : GoesCases run first is_open all rows (is_open && all_stay) (this ∷ members_of_rank r behind) = subst (λ (left : List MemberValue). GoesCases run first is_open all rows (is_open && all_stay) left) first_is so_far.goes in
-    let here : (section : State) → ((is_open && all_stay) ≡ true → now_state ≡ section) → (cut : Cut) × (case_row row ≡ case_of run section (is_open && all_stay) cut this) =
-    subst (λ (b : Bool). (section : State) → (b ≡ true → now_state ≡ section) → (cut : Cut) × (case_row row ≡ case_of run section b cut this)) open_is one in
-    let after : GoesCases run first is_open all (rows ++ case_row row ∷ []) (is_open && stays) (members_of_rank r behind) =
-    cases_on run first now_state is_open all rows (rows ++ case_row row ∷ []) (case_row row) (is_open && all_stay) (is_open && stays) this (members_of_rank r behind) same (and_left is_open all_stay) here
-    (ap (λ b. is_open && b) stays_is ∙ sym (and_assoc is_open all_stay (stays_open run row.status))) refl before in
+    let before : GoesCases told_by run first is_open all rows (is_open && all_stay) (this ∷ members_of_rank r behind) begin here =
+    subst (λ (left : List MemberValue). GoesCases told_by run first is_open all rows (is_open && all_stay) left begin here) first_is so_far.goes in
+    let there : IsMember hears run now_state (is_open && all_stay) this (case_row row) here ran = subst (λ (b : Bool). IsMember hears run now_state b this (case_row row) here ran) open_is one in
+    let later : GoesCases told_by run first is_open all (rows ++ case_row row ∷ []) (is_open && stays) (members_of_rank r behind) begin after =
+    cases_on hears ends run first now_state is_open all rows (case_row row) (is_open && all_stay) (is_open && stays) this (members_of_rank r behind) begin here ran after same (and_left is_open all_stay) there ended
+    (ap (λ b. is_open && b) stays_is ∙ sym (and_assoc is_open all_stay (stays_open run row.status))) before in
     record {
       rows = rows ++ case_row row ∷ [];
       told = told;
-      goes = subst (λ (ms : List MemberValue). GoesCases run first is_open all (rows ++ case_row row ∷ []) (is_open && stays) (members_of_rank r ms)) (sym members_is) after;
+      goes = subst (λ (ms : List MemberValue). GoesCases told_by run first is_open all (rows ++ case_row row ∷ []) (is_open && stays) (members_of_rank r ms) begin after) (sym members_is) later;
       stay = stays_is ∙ ap (λ b. b && stays_open run row.status) so_far.stay ∙ sym (all_stay_push run rows (case_row row));
       rank = rank_is ∙ takes.2 ∙ so_far.rank;
       others = λ other lt.
           ap (members_of_rank other) members_is ∙ sym (not_of_rank other this behind (λ is. let no : ⊥ = apart r other (order.rank m.case.rule) lt of_rank is in no)) ∙ ap (members_of_rank other) (sym takes.0) ∙ so_far.others other lt;
     }
 
-pub goes_last : (run : Run) (first : State) (is_open : Bool) (old now last : Cases) (all_stay : Bool) → GoesOn run first is_open old now all_stay → TakesMember now None last → RunsCases run first is_open old last all_stay
-goes_last run first is_open old now last all_stay so_far none =
+pub goes_last : {S : Type 0} (hears : S → Event → S → Type 0) (ends : S → Ended → S → Type 0) (run : Run) (first : State) (is_open : Bool) (old now last : Cases) (all_stay : Bool) (begin here : S) → GoesOn hears ends run first is_open old now all_stay begin here → TakesMember now None last →
+    RunsCases hears ends run first is_open old last begin here all_stay
+goes_last hears ends run first is_open old now last all_stay begin here so_far none =
     let r = old.rank in
     let all = members_of_rank r (members_in old) in
     let falls : falls_from (suc r) now.waiting.items ≡ true = subst (λ (n : ℕ). falls_from (suc n) now.waiting.items ≡ true) so_far.rank none.1 in
@@ -226,7 +265,7 @@ goes_last run first is_open old now last all_stay so_far none =
     record {
       rows = so_far.rows;
       told = ap (λ (c : Cases). map case_row c.results.items) none.0 ∙ so_far.told;
-      are = cases_last run first is_open all so_far.rows (is_open && all_stay) (members_of_rank r (members_in now)) nothing so_far.goes;
+      are = cases_last (tells hears ends) run first is_open all so_far.rows (is_open && all_stay) (members_of_rank r (members_in now)) begin here nothing so_far.goes;
       stay = so_far.stay;
       left = record {
         rank = ap (λ (c : Cases). c.rank) none.0 ∙ so_far.rank;

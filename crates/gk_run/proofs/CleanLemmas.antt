@@ -1,7 +1,5 @@
 -- Cleanups, the last first.
-use Rattle.std.specs.List.{FoldsTo}
-use Rattle.std.proofs.Common.{List, [], ap, append_assoc, false, refl, subst, sym, ◌++◌, ◌∙◌, ◌∷◌, ◌≡◌}
-use Rattle.std.proofs.lemmas.List.{append-nil}
+use Rattle.std.proofs.Common.{List, [], ap, false, refl, sym, ◌++◌, ◌∙◌, ◌∷◌, ◌≡◌}
 use Rattle.gk_steps.specs.Finding.{LibraryValue}
 use Rattle.gk_world.specs.State.{State}
 use Rattle.gk_run.specs.declared.ending.Ending.{Ending}

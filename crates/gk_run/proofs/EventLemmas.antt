@@ -1,6 +1,6 @@
 -- How events end, where they are cut, and where they leave a section.
 use Rattle.std.specs.List.{FoldsTo, list_any}
-use Rattle.std.proofs.Common.{Bool, List, [], ap, cond, false, refl, subst, suc, sym, true, zero, ℕ, ◌++◌, ◌||◌, ◌∙◌, ◌∷◌, ◌≡◌}
+use Rattle.std.proofs.Common.{List, [], ap, cond, refl, subst, suc, sym, true, zero, ℕ, ◌++◌, ◌||◌, ◌∙◌, ◌∷◌, ◌≡◌}
 use Rattle.std.proofs.lemmas.Bool.{true≢false}
 use Rattle.gk_world.specs.State.{State}
 use Rattle.gk_run.specs.declared.ending.Ending.TheVariants as endings
@@ -33,7 +33,7 @@ left_both stand [] ys = refl
 left_both stand (x ∷ xs) ys = left_both (after_event stand x) xs ys
 
 -- telling one after another
-pub heard_both : {S : Type 0} (hears : S → Event → S → Type 0) (a : S) (xs : List Event) (b : S) (ys : List Event) (c : S) → FoldsTo hears a xs b → FoldsTo hears b ys c → FoldsTo hears a (xs ++ ys) c
+pub heard_both : {S A : Type 0} (hears : S → A → S → Type 0) (a : S) (xs : List A) (b : S) (ys : List A) (c : S) → FoldsTo hears a xs b → FoldsTo hears b ys c → FoldsTo hears a (xs ++ ys) c
 heard_both hears a [] b ys c p q = subst (λ s. FoldsTo hears s ys c) (sym p) q
 heard_both hears a (x ∷ xs) b ys c p q = (p.0, p.1, heard_both hears p.0 xs b ys c p.2 q)
 

@@ -1,5 +1,5 @@
 -- What is inside of a feature, and what it comes to.
-use Rattle.std.proofs.Common.{Bool, List, [], ap, arith, false, flat_map, map, suc, sym, true, zero, ℕ, ◌&&◌, ◌++◌, ◌<◌, ◌≤◌, ◌∙◌, ◌≡◌}
+use Rattle.std.proofs.Common.{Bool, List, [], ap, arith, false, flat_map, map, subst, suc, sym, true, zero, ℕ, ◌&&◌, ◌++◌, ◌<◌, ◌≤◌, ◌∙◌, ◌≡◌}
 use Rattle.std.proofs.lemmas.List.{append-nil}
 use Rattle.gk_world.specs.State.{State}
 use Rattle.gk_run.specs.declared.cases.Cases.{Cases}
@@ -7,13 +7,18 @@ use Rattle.gk_run.specs.declared.results.RuleResult.{RuleResult}
 use Rattle.gk_run.specs.declared.results.Status.{Status}
 use Rattle.gk_run.specs.declared.results.Status.TheVariants as statuses
 use Rattle.gk_run.specs.declared.section.Level.TheVariants as levels
-use Rattle.gk_run.specs.Cases.{RunsCases, all_stay_open, case_statuses, cases_of, members_in}
+use Rattle.std.specs.List.{FoldsTo}
+use Rattle.gk_run.specs.Cases.{all_stay_open, case_statuses, cases_of}
+use Rattle.gk_run.specs.Events.{Event}
+use Rattle.gk_run.specs.FeatureContracts.{IsFeatureEnd, IsInside, RunsCases, RunsFeature, RunsRules, members_in}
+use Rattle.gk_run.specs.Watching.{Ended, Told, cases_told, inside_told, rules_told, section_told, tells}
+use Rattle.gk_run.proofs.EventLemmas.{heard_both}
 use Rattle.gk_run.specs.Chosen.{ChosenValue, HeadValue, MemberValue, has_selected}
-use Rattle.gk_run.specs.Features.{FeatureCuts, FeaturesWithoutRulesHaveTheirCases, IsFeatureEnd, IsFeatureResult, IsInside, feature_row_of, feature_verdict, inside_by, inside_of, rule_statuses}
+use Rattle.gk_run.specs.Features.{FeatureCuts, FeaturesWithoutRulesHaveTheirCases, feature_row_of, feature_verdict, inside_by, inside_of, rule_statuses}
 use Rattle.gk_run.specs.Grouping.{CasesFallIntoRules, Group, groups_from, members_of_rank, own_members, rule_groups}
 use Rattle.gk_run.specs.OpenSection.{SectionRow, happened_in, section_of, section_state}
 use Rattle.gk_run.specs.Results.{CaseRow, FeatureRow, case_row, rule_row}
-use Rattle.gk_run.specs.Rules.{Inside, RunsRules, rules_of}
+use Rattle.gk_run.specs.Rules.{Inside, rules_of}
 use Rattle.gk_run.specs.Run.{Run}
 use Rattle.gk_run.specs.Section.{around_of, before_passed, nowhere}
 use Rattle.gk_run.proofs.GroupingLemmas.{and_left, groups_all, groups_same}
@@ -22,49 +27,63 @@ pub later_rank : (first other : ℕ) → first ≡ 0 → suc zero ≤ other → 
 later_rank first other is le = omega (arith, is, le)
 
 -- what is inside, from its own cases and its rules
-pub inside_is : (run : Run) (now then : State) (is_open all_stay : Bool) (heads : List HeadValue) (old mid new : Cases) (results : List RuleResult) → old.rank ≡ 0 → old.results.items ≡ [] → then ≡ now →
-    RunsCases run now is_open old mid all_stay → RunsRules run then (is_open && all_stay) heads mid new results →
-    IsInside run now is_open (members_of_rank 0 (members_in old)) (groups_from 1 heads (members_in old)) (record { rules = map rule_row results; cases = map case_row new.results.items })
-inside_is run now then is_open all_stay heads old mid new results first nothing same cases rules section opens =
+pub inside_is : {S : Type 0} (hears : S → Event → S → Type 0) (ends : S → Ended → S → Type 0) (run : Run) (now then : State) (is_open all_stay opens : Bool) (heads : List HeadValue) (old mid new : Cases) (results : List RuleResult) (begin here last : S) → old.rank ≡ 0 → old.results.items ≡ [] → then ≡ now → opens ≡ (is_open && all_stay) →
+    RunsCases hears ends run now is_open old mid begin here all_stay → RunsRules hears ends run then opens heads mid new results here last →
+    IsInside (tells hears ends) run now is_open (members_of_rank 0 (members_in old)) (groups_from 1 heads (members_in old)) (record { rules = map rule_row results; cases = map case_row new.results.items }) begin last
+inside_is hears ends run now then is_open all_stay opens heads old mid new results begin here last first nothing same open_is cases rules section open_at =
+    let told_by = tells hears ends in
     let own = members_of_rank 0 (members_in old) in
     let groups = groups_from 1 heads (members_in old) in
     let own_is : members_of_rank old.rank (members_in old) ≡ own = ap (λ (r : ℕ). members_of_rank r (members_in old)) first in
-    let mine = cases.are section opens in
-    let theirs = rules.are section (λ o. same ∙ opens (and_left is_open all_stay o)) in
+    let mine = cases.are section open_at in
+    let theirs = rules.are section (λ o. same ∙ open_at (and_left is_open all_stay (sym open_is ∙ o))) in
     let rows_are : cases.rows ≡ cases_of run section is_open mine.0 own = mine.1 ∙ ap (cases_of run section is_open mine.0) own_is in
     let groups_are : groups_from (suc mid.rank) heads (members_in mid) ≡ groups =
     ap (λ (r : ℕ). groups_from (suc r) heads (members_in mid)) (cases.left.rank ∙ first) ∙ groups_same 1 heads (members_in mid) (members_in old) (λ other le. cases.left.others other (later_rank old.rank other first le)) in
+    let opens_so : opens ≡ (is_open && all_stay_open run (cases_of run section is_open mine.0 own)) = open_is ∙ ap (λ (b : Bool). is_open && b) (cases.stay ∙ ap (all_stay_open run) rows_are) in
     let told : map case_row new.results.items ≡ cases.rows ++ rules.rows =
     rules.told ∙ ap (λ (rs : List CaseRow). rs ++ rules.rows) (cases.told ∙ ap (λ rs. map case_row rs ++ cases.rows) nothing) in
     let both : List CaseRow → Inside → Inside = λ rs n. record { rules = n.rules; cases = rs ++ n.cases } in
-    let whole : List CaseRow → Inside = λ rs. both rs (rules_of run section (is_open && all_stay_open run rs) theirs.0 groups) in (
+    let heard_cases : FoldsTo told_by begin (cases_told run section is_open mine.0 own) here = subst (λ (ms : List MemberValue). FoldsTo told_by begin (cases_told run section is_open mine.0 ms) here) own_is mine.2 in
+    let heard_rules = subst (λ (b : Bool). FoldsTo told_by here (rules_told run section b theirs.0 groups) last) opens_so (subst (λ (gs : List Group). FoldsTo told_by here (rules_told run section opens theirs.0 gs) last) groups_are theirs.2) in (
       mine.0,
       theirs.0,
       ap (λ (rs : List CaseRow). record { rules = map rule_row results; cases = rs }) told
           ∙ ap (both cases.rows) theirs.1
-          ∙ ap (λ (gs : List Group). both cases.rows (rules_of run section (is_open && all_stay) theirs.0 gs)) groups_are
-          ∙ ap (λ (b : Bool). both cases.rows (rules_of run section (is_open && b) theirs.0 groups)) cases.stay
-          ∙ ap whole rows_are,
+          ∙ ap (λ (gs : List Group). both cases.rows (rules_of run section opens theirs.0 gs)) groups_are
+          ∙ ap (λ (b : Bool). both cases.rows (rules_of run section b theirs.0 groups)) opens_so
+          ∙ ap (λ rs. both rs (rules_of run section (is_open && all_stay_open run (cases_of run section is_open mine.0 own)) theirs.0 groups)) rows_are,
+      heard_both told_by begin (cases_told run section is_open mine.0 own) here (rules_told run section (is_open && all_stay_open run (cases_of run section is_open mine.0 own)) theirs.0 groups) last heard_cases heard_rules,
     )
 
 -- a feature that isn't begun
-pub feature_unbegun : (run : Run) (now : State) (is_begun : Bool) (tags : List (List ℕ)) (own : List MemberValue) (groups : List Group) (inside : Inside) → is_begun ≡ false → IsInside run now false own groups inside →
-    IsFeatureEnd run now is_begun tags own groups (record { around = statuses.Passed; inside = inside })
-feature_unbegun run now true tags own groups inside unbegun is outside opens = let no : ⊥ = cc in absurd no
-feature_unbegun run now false tags own groups inside unbegun is outside opens =
-    let known = is (section_state run levels.Feature tags outside) (λ o. let no : ⊥ = cc in absurd no) in
-    (nowhere, known.0, known.1, ap (λ (i : Inside). record { around = statuses.Passed; inside = i }) known.2)
+pub feature_unbegun : {S : Type 0} (told : S → Told → S → Type 0) (run : Run) (now : State) (is_begun : Bool) (tags : List (List ℕ)) (own : List MemberValue) (groups : List Group) (inside : Inside) (first last : S) → is_begun ≡ false → IsInside told run now false own groups inside first last →
+    IsFeatureEnd told run now is_begun tags own groups (record { around = statuses.Passed; inside = inside }) first last
+feature_unbegun told run now true tags own groups inside first last unbegun is outside opens = let no : ⊥ = cc in absurd no
+feature_unbegun told run now false tags own groups inside first last unbegun is outside opens =
+    let section = section_state run levels.Feature tags outside in
+    let known = is section (λ o. let no : ⊥ = cc in absurd no) in (
+      nowhere,
+      known.0,
+      known.1,
+      ap (λ (i : Inside). record { around = statuses.Passed; inside = i }) known.2,
+      subst (λ xs. FoldsTo told first xs last) (sym (append-nil (inside_told run section false known.0 known.1 own groups))) known.3,
+    )
 
 -- the row of a feature, from what it came to
-pub feature_is : (run : Run) (now : State) (is_open is_begun : Bool) (f : ChosenValue) (status : Status) (end : SectionRow Inside) → is_begun ≡ (is_open && has_selected f.members) →
-    status ≡ feature_verdict end.around (rule_statuses end.inside.rules) (case_statuses end.inside.cases) → IsFeatureEnd run now is_begun f.tags (own_members f) (rule_groups f) end →
-    IsFeatureResult run now is_open f (record { source = f.source; name = f.name; line = f.line; status = status; around = end.around; rules = end.inside.rules; cases = end.inside.cases })
-feature_is run now is_open is_begun f status end begins verdict ends outside opens =
-    let known = ends outside (λ b. opens (and_left is_open (has_selected f.members) (sym begins ∙ b))) in
+pub feature_is : {S : Type 0} (hears : S → Event → S → Type 0) (ends : S → Ended → S → Type 0) (run : Run) (now : State) (is_open is_begun : Bool) (f : ChosenValue) (status : Status) (end : SectionRow Inside) (first last : S) → is_begun ≡ (is_open && has_selected f.members) →
+    status ≡ feature_verdict end.around (rule_statuses end.inside.rules) (case_statuses end.inside.cases) → IsFeatureEnd (tells hears ends) run now is_begun f.tags (own_members f) (rule_groups f) end first last →
+    RunsFeature hears ends run now is_open f first last (record { source = f.source; name = f.name; line = f.line; status = status; around = end.around; rules = end.inside.rules; cases = end.inside.cases })
+feature_is hears ends run now is_open is_begun f status end first last begins verdict comes outside opens =
+    let known = comes outside (λ b. opens (and_left is_open (has_selected f.members) (sym begins ∙ b))) in
     let row : Status → FeatureRow = λ s. record { source = f.source; name = f.name; line = f.line; status = s; around = end.around; rules = end.inside.rules; cases = end.inside.cases } in
     let inside : State → Bool → Inside = λ section is_ready. inside_by run section is_ready known.1 known.2 (own_members f) (rule_groups f) in
-    let by_end : SectionRow Inside → FeatureRow = λ e. feature_row_of f e.around e.inside in
-    (record { own = known.0; cases = known.1; rules = known.2 }, ap row verdict ∙ ap by_end (known.3 ∙ ap (λ (b : Bool). section_of run levels.Feature f.tags outside b known.0 inside) begins))
+    let heard : State → Bool → List Told = λ section is_ready. inside_told run section is_ready known.1 known.2 (own_members f) (rule_groups f) in
+    let by_end : SectionRow Inside → FeatureRow = λ e. feature_row_of f e.around e.inside in (
+      record { own = known.0; cases = known.1; rules = known.2 },
+      ap row verdict ∙ ap by_end (known.3 ∙ ap (λ (b : Bool). section_of run levels.Feature f.tags outside b known.0 inside) begins),
+      subst (λ (b : Bool). FoldsTo (tells hears ends) first (section_told run levels.Feature f.tags outside b known.0 heard) last) begins known.4,
+    )
 
 -- ---- a feature without rules
 

@@ -1,5 +1,4 @@
 -- What happens in a section, one part after another.
-use Rattle.std.specs.List.{FoldsTo}
 use Rattle.std.proofs.Common.{Bool, List, [], ap, append_assoc, false, refl, subst, sym, true, ◌++◌, ◌||◌, ◌∙◌, ◌∷◌, ◌≡◌}
 use Rattle.std.proofs.lemmas.Bool.{true≢false}
 use Rattle.std.proofs.lemmas.List.{append-nil}

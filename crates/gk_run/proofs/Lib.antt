@@ -8,11 +8,11 @@ pub mod GoesLemmas
 pub mod WalkLemmas
 pub mod CleanLemmas
 pub mod SectionLemmas
+pub mod ToldLemmas
 pub mod GroupingLemmas
 pub mod CasesLemmas
 pub mod RulesLemmas
 pub mod FeaturesLemmas
-pub mod WatchedRunLemmas
 pub mod FileOrder
 pub mod DryRunLemmas
 pub mod JudgedLemmas

@@ -7,14 +7,19 @@ use Rattle.gk_run.specs.declared.results.RuleResult.{RuleResult}
 use Rattle.gk_run.specs.declared.results.Status.TheVariants as statuses
 use Rattle.gk_run.specs.declared.rules.RuleEnd.{RuleEnd}
 use Rattle.gk_run.specs.declared.section.Level.TheVariants as levels
-use Rattle.gk_run.specs.Cases.{AreCases, cases_of, members_in, stays_open, stays_open_by}
+use Rattle.std.specs.List.{FoldsTo}
+use Rattle.gk_run.specs.Cases.{cases_of, stays_open, stays_open_by}
+use Rattle.gk_run.specs.Events.{Event}
+use Rattle.gk_run.specs.FeatureContracts.{AreCases, IsRule, IsRuleBegun, RunsRule, RunsRules, members_in}
+use Rattle.gk_run.specs.Watching.{Ended, Told, cases_told, has_ended, of_rule, rule_told, rules_told, section_told, tells}
+use Rattle.gk_run.proofs.EventLemmas.{heard_both}
 use Rattle.gk_run.specs.Chosen.{HeadValue, MemberValue, has_selected}
 use Rattle.gk_run.specs.Grouping.{Group, falls_from, groups_from, members_of_rank}
 use Rattle.gk_run.specs.OpenSection.{SectionRow, section_of, section_state}
 use Rattle.gk_run.specs.Results.{CaseRow, RuleRow, case_row, rule_row}
-use Rattle.gk_run.specs.Rules.{Inside, IsRule, RuleCuts, RunsRule, RunsRules, rule_stays_open, rules_of}
+use Rattle.gk_run.specs.Rules.{Inside, RuleCuts, rule_of, rule_stays_open, rules_of}
 use Rattle.gk_run.specs.Run.{Run}
-use Rattle.gk_run.specs.Section.{Cut, nowhere}
+use Rattle.gk_run.specs.Section.{nowhere}
 use Rattle.gk_run.proofs.GroupingLemmas.{and_left, groups_same}
 
 never_stops : (stop : Bool) → stays_open_by stop statuses.Passed ≡ true
@@ -25,46 +30,57 @@ pub passed_stays : (run : Run) → stays_open run statuses.Passed ≡ true
 passed_stays run = never_stops run.stop
 
 -- a rule that was begun, from what its section came to
-pub rule_begun : (run : Run) (now : State) (is_open is_begun : Bool) (tags : List (List ℕ)) (g : Group) (row : SectionRow (List CaseRow)) → is_begun ≡ (is_open && has_selected g.members) → is_begun ≡ true → tags ≡ g.head.tags →
-    ((cut : Cut) × (cuts : List Cut) × (row ≡ section_of run levels.Rule tags now true cut (λ section is_ready. cases_of run section is_ready cuts g.members))) → IsRule run now is_open g row
-rule_begun run now is_open is_begun tags g row begins begun same known outside opens =
+pub rule_begun : {S : Type 0} (told : S → Told → S → Type 0) (run : Run) (now : State) (is_open is_begun : Bool) (tags : List (List ℕ)) (g : Group) (row : SectionRow (List CaseRow)) (first last : S) → is_begun ≡ (is_open && has_selected g.members) → is_begun ≡ true → tags ≡ g.head.tags →
+    IsRuleBegun told run now tags g.members row first last → IsRule told run now is_open g row first last
+rule_begun told run now is_open is_begun tags g row first last begins begun same known outside opens =
     let inside : State → Bool → List CaseRow = λ section is_ready. cases_of run section is_ready known.1 g.members in
+    let heard : State → Bool → List Told = λ section is_ready. cases_told run section is_ready known.1 g.members in
     let here : now ≡ outside = opens (and_left is_open (has_selected g.members) (sym begins ∙ begun)) in (
       record { own = known.0; cases = known.1 },
       known.2 ∙ ap (λ (ts : List (List ℕ)). section_of run levels.Rule ts now true known.0 inside) same ∙ ap (λ (s : State). section_of run levels.Rule g.head.tags s true known.0 inside) here
           ∙ ap (λ (b : Bool). section_of run levels.Rule g.head.tags outside b known.0 inside) (sym begun ∙ begins),
+      subst (λ xs. FoldsTo told first xs last)
+          (ap (λ (ts : List (List ℕ)). section_told run levels.Rule ts now true known.0 heard) same ∙ ap (λ (s : State). section_told run levels.Rule g.head.tags s true known.0 heard) here
+          ∙ ap (λ (b : Bool). section_told run levels.Rule g.head.tags outside b known.0 heard) (sym begun ∙ begins)) known.3,
     )
 
 -- a rule that isn't begun
-pub rule_unbegun : (run : Run) (now : State) (is_open is_begun : Bool) (g : Group) (rows : List CaseRow) → is_begun ≡ (is_open && has_selected g.members) → is_begun ≡ false →
-    AreCases run now false g.members rows → IsRule run now is_open g (record { around = statuses.Passed; inside = rows })
-rule_unbegun run now is_open is_begun g rows begins unbegun are outside opens =
-    let known = are (section_state run levels.Rule g.head.tags outside) (λ o. let no : ⊥ = cc in absurd no) in
+pub rule_unbegun : {S : Type 0} (told : S → Told → S → Type 0) (run : Run) (now : State) (is_open is_begun : Bool) (g : Group) (rows : List CaseRow) (first last : S) → is_begun ≡ (is_open && has_selected g.members) → is_begun ≡ false →
+    AreCases told run now false g.members rows first last → IsRule told run now is_open g (record { around = statuses.Passed; inside = rows }) first last
+rule_unbegun told run now is_open is_begun g rows first last begins unbegun are outside opens =
+    let section = section_state run levels.Rule g.head.tags outside in
+    let known = are section (λ o. let no : ⊥ = cc in absurd no) in
     let inside : State → Bool → List CaseRow = λ section is_ready. cases_of run section is_ready known.0 g.members in
-    let with_rows : List CaseRow → SectionRow (List CaseRow) = λ rs. record { around = statuses.Passed; inside = rs } in
-    (record { own = nowhere; cases = known.0 }, ap with_rows known.1 ∙ ap (λ (b : Bool). section_of run levels.Rule g.head.tags outside b nowhere inside) (sym unbegun ∙ begins))
+    let heard : State → Bool → List Told = λ section is_ready. cases_told run section is_ready known.0 g.members in
+    let with_rows : List CaseRow → SectionRow (List CaseRow) = λ rs. record { around = statuses.Passed; inside = rs } in (
+      record { own = nowhere; cases = known.0 },
+      ap with_rows known.1 ∙ ap (λ (b : Bool). section_of run levels.Rule g.head.tags outside b nowhere inside) (sym unbegun ∙ begins),
+      subst (λ xs. FoldsTo told first xs last) (sym (append-nil (heard section false)) ∙ ap (λ (b : Bool). section_told run levels.Rule g.head.tags outside b nowhere heard) (sym unbegun ∙ begins)) known.2,
+    )
 
 -- the results of some rules, and then those of others
 abbrev pub joined : Inside → Inside → Inside
 joined these those = record { rules = these.rules ++ those.rules; cases = these.cases ++ those.cases }
 
--- the rules that were run so far, and those that are left: however these are cut, all have cuts with these results before the others
-pub record GoesRules (run : Run) (first : State) (first_open : Bool) (heads : List HeadValue) (old now : Cases) (is_open : Bool) (results : List RuleResult) (left : List HeadValue) : Type 0 where
+-- the rules that were run so far, and those that are left: however these are cut and told, all have cuts with these results before the others, and were told so
+pub record GoesRules {S : Type 0} (hears : S → Event → S → Type 0) (ends : S → Ended → S → Type 0) (run : Run) (first : State) (first_open : Bool) (heads : List HeadValue) (old now : Cases) (is_open : Bool) (results : List RuleResult) (left : List HeadValue) (begin here : S) : Type 0 where
   pub rows : List CaseRow
   pub told : map case_row now.results.items ≡ map case_row old.results.items ++ rows
   pub falls : falls_from (suc now.rank) now.waiting.items ≡ true
   pub earlier : is_open ≡ true → first_open ≡ true
-  pub goes : (outside : State) → (first_open ≡ true → first ≡ outside) → (cuts : List RuleCuts) →
+  pub goes : (outside : State) → (first_open ≡ true → first ≡ outside) → (cuts : List RuleCuts) (last : S) → FoldsTo (tells hears ends) here (rules_told run outside is_open cuts (groups_from (suc now.rank) left (members_in now))) last →
       (whole : List RuleCuts) × (joined (record { rules = map rule_row results; cases = rows }) (rules_of run outside is_open cuts (groups_from (suc now.rank) left (members_in now)))
       ≡ rules_of run outside first_open whole (groups_from (suc old.rank) heads (members_in old)))
+      × FoldsTo (tells hears ends) begin (rules_told run outside first_open whole (groups_from (suc old.rank) heads (members_in old))) last
 
-pub rules_first : (run : Run) (first : State) (first_open : Bool) (heads : List HeadValue) (old : Cases) → falls_from (suc old.rank) old.waiting.items ≡ true → GoesRules run first first_open heads old old first_open [] heads
-rules_first run first first_open heads old falls = record {
+pub rules_first : {S : Type 0} (hears : S → Event → S → Type 0) (ends : S → Ended → S → Type 0) (run : Run) (first : State) (first_open : Bool) (heads : List HeadValue) (old : Cases) (begin : S) → falls_from (suc old.rank) old.waiting.items ≡ true →
+    GoesRules hears ends run first first_open heads old old first_open [] heads begin begin
+rules_first hears ends run first first_open heads old begin falls = record {
   rows = [];
   told = sym (append-nil (map case_row old.results.items));
   falls = falls;
   earlier = λ o. o;
-  goes = λ outside opens cuts. (cuts, refl);
+  goes = λ outside opens cuts last h. (cuts, refl, h);
 }
 
 pub regroup : (rules : List RuleRow) (rows : List CaseRow) (rule : RuleRow) (more : List CaseRow) (n : Inside) → joined (record { rules = rules ++ rule ∷ []; cases = rows ++ more }) n ≡ joined (record { rules = rules; cases = rows }) (record { rules = rule ∷ n.rules; cases = more ++ n.cases })
@@ -75,13 +91,14 @@ regroup rules rows rule more n =
 pub above : (a r other : ℕ) → a ≡ r → suc r ≤ other → a < other
 above a r other is le = omega (arith, is, le)
 
-pub rules_on : (run : Run) (first now_state : State) (first_open : Bool) (heads : List HeadValue) (old now taken next : Cases) (is_open opens : Bool) (results pushed : List RuleResult) (head : HeadValue) (left : List HeadValue) (end : RuleEnd) (result : RuleResult) →
-    GoesRules run first first_open heads old now is_open results (head ∷ left) → now_state ≡ first →
+pub rules_on : {S : Type 0} (hears : S → Event → S → Type 0) (ends : S → Ended → S → Type 0) (run : Run) (first now_state : State) (first_open : Bool) (heads : List HeadValue) (old now taken next : Cases) (is_open opens : Bool) (results pushed : List RuleResult) (head : HeadValue) (left : List HeadValue) (end : RuleEnd) (result : RuleResult) (begin here there after : S) →
+    GoesRules hears ends run first first_open heads old now is_open results (head ∷ left) begin here → now_state ≡ first →
     taken.rank ≡ suc now.rank → members_in taken ≡ members_in now → taken.results ≡ now.results →
-    RunsRule run now_state is_open head taken next end → opens ≡ (is_open && end.stays_open) → pushed ≡ results ++ result ∷ [] → rule_row result ≡ record { line = head.line; around = end.around } →
-    GoesRules run first first_open heads old next opens pushed left
-rules_on run first now_state first_open heads old now taken next is_open opens results pushed head left end result so_far same rank_is members_is results_is ran opens_is pushed_is result_is =
+    RunsRule hears ends run now_state is_open head taken next here there end → ends there (of_rule (rule_row result)) after → opens ≡ (is_open && end.stays_open) → pushed ≡ results ++ result ∷ [] → rule_row result ≡ record { line = head.line; around = end.around } →
+    GoesRules hears ends run first first_open heads old next opens pushed left begin after
+rules_on hears ends run first now_state first_open heads old now taken next is_open opens results pushed head left end result begin here there after so_far same rank_is members_is results_is ran ended opens_is pushed_is result_is =
     let row : SectionRow (List CaseRow) = record { around = end.around; inside = ran.rows } in
+    let told_by = tells hears ends in
     let rows = so_far.rows in
     let r = suc now.rank in
     let told : map case_row next.results.items ≡ map case_row old.results.items ++ (rows ++ ran.rows) =
@@ -94,35 +111,46 @@ rules_on run first now_state first_open heads old now taken next is_open opens r
     let g : Group = record { head = head; members = members_of_rank r (members_in now) } in
     let group_is : record { head = head; members = members_of_rank taken.rank (members_in taken) } ≡ g =
     ap (λ (n : ℕ). record { head = head; members = members_of_rank n (members_in taken) }) rank_is ∙ ap (λ (ms : List MemberValue). record { head = head; members = members_of_rank r ms }) members_is in
-    let is : IsRule run now_state is_open g row = subst (λ (x : Group). IsRule run now_state is_open x row) group_is ran.is in
+    let is : IsRule told_by run now_state is_open g row here there = subst (λ (x : Group). IsRule told_by run now_state is_open x row here there) group_is ran.is in
+    let opens_so : opens ≡ (is_open && rule_stays_open run row) = opens_is ∙ ap (λ (b : Bool). is_open && b) ran.stay in
     record {
       rows = rows ++ ran.rows;
       told = told;
       falls = subst (λ (n : ℕ). falls_from (suc n) next.waiting.items ≡ true) (sym ran.left.rank) ran.left.falls;
       earlier = λ o. so_far.earlier (and_left is_open end.stays_open (sym opens_is ∙ o));
-      goes = λ outside open_at cuts.
+      goes = λ outside open_at cuts last rest.
           let one = is outside (λ o. same ∙ open_at (so_far.earlier o)) in
-          let whole = so_far.goes outside open_at (one.0 ∷ cuts) in
-          let those : Bool → Inside = λ b. rules_of run outside b cuts (groups_from (suc r) left (members_in now)) in
+          let these = groups_from (suc r) left (members_in now) in
+          let of_end = rule_of run outside is_open one.0 g in
+          let later : FoldsTo told_by after (rules_told run outside (is_open && rule_stays_open run of_end) cuts these) last =
+          subst (λ (b : Bool). FoldsTo told_by after (rules_told run outside b cuts these) last) (opens_so ∙ ap (λ (e : SectionRow (List CaseRow)). is_open && rule_stays_open run e) one.1)
+          (subst (λ (gs : List Group). FoldsTo told_by after (rules_told run outside opens cuts gs) last) groups rest) in
+          let ends_so : ends there (of_rule (record { line = head.line; around = of_end.around })) after =
+          subst (λ (e : SectionRow (List CaseRow)). ends there (of_rule (record { line = head.line; around = e.around })) after) one.1 (subst (λ (x : RuleRow). ends there (of_rule x) after) result_is ended) in
+          let whole = so_far.goes outside open_at (one.0 ∷ cuts) last
+          (heard_both told_by here (rule_told run outside is_open one.0 g) there (has_ended (of_rule (record { line = head.line; around = of_end.around })) ∷ rules_told run outside (is_open && rule_stays_open run of_end) cuts these) last one.2 (after, ends_so, later)) in
+          let those : Bool → Inside = λ b. rules_of run outside b cuts these in
           let behind : SectionRow (List CaseRow) → Inside = λ e. joined (record { rules = map rule_row results; cases = rows }) (record { rules = record { line = head.line; around = e.around } ∷ (let n = those (is_open && rule_stays_open run e) in n.rules); cases = e.inside ++ (let n = those (is_open && rule_stays_open run e) in n.cases) }) in (
             whole.0,
             ap (λ (gs : List Group). joined (record { rules = map rule_row pushed; cases = rows ++ ran.rows }) (rules_of run outside opens cuts gs)) groups
-                ∙ ap (λ (b : Bool). joined (record { rules = map rule_row pushed; cases = rows ++ ran.rows }) (those b)) (opens_is ∙ ap (λ (b : Bool). is_open && b) ran.stay)
+                ∙ ap (λ (b : Bool). joined (record { rules = map rule_row pushed; cases = rows ++ ran.rows }) (those b)) opens_so
                 ∙ ap (λ (rs : List RuleRow). joined (record { rules = rs; cases = rows ++ ran.rows }) (those (is_open && rule_stays_open run row))) (ap (map rule_row) pushed_is ∙ map_push rule_row results result ∙ ap (λ (x : RuleRow). map rule_row results ++ x ∷ []) result_is)
                 ∙ regroup (map rule_row results) rows (record { line = head.line; around = end.around }) ran.rows (those (is_open && rule_stays_open run row))
                 ∙ ap behind one.1
                 ∙ whole.1,
+            whole.2,
           );
     }
 
 pub joined_nil : (i : Inside) → joined i (record { rules = []; cases = [] }) ≡ i
 joined_nil i = ap (λ (rs : List RuleRow). record { rules = rs; cases = i.cases ++ [] }) (append-nil i.rules) ∙ ap (λ (cs : List CaseRow). record { rules = i.rules; cases = cs }) (append-nil i.cases)
 
-pub rules_last : (run : Run) (first : State) (first_open : Bool) (heads : List HeadValue) (old now : Cases) (is_open : Bool) (results : List RuleResult) → GoesRules run first first_open heads old now is_open results [] → RunsRules run first first_open heads old now results
-rules_last run first first_open heads old now is_open results so_far = record {
+pub rules_last : {S : Type 0} (hears : S → Event → S → Type 0) (ends : S → Ended → S → Type 0) (run : Run) (first : State) (first_open : Bool) (heads : List HeadValue) (old now : Cases) (is_open : Bool) (results : List RuleResult) (begin here : S) →
+    GoesRules hears ends run first first_open heads old now is_open results [] begin here → RunsRules hears ends run first first_open heads old now results begin here
+rules_last hears ends run first first_open heads old now is_open results begin here so_far = record {
   rows = so_far.rows;
   told = so_far.told;
   are = λ outside opens.
-      let whole = so_far.goes outside opens [] in
-      (whole.0, sym (joined_nil (record { rules = map rule_row results; cases = so_far.rows })) ∙ whole.1);
+      let whole = so_far.goes outside opens [] here refl in
+      (whole.0, sym (joined_nil (record { rules = map rule_row results; cases = so_far.rows })) ∙ whole.1, whole.2);
 }

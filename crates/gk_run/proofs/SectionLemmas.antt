@@ -2,7 +2,6 @@
 use Rattle.std.specs.List.{FoldsTo}
 use Rattle.std.proofs.Common.{Bool, List, [], ap, cond, false, refl, subst, sym, true, ℕ, ◌++◌, ◌∙◌, ◌≡◌}
 use Rattle.std.proofs.lemmas.Bool.{true≢false}
-use Rattle.gk_gherkin.specs.Feature.{StepValue}
 use Rattle.gk_select.specs.Case.{CaseValue}
 use Rattle.gk_world.specs.Sandbox.{SandboxValue}
 use Rattle.gk_world.specs.State.{State, state_of}
@@ -25,7 +24,7 @@ use Rattle.gk_run.specs.Section.{Cut, Events, around_of, before_passed, happened
 use Rattle.gk_run.specs.SectionContracts.{EndsAround, IsBegun, IsSectionEnd}
 use Rattle.gk_run.specs.SectionHooks.{after_lists, begun, entered, walk_each}
 use Rattle.gk_run.specs.Walk.{rows_of_steps, steps_from}
-use Rattle.gk_run.specs.WalkContracts.{Goes, Happens, IsClosing, IsCutOff, SoFar, stand_of}
+use Rattle.gk_run.specs.WalkContracts.{Happens, IsClosing, IsCutOff, SoFar, stand_of}
 use Rattle.gk_run.specs.Watching.{AreEventsTold}
 use Rattle.gk_run.proofs.EndingLemmas.{passed_unrefused, worse_assoc}
 use Rattle.gk_run.proofs.EventLemmas.{count, cut_there, ended_both, heard_both, place_there}
@@ -207,12 +206,12 @@ ready run level tags outside around first last section ends end = ap has_passed 
 
 -- what a section comes to that was begun, from how it ended and from what is inside of it
 pub section_is : {A : Type 0} (run : Run) (level : Level) (tags : List (List ℕ)) (outside : State) (passed : Bool) (around : Status) (first last : List Event) (x : A) (inside : State → Bool → A) → (end : IsSectionEnd run level tags outside around first last) →
-    passed ≡ before_passed (happened end.cut (section_events run level tags outside)) → x ≡ inside (section_state run level tags outside) passed → (cut : Cut) × (record { around = around; inside = x } ≡ section_of run level tags outside true cut inside)
+    passed ≡ before_passed (happened end.cut (section_events run level tags outside)) → x ≡ inside (section_state run level tags outside) passed → record { around = around; inside = x } ≡ section_of run level tags outside true end.cut inside
 section_is {A} run level tags outside passed around first last x inside end passes known =
     let events = happened end.cut (section_events run level tags outside) in
     let with_around : Status → SectionRow A = λ a. record { around = a; inside = x } in
     let with_inside : A → SectionRow A = λ i. record { around = around_of events; inside = i } in
-    (end.cut, ap with_around end.hooks ∙ ap with_inside (known ∙ ap (inside (section_state run level tags outside)) passes))
+    ap with_around end.hooks ∙ ap with_inside (known ∙ ap (inside (section_state run level tags outside)) passes)
 
 -- a cut of a section that leaves it open, or doesn't, as its before list ended
 pub opened_cut : (es : Events) (first : List Event) (b : Bool) → SoFar false b es.before [] first → (cut : Cut) × (first ≡ (let e = happened cut es in e.before))

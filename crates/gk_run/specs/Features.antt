@@ -1,23 +1,17 @@
 -- The result of a feature, of its rules and of its cases.
 use Rattle.std.specs.List.{list_any}
-use Rattle.std.specs.Prelude.{Bool, true, cond, List, [], ◌∷◌, ◌++◌, map, ◌≡◌, String, ◌&&◌, ◌||◌, ℕ}
-use Rattle.std.specs.declared.alloc.Global.{Global}
-use Rattle.gk_gherkin.specs.Feature.{texts}
+use Rattle.std.specs.Prelude.{Bool, true, cond, List, [], ◌∷◌, ◌++◌, map, ◌≡◌, ◌&&◌, ◌||◌}
 use Rattle.gk_world.specs.State.{State}
-use Rattle.gk_run.specs.declared.reserved.ReservedFeature.{ReservedFeature}
-use Rattle.gk_run.specs.declared.features.FeatureEnd.{FeatureEnd}
-use Rattle.gk_run.specs.declared.features.Inside as declared
 use Rattle.gk_run.specs.declared.results.Status.{Status}
 use Rattle.gk_run.specs.declared.results.Status.TheVariants as statuses
-use Rattle.gk_run.specs.declared.run.Run as shared
 use Rattle.gk_run.specs.declared.section.Level.TheVariants as levels
-use Rattle.gk_run.specs.Cases.{all_stay_open, case_statuses, cases_of, first_or, later, members_in, stays_open}
-use Rattle.gk_run.specs.Chosen.{HeadValue, MemberValue, ChosenValue, has_selected, head_value}
-use Rattle.gk_run.specs.Grouping.{CasesFallIntoRules, Group, groups_from, members_of_rank, own_members, rule_groups}
-use Rattle.gk_run.specs.OpenSection.{SectionRow, section_of}
-use Rattle.gk_run.specs.Results.{CaseRow, RuleRow, FeatureRow, case_row, rule_row, is_passed, is_failed, is_untested, is_memory}
+use Rattle.gk_run.specs.Cases.{all_stay_open, case_statuses, cases_of, first_or, later, stays_open}
+use Rattle.gk_run.specs.Chosen.{HeadValue, MemberValue, ChosenValue, has_selected}
+use Rattle.gk_run.specs.Grouping.{CasesFallIntoRules, Group, own_members, rule_groups}
+use Rattle.gk_run.specs.OpenSection.{section_of}
+use Rattle.gk_run.specs.Results.{CaseRow, RuleRow, FeatureRow, is_passed, is_failed, is_untested, is_memory}
 use Rattle.gk_run.specs.Rules.{Inside, RuleCuts, rules_of}
-use Rattle.gk_run.specs.Run.{run_value, Run}
+use Rattle.gk_run.specs.Run.{Run}
 use Rattle.gk_run.specs.Section.{Cut, nowhere}
 
 -- The cuts of a feature: in its own hooks and cleanups, in each of its own cases, and in each of its rules. In a dry run, which begins no feature and no rule, `cases` are of all its cases, those of its rules among them, and the other cuts are none. What a list doesn't name isn't cut, and a cut of what isn't reached is none.
@@ -94,30 +88,3 @@ pub record StandsInFileOrder (f : ChosenValue) (row : FeatureRow) : Type 0 where
 -- Where the cases of a feature fall into its rules, its results stand in file order, whatever is begun and wherever they are cut.
 abbrev pub ResultsStandInFileOrder : Type 0
 ResultsStandInFileOrder = (run : Run) (outside : State) (is_open : Bool) (cuts : FeatureCuts) (f : ChosenValue) → CasesFallIntoRules f → StandsInFileOrder f (feature_of run outside is_open cuts f)
-
--- Proof machinery, from here on: what the code's calls do.
-
--- What is inside of a section is that of some cuts, from the section's state where it is open.
-abbrev pub IsInside : Run → State → Bool → List MemberValue → List Group → Inside → Type 0
-IsInside run now is_open own groups inside =
-    (section : State) → (is_open ≡ true → now ≡ section) → (cuts : List Cut) × (rule_cuts : List RuleCuts) × (inside ≡ inside_by run section is_open cuts rule_cuts own groups)
-
--- What a feature comes to is that of some cuts, from the run's state where it is begun.
-abbrev pub IsFeatureEnd : Run → State → Bool → List (List ℕ) → List MemberValue → List Group → SectionRow Inside → Type 0
-IsFeatureEnd run now is_begun tags own groups end =
-    (outside : State) → (is_begun ≡ true → now ≡ outside) → (cut : Cut) × (cuts : List Cut) × (rule_cuts : List RuleCuts)
-    × (end ≡ section_of run levels.Feature tags outside is_begun cut (λ section is_open. inside_by run section is_open cuts rule_cuts own groups))
-
--- What the code says of the inside of a feature.
-abbrev pub inside_value : declared.Inside → Inside
-inside_value i = record { rules = map rule_row i.rules.items; cases = map case_row i.cases.items }
-
--- What was run inside of a feature.
-abbrev pub RunsInside : shared.Run → State → Bool → ReservedFeature → declared.Inside → Type 0
-RunsInside run now is_open content inside =
-    IsInside (run_value run) now is_open (members_of_rank 0 (members_in content.cases)) (groups_from 1 (map head_value content.rules.heads.items) (members_in content.cases)) (inside_value inside)
-
--- A feature ran, or wasn't begun, and ended like this.
-abbrev pub EndsFeature : shared.Run → State → Bool → List (String Global) → ReservedFeature → FeatureEnd → Type 0
-EndsFeature run now is_begun tags content end =
-    IsFeatureEnd (run_value run) now is_begun (texts tags) (members_of_rank 0 (members_in content.cases)) (groups_from 1 (map head_value content.rules.heads.items) (members_in content.cases)) (record { around = end.around; inside = inside_value end.inside })

@@ -24,5 +24,5 @@ pub mod Watching
 pub mod Reserved
 pub mod WalkContracts
 pub mod SectionContracts
-pub mod TellingContracts
+pub mod FeatureContracts
 pub mod DryRunContracts

@@ -12,7 +12,7 @@ use Rattle.gk_run.specs.declared.section.Section.{Section}
 use Rattle.gk_run.specs.Ending.{is_memory_ending}
 use Rattle.gk_run.specs.Events.{Event, ended_in, left_by}
 use Rattle.gk_run.specs.OpenSection.{section_events}
-use Rattle.gk_run.specs.Run.{Run, run_of, run_value}
+use Rattle.gk_run.specs.Run.{Run, run_value}
 use Rattle.gk_run.specs.Section.{Cut, around_of, happened}
 use Rattle.gk_run.specs.SectionHooks.{begun, entered}
 use Rattle.gk_run.specs.WalkContracts.{SoFar, stand_of}

@@ -30,7 +30,7 @@ use Rattle.gk_run.specs.Closing.{cleaned, cleanup_done}
 use Rattle.gk_run.specs.Ending.{is_memory_ending, worse}
 use Rattle.gk_run.specs.Events.{Event, of_step, Stand, ended_in, event_marks, left_by, outcomes_of, refused}
 use Rattle.gk_run.specs.Results.{step_row}
-use Rattle.gk_run.specs.Section.{steps_of_case, before_of, after_of}
+use Rattle.gk_run.specs.Section.{steps_of_case, before_of}
 use Rattle.gk_run.specs.SectionHooks.{after_lists, before_list, tag_lists, walk_each}
 use Rattle.gk_run.specs.Walk.{Stepped, looked_up, one_step, rows_of_steps, steps_from, walk}
 

@@ -1,22 +1,21 @@
 -- What an observer of a run is told.
 use Rattle.std.specs.List.{FoldsTo}
-use Rattle.std.specs.Prelude.{◌≡◌, ◌&&◌, ℕ, Bool, true, false, List, [], ◌∷◌, ◌++◌}
+use Rattle.std.specs.Prelude.{◌≡◌, ◌&&◌, cond, ℕ, Bool, List, [], ◌∷◌, ◌++◌, map}
 use Rattle.gk_select.specs.Case.{CaseValue}
 use Rattle.gk_world.specs.State.{State}
-use Rattle.gk_run.specs.declared.results.Status.{Status}
 use Rattle.gk_run.specs.declared.section.Level.{Level}
 use Rattle.gk_run.specs.declared.section.Level.TheVariants as levels
-use Rattle.gk_run.specs.Cases.{all_stay_open, stays_open}
-use Rattle.gk_run.specs.Chosen.{ChosenValue, HeadValue, MemberValue, has_selected}
+use Rattle.gk_run.specs.Cases.{all_stay_open, case_of, cases_of, first_or, later, stays_open}
+use Rattle.gk_run.specs.Chosen.{ChosenValue, MemberValue, has_selected}
 use Rattle.gk_run.specs.Events.{Event}
-use Rattle.gk_run.specs.Features.{feature_row_of}
+use Rattle.gk_run.specs.Features.{FeatureCuts, feature_of}
 use Rattle.gk_run.specs.Grouping.{Group, own_members, rule_groups}
-use Rattle.gk_run.specs.OpenSection.{SectionRow, happened_in, section_state}
+use Rattle.gk_run.specs.OpenSection.{happened_in, section_state}
 use Rattle.gk_run.specs.Results.{CaseRow, FeatureRow, RuleRow}
-use Rattle.gk_run.specs.Rules.{Inside, rule_stays_open}
+use Rattle.gk_run.specs.Rules.{RuleCuts, rule_of, rule_stays_open, uncut_rule}
 use Rattle.gk_run.specs.Run.{Run}
 use Rattle.gk_run.specs.Running.{alone, reached_row}
-use Rattle.gk_run.specs.Section.{Cut, around_of, before_passed, happened, in_order}
+use Rattle.gk_run.specs.Section.{Cut, before_passed, happened, in_order, nowhere}
 
 -- What has ended, with its result: a case, or a rule.
 pub data Ended : Type 0 where
@@ -33,68 +32,58 @@ pub record AreEventsTold {S : Type 0} (hears : S → Event → S → Type 0) (ru
 abbrev pub IsCaseTold : {S : Type 0} → (S → Event → S → Type 0) → (S → Ended → S → Type 0) → Run → State → CaseValue → CaseRow → S → S → Type 0
 IsCaseTold {S} hears ends run section c row old new = (ran : S) × AreEventsTold hears run section c row old ran × ends ran (of_case row) new
 
--- One of two facts, by a test.
-abbrev pub Whether : Bool → Type 0 → Type 0 → Type 0
-Whether true this that = this
-Whether false this that = that
+-- What an observer is told: an event, or that a case or a rule has ended.
+pub data Told : Type 0 where
+  happens : Event → Told
+  has_ended : Ended → Told
 
--- A case of a section that is open, or isn't, was told: its events where it is reached, else nothing.
-abbrev pub IsMemberTold : {S : Type 0} → (S → Event → S → Type 0) → Run → State → Bool → MemberValue → CaseRow → S → S → Type 0
-IsMemberTold hears run section is_open m row old new = Whether (m.selected && is_open) (AreEventsTold hears run section m.scenario row old new) (old ≡ new)
+-- What an observer may become where it is told this, by what it may become where it is told an event, or an end.
+abbrev pub tells : {S : Type 0} → (S → Event → S → Type 0) → (S → Ended → S → Type 0) → S → Told → S → Type 0
+tells hears ends old (happens event) new = hears old event new
+tells hears ends old (has_ended ended) new = ends old ended new
 
--- The cases of a section were told with these results, one after another: what happened in each, and then that it has ended.
-abbrev pub AreCasesTold : {S : Type 0} → (S → Event → S → Type 0) → (S → Ended → S → Type 0) → Run → State → Bool → List MemberValue → List CaseRow → S → S → Type 0
-AreCasesTold hears ends run section is_open [] [] old new = old ≡ new
-AreCasesTold hears ends run section is_open [] (row ∷ rows) old new = ⊥
-AreCasesTold hears ends run section is_open (m ∷ ms) [] old new = ⊥
-AreCasesTold {S} hears ends run section is_open (m ∷ ms) (row ∷ rows) old new =
-    (ran : S) × (next : S) × IsMemberTold hears run section is_open m row old ran × ends ran (of_case row) next × AreCasesTold hears ends run section (is_open && stays_open run row.status) ms rows next new
+-- The events of a case of a section that is open, or isn't: these cut at one where it is reached, else none.
+abbrev pub case_events : Run → State → Bool → Cut → MemberValue → List Event
+case_events run section is_open cut m = cond (m.selected && is_open) (in_order (happened cut (alone run section m.scenario))) []
 
--- An observer was told a section that is begun, or isn't, and whose hooks and cleanups ended so: its before list, what is inside of it, and then its after lists and its cleanups, these cut at one event. What is inside of it is told from its state, and is reached where it was begun and its before list passed whole.
-pub record IsSectionTold {S : Type 0} (hears : S → Event → S → Type 0) (run : Run) (level : Level) (tags : List (List ℕ)) (outside : State) (is_begun : Bool) (around : Status) (Inside : State → Bool → S → S → Type 0) (old new : S) : Type 0 where
-  pub cut : Cut
-  pub is : around ≡ around_of (happened_in run level tags outside is_begun cut)
-  pub opened : S
-  pub last : S
-  pub before : FoldsTo hears old (let events = happened_in run level tags outside is_begun cut in events.before) opened
-  pub inside : Inside (section_state run level tags outside) (is_begun && before_passed (happened_in run level tags outside is_begun cut)) opened last
-  pub closed : FoldsTo hears last (let events = happened_in run level tags outside is_begun cut in events.after ++ events.cleanups) new
+-- What is told of a section's cases, as `cases_of` says their results: of each its events, and then that it has ended.
+abbrev pub cases_told : Run → State → Bool → List Cut → List MemberValue → List Told
+cases_told run section is_open cuts [] = []
+cases_told run section is_open cuts (m ∷ ms) =
+    let cut = first_or nowhere cuts in
+    let row = case_of run section is_open cut m in
+    map happens (case_events run section is_open cut m) ++ has_ended (of_case row) ∷ cases_told run section (is_open && stays_open run row.status) (later cuts) ms
 
--- A rule of a feature was told with what it came to, as `rule_of` says.
-abbrev pub IsRuleTold : {S : Type 0} → (S → Event → S → Type 0) → (S → Ended → S → Type 0) → Run → State → Bool → Group → SectionRow (List CaseRow) → S → S → Type 0
-IsRuleTold hears ends run outside is_open g end old new =
-    IsSectionTold hears run levels.Rule g.head.tags outside (is_open && has_selected g.members) end.around (λ section is_ready first last. AreCasesTold hears ends run section is_ready g.members end.inside first last) old new
+-- What is told of a section, as `section_of` says what it comes to: the events of its before list, what is inside of it, and the events of its after lists and cleanups.
+abbrev pub section_told : Run → Level → List (List ℕ) → State → Bool → Cut → (State → Bool → List Told) → List Told
+section_told run level tags outside is_begun cut inside =
+    let events = happened_in run level tags outside is_begun cut in
+    map happens events.before ++ (inside (section_state run level tags outside) (is_begun && before_passed events) ++ map happens (events.after ++ events.cleanups))
 
--- The result of a rule beside its cases.
-abbrev pub row_of_rule : HeadValue → SectionRow (List CaseRow) → RuleRow
-row_of_rule head end = record { line = head.line; around = end.around }
+-- What is told of a rule, as `rule_of` says what it comes to.
+abbrev pub rule_told : Run → State → Bool → RuleCuts → Group → List Told
+rule_told run outside is_open cuts g = section_told run levels.Rule g.head.tags outside (is_open && has_selected g.members) cuts.own (λ section is_ready. cases_told run section is_ready cuts.cases g.members)
 
--- The rules of a feature were told with what they came to, one after another, and after each that it has ended.
-abbrev pub AreRulesTold : {S : Type 0} → (S → Event → S → Type 0) → (S → Ended → S → Type 0) → Run → State → Bool → List Group → List (SectionRow (List CaseRow)) → S → S → Type 0
-AreRulesTold hears ends run outside is_open [] [] old new = old ≡ new
-AreRulesTold hears ends run outside is_open [] (end ∷ others) old new = ⊥
-AreRulesTold hears ends run outside is_open (g ∷ gs) [] old new = ⊥
-AreRulesTold {S} hears ends run outside is_open (g ∷ gs) (end ∷ others) old new =
-    (ran : S) × (next : S) × IsRuleTold hears ends run outside is_open g end old ran × ends ran (of_rule (row_of_rule g.head end)) next × AreRulesTold hears ends run outside (is_open && rule_stays_open run end) gs others next new
+-- What is told of rules, as `rules_of` says what they come to: of each what happens in it, and then that it has ended.
+abbrev pub rules_told : Run → State → Bool → List RuleCuts → List Group → List Told
+rules_told run outside is_open cuts [] = []
+rules_told run outside is_open cuts (g ∷ gs) =
+    let these = first_or uncut_rule cuts in
+    let end = rule_of run outside is_open these g in
+    rule_told run outside is_open these g ++ has_ended (of_rule (record { line = g.head.line; around = end.around })) ∷ rules_told run outside (is_open && rule_stays_open run end) (later cuts) gs
 
--- The results of rules and of their cases.
-abbrev pub rules_inside : List Group → List (SectionRow (List CaseRow)) → Inside
-rules_inside [] others = record { rules = []; cases = [] }
-rules_inside (g ∷ gs) [] = record { rules = []; cases = [] }
-rules_inside (g ∷ gs) (end ∷ others) = let next = rules_inside gs others in record { rules = row_of_rule g.head end ∷ next.rules; cases = end.inside ++ next.cases }
+-- What is told of what is inside of a feature, as `inside_by` says what it comes to: its own cases, and then its rules.
+abbrev pub inside_told : Run → State → Bool → List Cut → List RuleCuts → List MemberValue → List Group → List Told
+inside_told run section is_open cuts rule_cuts own groups =
+    let rows = cases_of run section is_open cuts own in
+    cases_told run section is_open cuts own ++ rules_told run section (is_open && all_stay_open run rows) rule_cuts groups
 
--- What is inside of a feature was told with its results: its own cases, and then its rules.
-pub record IsInsideTold {S : Type 0} (hears : S → Event → S → Type 0) (ends : S → Ended → S → Type 0) (run : Run) (section : State) (is_open : Bool) (own : List MemberValue) (groups : List Group) (inside : Inside) (old new : S) : Type 0 where
-  pub rows : List CaseRow
-  pub rules : List (SectionRow (List CaseRow))
-  pub is : inside ≡ (let next = rules_inside groups rules in record next { cases = rows ++ next.cases })
-  pub mid : S
-  pub cases : AreCasesTold hears ends run section is_open own rows old mid
-  pub others : AreRulesTold hears ends run section (is_open && all_stay_open run rows) groups rules mid new
+-- What is told of a feature, as `feature_of` says its result.
+abbrev pub feature_told : Run → State → Bool → FeatureCuts → ChosenValue → List Told
+feature_told run outside is_open cuts f =
+    section_told run levels.Feature f.tags outside (is_open && has_selected f.members) cuts.own (λ section is_ready. inside_told run section is_ready cuts.cases cuts.rules (own_members f) (rule_groups f))
 
--- An observer was told a feature with this result, as `feature_of` says what it comes to.
-pub record IsFeatureTold {S : Type 0} (hears : S → Event → S → Type 0) (ends : S → Ended → S → Type 0) (run : Run) (outside : State) (is_open : Bool) (f : ChosenValue) (row : FeatureRow) (old new : S) : Type 0 where
-  pub around : Status
-  pub inside : Inside
-  pub is : row ≡ feature_row_of f around inside
-  pub told : IsSectionTold hears run levels.Feature f.tags outside (is_open && has_selected f.members) around (λ section is_ready first last. IsInsideTold hears ends run section is_ready (own_members f) (rule_groups f) inside first last) old new
+-- An observer was told a feature with this result: what happens in it, for some cuts, and the result is that of the same cuts.
+abbrev pub IsFeatureTold : {S : Type 0} → (S → Event → S → Type 0) → (S → Ended → S → Type 0) → Run → State → Bool → ChosenValue → FeatureRow → S → S → Type 0
+IsFeatureTold hears ends run outside is_open f row old new =
+    (cuts : FeatureCuts) × (row ≡ feature_of run outside is_open cuts f) × FoldsTo (tells hears ends) old (feature_told run outside is_open cuts f) new

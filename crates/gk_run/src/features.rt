@@ -9,10 +9,9 @@ ghost use Rattle.gk_run.specs.Results.{case_row, rule_row, feature_row};
 ghost use Rattle.gk_run.specs.Run.{run_of, run_value};
 ghost use Rattle.gk_run.specs.Chosen.{chosen_value, IsFormed};
 ghost use Rattle.gk_run.specs.Features as spec;
-ghost use Rattle.gk_run.specs.Features.{FeatureCuts, feature_of, rule_statuses, feature_verdict, EndsFeature, IsFeatureResult, RunsInside};
+ghost use Rattle.gk_run.specs.Features.{FeatureCuts, feature_of, rule_statuses, feature_verdict};
 ghost use Rattle.gk_run.specs.Running.{IsSame};
-ghost use Rattle.gk_run.specs.TellingContracts.{TellsFeature, TellsInside};
-ghost use Rattle.gk_run.specs.Watching.{IsFeatureTold};
+ghost use Rattle.gk_run.specs.FeatureContracts.{EndsFeature, RunsFeature, RunsInside};
 
 use crate::cases::{Cases, both, either, run_cases};
 use crate::chosen::Chosen;
@@ -45,10 +44,8 @@ fn run_inside<O: Observer>(
     observer: &mut O,
 ) -> Result<Inside, NoRoom>
     requires layer { suc (depth sandbox.old) < layers }
-    ensures inside { IfOk result
-        (RunsInside run.now (state_of sandbox.old.now) is_open content) }
-    ensures told { IfOk result (TellsInside O.hears O.ends run.now (state_of sandbox.old.now)
-        is_open content observer.old observer.new) }
+    ensures inside { IfOk result (RunsInside O.hears O.ends run.now
+        (state_of sandbox.old.now) is_open content observer.old observer.new) }
     ensures same { IsSame sandbox.old sandbox.new }
 {
     let ReservedFeature { rules, mut cases } = content;
@@ -77,9 +74,7 @@ fn begin_feature<O: Observer>(
     observer: &mut O,
 ) -> Result<FeatureEnd, NoRoom>
     requires layer { suc (suc (depth sandbox.old)) < layers }
-    ensures end { IfOk result
-        (EndsFeature run.now (state_of sandbox.old.now) true tags.now content) }
-    ensures told { IfOk result (TellsFeature O.hears O.ends run.now (state_of sandbox.old.now)
+    ensures end { IfOk result (EndsFeature O.hears O.ends run.now (state_of sandbox.old.now)
         true tags.now content observer.old observer.new) }
     ensures same { IsSame sandbox.old sandbox.new }
 {
@@ -100,31 +95,22 @@ fn begin_feature<O: Observer>(
     }
 }
 
-// The tags of a feature that is begun, or isn't.
-#[derive(Clone, Copy)]
-struct FeatureStart<'a> {
-    is_begun: bool,
-    tags: &'a [String],
-}
-
 // Runs a feature that is begun, or gives the results of what is inside of one that isn't.
 fn feature_end<O: Observer>(
     run: &Run<'_>,
     sandbox: &mut Sandbox,
-    start: &FeatureStart<'_>,
+    is_begun: bool,
+    tags: &[String],
     content: ReservedFeature,
     observer: &mut O,
 ) -> Result<FeatureEnd, NoRoom>
     requires layer { suc (suc (depth sandbox.old)) < layers }
-    ensures end { IfOk result (EndsFeature run.now (state_of sandbox.old.now)
-        start.now.is_begun start.now.tags.now content) }
-    ensures told { IfOk result (TellsFeature O.hears O.ends run.now (state_of sandbox.old.now)
-        start.now.is_begun start.now.tags.now content observer.old observer.new) }
+    ensures end { IfOk result (EndsFeature O.hears O.ends run.now (state_of sandbox.old.now)
+        is_begun tags.now content observer.old observer.new) }
     ensures same { IsSame sandbox.old sandbox.new }
 {
-    let is_begun = start.is_begun;
     if is_begun {
-        return begin_feature(run, sandbox, start.tags, content, observer);
+        return begin_feature(run, sandbox, tags, content, observer);
     }
     let inside = run_inside(run, sandbox, false, content, observer)?;
     Ok(FeatureEnd {
@@ -205,11 +191,9 @@ pub(crate) fn feature_in<O: Observer>(
 ) -> Result<FeatureResult, NoRoom>
     requires layer { suc (suc (depth sandbox.old)) < layers }
     requires formed { IsFormed chosen }
-    ensures row { IfOk result (λ r. IsFeatureResult (run_value run.now)
-        (state_of sandbox.old.now) is_open (chosen_value chosen) (feature_row r)) }
-    ensures told { IfOk result (λ r. IsFeatureTold O.hears O.ends (run_value run.now)
-        (state_of sandbox.old.now) is_open (chosen_value chosen) (feature_row r)
-        observer.old observer.new) }
+    ensures ran { IfOk result (λ r. RunsFeature O.hears O.ends (run_value run.now)
+        (state_of sandbox.old.now) is_open (chosen_value chosen) observer.old observer.new
+        (feature_row r)) }
     ensures same { IsSame sandbox.old sandbox.new }
 {
     let Chosen {
@@ -225,11 +209,7 @@ pub(crate) fn feature_in<O: Observer>(
     let rules = reserve_rules(run.alloc, rules)?;
     let cases = Cases::new(reserve_cases(run.alloc, cases, selected)?);
     let content = ReservedFeature { rules, cases };
-    let start = FeatureStart {
-        is_begun,
-        tags: tags.as_slice(),
-    };
-    let end = feature_end(run, sandbox, &start, content, observer)?;
+    let end = feature_end(run, sandbox, is_begun, tags.as_slice(), content, observer)?;
     Ok(FeatureResult {
         source,
         name,

@@ -4,10 +4,9 @@ ghost use Rattle.gk_world.specs.State.{state_of, layers};
 ghost use Rattle.gk_world.specs.Sandbox.{depth};
 ghost use Rattle.gk_run.specs.Grouping.{falls_from};
 ghost use Rattle.gk_run.specs.Chosen.{head_value};
-ghost use Rattle.gk_run.specs.Rules.{BeginsRule, RunsRule, RunsRules};
+ghost use Rattle.gk_run.specs.FeatureContracts.{BeginsRule, RunsRule, RunsRules};
 ghost use Rattle.gk_run.specs.Run.{run_value};
 ghost use Rattle.gk_run.specs.Running.{IsSame};
-ghost use Rattle.gk_run.specs.TellingContracts.{BeginsAndTellsRule, TellsRule, TellsRules};
 
 use crate::cases::{Cases, both, run_cases, stays_open};
 use crate::chosen::RuleHead;
@@ -37,10 +36,8 @@ fn begin_rule<O: Observer>(
     observer: &mut O,
 ) -> Result<RuleEnd, NoRoom>
     requires layer { suc (depth sandbox.old) < layers }
-    ensures rule { IfOk result (BeginsRule run.now (state_of sandbox.old.now) tags.now
-        cases.old cases.new) }
-    ensures told { IfOk result (BeginsAndTellsRule O.hears O.ends run.now
-        (state_of sandbox.old.now) tags.now cases.old cases.new observer.old observer.new) }
+    ensures rule { IfOk result (BeginsRule O.hears O.ends run.now (state_of sandbox.old.now)
+        tags.now cases.old cases.new observer.old observer.new) }
     ensures same { IsSame sandbox.old sandbox.new }
 {
     let section = Section {
@@ -63,31 +60,23 @@ fn begin_rule<O: Observer>(
     }
 }
 
-// The next rule of a feature that is open, or isn't.
-#[derive(Clone, Copy)]
-struct NextRule<'a> {
-    is_open: bool,
-    head: &'a RuleHead,
-}
-
 // Runs the next rule of a feature.
 fn run_rule<O: Observer>(
     run: &Run<'_>,
     sandbox: &mut Sandbox,
-    next: &NextRule<'_>,
+    is_open: bool,
+    head: &RuleHead,
     cases: &mut Cases,
     observer: &mut O,
 ) -> Result<RuleEnd, NoRoom>
     requires layer { suc (depth sandbox.old) < layers }
-    ensures rule { IfOk result (RunsRule (run_value run.now) (state_of sandbox.old.now)
-        next.now.is_open (head_value next.now.head.now) cases.old cases.new) }
-    ensures told { IfOk result (TellsRule O.hears O.ends (run_value run.now)
-        (state_of sandbox.old.now) next.now.is_open (head_value next.now.head.now)
+    ensures rule { IfOk result (RunsRule O.hears O.ends (run_value run.now)
+        (state_of sandbox.old.now) is_open (head_value head.now)
         cases.old cases.new observer.old observer.new) }
     ensures same { IsSame sandbox.old sandbox.new }
 {
-    if both(next.is_open, cases.has_selected()) {
-        return begin_rule(run, sandbox, next.head.tags.as_slice(), cases, observer);
+    if both(is_open, cases.has_selected()) {
+        return begin_rule(run, sandbox, head.tags.as_slice(), cases, observer);
     }
     Ok(RuleEnd {
         around: Status::Passed,
@@ -108,10 +97,7 @@ pub fn run_rules<O: Observer>(
     requires layer { suc (depth sandbox.old) < layers }
     requires falls { falls_from (suc cases.old.rank) cases.old.waiting.items ≡ true }
     requires first { cases.old.rank ≡ 0 }
-    ensures rules { IfOk result (λ results. RunsRules (run_value run.now)
-        (state_of sandbox.old.now) is_open (map head_value rules.heads.items)
-        cases.old cases.new results.items) }
-    ensures told { IfOk result (λ results. TellsRules O.hears O.ends (run_value run.now)
+    ensures rules { IfOk result (λ results. RunsRules O.hears O.ends (run_value run.now)
         (state_of sandbox.old.now) is_open (map head_value rules.heads.items)
         cases.old cases.new results.items observer.old observer.new) }
     ensures same { IsSame sandbox.old sandbox.new }
@@ -120,11 +106,7 @@ pub fn run_rules<O: Observer>(
     let mut is_open = is_open;
     for head in heads {
         cases.next_rank();
-        let next = NextRule {
-            is_open,
-            head: &head,
-        };
-        let end = run_rule(run, sandbox, &next, cases, observer)?;
+        let end = run_rule(run, sandbox, is_open, &head, cases, observer)?;
         is_open = both(is_open, end.stays_open);
         let result = RuleResult {
             line: head.line,

@@ -4,12 +4,11 @@ ghost use Rattle.gk_select.specs.RuleOrder as order;
 ghost use Rattle.gk_world.specs.State.{state_of, layers};
 ghost use Rattle.gk_world.specs.Sandbox.{depth};
 ghost use Rattle.gk_run.specs.Cases as spec;
-ghost use Rattle.gk_run.specs.Cases.{BeginsWith, IsCaseResult, RunsCases, TakesMember, members_in};
+ghost use Rattle.gk_run.specs.FeatureContracts.{BeginsWith, RunsCases, RunsMember, TakesMember, members_in};
 ghost use Rattle.gk_run.specs.Chosen.{has_selected, member_of};
 ghost use Rattle.gk_run.specs.Grouping.{falls_from, members_of_rank};
 ghost use Rattle.gk_run.specs.Run.{run_value};
 ghost use Rattle.gk_run.specs.Running.{IsSame};
-ghost use Rattle.gk_run.specs.TellingContracts.{TellsCases, TellsMember};
 
 use crate::cases::{Cases, Member};
 use crate::reserved::ReservedCases;
@@ -122,9 +121,7 @@ fn run_member<O: Observer>(
     observer: &mut O,
 ) -> Result<CaseResult, NoRoom>
     requires room { depth sandbox.old < layers }
-    ensures row { IfOk result
-        (IsCaseResult run.now sandbox.old is_open (member_of member.case member.selected)) }
-    ensures told { IfOk result (TellsMember O.hears run.now sandbox.old is_open
+    ensures ran { IfOk result (RunsMember O.hears run.now sandbox.old is_open
         (member_of member.case member.selected) observer.old observer.new) }
     ensures same { IsSame sandbox.old sandbox.new }
 {
@@ -176,9 +173,7 @@ pub fn run_cases<O: Observer>(
     observer: &mut O,
 ) -> Result<bool, NoRoom>
     requires layer { depth sandbox.old < layers }
-    ensures cases { IfOk result (RunsCases (run_value run.now) (state_of sandbox.old.now)
-        is_open cases.old cases.new) }
-    ensures told { IfOk result (TellsCases O.hears O.ends (run_value run.now)
+    ensures cases { IfOk result (RunsCases O.hears O.ends (run_value run.now)
         (state_of sandbox.old.now) is_open cases.old cases.new observer.old observer.new) }
     ensures same { IsSame sandbox.old sandbox.new }
 {

@@ -2,7 +2,7 @@ use Rattle.std.proofs.Common.{◌≡◌, ◌+◌, ◌≤◌, false, length, map,
 use Rattle.gk_steps.specs.Finding.{library_value}
 use Rattle.gk_world.specs.State.{state_of}
 use Rattle.gk_world.specs.Sandbox.{KeepsLayers}
-use Rattle.gk_run.specs.Cleanups.{cleanup_value, cleanups_value}
+use Rattle.gk_run.specs.Cleanups.{cleanup_value}
 use Rattle.gk_run.specs.Closing.{clean_each, cleaned}
 use Rattle.gk_run.specs.Ending.{is_memory_ending}
 use Rattle.gk_run.specs.WalkContracts.{at_cleanups}

@@ -1,9 +1,6 @@
-use Rattle.std.proofs.Common.{◌∙◌, ◌≡◌, [], ap, refl, sym}
+use Rattle.std.proofs.Common.{◌∙◌, ap, sym}
 use Rattle.std.proofs.lemmas.List.{append-nil}
-use Rattle.gk_gherkin.specs.Feature.{texts}
-use Rattle.gk_gherkin.specs.Hooks.{hooks_value}
 use Rattle.gk_steps.specs.Finding.{library_value}
-use Rattle.gk_run.specs.declared.ending.Ending.TheVariants as endings
 use Rattle.gk_run.specs.Closing.{cleaned}
 use Rattle.gk_run.specs.Events.{ended_in}
 use Rattle.gk_run.specs.Cleanups.{cleanups_value}

@@ -5,9 +5,10 @@ use Rattle.gk_select.specs.declared.case.Case.{Case}
 use Rattle.gk_world.specs.State.{state_of}
 use Rattle.gk_run.specs.declared.results.CaseResult.{CaseResult}
 use Rattle.gk_run.specs.declared.results.RuleResult.{RuleResult}
-use Rattle.gk_run.specs.Cases.{case_statuses, members_in}
+use Rattle.gk_run.specs.Cases.{case_statuses}
+use Rattle.gk_run.specs.FeatureContracts.{IsFeatureEnd, inside_value, members_in}
 use Rattle.gk_run.specs.Chosen.{HeadValue, MemberValue, chosen_value, has_selected, head_value, members_of}
-use Rattle.gk_run.specs.Features.{IsFeatureEnd, feature_verdict, inside_value, rule_statuses}
+use Rattle.gk_run.specs.Features.{feature_verdict, rule_statuses}
 use Rattle.gk_run.specs.Grouping.{falls_from, groups_from, members_of_rank}
 use Rattle.gk_run.specs.OpenSection.{SectionRow}
 use Rattle.gk_run.specs.Results.{case_row, rule_row}
@@ -16,18 +17,15 @@ use Rattle.gk_run.specs.Run.{run_value}
 use Rattle.gk_run.proofs.CasesLemmas.{selected_any}
 use Rattle.gk_run.proofs.FeaturesLemmas.{feature_is}
 use Rattle.gk_run.proofs.GroupingLemmas.{falls_into}
-use Rattle.gk_run.specs.declared.section.Level.TheVariants as levels
-use Rattle.gk_run.specs.Results.{FeatureRow}
-use Rattle.gk_run.specs.declared.results.Status.{Status}
-use Rattle.gk_run.specs.Watching.{IsInsideTold, IsSectionTold}
+use Rattle.gk_run.specs.Watching.{tells}
 use Rattle.gk_run.proofs.features.feature_in.Goals as goal
 
 pub new-cases-requires-clause-falls : goal.new-cases-requires-clause-falls
 new-cases-requires-clause-falls g c =
     subst (λ (cs : List Case). falls_from 0 cs ≡ true) (sym (ap (λ cs. cs.items) c.in_ok-reserve_cases.ensures.same_cases)) (falls_into _ 0 c.args.chosen.cases.items c.requires.formed.falls)
 
-pub returns-clause-row : goal.returns-clause-row
-returns-clause-row g c =
+pub returns-clause-ran : goal.returns-clause-ran
+returns-clause-ran g c =
     let run = run_value c.args.run.now in
     let now = state_of c.args.sandbox.now.now in
     let f = chosen_value c.args.chosen in
@@ -44,42 +42,10 @@ returns-clause-row g c =
     let verdict : c.feature_status.result ≡ feature_verdict end.around (rule_statuses end.inside.rules) (case_statuses end.inside.cases) =
     c.feature_status.ensures ∙ ap (λ (rs : List RuleResult). feature_verdict end.around (rule_statuses (map rule_row rs)) (case_statuses (map case_row c.as_slice-4.result.now))) c.as_slice-3.ensures.value
     ∙ ap (λ (cs : List CaseResult). feature_verdict end.around (rule_statuses end.inside.rules) (case_statuses (map case_row cs))) c.as_slice-4.ensures.value in
-    feature_is run now c.args.is_open c.both-is_begun.result f c.feature_status.result end begins verdict
-    (subst (λ (ms : List MemberValue). IsFeatureEnd run now c.both-is_begun.result f.tags (members_of_rank 0 ms) (groups_from 1 f.rules ms) end) members
-    (subst (λ (hs : List HeadValue). IsFeatureEnd run now c.both-is_begun.result f.tags (members_of_rank 0 (members_in c.new-cases.result)) (groups_from 1 hs (members_in c.new-cases.result)) end) heads
-    (subst (λ (ts : List (List ℕ)). IsFeatureEnd run now c.both-is_begun.result ts (members_of_rank 0 (members_in c.new-cases.result)) (groups_from 1 (map head_value c.in_ok-rules.rules.heads.items) (members_in c.new-cases.result)) end) (ap texts c.as_slice-2.ensures.value) c.in_ok-end.ensures.end)))
-
-pub returns-clause-told : goal.returns-clause-told
-returns-clause-told g c =
-    let hears = g.O.Observer.hears in
-    let ends = g.O.Observer.ends in
-    let run = run_value c.args.run.now in
-    let f = chosen_value c.args.chosen in
-    let end : SectionRow Inside = record { around = c.in_ok-end.end.around; inside = inside_value c.in_ok-end.end.inside } in
-    let cases = c.args.chosen.cases.items in
-    let verdict : c.feature_status.result ≡ feature_verdict end.around (rule_statuses end.inside.rules) (case_statuses end.inside.cases) =
-    c.feature_status.ensures ∙ ap (λ (rs : List RuleResult). feature_verdict end.around (rule_statuses (map rule_row rs)) (case_statuses (map case_row c.as_slice-4.result.now))) c.as_slice-3.ensures.value
-    ∙ ap (λ (cs : List CaseResult). feature_verdict end.around (rule_statuses end.inside.rules) (case_statuses (map case_row cs))) c.as_slice-4.ensures.value in
-    let heads : map head_value c.in_ok-rules.rules.heads.items ≡ f.rules = ap (λ hs. map head_value hs.items) c.in_ok-rules.ensures in
-    let begins : c.both-is_begun.result ≡ (c.args.is_open && has_selected f.members) =
-    c.both-is_begun.ensures ∙ ap (λ (b : Bool). c.args.is_open && b) (c.has_selected.ensures ∙ ap (λ (ss : List Bool). list_any (λ (s : Bool). s) ss) c.as_slice.ensures.value ∙ sym (selected_any cases c.args.chosen.selected.items c.requires.formed.paired)) in
-    let now = state_of c.args.sandbox.now.now in
+    let told_by = tells g.O.Observer.hears g.O.Observer.ends in
     let first = c.args.observer.now in
     let last = c.feature_end.new.observer in
-    let reserved = c.in_ok-reserve_cases.ensures in
-    let begun_with = c.new-cases.ensures in
-    let selected = begun_with.selected ∙ ap (λ ss. ss.items) reserved.same_choice in
-    let waiting = begun_with.waiting ∙ ap (λ cs. cs.items) reserved.same_cases in
-    let members : members_in c.new-cases.result ≡ f.members = ap (λ (cs : List Case). members_of cs c.new-cases.result.selected.items) waiting ∙ ap (members_of cases) selected in
-    let Told : Bool → List (List ℕ) → List HeadValue → List MemberValue → Type 0 = λ is_begun tags hs ms. IsSectionTold hears run levels.Feature tags now is_begun end.around (λ section is_ready x y. IsInsideTold hears ends run section is_ready (members_of_rank 0 ms) (groups_from 1 hs ms) end.inside x y) first last in
-    let row : Status → FeatureRow = λ s. record { source = f.source; name = f.name; line = f.line; status = s; around = end.around; rules = end.inside.rules; cases = end.inside.cases } in
-    record {
-      around = end.around;
-      inside = end.inside;
-      is = ap row verdict;
-      told =
-          subst (λ (b : Bool). Told b f.tags f.rules f.members) begins
-          (subst (λ (ms : List MemberValue). Told c.both-is_begun.result f.tags f.rules ms) members
-          (subst (λ (hs : List HeadValue). Told c.both-is_begun.result f.tags hs (members_in c.new-cases.result)) heads
-          (subst (λ (ts : List (List ℕ)). Told c.both-is_begun.result ts (map head_value c.in_ok-rules.rules.heads.items) (members_in c.new-cases.result)) (ap texts c.as_slice-2.ensures.value) c.in_ok-end.ensures.told)));
-    }
+    feature_is g.O.Observer.hears g.O.Observer.ends run now c.args.is_open c.both-is_begun.result f c.feature_status.result end first last begins verdict
+    (subst (λ (ms : List MemberValue). IsFeatureEnd told_by run now c.both-is_begun.result f.tags (members_of_rank 0 ms) (groups_from 1 f.rules ms) end first last) members
+    (subst (λ (hs : List HeadValue). IsFeatureEnd told_by run now c.both-is_begun.result f.tags (members_of_rank 0 (members_in c.new-cases.result)) (groups_from 1 hs (members_in c.new-cases.result)) end first last) heads
+    (subst (λ (ts : List (List ℕ)). IsFeatureEnd told_by run now c.both-is_begun.result ts (members_of_rank 0 (members_in c.new-cases.result)) (groups_from 1 (map head_value c.in_ok-rules.rules.heads.items) (members_in c.new-cases.result)) end first last) (ap texts c.as_slice-2.ensures.value) c.in_ok-end.ensures.end)))

@@ -1,4 +1,4 @@
-use Rattle.std.proofs.Common.{[], ap, length, refl, rules, subst, sym, ◌∙◌, ◌≡◌}
+use Rattle.std.proofs.Common.{[], ap, rules, subst, ◌∙◌, ◌≡◌}
 use Rattle.gk_gherkin.specs.Feature.{texts}
 use Rattle.gk_gherkin.specs.Hooks.{hooks_value}
 use Rattle.gk_steps.specs.Finding.{library_value}

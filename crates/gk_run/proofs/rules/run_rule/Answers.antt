@@ -2,31 +2,34 @@ use Rattle.std.proofs.Common.{◌∙◌, ◌&&◌, Bool, ap, sym}
 use Rattle.gk_gherkin.specs.Feature.{texts}
 use Rattle.gk_world.specs.State.{state_of}
 use Rattle.gk_run.specs.declared.rules.RuleEnd.{RuleEnd}
-use Rattle.gk_run.specs.Cases.{all_stay_open, members_in}
+use Rattle.gk_run.specs.Cases.{all_stay_open}
 use Rattle.gk_run.specs.Chosen.{head_value}
+use Rattle.gk_run.specs.FeatureContracts.{BeginsRule, RunsRule, members_in}
 use Rattle.gk_run.specs.Grouping.{Group, members_of_rank}
-use Rattle.gk_run.specs.Rules.{BeginsRule, RunsRule}
 use Rattle.gk_run.specs.Run.{run_value}
+use Rattle.gk_run.specs.Watching.{tells}
 use Rattle.gk_run.proofs.CasesLemmas.{if_ok}
 use Rattle.gk_run.proofs.RulesLemmas.{passed_stays, rule_begun, rule_unbegun}
-use Rattle.gk_run.specs.TellingContracts.{BeginsAndTellsRule, TellsRule}
-use Rattle.gk_run.proofs.WatchedRunLemmas as watched
 use Rattle.gk_run.proofs.rules.run_rule.Goals as goal
 
 pub returns-then-both-clause-rule : goal.returns-then-both-clause-rule
 returns-then-both-clause-rule g c =
+    let hears = g.O.Observer.hears in
+    let ends = g.O.Observer.ends in
     let run = run_value c.args.run.now in
     let now = state_of c.args.sandbox.now.now in
     let old = c.args.cases.now in
-    let head = head_value c.args.next.now.head.now in
-    let g : Group = record { head = head; members = members_of_rank old.rank (members_in old) } in
-    let begins = c.both.ensures ∙ ap (λ (b : Bool). c.args.next.now.is_open && b) c.has_selected.ensures in
-    if_ok (λ (end : RuleEnd). BeginsRule c.args.run.now now c.as_slice.result.now old c.begin_rule.new.cases end) (λ (end : RuleEnd). RunsRule run now c.args.next.now.is_open head old c.begin_rule.new.cases end)
+    let head = head_value c.args.head.now in
+    let group : Group = record { head = head; members = members_of_rank old.rank (members_in old) } in
+    let first = c.args.observer.now in
+    let last = c.begin_rule.new.observer in
+    let begins = c.both.ensures ∙ ap (λ (b : Bool). c.args.is_open && b) c.has_selected.ensures in
+    if_ok (λ (end : RuleEnd). BeginsRule hears ends c.args.run.now now c.as_slice.result.now old c.begin_rule.new.cases first last end) (λ (end : RuleEnd). RunsRule hears ends run now c.args.is_open head old c.begin_rule.new.cases first last end)
     c.begin_rule.result
     (λ end h. record {
       rows = h.rows;
       told = h.told;
-      is = rule_begun run now c.args.next.now.is_open c.both.result (texts c.as_slice.result.now) g (record { around = end.around; inside = h.rows }) begins c.if-both.true (ap texts c.as_slice.ensures.value) h.is;
+      is = rule_begun (tells hears ends) run now c.args.is_open c.both.result (texts c.as_slice.result.now) group (record { around = end.around; inside = h.rows }) first last begins c.if-both.true (ap texts c.as_slice.ensures.value) h.is;
       stay = h.stay;
       left = h.left;
     })
@@ -37,46 +40,13 @@ returns-clause-rule g c =
     let run = run_value c.args.run.now in
     let now = state_of c.args.sandbox.now.now in
     let old = c.args.cases.now in
-    let g : Group = record { head = head_value c.args.next.now.head.now; members = members_of_rank old.rank (members_in old) } in
-    let begins = c.both.ensures ∙ ap (λ (b : Bool). c.args.next.now.is_open && b) c.has_selected.ensures in
+    let group : Group = record { head = head_value c.args.head.now; members = members_of_rank old.rank (members_in old) } in
+    let begins = c.both.ensures ∙ ap (λ (b : Bool). c.args.is_open && b) c.has_selected.ensures in
     let ran = c.in_ok-run_cases.ensures.cases in
     record {
       rows = ran.rows;
       told = ran.told;
-      is = rule_unbegun run now c.args.next.now.is_open c.both.result g ran.rows begins c.if-both.false ran.are;
+      is = rule_unbegun (tells g.O.Observer.hears g.O.Observer.ends) run now c.args.is_open c.both.result group ran.rows c.args.observer.now c.run_cases.new.observer begins c.if-both.false ran.are;
       stay = ran.stay ∙ ap (λ (b : Bool). b && all_stay_open run ran.rows) (sym (passed_stays run));
       left = ran.left;
     }
-
-pub returns-then-both-clause-told : goal.returns-then-both-clause-told
-returns-then-both-clause-told g c =
-    let run = run_value c.args.run.now in
-    let now = state_of c.args.sandbox.now.now in
-    let is_open = c.args.next.now.is_open in
-    let old = c.args.cases.now in
-    let head = head_value c.args.next.now.head.now in
-    let group : Group = record { head = head; members = members_of_rank old.rank (members_in old) } in
-    let begins = c.both.ensures ∙ ap (λ (b : Bool). is_open && b) c.has_selected.ensures in
-    let hears = g.O.Observer.hears in
-    let ends = g.O.Observer.ends in
-    let first = c.args.observer.now in
-    let last = c.begin_rule.new.observer in
-    if_ok (λ (end : RuleEnd). BeginsAndTellsRule hears ends c.args.run.now now c.as_slice.result.now old c.begin_rule.new.cases first last end) (λ (end : RuleEnd). TellsRule hears ends run now is_open head old c.begin_rule.new.cases first last end)
-    c.begin_rule.result
-    (λ end h. (h.0, h.1, h.2, λ outside opens. watched.rule_begun hears ends run now outside is_open c.both.result (texts c.as_slice.result.now) group (record { around = end.around; inside = h.0 }) first last begins c.if-both.true (ap texts c.as_slice.ensures.value) opens h.3))
-    c.begin_rule.ensures.told
-
-pub returns-clause-told : goal.returns-clause-told
-returns-clause-told g c =
-    let run = run_value c.args.run.now in
-    let now = state_of c.args.sandbox.now.now in
-    let is_open = c.args.next.now.is_open in
-    let old = c.args.cases.now in
-    let group : Group = record { head = head_value c.args.next.now.head.now; members = members_of_rank old.rank (members_in old) } in
-    let begins = c.both.ensures ∙ ap (λ (b : Bool). is_open && b) c.has_selected.ensures in
-    let ran = c.in_ok-run_cases.ensures.told in (
-      ran.0,
-      ran.1,
-      ran.2 ∙ ap (λ (b : Bool). b && all_stay_open run ran.0) (sym (passed_stays run)),
-      λ outside opens. watched.rule_unbegun g.O.Observer.hears g.O.Observer.ends run now outside is_open c.both.result group ran.0 c.args.observer.now c.run_cases.new.observer begins c.if-both.false ran.3,
-    )

@@ -7,7 +7,6 @@ use Rattle.gk_run.specs.Chosen.{head_value, members_of}
 use Rattle.gk_run.specs.Run.{run_of}
 use Rattle.gk_run.proofs.Nothing.{nothing_in}
 use Rattle.gk_run.proofs.RulesLemmas.{GoesRules, rules_first, rules_last, rules_on}
-use Rattle.gk_run.proofs.WatchedRunLemmas.{GoesRulesTold, rules_told_first, rules_told_last, rules_told_next}
 use Rattle.gk_run.proofs.rules.run_rules.Goals as goal
 
 pub loop-head-init : goal.loop-head-init
@@ -18,11 +17,10 @@ loop-head-init g c =
     let heads = map head_value c.args.rules.heads.items in
     let here : into_iter_items c.into_iter-head-iterator.result ≡ c.args.rules.heads.items = c.into_iter-head-iterator.ensures.into_iter_gives.0 in
     let none : c.args.rules.results.items ≡ [] = c.args.rules.empty in
+    let begin = c.args.observer.now in
     record {
-      goes = subst (λ (rs : List RuleResult). GoesRules run first c.args.is_open heads old old c.args.is_open rs (map head_value (into_iter_items c.into_iter-head-iterator.result))) (sym none)
-          (subst (λ (hs : List RuleHead). GoesRules run first c.args.is_open heads old old c.args.is_open [] (map head_value hs)) (sym here) (rules_first run first c.args.is_open heads old c.requires.falls));
-      told = subst (λ (rs : List RuleResult). GoesRulesTold g.O.Observer.hears g.O.Observer.ends run first c.args.is_open heads old old c.args.is_open rs (map head_value (into_iter_items c.into_iter-head-iterator.result)) c.args.observer.now c.args.observer.now) (sym none)
-          (subst (λ (hs : List RuleHead). GoesRulesTold g.O.Observer.hears g.O.Observer.ends run first c.args.is_open heads old old c.args.is_open [] (map head_value hs) c.args.observer.now c.args.observer.now) (sym here) (rules_told_first g.O.Observer.hears g.O.Observer.ends run first c.args.is_open heads old c.args.observer.now));
+      goes = subst (λ (rs : List RuleResult). GoesRules g.O.Observer.hears g.O.Observer.ends run first c.args.is_open heads old old c.args.is_open rs (map head_value (into_iter_items c.into_iter-head-iterator.result)) begin begin) (sym none)
+          (subst (λ (hs : List RuleHead). GoesRules g.O.Observer.hears g.O.Observer.ends run first c.args.is_open heads old old c.args.is_open [] (map head_value hs) begin begin) (sym here) (rules_first g.O.Observer.hears g.O.Observer.ends run first c.args.is_open heads old begin c.requires.falls));
       same = record { contents = refl; saved = refl; marks = refl; recorded = refl };
       room = omega (arith, c.args.rules.room, c.args.rules.results.ok.0, ap length none, ap length here);
       ranks = omega (arith, c.args.rules.room, c.requires.first, ap length here);
@@ -43,20 +41,14 @@ loop-head-preserved g c =
     let before = c.loop-head.invariant.same in
     let same = c.in_ok-end.ensures.same in
     let ran = c.in_ok-end.ensures.rule in
-    let so_far : GoesRules run first c.args.is_open heads old now c.loop-head.is_open c.loop-head.results.items (head ∷ map head_value left) =
-    subst (λ (hs : List RuleHead). GoesRules run first c.args.is_open heads old now c.loop-head.is_open c.loop-head.results.items (map head_value hs)) taken_first c.loop-head.invariant.goes in
+    let so_far : GoesRules g.O.Observer.hears g.O.Observer.ends run first c.args.is_open heads old now c.loop-head.is_open c.loop-head.results.items (head ∷ map head_value left) c.args.observer.now c.loop-head.observer =
+    subst (λ (hs : List RuleHead). GoesRules g.O.Observer.hears g.O.Observer.ends run first c.args.is_open heads old now c.loop-head.is_open c.loop-head.results.items (map head_value hs) c.args.observer.now c.loop-head.observer) taken_first c.loop-head.invariant.goes in
     let counted = ap length taken_first in
     record {
-      goes = rules_on run first (state_of c.loop-head.sandbox.now) c.args.is_open heads old now taken c.run_rule.new.cases c.loop-head.is_open c.both-is_open.result c.loop-head.results.items c.push_reserved.new.self.items head (map head_value left) c.in_ok-end.end _
-          so_far (ap state_of before.contents) c.next_rank.ensures.rank
+      goes = rules_on g.O.Observer.hears g.O.Observer.ends run first (state_of c.loop-head.sandbox.now) c.args.is_open heads old now taken c.run_rule.new.cases c.loop-head.is_open c.both-is_open.result c.loop-head.results.items c.push_reserved.new.self.items head (map head_value left) c.in_ok-end.end _
+          c.args.observer.now c.loop-head.observer c.run_rule.new.observer c.rule_ended.new.self so_far (ap state_of before.contents) c.next_rank.ensures.rank
           (ap (λ q. members_of q.items taken.selected.items) c.next_rank.ensures.waiting ∙ ap (λ q. members_of now.waiting.items q.items) c.next_rank.ensures.selected)
-          c.next_rank.ensures.results ran c.both-is_open.ensures c.push_reserved.ensures.items refl;
-      told = rules_told_next g.O.Observer.hears g.O.Observer.ends run first (state_of c.loop-head.sandbox.now) c.args.is_open heads old now taken c.run_rule.new.cases c.loop-head.is_open c.both-is_open.result c.loop-head.results.items c.push_reserved.new.self.items head (map head_value left) c.in_ok-end.end _
-          c.args.observer.now c.loop-head.observer c.run_rule.new.observer c.rule_ended.new.self c.in_ok-end.ensures.told.0
-          (subst (λ (hs : List RuleHead). GoesRulesTold g.O.Observer.hears g.O.Observer.ends run first c.args.is_open heads old now c.loop-head.is_open c.loop-head.results.items (map head_value hs) c.args.observer.now c.loop-head.observer) taken_first c.loop-head.invariant.told)
-          (ap state_of before.contents) c.next_rank.ensures.rank
-          (ap (λ q. members_of q.items taken.selected.items) c.next_rank.ensures.waiting ∙ ap (λ q. members_of now.waiting.items q.items) c.next_rank.ensures.selected)
-          c.next_rank.ensures.results ran.left c.in_ok-end.ensures.told.1 c.in_ok-end.ensures.told.2 c.in_ok-end.ensures.told.3 c.rule_ended.ensures c.both-is_open.ensures c.push_reserved.ensures.items refl;
+          c.next_rank.ensures.results ran c.rule_ended.ensures c.both-is_open.ensures c.push_reserved.ensures.items refl;
       same = record { contents = same.contents ∙ before.contents; saved = same.saved ∙ before.saved; marks = same.marks ∙ before.marks; recorded = same.recorded ∙ before.recorded };
       room = omega (arith, counted, c.loop-head.invariant.room, c.push_reserved.ensures.len, c.push_reserved.ensures.capacity);
       ranks = omega (arith, counted, c.loop-head.invariant.ranks, c.next_rank.ensures.rank, ran.left.rank, c.push_reserved.ensures.capacity);
@@ -69,14 +61,5 @@ returns-clause-rules g c =
     let first = state_of c.args.sandbox.now.now in
     let heads = map head_value c.args.rules.heads.items in
     let none : into_iter_items c.loop-head.head-iterator ≡ [] = nothing_in (into_iter_items c.loop-head.head-iterator) (c.loop-head.invariant.counted ∙ c.in-None.ensures.steps.0) in
-    rules_last run first c.args.is_open heads c.args.cases.now c.loop-head.cases c.loop-head.is_open c.loop-head.results.items
-    (subst (λ (hs : List RuleHead). GoesRules run first c.args.is_open heads c.args.cases.now c.loop-head.cases c.loop-head.is_open c.loop-head.results.items (map head_value hs)) none c.loop-head.invariant.goes)
-
-pub returns-clause-told : goal.returns-clause-told
-returns-clause-told g c =
-    let run = run_of c.args.run.now.library.now c.args.run.now.hooks.now.file.now c.args.run.now.stop in
-    let first = state_of c.args.sandbox.now.now in
-    let heads = map head_value c.args.rules.heads.items in
-    let none : into_iter_items c.loop-head.head-iterator ≡ [] = nothing_in (into_iter_items c.loop-head.head-iterator) (c.loop-head.invariant.counted ∙ c.in-None.ensures.steps.0) in
-    rules_told_last g.O.Observer.hears g.O.Observer.ends run first c.args.is_open heads c.args.cases.now c.loop-head.cases c.loop-head.is_open c.loop-head.results.items c.args.observer.now c.loop-head.observer
-    (subst (λ (hs : List RuleHead). GoesRulesTold g.O.Observer.hears g.O.Observer.ends run first c.args.is_open heads c.args.cases.now c.loop-head.cases c.loop-head.is_open c.loop-head.results.items (map head_value hs) c.args.observer.now c.loop-head.observer) none c.loop-head.invariant.told)
+    rules_last g.O.Observer.hears g.O.Observer.ends run first c.args.is_open heads c.args.cases.now c.loop-head.cases c.loop-head.is_open c.loop-head.results.items c.args.observer.now c.loop-head.observer
+    (subst (λ (hs : List RuleHead). GoesRules g.O.Observer.hears g.O.Observer.ends run first c.args.is_open heads c.args.cases.now c.loop-head.cases c.loop-head.is_open c.loop-head.results.items (map head_value hs) c.args.observer.now c.loop-head.observer) none c.loop-head.invariant.goes)

@@ -9,7 +9,6 @@ use Rattle.gk_run.specs.Section.{after_of}
 use Rattle.gk_run.specs.SectionHooks.{after_kind, hook_steps, tag_lists, walk_each}
 use Rattle.gk_run.specs.Walk.{walk}
 use Rattle.gk_run.specs.WalkContracts.{Goes, Happens, stand_of}
-use Rattle.gk_run.proofs.EndingLemmas.{is_memory}
 use Rattle.gk_run.proofs.GoesLemmas.{begin, behind, chain, with_rest}
 use Rattle.gk_run.proofs.WalkLemmas.{each_on}
 use Rattle.gk_run.proofs.section_hooks.walk_after.Goals as goal

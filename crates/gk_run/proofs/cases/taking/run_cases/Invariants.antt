@@ -3,14 +3,12 @@ use Rattle.gk_world.specs.State.{state_of}
 use Rattle.gk_run.specs.Run.{run_of}
 use Rattle.gk_run.specs.Running.{IsSame}
 use Rattle.gk_run.proofs.CasesLemmas.{GoesOn}
-use Rattle.gk_run.proofs.WatchedRunLemmas.{GoesTold}
 use Rattle.gk_run.proofs.cases.taking.run_cases.Given as goal
 
 -- the cases so far are told, and however those that are left are cut, all of the rank have cuts with these rows
 abbrev pub invariant-loop-member : goal.invariant-loop-member
 invariant-loop-member g l = record {
-  goes : GoesOn (run_of l.run.library.now l.run.hooks.now.file.now l.run.stop) (state_of l.fn.sandbox.now) l.is_open l.fn.cases l.cases l.all_stay;
-  told : GoesTold g.O.Observer.hears g.O.Observer.ends (run_of l.run.library.now l.run.hooks.now.file.now l.run.stop) (state_of l.fn.sandbox.now) l.is_open l.fn.cases l.cases l.all_stay l.fn.observer l.observer;
+  goes : GoesOn g.O.Observer.hears g.O.Observer.ends (run_of l.run.library.now l.run.hooks.now.file.now l.run.stop) (state_of l.fn.sandbox.now) l.is_open l.fn.cases l.cases l.all_stay l.fn.observer l.observer;
   same : IsSame l.fn.sandbox l.sandbox;
 }
 

@@ -1,0 +1,152 @@
+-- Proof machinery: what contracts of the private functions cite that run the cases, the rules and the whole of a feature.
+use Rattle.std.specs.List.{FoldsTo}
+use Rattle.std.specs.Prelude.{suc, length, Option, Some, None, Bool, true, String, List, ◌∷◌, ◌++◌, map, ◌≡◌, ◌<◌, ℕ}
+use Rattle.std.specs.declared.alloc.Global.{Global}
+use Rattle.gk_gherkin.specs.Feature.{texts}
+use Rattle.gk_select.specs.RuleOrder as order
+use Rattle.gk_world.specs.Sandbox.{SandboxValue}
+use Rattle.gk_world.specs.State.{State, state_of}
+use Rattle.gk_run.specs.declared.cases.Cases.{Cases}
+use Rattle.gk_run.specs.declared.cases.Member.{Member}
+use Rattle.gk_run.specs.declared.features.FeatureEnd.{FeatureEnd}
+use Rattle.gk_run.specs.declared.features.Inside as declared
+use Rattle.gk_run.specs.declared.reserved.ReservedCases.{ReservedCases}
+use Rattle.gk_run.specs.declared.reserved.ReservedFeature.{ReservedFeature}
+use Rattle.gk_run.specs.declared.results.CaseResult.{CaseResult}
+use Rattle.gk_run.specs.declared.results.RuleResult.{RuleResult}
+use Rattle.gk_run.specs.declared.rules.RuleEnd.{RuleEnd}
+use Rattle.gk_run.specs.declared.run.Run as shared
+use Rattle.gk_run.specs.declared.section.Level.TheVariants as levels
+use Rattle.gk_run.specs.Cases.{all_stay_open, case_of, cases_of}
+use Rattle.gk_run.specs.Chosen.{ChosenValue, HeadValue, MemberValue, head_value, member_of, members_of}
+use Rattle.gk_run.specs.Events.{Event}
+use Rattle.gk_run.specs.Features.{inside_by}
+use Rattle.gk_run.specs.Grouping.{Group, falls_from, groups_from, members_of_rank}
+use Rattle.gk_run.specs.OpenSection.{SectionRow, section_of}
+use Rattle.gk_run.specs.Results.{CaseRow, FeatureRow, case_row, rule_row}
+use Rattle.gk_run.specs.Rules.{Inside, RuleCuts, rule_of, rule_stays_open, rules_of}
+use Rattle.gk_run.specs.Run.{Run, run_value}
+use Rattle.gk_run.specs.Section.{Cut}
+use Rattle.gk_run.specs.Watching.{Ended, IsFeatureTold, Told, case_events, cases_told, inside_told, rule_told, rules_told, section_told, tells}
+
+-- ---- cases
+
+-- The result of a case, and what was told of it, are those of some cut, from its section's state where the section is open.
+abbrev pub IsMember : {S : Type 0} → (S → Event → S → Type 0) → Run → State → Bool → MemberValue → CaseRow → S → S → Type 0
+IsMember hears run now is_open m row first last =
+    (section : State) → (is_open ≡ true → now ≡ section) → (cut : Cut) × (row ≡ case_of run section is_open cut m) × FoldsTo hears first (case_events run section is_open cut m) last
+
+-- A case was run, or not, in a section that is open or isn't.
+abbrev pub RunsMember : {S : Type 0} → (S → Event → S → Type 0) → shared.Run → SandboxValue → Bool → MemberValue → S → S → CaseResult → Type 0
+RunsMember hears run old is_open m first last r = IsMember hears (run_value run) (state_of old.now) is_open m (case_row r) first last
+
+-- The rows of cases, and what was told of them, are those of some cuts, from the section's state where they are reached.
+abbrev pub AreCases : {S : Type 0} → (S → Told → S → Type 0) → Run → State → Bool → List MemberValue → List CaseRow → S → S → Type 0
+AreCases told run now is_open members rows first last =
+    (section : State) → (is_open ≡ true → now ≡ section) → (cuts : List Cut) × (rows ≡ cases_of run section is_open cuts members) × FoldsTo told first (cases_told run section is_open cuts members) last
+
+-- The cases that are still to come, each with whether it is selected.
+abbrev pub members_in : Cases → List MemberValue
+members_in cases = members_of cases.waiting.items cases.selected.items
+
+-- The same cases, of which none is taken yet.
+pub record BeginsWith (reserved : ReservedCases) (cases : Cases) : Type 0 where
+  pub rank : cases.rank ≡ 0
+  pub waiting : cases.waiting.items ≡ reserved.cases.items
+  pub selected : cases.selected.items ≡ reserved.selected.items
+  pub results : cases.results ≡ reserved.results
+
+-- The next case of the rank was taken, or there is none.
+abbrev pub TakesMember : Cases → Option Member → Cases → Type 0
+TakesMember old None new = (new ≡ old) × (falls_from (suc old.rank) old.waiting.items ≡ true)
+TakesMember old (Some m) new =
+    (members_in old ≡ member_of m.case m.selected ∷ members_in new) × (order.rank m.case.rule ≡ old.rank) × (new.rank ≡ old.rank) × (new.results ≡ old.results) × (length old.waiting.items ≡ suc (length new.waiting.items))
+
+-- All cases of the rank were taken, and no others.
+pub record IsLeft (old new : Cases) : Type 0 where
+  pub rank : new.rank ≡ old.rank
+  pub falls : falls_from (suc old.rank) new.waiting.items ≡ true
+  pub others : (other : ℕ) → old.rank < other → members_of_rank other (members_in new) ≡ members_of_rank other (members_in old)
+
+-- The next cases, those of one rank, were run, in a section that is open or isn't; whether what comes after them is still reached.
+pub record RunsCases {S : Type 0} (hears : S → Event → S → Type 0) (ends : S → Ended → S → Type 0) (run : Run) (now : State) (is_open : Bool) (old new : Cases) (first last : S) (stays_open : Bool) : Type 0 where
+  pub rows : List CaseRow
+  pub told : map case_row new.results.items ≡ map case_row old.results.items ++ rows
+  pub are : AreCases (tells hears ends) run now is_open (members_of_rank old.rank (members_in old)) rows first last
+  pub stay : stays_open ≡ all_stay_open run rows
+  pub left : IsLeft old new
+
+-- ---- rules
+
+-- What a rule comes to, and what was told of it, are those of some cuts, from its feature's state where the feature is open.
+abbrev pub IsRule : {S : Type 0} → (S → Told → S → Type 0) → Run → State → Bool → Group → SectionRow (List CaseRow) → S → S → Type 0
+IsRule told run now is_open g end first last =
+    (outside : State) → (is_open ≡ true → now ≡ outside) → (cuts : RuleCuts) × (end ≡ rule_of run outside is_open cuts g) × FoldsTo told first (rule_told run outside is_open cuts g) last
+
+-- What rules come to, and what was told of them, are those of some cuts, from their feature's state where the feature is open.
+abbrev pub AreRules : {S : Type 0} → (S → Told → S → Type 0) → Run → State → Bool → List Group → Inside → S → S → Type 0
+AreRules told run now is_open groups inside first last =
+    (outside : State) → (is_open ≡ true → now ≡ outside) → (cuts : List RuleCuts) × (inside ≡ rules_of run outside is_open cuts groups) × FoldsTo told first (rules_told run outside is_open cuts groups) last
+
+-- The next cases, those of one rank, were run as those of a rule; whether what comes after it is still reached.
+pub record EndsRule (run : Run) (IsEnd : List MemberValue → SectionRow (List CaseRow) → Type 0) (old new : Cases) (end : RuleEnd) : Type 0 where
+  pub rows : List CaseRow
+  pub told : map case_row new.results.items ≡ map case_row old.results.items ++ rows
+  pub is : IsEnd (members_of_rank old.rank (members_in old)) (record { around = end.around; inside = rows })
+  pub stay : end.stays_open ≡ rule_stays_open run (record { around = end.around; inside = rows })
+  pub left : IsLeft old new
+
+-- What a section comes to that was begun, and what was told of it, are those of some cuts.
+abbrev pub IsRuleBegun : {S : Type 0} → (S → Told → S → Type 0) → Run → State → List (List ℕ) → List MemberValue → SectionRow (List CaseRow) → S → S → Type 0
+IsRuleBegun told run now tags members row first last =
+    (cut : Cut) × (cuts : List Cut) × (row ≡ section_of run levels.Rule tags now true cut (λ section is_ready. cases_of run section is_ready cuts members))
+    × FoldsTo told first (section_told run levels.Rule tags now true cut (λ section is_ready. cases_told run section is_ready cuts members)) last
+
+-- A rule was run in a layer of its own, from its feature's state.
+abbrev pub BeginsRule : {S : Type 0} → (S → Event → S → Type 0) → (S → Ended → S → Type 0) → shared.Run → State → List (String Global) → Cases → Cases → S → S → RuleEnd → Type 0
+BeginsRule hears ends run now tags old new first last end =
+    EndsRule (run_value run) (λ members row. IsRuleBegun (tells hears ends) (run_value run) now (texts tags) members row first last) old new end
+
+-- The next rule was run, in a feature that is open or isn't.
+abbrev pub RunsRule : {S : Type 0} → (S → Event → S → Type 0) → (S → Ended → S → Type 0) → Run → State → Bool → HeadValue → Cases → Cases → S → S → RuleEnd → Type 0
+RunsRule hears ends run now is_open head old new first last end =
+    EndsRule run (λ members row. IsRule (tells hears ends) run now is_open (record { head = head; members = members }) row first last) old new end
+
+-- The next rules were run, in a feature that is open or isn't.
+pub record RunsRules {S : Type 0} (hears : S → Event → S → Type 0) (ends : S → Ended → S → Type 0) (run : Run) (now : State) (is_open : Bool) (heads : List HeadValue) (old new : Cases) (results : List RuleResult) (first last : S) : Type 0 where
+  pub rows : List CaseRow
+  pub told : map case_row new.results.items ≡ map case_row old.results.items ++ rows
+  pub are : AreRules (tells hears ends) run now is_open (groups_from (suc old.rank) heads (members_in old)) (record { rules = map rule_row results; cases = rows }) first last
+
+-- ---- a feature
+
+-- What is inside of a section, and what was told of it, are those of some cuts, from the section's state where it is open.
+abbrev pub IsInside : {S : Type 0} → (S → Told → S → Type 0) → Run → State → Bool → List MemberValue → List Group → Inside → S → S → Type 0
+IsInside told run now is_open own groups inside first last =
+    (section : State) → (is_open ≡ true → now ≡ section) → (cuts : List Cut) × (rule_cuts : List RuleCuts) × (inside ≡ inside_by run section is_open cuts rule_cuts own groups)
+    × FoldsTo told first (inside_told run section is_open cuts rule_cuts own groups) last
+
+-- What a feature comes to, and what was told of it, are those of some cuts, from the run's state where it is begun.
+abbrev pub IsFeatureEnd : {S : Type 0} → (S → Told → S → Type 0) → Run → State → Bool → List (List ℕ) → List MemberValue → List Group → SectionRow Inside → S → S → Type 0
+IsFeatureEnd told run now is_begun tags own groups end first last =
+    (outside : State) → (is_begun ≡ true → now ≡ outside) → (cut : Cut) × (cuts : List Cut) × (rule_cuts : List RuleCuts)
+    × (end ≡ section_of run levels.Feature tags outside is_begun cut (λ section is_open. inside_by run section is_open cuts rule_cuts own groups))
+    × FoldsTo told first (section_told run levels.Feature tags outside is_begun cut (λ section is_open. inside_told run section is_open cuts rule_cuts own groups)) last
+
+-- What the code says of the inside of a feature.
+abbrev pub inside_value : declared.Inside → Inside
+inside_value i = record { rules = map rule_row i.rules.items; cases = map case_row i.cases.items }
+
+-- What was run inside of a feature.
+abbrev pub RunsInside : {S : Type 0} → (S → Event → S → Type 0) → (S → Ended → S → Type 0) → shared.Run → State → Bool → ReservedFeature → S → S → declared.Inside → Type 0
+RunsInside hears ends run now is_open content first last inside =
+    IsInside (tells hears ends) (run_value run) now is_open (members_of_rank 0 (members_in content.cases)) (groups_from 1 (map head_value content.rules.heads.items) (members_in content.cases)) (inside_value inside) first last
+
+-- A feature ran, or wasn't begun, and ended like this.
+abbrev pub EndsFeature : {S : Type 0} → (S → Event → S → Type 0) → (S → Ended → S → Type 0) → shared.Run → State → Bool → List (String Global) → ReservedFeature → S → S → FeatureEnd → Type 0
+EndsFeature hears ends run now is_begun tags content first last end =
+    IsFeatureEnd (tells hears ends) (run_value run) now is_begun (texts tags) (members_of_rank 0 (members_in content.cases)) (groups_from 1 (map head_value content.rules.heads.items) (members_in content.cases)) (record { around = end.around; inside = inside_value end.inside }) first last
+
+-- The result of a feature, and what was told of it, are those of some cuts, from the run's state where the run is open.
+abbrev pub RunsFeature : {S : Type 0} → (S → Event → S → Type 0) → (S → Ended → S → Type 0) → Run → State → Bool → ChosenValue → S → S → FeatureRow → Type 0
+RunsFeature hears ends run now is_open f first last row = (outside : State) → (is_open ≡ true → now ≡ outside) → IsFeatureTold hears ends run outside is_open f row first last
