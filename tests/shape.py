@@ -17,7 +17,7 @@ import driver
 CRATES = os.path.join(driver.HOME, "crates")
 LIMITS = os.path.join(driver.HOME, "tests", "shape.limits")
 WIDTH = 100  # columns of a contract line
-ARGUMENTS = 5  # of a function that isn't public
+ARGUMENTS = 7  # of a function that isn't public
 SHARED = 10  # lines that two places may not share
 # Modules that have no specification by their kind.
 ROOTS = ("lib", "main")
