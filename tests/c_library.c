@@ -190,6 +190,18 @@ static void nulls_in_lists(void) {
     call = before;
 }
 
+/* The names of the formats. */
+static void formats(void) {
+    static const struct { uint8_t format; const char *begins; } rows[] = {
+        {GHERKIN_PLAIN, "Feature: "}, {GHERKIN_PROGRESS, "x "}, {GHERKIN_JSON, "{"}};
+    for (size_t row = 0; row < 3; row++) {
+        call.format = rows[row].format;
+        gherkin_run(&call, room, LARGEST, &answer);
+        expect(memcmp(room, rows[row].begins, strlen(rows[row].begins)) == 0, "another format", (long)row);
+    }
+    call.format = GHERKIN_PLAIN;
+}
+
 static void versions(void) {
     size_t length = gherkin_run_version(NULL, 0);
     expect(length == strlen(GHERKIN_RUN_VERSION), "another length of the version", 0);
@@ -214,6 +226,7 @@ int main(int count, char **words) {
     places();
     nulls_in_call();
     nulls_in_lists();
+    formats();
     versions();
     printf("%d passed, %d failed\n", passed, failed);
     return failed != 0;

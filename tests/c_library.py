@@ -1,5 +1,5 @@
 #!/usr/bin/env python3
-"""Compares the static library with the program: c_library.py PROGRAM ROOM SEED COUNT.
+"""Compares the static library with the program: c_library.py PROGRAM ROOM LIBRARY SEED COUNT.
 
 Called by tests/c_library.sh, which says what is compared, and compiled the programs in ROOM.
 """
@@ -20,7 +20,7 @@ HEADER = os.path.join(HOME, "include", "gherkin_run.h")
 CHANGED = 300
 PREFIX = b"gherkin_run: "
 # Counts of arguments around powers of two, and more files than may be open at once.
-BAD_WORDS = [], ["--stop"], ["--line"], ["ten", "--line"], ["--env", "AB", "ten"], ["--unknown", "8", "ten"], ["-x", "ten"]
+BAD_WORDS = [], ["--stop"], ["--line"], ["ten", "--line"], ["--env", "AB", "ten"], ["--unknown", "8", "ten"], ["-x", "ten"], ["--format", "xml", "ten"]
 OPEN_FILES = 256
 COUNTS = 63, 64, 65, 66, 127, 129, 1000
 GOOD_LINES = "8", "010", "+10", "4294967295"
@@ -55,10 +55,11 @@ def changed(source, lines, rng):
 class Comparisons(driver.Tests):
     """Runs examples/c/main.c and the program, and counts the tests."""
 
-    def __init__(self, program, room):
+    def __init__(self, program, room, library):
         super().__init__()
         self.program = program
         self.room = room
+        self.library = os.path.realpath(library)
         self.main = os.path.join(room, "main")
 
     def compare(self, words, what, folder=HOME):
@@ -96,7 +97,9 @@ class Comparisons(driver.Tests):
     def command_lines(self):
         """Tries numbers of lines, and many arguments."""
         scenarios = "Scenario: line 8\nGiven it passes\nScenario: line 10\nGiven it fails\n"
-        driver.write(self.room, {"ten": "Feature: f" + "\n" * 7 + scenarios})
+        driver.write(self.room, {"ten": "Feature: f" + "\n" * 7 + scenarios,
+                                 "equals": driver.feature('Then the variable "A" should be "b=c"')})
+        self.compare(["--env", "A=b=c", "equals"], "a variable with two equals signs", self.room)
         for line in GOOD_LINES:
             self.compare(["--line", line, "ten"], f"line {line}", self.room)
         for words in [*(["--line", line, "ten"] for line in BAD_LINES), *BAD_WORDS]:
@@ -119,6 +122,13 @@ class Comparisons(driver.Tests):
             self.compare(["--format", form, "long.feature"], f"a long report, {form}", self.room)
             self.compare(["--format", form, "zero.feature"], f"a zero byte, {form}", self.room)
 
+    def full_output(self):
+        """Writes to an output that is full: both end with the same status."""
+        for words in ["examples/first.feature"], ["examples/failing.feature"]:
+            with open("/dev/full", "wb") as full:
+                status = driver.start(self.main, words, HOME, {**os.environ, **ENVIRONMENT}, stdout=full)[0]
+            self.add(status != 3 and f"{words} with a full output ends with {status}")
+
     def changed_files(self):
         """Runs examples whose bytes were changed at random."""
         sources = [driver.read(os.path.join(HOME, words[-1])) for words in driver.examples()]
@@ -130,11 +140,11 @@ class Comparisons(driver.Tests):
             self.compare(words, f"changed file {number}", self.room)
 
     def compile(self, compiler, name, text, *words):
-        """Compiles a text that includes the header, and expects no warning."""
+        """Compiles a text that includes the header, twice, and expects no warning."""
         if not shutil.which(compiler):
             print(f"include/gherkin_run.h isn't compiled by {compiler}, which is missing")
             return
-        driver.write(self.room, {name: f'#include "gherkin_run.h"\n{text}'})
+        driver.write(self.room, {name: '#include "gherkin_run.h"\n' * 2 + text})
         strict = ["-Wall", "-Wextra", "-Wpedantic", "-Werror", "-fsyntax-only", f"-I{os.path.dirname(HEADER)}"]
         status, _, said = ended([compiler, *strict, *words, name], self.room)
         self.add(status != 0 and f"{compiler} {name}: {said.decode()}")
@@ -144,6 +154,11 @@ class Comparisons(driver.Tests):
         body = "int main(void) { gherkin_call call = GHERKIN_CALL; return call.format; }\n"
         self.compile("cc", "header.c", body, "-std=c11")
         self.compile("c++", "header.cc", body, "-std=c++11", "-Wold-style-cast")
+        if shutil.which("c++"):
+            driver.write(self.room, {"linked.cc": '#include "gherkin_run.h"\nint main() { return gherkin_run_version(nullptr, 0) == 0; }\n'})
+            include = f"-I{os.path.dirname(HEADER)}"
+            status, _, said = ended(["c++", "-std=c++11", include, "-o", "linked", "linked.cc", "libgherkin_run.so"], self.room)
+            self.add(status != 0 and f"a program in C++ isn't linked: {said.decode()}")
 
     def page(self):
         """Compares what the program of docs/guide/from_c.md prints, and compiles the page's other piece of C."""
@@ -166,10 +181,22 @@ class Comparisons(driver.Tests):
         os.symlink(built, os.path.join(folder, f"libgherkin_run.so.{version[1]}"))
         found = ended([os.path.join(self.room, "shared"), "examples/paint.feature"], HOME, {"LD_LIBRARY_PATH": folder})
         self.add(driver.trouble("the shared library", found, ended([self.main, "examples/paint.feature"], HOME)))
+        self.add(self.made_elsewhere() != driver.read(built) and "tools/shared_library.sh finds no library from another folder")
         self.add(not ctypes.CDLL(built).gherkin_run_version(None, 0) and "ctypes gets no version")
         if shutil.which("nm"):
             names = ended(["nm", "-D", "--defined-only", built], HOME)[1].split()[2::3]
             self.add(names != [b"gherkin_run", b"gherkin_run_version"] and f"the shared library exports {names}")
+
+    def made_elsewhere(self):
+        """Returns the shared library that tools/shared_library.sh makes without ARCHIVE, called from another folder."""
+        top, made = os.path.join(self.room, "top"), os.path.join(self.room, "made here.so")
+        for folder in "tools", "include", "crates/gk_c/out":
+            os.makedirs(os.path.join(top, folder))
+        for name in "tools/shared_library.sh", "include/gherkin_run.h":
+            shutil.copy(os.path.join(HOME, name), os.path.join(top, name))
+        os.symlink(self.library, os.path.join(top, "crates/gk_c/out/libgk_c.a"))
+        status = ended([os.path.join(top, "tools/shared_library.sh"), made], "/")[0]
+        return driver.read(made) if status == 0 else b""
 
     def calls(self, *command):
         """Runs a program of tests in C, and adds its counts."""
@@ -183,13 +210,14 @@ class Comparisons(driver.Tests):
 
 def main():
     """Runs the comparisons, and then the calls of tests/c_library.c and of tests/random_bytes.c."""
-    program, room, seed, count = sys.argv[1:5]
+    program, room, library, seed, count = sys.argv[1:6]
     resource.setrlimit(resource.RLIMIT_NOFILE, (OPEN_FILES, OPEN_FILES))
-    tests = Comparisons(program, room)
+    tests = Comparisons(program, room, library)
     tests.examples()
     tests.shown_lines()
     tests.command_lines()
     tests.texts()
+    tests.full_output()
     tests.changed_files()
     tests.header()
     tests.page()

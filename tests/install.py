@@ -345,9 +345,21 @@ def lists(trial):
     return wrong
 
 
+def kept_links(trial):
+    """Whether a file that is a link, and the time of each file, are kept if a later file can't be put in."""
+    folder = trial.place("a link in place of the program", trial.earlier)
+    os.rename(os.path.join(folder, "bin/gherkin_run"), os.path.join(folder, "bin/mine"))
+    os.symlink("mine", os.path.join(folder, "bin/gherkin_run"))
+    man = os.path.join(folder, "share/man/man1/gherkin_run.1")
+    os.utime(man, (0, 0))
+    write(trial.room, "late/mv", f'#!/bin/sh\ncase $* in *-new*LICENSE-MIT) exit 1 ;; esac\nexec {shutil.which("mv")} "$@"\n', 0o755)
+    ended = trial.run(trial.second, folder, steps="late")
+    return ended.status == 1 and os.path.islink(os.path.join(folder, "bin/gherkin_run")) and os.stat(man).st_mtime == 0
+
+
 def links(trial):
     """The folders of which a link in their place isn't treated as it has to be."""
-    wrong = []
+    wrong = [] if kept_links(trial) else ["a link in place of the program, and the times of files, are kept after a failure"]
     for name in ("share/doc/gherkin_run", "share/doc/gherkin_run/examples", "share/doc/gherkin_run/docs/guide", "share/gherkin_run"):
         folder = trial.place(name.replace("/", " "), trial.earlier)
         victim = os.path.join(os.path.dirname(folder), "victim")

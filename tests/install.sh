@@ -88,6 +88,19 @@ into_the_own_folder() {
         HOME=$room/place "$home/install" --remove && [ -z "$(ls -A "$room/place")" ]
 }
 
+# What is said goes to standard output, with the folder as it is, and names bin if PATH doesn't.
+says_what_it_did() {
+    added="Add '$room/place/bin' to PATH, or call the program by its path."
+    for path in "/x$room/place/bin" "$room/place/bin-old" "$room/place"; do
+        PATH=$path:$PATH "$home/install" "$room/place/" 2> "$room/said" > "$room/log1" || return 1
+        printf "gherkin_run is installed in '%s'\n%s\n" "$room/place" "$added" | diff - "$room/log1" && [ ! -s "$room/said" ] || return 1
+    done
+    for path in "$room/place/bin" "$room/place/bin/"; do
+        [ "$(PATH=$PATH:$path "$home/install" "$room/place/")" = "gherkin_run is installed in '$room/place'" ] || return 1
+    done
+    [ "$("$home/install" --remove "$room/place/")" = "gherkin_run is removed from '$room/place'" ]
+}
+
 beside_other_files() {
     mkdir -p "$room/place/bin" "$room/place/share/man" && echo mine > "$room/place/bin/mine" &&
         there_and_back "$room/place" && [ "$(cat "$room/place/bin/mine")" = mine ]
@@ -225,6 +238,27 @@ options_of_man() {
     sed -nE '/^\.SH OPTIONS/,/^\.SH EXIT/{/^\\fB\\-/{s/\\f[BIR]//g;s/\\-/-/g;p}}' "$home/share/gherkin_run.1" | LC_ALL=C sort
 }
 
+# The options that the man page says one can't be used with, and those that the program refuses with it.
+refused_of_man() {
+    sed -n '/^\\fB\\-\\-'"$1"'\\fR/,/^\.TP/p' "$home/share/gherkin_run.1" | sed "1,/^This can't be used with/d" |
+        grep -oE -- '\\-\\-[a-z\-]+' | tr -d '\\' | LC_ALL=C sort
+}
+
+refused_of_runs() {
+    examples=$home/examples
+    for words in "--tags @a" "--line 2" "--library $examples/default.steps" "--hooks $examples/hooks.hooks" "--env A=b" \
+        --dry-run --stop "--format plain" --no-skipped --explain --lint; do
+        [ "${words#--}" = "$1" ] || [ "$(status_of "--$1" $words "$examples/first.feature")" -ne 2 ] || echo "${words%% *}"
+    done | LC_ALL=C sort
+}
+
+man_says_what_is_refused() {
+    for option in explain lint; do
+        refused_of_runs "$option" > "$room/wanted"
+        [ -s "$room/wanted" ] && refused_of_man "$option" | diff "$room/wanted" - || return 1
+    done
+}
+
 # The texts of the man page's steps, and those of the built-in library.
 steps_of_man() {
     sed -nE '/^\.SH STEPS/,/^\.fi/p' "$home/share/gherkin_run.1" | sed '1,/^\.nf/d;/^\.fi/d'
@@ -309,6 +343,25 @@ bash_completes_formats() {
         [ -z "$(bash_completes --tags -)" ]
 }
 
+# zsh and fish complete the same formats, and files for exactly the options that take one.
+values_are_completed() {
+    [ "$(sed -n "s/^.*:format:(\(.*\))'.*$/\1/p" "$home/share/_gherkin_run" | tr ' ' '\n' | LC_ALL=C sort | tr '\n' ' ')" = "$(formats)" ] &&
+        [ "$(sed -n "s/^.* -l format -x -a '\([^']*\)'.*$/\1/p" "$home/share/gherkin_run.fish" | tr ' ' '\n' | LC_ALL=C sort | tr '\n' ' ')" = "$(formats)" ] &&
+        options_of_help | sed -n 's/^--\(.*\) FILE$/\1/p' > "$room/wanted" && [ -s "$room/wanted" ] &&
+        sed -n 's/^.* -l \([a-z-]*\) -r -F .*$/\1/p' "$home/share/gherkin_run.fish" | LC_ALL=C sort | diff "$room/wanted" - &&
+        sed -n "s/^.*'\*\{0,1\}--\([a-z-]*\)=.*:_files'.*$/\1/p" "$home/share/_gherkin_run" | LC_ALL=C sort | diff "$room/wanted" -
+}
+
+# Whether bash completes files where its completions name nothing: the words so far are the arguments.
+bash_offers_files() {
+    bash -c '. "$0"; compopt() { exit 1; }; COMP_WORDS=(gherkin_run "$@"); COMP_CWORD=$#; _gherkin_run' "$home/share/gherkin_run.bash" "$@"
+}
+
+bash_offers_files_only_for_files() {
+    bash_offers_files "" && bash_offers_files --library "" && bash_offers_files --hooks = && bash_offers_files -- --tags "" &&
+        ! bash_offers_files --tags "" && ! bash_offers_files --line = 1 && ! bash_offers_files --env "" && ! bash_offers_files --format p
+}
+
 values_are_named() {
     for option in $(with_value); do
         grep -qE -- "'\*?$option=\[" "$home/share/_gherkin_run" &&
@@ -378,6 +431,8 @@ holds "by a relative path" by_a_relative_path
 holds "without PREFIX into the user's own folder" into_the_own_folder
 holds "beside other files" beside_other_files
 clear
+holds "it says what it did, and whether PATH has the program" says_what_it_did
+clear
 holds "a second installation replaces the first" twice
 holds "--remove may follow the folder" with_the_folder_first
 clear
@@ -431,6 +486,7 @@ b"
 holds "removing where nothing is installed is refused" refuses "there is no installation" --remove "$room/place"
 
 holds "the man page lists the options of the help" lists_as options_of_man options_of_help
+holds "the man page says what is refused with --explain and --lint" man_says_what_is_refused
 holds "each status of the man page is that of runs" lists_as statuses_of_man statuses_of_runs
 holds "the man page lists the steps of the built-in library" lists_as steps_of_man steps_of_library
 clear
@@ -438,10 +494,12 @@ holds "the files that the man page names are installed" man_names_files
 holds "the completions for zsh list the options of the help" lists_as spellings_of_zsh spellings
 holds "the completions for fish list the options of the help" lists_as spellings_of_fish spellings
 holds "the completions for zsh and fish say which options take a value" values_are_named
+holds "the completions for zsh and fish complete formats and files" values_are_completed
 if command -v bash > /dev/null; then
     holds "bash reads its completions" bash -n share/gherkin_run.bash
     holds "the completions for bash list the options of the help" bash_lists_options
     holds "bash completes the formats" bash_completes_formats
+    holds "bash completes files only in place of files" bash_offers_files_only_for_files
     holds "bash completes files after --" bash_completes_files_after_hyphens
 else
     left_out="$left_out bash"

@@ -182,6 +182,7 @@ def suite(python, room):
     yield differs("tests by -k", pytest.results("-k", "row and not 2"), {"row 1 -- @1.1": "passed"})
     yield differs("tests with -x", pytest.results("-x"), {"fails": "failure"})
     yield differs("a folder below", pytest.results(below="below"), {"low": "failure"})
+    yield differs("another --rootdir", pytest.results("--rootdir=below", "good.feature"), dict(list(RESULTS.items())[3:]))
     yield from lacks("a failure in a folder below", pytest("below")[1], "\nbelow/low.feature:4: failed: fail step\n")
     yield from lacks("a failure of a run there", pytest(below="below")[1], "\nlow.feature:4: failed: fail step\n")
     pytest()

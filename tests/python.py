@@ -8,6 +8,7 @@ import concurrent.futures
 import ctypes
 import json
 import os
+import pathlib
 import pickle
 import random
 import re
@@ -17,6 +18,7 @@ import signal
 import subprocess
 import sys
 import threading
+import types
 import typing
 
 import driver
@@ -39,6 +41,7 @@ REFUSED = [
     # A mistake in the arguments comes before one in a file.
     ["/proc/self/mem"], ["--library", "/proc/self/mem", PAINT],
     ["--env", "=x", "none.feature"], ["--line", "0", "none.feature"], ["--env", "a" * 256 + "=x", "none.feature"],
+    ["--env", "é" * 128 + "=x", "none.feature"], ["--line", "٣", PAINT],
     [b"none\xff.feature"], ["--tags", b"@\xff", "none.feature"],
     ["--tags=--", PAINT], ["--library=--", PAINT], ["--hooks=--", PAINT], ["--env=--", PAINT], ["--format=--", PAINT], ["--line=--", PAINT],
 ]
@@ -89,7 +92,7 @@ except (Fault, FaultError) as fault:
 # Options and files in any order.
 ORDERS = [
     [PAINT, "--tags", "@slow", PAINT, "--format", "progress"], ["--stop", PAINT, "--no-skipped", PAINT], [PAINT, "--line", "007", "--", PAINT],
-    ["--tags=~@slow", PAINT, "--env", "A=1", PAINT, "--env=A=2"],
+    ["--tags=~@slow", PAINT, "--env", "A=1", PAINT, "--env=A=2"], ["--tags", "@none", "--tags", "~@slow", PAINT],
 ]
 
 
@@ -136,9 +139,9 @@ def options_alone(program):
 
 
 def long_files(program, room):
-    """Compares which fault is named if a file is too long and there is another fault."""
-    driver.write(room, {"long.feature": b"#" * ((1 << 24) + 1)})
-    for words in (["long.feature"], ["--tags", "@a @b", "long.feature"], ["--library", "long.feature", "none"], ["long.feature", "none"], ["none", "long.feature"]):
+    """Compares which fault is named if a file is too long or can't be read. A file may have as many bytes as the program takes."""
+    driver.write(room, {"long.feature": b"#" * ((1 << 24) + 1), "most.feature": b"#" * ((1 << 24) - 1) + b"\n"})
+    for words in (["most.feature"], ["/proc/self/mem"], ["long.feature"], ["--tags", "@a @b", "long.feature"], ["--library", "long.feature", "none"], ["long.feature", "none"], ["none", "long.feature"]):
         wanted = driver.start(program, words, room)
         made = driver.start(sys.executable, ["-m", "gherkin_run", *words], room)
         yield "" if made == wanted else f"{words} gives {made}, and not {wanted}"
@@ -222,6 +225,7 @@ def raises(kind, make=gherkin_run.run, **options):
 def values():
     """Tries arguments that a run takes, and arguments that it refuses."""
     yield "" if gherkin_run.run(os.fsencode(PAINT)).text == gherkin_run.run(PAINT).text else "a path of bytes isn't taken"
+    yield "" if gherkin_run.run(pathlib.Path(PAINT)).text == gherkin_run.run(PAINT).text else "a Path alone isn't taken"
     yield "" if gherkin_run.run([]).passed else "no feature, and not passed"
     for line in (0, -1, 1 << 32, (1 << 32) + 1):
         yield raises(ValueError, features=PAINT, lines=[line])
@@ -273,8 +277,8 @@ def reports():
     yield "" if gherkin_run.Fault is gherkin_run.FaultError else "two kinds of faults"
     found = re.search(r'^__version__ = "([0-9.]+)"$', driver.read(os.path.join(PACKAGE, "gherkin_run", "__init__.py")).decode(), re.MULTILINE)
     yield "" if found and found[1] == gherkin_run.__version__ else "__version__ isn't a literal, as setuptools needs it"
-    missing = [it for it in gherkin_run.__all__ if not hasattr(gherkin_run, it)]
-    yield f"__all__ has {missing}" if missing else ""
+    public = {name for name, value in vars(gherkin_run).items() if not name.startswith("_") and not isinstance(value, types.ModuleType)}
+    yield "" if public == set(gherkin_run.__all__) else f"__all__ isn't {sorted(public)}"
 
 
 def misfits(value, kind, place="data"):
@@ -292,7 +296,7 @@ def misfits(value, kind, place="data"):
         yield f"{place} is {value!r}"
 
 
-def types():
+def fitting():
     """Compares the types of JSON data with the reports of the examples and of a feature with rules."""
     sources = [it for it in (os.path.join(driver.HOME, words[-1]) for words in driver.examples()) if not fault_of(features=it)]
     rules = "Feature: f\nScenario: s\nGiven it is undefined\nGiven it passes\nRule: r\nScenario: t\nGiven it fails\nScenario: u\nGiven the scenario is skipped\n"
@@ -300,6 +304,9 @@ def types():
     for features, options in [*((it, {}) for it in sources), (made, {}), (made, {"dry_run": True}), (made, {"stop": True}), (made, {"lines": 2})]:
         data = gherkin_run.run(features, format="json", **options).data
         yield "; ".join(misfits(data, gherkin_run.ReportData))
+    memory = re.sub('"(around|run|status)":"passed"', r'"\1":"memory"', gherkin_run.run(made, format="json").text)
+    yield "; ".join(misfits(json.loads(memory), gherkin_run.ReportData))
+    yield "" if os.path.exists(os.path.join(PACKAGE, "gherkin_run", "py.typed")) else "type checkers ignore the types: there is no py.typed"
 
 
 def checked_types(room):
@@ -391,8 +398,9 @@ def loaded():
     script = ("import sys; loads = []; sys.addaudithook(lambda event, words: event == 'ctypes.dlopen' and loads.append(words[0]))\n"
               "import ctypes; first = len(loads); import gherkin_run, gherkin_run.__main__; print(len(loads) - first)\n"
               "gherkin_run.run([]); gherkin_run.run([]); gherkin_run.version(); print(len(loads) - first)")
-    ended_so = driver.start(sys.executable, ["-c", script])
-    yield "" if ended_so == (0, b"0\n1\n", b"") else f"loads of the shared library: {ended_so}"
+    for environment in (None, {**os.environ, "GHERKIN_RUN_LIBRARY": ""}):
+        ended_so = driver.start(sys.executable, ["-c", script], environment=environment)
+        yield "" if ended_so == (0, b"0\n1\n", b"") else f"loads of the shared library: {ended_so}"
 
 
 def unloaded(room):
@@ -480,7 +488,7 @@ def main():
     if said:
         tests.add(said if "isn't" in said else "")
     parts = [example_runs(program), command_lines(program), options_alone(program), long_files(program, room), failing_outputs(program), lacking_memory(room), changed_runs(program, room),
-             faults(), values(), reports(), types(), checked_types(room), same_version(program), threads(), nuls(), loaded(), unloaded(room),
+             faults(), values(), reports(), fitting(), checked_types(room), same_version(program), threads(), nuls(), loaded(), unloaded(room),
              waiting(room), refused(room), plugin.tests(room), python_pages.tests(room, plugin.interpreter()),
              left_over(temporary)]
     for part in parts:

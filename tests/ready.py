@@ -7,6 +7,7 @@ is found, which proves nothing: it takes a moment for each crate, and 'builds' a
 
 import glob
 import os
+import re
 import shutil
 import signal
 import subprocess
@@ -217,6 +218,12 @@ def a_source_more_or_less_is_a_change(clone):
     return is_right(again) and all(says(it, 70, b"needs the command rt") for it in (more, clone.run()))
 
 
+def another_list_of_crates_is_a_change(clone):
+    clone.run()
+    clone.change("crates.txt")
+    return says(clone.run(), 70, b"needs the command rt")
+
+
 def a_change_that_is_not_proved_runs_nothing(clone):
     clone.change()
     answer = clone.run(with_rt=True, REFUSED="1")
@@ -300,12 +307,36 @@ def an_end_while_a_program_is_kept_leaves_nothing(clone):
     return status != 0 and not clone.left() and clone.run() == (0, b"built here\n", b"")
 
 
+def kept(clone, sources):
+    """Runs tools/keep.sh where sums can't be renamed: its status, and what it says on standard error."""
+    commands = clone.commands(True)
+    os.remove(os.path.join(commands, "mv"))
+    with open(os.path.join(commands, "mv"), "w", encoding="utf-8") as file:
+        file.write(f'#!/bin/sh\ncase $1 in *.sha256) exit 1 ;; esac\nexec {shutil.which("mv")} "$@"\n')
+    os.chmod(file.name, 0o755)
+    status, _, err = clone.run(sources, script=clone.path("tools/keep.sh"), PATH=commands)
+    return status, err
+
+
+def a_program_that_is_kept_in_part_has_no_sources(clone):
+    clone.change()
+    clone.run(with_rt=True)
+    with open(clone.path("out/gherkin_run.sources"), encoding="utf-8") as file:
+        sources = file.read().strip()
+    changed = kept(clone, "other sources")
+    is_there = os.path.exists(clone.path("out/gherkin_run.sources"))
+    in_part = kept(clone, sources)
+    return changed == (1, b"the sources have changed while the program was built, so it isn't kept\n") and is_there and (
+        in_part[0] != 0 and not os.path.exists(clone.path("out/gherkin_run.sources")))
+
+
 def cleaning_leaves_the_program(clone):
     clone.change()
     clone.run(with_rt=True)
     status, out, err = clone.run("--clean")
     left = [name for name in os.listdir(clone.path("crates")) if os.path.exists(clone.path(f"crates/{name}/out"))]
-    return (status, out, left) == (0, b"", []) and b"removed" in err and clone.run() == (0, b"built here\n", b"")
+    said = re.fullmatch(rb"run: removed [1-9][0-9.]*[KMG] below crates/\n", err)
+    return (status, out, left) == (0, b"", []) and bool(said) and clone.run() == (0, b"built here\n", b"")
 
 
 def a_word_of_the_script_stands_alone(clone):
@@ -336,11 +367,11 @@ TESTS = [
     first_run_takes_less_than_five_seconds, later_runs_say_nothing_too, the_program_of_dist_is_named,
     it_runs_from_any_folder, it_runs_through_a_link, it_runs_where_nothing_can_be_written, two_users_run_it_at_once,
     a_changed_source_is_built, what_was_built_runs_at_once, a_source_that_is_changed_back_runs_dist,
-    a_source_more_or_less_is_a_change, a_change_that_is_not_proved_runs_nothing, a_changed_byte_in_dist_is_refused,
+    a_source_more_or_less_is_a_change, another_list_of_crates_is_a_change, a_change_that_is_not_proved_runs_nothing, a_changed_byte_in_dist_is_refused,
     building_without_the_toolchain_says_so, building_where_nothing_can_be_written_says_so, another_processor_is_named,
     an_older_library_is_named, two_builds_at_once_are_one, an_interrupt_leaves_nothing_half_built,
     an_end_while_it_looks_for_a_program_leaves_nothing, an_end_while_a_program_is_kept_leaves_nothing,
-    cleaning_leaves_the_program, a_word_of_the_script_stands_alone,
+    a_program_that_is_kept_in_part_has_no_sources, cleaning_leaves_the_program, a_word_of_the_script_stands_alone,
 ]
 
 

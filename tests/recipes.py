@@ -37,6 +37,63 @@ SUITE = {
     "suite.hooks": "after_tag @untidy:\n  Given it fails\nbefore_tag @broken:\n  Given it fails\nafter_all:\n  Given it fails\n",
 }
 
+# Something of each kind fails here, and this is what each file makes of the report.
+SMALL = {
+    "a_b, 5%.feature": "@untidy\nFeature: 100% _sure_\n  Scenario: %0A, _all_: 5%\n    Given it passes\n    Then it fails\n  Scenario: gone\n"
+                       "    Given the scenario is skipped\n  @broken\n  Scenario: unknown\n    Given nobody knows\n  @untidy\n  Rule: r\n"
+                       "    Scenario: in a rule\n      Given it passes\n",
+    "small.hooks": "after_tag @untidy:\n  Given it fails\nafter_tag @broken:\n  Given it fails\nafter_all:\n  Given it fails\n",
+}
+MADE = {
+    "annotations": """\
+::error file=a_b%2C 5%25.feature,line=5,title=Scenario%3A %250A%2C _all_%3A 5%25::Then it fails ... failed: fail step
+::error file=a_b%2C 5%25.feature,line=10,title=Scenario%3A unknown::Given nobody knows ... undefined
+::error file=a_b%2C 5%25.feature,line=9,title=Scenario%3A unknown::hooks and cleanups of the scenario ... failed
+::error file=a_b%2C 5%25.feature,line=12,title=Feature%3A 100%25 _sure_::hooks and cleanups of the rule ... failed
+::error file=a_b%2C 5%25.feature,line=2,title=Feature%3A 100%25 _sure_::hooks and cleanups of the feature ... failed
+::error title=gherkin_run::hooks and cleanups of the run ... failed
+""",
+    "failed": """\
+a_b, 5%.feature:2: 100% _sure_ (hooks and cleanups)
+a_b, 5%.feature:12: (hooks and cleanups of the rule)
+a_b, 5%.feature:3: %0A, _all_: 5%
+a_b, 5%.feature:9: unknown
+(hooks and cleanups of the run)
+""",
+    "summary": """\
+| | passed | failed | skipped | undefined | untested | memory |
+|---|---|---|---|---|---|---|
+| features | 0 | 1 | 0 |  | 0 | 0 |
+| scenarios | 1 | 2 | 1 |  | 0 | 0 |
+| steps | 2 | 1 | 1 | 1 | 0 | 0 |
+
+- a&#95;b&#44; 5&#37;&#46;feature:3: Scenario: &#37;0A&#44; &#95;all&#95;&#58; 5&#37;: **failed**
+  - line 5: Then it fails: failed, fail step
+- a&#95;b&#44; 5&#37;&#46;feature:9: Scenario: unknown: **failed**
+  - line 10: Given nobody knows: undefined
+  - hooks and cleanups: failed
+- a&#95;b&#44; 5&#37;&#46;feature:12: Rule: hooks and cleanups: **failed**
+- a&#95;b&#44; 5&#37;&#46;feature:2: Feature: 100&#37; &#95;sure&#95;: hooks and cleanups: **failed**
+- hooks and cleanups of the run: **failed**
+""",
+    "junit": """\
+<?xml version="1.0" encoding="UTF-8"?>
+<testsuites>
+  <testsuite name="a_b, 5%.feature: 100% _sure_" tests="6" failures="4" errors="0" skipped="1">
+    <testcase classname="a_b, 5%.feature" name="%0A, _all_: 5%"><failure message="Then it fails ... failed: fail step">Given it passes ... passed&#10;Then it fails ... failed: fail step</failure></testcase>
+    <testcase classname="a_b, 5%.feature" name="gone"><skipped message="skipped"/></testcase>
+    <testcase classname="a_b, 5%.feature" name="unknown"><failure message="Given nobody knows ... undefined">Given nobody knows ... undefined</failure></testcase>
+    <testcase classname="a_b, 5%.feature" name="in a rule"></testcase>
+    <testcase classname="a_b, 5%.feature" name="(rule, line 12: hooks and cleanups)"><failure message="hooks and cleanups">(rule, line 12: hooks and cleanups) ... failed</failure></testcase>
+    <testcase classname="a_b, 5%.feature" name="(hooks and cleanups)"><failure message="hooks and cleanups">(hooks and cleanups) ... failed</failure></testcase>
+  </testsuite>
+  <testsuite name="(the run)" tests="1" failures="1" errors="0" skipped="0">
+    <testcase classname="(the run)" name="(hooks and cleanups)"><failure message="hooks and cleanups">(hooks and cleanups) ... failed</failure></testcase>
+  </testsuite>
+</testsuites>
+""",
+}
+
 
 def blocks(page):
     """The commands of a page of the guide, block by block."""
@@ -179,6 +236,41 @@ def makers_troubles(program, room):
             yield f"{name}: {found}" if found else ""
 
 
+def whole_troubles(program, room):
+    """What the files make of a small report, byte for byte, and what the scripts say of that suite."""
+    folder = folder_of(program, room, "small")
+    driver.write(folder, SMALL)
+    driver.write(folder, {"report.json": driver.start(program, ["--format", "json", "--hooks", "small.hooks", "a_b, 5%.feature"], folder)[1]})
+    for name, wanted in MADE.items():
+        yield driver.trouble(f"{name}.jq", made(folder, name), (0, wanted.encode(), b""))
+    driver.write(folder, {"defined.feature": SMALL["a_b, 5%.feature"].replace("nobody knows", "it fails")})
+    status, printed, fault = shell(folder, "examples/recipes/check.sh ./run --hooks small.hooks defined.feature")
+    around = [it for it in printed.decode().split("\n") if "hooks and cleanups" in it]
+    yield unless("check.sh: other hooks and cleanups", (status, around) == (1, ["    (hooks and cleanups) ... failed", "  (rule, line 12: hooks and cleanups) ... failed",
+                 "  (hooks and cleanups) ... failed", "(hooks and cleanups) ... failed"]), status, *around)
+    ended = shell(folder, "examples/recipes/check.sh ./run missing.feature")
+    yield driver.trouble("check.sh of a missing file", ended, (3, b"", b"gherkin_run: missing.feature: cannot read\n"))
+    ended = shell(folder, "echo defined.feature | examples/recipes/long.sh ./run --tags @a,,b")
+    yield driver.trouble("long.sh with a bad tag expression", ended, (2, b"", b"gherkin_run: bad tag expression\n"))
+    yield from worst_troubles(folder)
+
+
+def worst_troubles(folder):
+    """again.sh runs no scenario of a rule that passed, and exits with the greatest status, not the last."""
+    driver.write(folder, {"two.feature": "Feature: f\n  @untidy\n  Rule: untidy\n    Scenario: one\n      Given it passes\n  Rule: tidy\n"
+                                         "    Scenario: two\n      Given it passes\n",
+                          "small.hooks": "after_tag @untidy:\n  Given it fails\n"})
+    status, printed, fault = again(folder, "--hooks small.hooks", "two.feature")
+    headings = re.findall(rb"^  Scenario: (\w+ \.\.\. \w+)$", printed, re.MULTILINE)
+    yield unless("again.sh of a rule before one that passed", (status, headings) == (1, [b"one ... passed", b"two ... skipped"]), printed.decode(), fault.decode())
+    fails = "Feature: f\n  Scenario: s\n    Given it fails\n"
+    driver.write(folder, {"first.feature": fails, "second.feature": fails})
+    shell(folder, "./run --format json first.feature second.feature > ended.json")
+    driver.write(folder, {"second.feature": fails.replace("fails", "passes")})
+    status, printed, fault = shell(folder, "examples/recipes/again.sh ended.json ./run")
+    yield unless("again.sh with a repair in the last file", status == 1 and printed.count(b"Feature: f") == 2, printed.decode(), fault.decode())
+
+
 # ---- the commands of the pages
 
 def page_troubles(program, room):
@@ -280,6 +372,11 @@ def run_troubles(folder):
     yield unless("again.sh with nothing to run", (status, printed) == (1, b""), fault.decode())
     status, printed, fault = again(folder, "--stop", "bad.feature one.feature")
     yield unless("again.sh after --stop", status == 1 and printed.count(b"Feature: ") == 1, printed.decode(), fault.decode())
+    for first, second in (("bad", "mended"), ("mended", "bad")):
+        driver.write(folder, {"mended.feature": "Feature: mended\n  Scenario: one\n    Given it fails\n"})
+        driver.write(folder, {"ended.json": shell(folder, f"./run --format json {first}.feature {second}.feature")[1], "mended.feature": good})
+        status, printed, fault = shell(folder, "examples/recipes/again.sh ended.json ./run")
+        yield unless(f"again.sh of {first} and {second}", status == 1 and printed.count(b"Feature: ") == 2, status, printed.decode(), fault.decode())
     status, printed, fault = again(folder, "", "one.feature")
     yield unless("again.sh of what passed", (status, printed, fault) == (0, b"", b""), printed.decode(), fault.decode())
     driver.write(folder, {"after.hooks": "after_rule:\n  Then it fails\n",
@@ -476,7 +573,7 @@ def seconds_of(folder, command, **more):
 def main():
     program, room = sys.argv[1], sys.argv[2]
     tests = driver.Tests()
-    groups = (makers_troubles, page_troubles, machine_troubles, escaped_troubles, name_troubles, setting_troubles, missing_troubles, signal_troubles)
+    groups = (makers_troubles, whole_troubles, page_troubles, machine_troubles, escaped_troubles, name_troubles, setting_troubles, missing_troubles, signal_troubles)
     for found in driver.on_all_processors(lambda it: list(it(program, room)), groups):
         tests.add_all(found)
     # By itself, since it counts the time of all that this driver starts.

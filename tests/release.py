@@ -59,6 +59,7 @@ class Released:
             shutil.copytree(self.clone.path(name), os.path.join(self.kept, name))
         self.before = self.state()
         self.first = self.run()
+        self.first_printed = self.printed
         self.after = self.state()
         for name in RELEASED:
             shutil.copytree(self.clone.path(name), self.new(name))
@@ -109,6 +110,7 @@ class Released:
         done = subprocess.run(["sh", "-c", 'PID=$$ exec ./release'], cwd=self.clone.folder, env=settings, check=False,
                               stdin=subprocess.DEVNULL, stdout=subprocess.PIPE, stderr=subprocess.PIPE, timeout=120,
                               umask=umask)
+        self.printed = done.stdout.decode()
         with open(calls, encoding="utf-8") as file:
             return done.returncode, done.stderr.decode(), int(file.read().split()[0])
 
@@ -135,6 +137,24 @@ def what_is_released_is_new(released):
     after = {name: text for name, (_, text) in released.after.items()}
     return after["dist/gherkin_run"].endswith(b"echo built here\n") and b"another page" in after["web/try.html"] and (
         after["python/gherkin_run/libgherkin_run.so"] == b"a new library\n")
+
+
+def it_names_the_sum_and_the_kit(released):
+    after = {name: text.decode() for name, (_, text) in released.after.items() if name.startswith("dist/gherkin_run.")}
+    sums, kit = after["dist/gherkin_run.sha256"].split()[0], after["dist/gherkin_run.kit"].strip()
+    return released.first_printed.splitlines()[-1] == f"dist/gherkin_run: {sums}, built with {kit}"
+
+
+def with_wasm_opt_the_module_is_renewed(released):
+    write(released.commands, "wasm-opt", "#!/bin/sh\n", 0o755)
+    write(released.clone.path("web/build"), "make_module.sh", '#!/bin/sh\necho another module > "$2"\n', 0o755)
+    write(released.clone.path("web/build"), "tools.sh", "#!/bin/sh\necho other tools\n", 0o755)
+    status, said, _ = released.run()
+    found = released.state()
+    os.remove(os.path.join(released.commands, "wasm-opt"))
+    released.put_back()
+    made = [found[f"web/{name}"][1] for name in ("gherkin_run.wasm", "made.tools")]
+    return (status, said, made) == (0, "", [b"another module\n", b"other tools\n"])
 
 
 def anybody_may_read_it(released):
@@ -220,7 +240,7 @@ def an_end_at_any_step_changes_nothing(released):
 
 
 TESTS = [
-    a_release_renews_everything, what_is_released_is_new, anybody_may_read_it, a_library_that_is_not_proved_changes_nothing,
+    a_release_renews_everything, what_is_released_is_new, it_names_the_sum_and_the_kit, with_wasm_opt_the_module_is_renewed, anybody_may_read_it, a_library_that_is_not_proved_changes_nothing,
     a_linker_that_fails_changes_nothing, a_page_that_cannot_be_made_changes_nothing, other_sources_change_nothing,
     another_program_changes_nothing, no_program_changes_nothing, a_failure_at_any_step_changes_nothing,
     an_end_at_any_step_changes_nothing,

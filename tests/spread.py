@@ -86,6 +86,15 @@ printf '%s\\0' "${TMPDIR-unset}" >> "$PLACE/words"
 while [ "$1" != --format ]; do shift; done
 exec "$PROGRAM" "$@"
 """
+# Notes if another one runs at the same time.
+ALONE = """#!/bin/sh
+mkdir "$PLACE/busy" || echo "$*" >> "$PLACE/others"
+sleep 0.2
+"$PROGRAM" "$@"
+status=$?
+rmdir "$PLACE/busy"
+exit "$status"
+"""
 # Notes that it has begun, and waits to be ended.
 WAITING = """#!/bin/sh
 echo $$ >> "$PLACE/begun"
@@ -193,6 +202,23 @@ def of_standard_input():
     return driver.trouble("names from standard input", ended, driver.start(PROGRAM, ["--format", "json", "--", *FILES], suite()))
 
 
+def of_one_job(_):
+    """With --jobs 1 no two jobs run at the same time."""
+    place = place_of("one job", alone=ALONE)
+    status, _, fault = spread(place, "--jobs", "1", "--files", "4", os.path.join(place, "alone"), "--", *FILES)
+    return unless("one job at a time", (status, fault) == (1, b"") and not lines_in(place, "others"), status, fault)
+
+
+def of_many_files(_):
+    """A fault is found among more names than one command may have."""
+    place = place_of("many files")
+    names = [f"{'missing' * 30}{number}" for number in range(1500)]
+    driver.write(place, {"names": "".join(it + "\n" for it in names)})
+    ended = driver.start("sh", ["-c", 'ulimit -s 1024; exec "$0" "$1" -- < "$PLACE/names"', SPREAD, PROGRAM], suite(), environment_of(place))
+    wanted = f"gherkin_run: {names[0]}: cannot read\n".encode()
+    return unless("a fault among many files", ended[:2] == (3, b"") and ended[2].endswith(wanted), *ended)
+
+
 # ---- jobs that are lost
 
 def of_killed(case):
@@ -243,6 +269,16 @@ def of_machines(machines):
     return found + [unless(f"{name}: others were tried, {reached}", reached == hosts)]
 
 
+def of_two_lists(_):
+    """Each --sshlogin adds its machines."""
+    place = place_of("two lists of machines", ssh=SSH)
+    words = ["--sshlogin", "1/one", "--sshlogin", "1/two", "--files", "2", PROGRAM, "--", *FILES]
+    ended = spread(place, *words, **on_machines(place))
+    wanted = driver.start(PROGRAM, ["--format", "json", "--", *FILES], suite())
+    reached = set(lines_in(place, "reached"))
+    return [driver.trouble("two lists of machines", ended, wanted), unless(f"of two lists only {reached} were tried", reached == {"one", "two"})]
+
+
 NO_MACHINES = ["$(touch pwned)", "a;touch pwned", "ssh -l b a", "-oProxyCommand=x", "a,-b", "a b", "{= 1 =}", "a\nb", "..", "@group", "", ",", "0/a"]
 
 
@@ -255,7 +291,8 @@ def of_no_machines(machines):
 
 # ---- words that nobody would write
 
-HOSTILE = ['{= system("touch pwned"); =}', "{}", "{.}", "{#}", "{%}", "{1}", ":::", "$(touch pwned)", "`touch pwned`", ";touch pwned;", "a\nb", "\\", "'"]
+HOSTILE = ["{= system('cd $PLACE; touch pwned'); =}", "{}", "{.}", "{#}", "{%}", "{1}", ":::", "$(cd $PLACE; touch pwned)", "`cd $PLACE; touch pwned`",
+           ";cd $PLACE; touch pwned;", "a\nb", "\\", "'"]
 # All at once: those, and others.
 ALL_HOSTILE = [*HOSTILE, "{=1 $_=1 =}", "{-1}", "{1.}", "{+}", "::::", 'a"b', "\n", "\\n", "> pwned", "$PLACE", "*", "~", "-x", "--colour", " ", "\t", "a  b",
                "#", "!", "=", "\r", "\x1b[1m", "%s", "é"]
@@ -319,6 +356,15 @@ def of_no_home(_):
     environment = {it: text for it, text in environment_of(place).items() if it not in ("HOME", "TMPDIR")}
     wanted = driver.start(PROGRAM, ["--format", "json", "--", *FILES], suite())
     return driver.trouble("no HOME and no TMPDIR", driver.start(SPREAD, [PROGRAM, "--", *FILES], suite(), environment), wanted)
+
+
+def of_relative_folder(_):
+    """A relative TMPDIR is found, also if CDPATH has the folder in which the script runs."""
+    place, files = place_of("a relative TMPDIR"), [os.path.join(suite(), "10.feature")]
+    ended = driver.start(SPREAD, [PROGRAM, "--", *files], place, {**environment_of(place), "TMPDIR": "temporary", "CDPATH": "."})
+    left = left_in(place)
+    return [driver.trouble("a relative TMPDIR", ended, driver.start(PROGRAM, ["--format", "json", "--", *files], place)),
+            unless("a relative TMPDIR: something is left", not left, *left)]
 
 
 def of_missing(tool):
@@ -439,12 +485,12 @@ def works():
     yield from ((of_memory, it) for it in ("no", "yes"))
     yield from ((of_machines, it) for it in ("2/one,2/two", "2/broken,2/two", "1/:,1/anna@one", "tester@one:2222"))
     yield from ((of_no_machines, it) for it in NO_MACHINES)
-    yield from ((of_words, (f"word {number}", [word], False)) for number, word in enumerate(HOSTILE))
-    yield from ((of_words, (f"all words, machine {machine}", ALL_HOSTILE, machine)) for machine in (False, True))
+    yield from ((of_words, (f"word_{number}", [word], False)) for number, word in enumerate(HOSTILE))
+    yield from ((of_words, (f"all_words_{machine}", ALL_HOSTILE, machine)) for machine in (False, True))
     yield from ((of_settings, (number, machine)) for number in range(len(SETTINGS)) for machine in ("", "one"))
     yield from ((of_refused, it) for it in REFUSED)
     yield from ((of_missing, it) for it in ("jq", "parallel"))
-    yield from ((it, None) for it in (of_no_home, of_another_parallel, of_no_program, of_fault, of_full_output, of_lost_words, of_long_option))
+    yield from ((it, None) for it in (of_one_job, of_many_files, of_two_lists, of_relative_folder, of_no_home, of_another_parallel, of_no_program, of_fault, of_full_output, of_lost_words, of_long_option))
 
 
 def main():
