@@ -31,8 +31,6 @@ WORDS = re.compile(r"\b(front|fronts|behind|tells|told|want of memory)\b", re.IG
 README_LINES = 120
 # Folders that checking and building make. A fresh clone has none of them.
 BUILT = ("out", "__pycache__")
-# Pages for users that aren't held against prose.py yet.
-UNREAD = {f"docs/guide/{it}.md" for it in ("from_python", "pytest")}
 # The endings of files that pages name.
 SOURCES = (".rt", ".antt", ".py", ".sh", ".awk", ".c", ".feature", ".steps", ".edit", ".arguments", ".report", ".status", ".fault")
 
@@ -558,7 +556,7 @@ def main():
         tests.check(f"examples in {page}", lines_of(page, example_differences(page)))
         for number, difference in run_differences(page, program, room):
             tests.check(f"{page}:{number}", [difference] if difference else [])
-    for page in sorted({"README.md", "docs/FAULTS.md", *GUIDE} - UNREAD):
+    for page in sorted({"README.md", "docs/FAULTS.md", *GUIDE}):
         text = read(page)
         tests.check(f"how {page} reads", lines_of(page, prose.hard_to_read(page, text, without_blocks(text))))
     tests.check("files of docs/guide/", shown_twice())
