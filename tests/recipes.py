@@ -116,9 +116,9 @@ def environment_of(folder, **more):
     return {**os.environ, "GITHUB_STEP_SUMMARY": os.path.join(folder, "summary.md"), "TMPDIR": os.path.join(folder, "temporary"), **more}
 
 
-def shell(folder, command, **more):
+def shell(folder, command, *, patience=driver.PATIENCE, **more):
     """Runs a command of a shell. Returns its status, and what it printed on the two streams, with what it left over."""
-    status, printed, fault = driver.start("sh", ["-c", command], folder, environment_of(folder, **more))
+    status, printed, fault = driver.start("sh", ["-c", command], folder, environment_of(folder, **more), patience=patience)
     left = os.listdir(os.path.join(folder, "temporary"))
     return status, printed, fault + (f"left over: {left}\n".encode() if left else b"")
 
@@ -372,11 +372,6 @@ def run_troubles(folder):
     yield unless("again.sh with nothing to run", (status, printed) == (1, b""), fault.decode())
     status, printed, fault = again(folder, "--stop", "bad.feature one.feature")
     yield unless("again.sh after --stop", status == 1 and printed.count(b"Feature: ") == 1, printed.decode(), fault.decode())
-    for first, second in (("bad", "mended"), ("mended", "bad")):
-        driver.write(folder, {"mended.feature": "Feature: mended\n  Scenario: one\n    Given it fails\n"})
-        driver.write(folder, {"ended.json": shell(folder, f"./run --format json {first}.feature {second}.feature")[1], "mended.feature": good})
-        status, printed, fault = shell(folder, "examples/recipes/again.sh ended.json ./run")
-        yield unless(f"again.sh of {first} and {second}", status == 1 and printed.count(b"Feature: ") == 2, status, printed.decode(), fault.decode())
     status, printed, fault = again(folder, "", "one.feature")
     yield unless("again.sh of what passed", (status, printed, fault) == (0, b"", b""), printed.decode(), fault.decode())
     driver.write(folder, {"after.hooks": "after_rule:\n  Then it fails\n",
@@ -565,7 +560,7 @@ def time_troubles(program, room):
 def seconds_of(folder, command, **more):
     """What a command printed, and the seconds of a processor that it took."""
     before = resource.getrusage(resource.RUSAGE_CHILDREN)
-    ended = shell(folder, command, **more)
+    ended = shell(folder, command, patience=600, **more)
     after = resource.getrusage(resource.RUSAGE_CHILDREN)
     return ended, after.ru_utime + after.ru_stime - before.ru_utime - before.ru_stime
 
