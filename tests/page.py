@@ -677,7 +677,6 @@ def label(page):
     yield same("fields with a spelling checker", checked, 0)
     yield same("whether the browser fills the fields", page.one("#inputs", "autocomplete"), "off")
     yield same("the language of the page", page.one("html", "lang"), "en")
-    yield same("the width of the page on a phone", page.one("meta[name=viewport]", "content"), "width=device-width, initial-scale=1")
     yield same("how a feature's lines are broken", page.value("getComputedStyle(document.querySelector('#files .text')).whiteSpace"), "pre")
     yield same("what is said without scripts", page.one("noscript", "innerText").strip(), "<p>This page needs JavaScript.</p>")
 
