@@ -19,6 +19,7 @@ import driver
 
 EXAMPLES = (sys.argv[3:] or [os.path.join(driver.HOME, "examples")])[0]
 RECIPES = os.path.join(EXAMPLES, "recipes")
+PATIENCE = 300  # seconds: a script starts many programs, also while proofs have the processors
 BAD = ("failed", "undefined", "memory")
 # A name with every control character but line feed, and with what Markdown, XML and GitHub read as their own.
 ODD = "".join(map(chr, [*range(10), *range(11, 32), *range(127, 160), 0xFFFE, 0xFFFF, 0x1F600])) + "%0A ::error::##[error]<b>&amp;\"'|*_`]]>"
@@ -116,9 +117,9 @@ def environment_of(folder, **more):
     return {**os.environ, "GITHUB_STEP_SUMMARY": os.path.join(folder, "summary.md"), "TMPDIR": os.path.join(folder, "temporary"), **more}
 
 
-def shell(folder, command, *, patience=driver.PATIENCE, **more):
+def shell(folder, command, **more):
     """Runs a command of a shell. Returns its status, and what it printed on the two streams, with what it left over."""
-    status, printed, fault = driver.start("sh", ["-c", command], folder, environment_of(folder, **more), patience=patience)
+    status, printed, fault = driver.start("sh", ["-c", command], folder, environment_of(folder, **more), patience=PATIENCE)
     left = os.listdir(os.path.join(folder, "temporary"))
     return status, printed, fault + (f"left over: {left}\n".encode() if left else b"")
 
@@ -531,11 +532,11 @@ def ended_by(program, room, words, number):
     with open(os.path.join(folder, "names"), "rb") as names, \
             subprocess.Popen([os.path.join(EXAMPLES, script), *others], cwd=folder, env=environment_of(folder), stdin=names, stdout=subprocess.DEVNULL,
                              preexec_fn=lambda: signal.signal(number, signal.SIG_DFL)) as process:
-        end = time.monotonic() + 30
+        end = time.monotonic() + PATIENCE
         while not os.path.exists(os.path.join(folder, "begun")) and time.monotonic() < end:
             time.sleep(0.02)
         process.send_signal(number)
-        status = process.wait(30)
+        status = process.wait(PATIENCE)
     return status, os.listdir(os.path.join(folder, "temporary"))
 
 
@@ -560,7 +561,7 @@ def time_troubles(program, room):
 def seconds_of(folder, command, **more):
     """What a command printed, and the seconds of a processor that it took."""
     before = resource.getrusage(resource.RUSAGE_CHILDREN)
-    ended = shell(folder, command, patience=600, **more)
+    ended = shell(folder, command, **more)
     after = resource.getrusage(resource.RUSAGE_CHILDREN)
     return ended, after.ru_utime + after.ru_stime - before.ru_utime - before.ru_stime
 
