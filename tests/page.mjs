@@ -1,8 +1,8 @@
 // Runs requests by web/gherkin_run.wasm in Node: page.mjs CALLER MODULE CASES
 //
-// CALLER is web/source/gherkin_run.js, CASES a file of JSON: a list of requests, in which bytes are base64. Prints three lists: the
+// CALLER is web/source/gherkin_run.js, CASES a file of JSON: a list of requests, in which bytes are base64. Prints four values: the
 // answers, with the text as base64 and the time of each run in milliseconds; the answers to the first request when little memory
-// is left, from none on; and the first lines of the texts for some lines, or the names of their exceptions.
+// is left, from none on; the first lines of the texts for some lines, or the names of their exceptions; and the answer to an unknown format.
 import { readFileSync } from "node:fs";
 
 const [caller, module, cases] = process.argv.slice(2);
@@ -50,4 +50,5 @@ const wrong = [0, 4294967295, -1, 4294967296, 4294967298, 1.5, NaN, "2", 2n].map
         return error.name;
     }
 });
-process.stdout.write(JSON.stringify([answers, refused, wrong]));
+const unknown = shown(run({ sources: [["f", "Feature: f\n"]], format: "xml" }));
+process.stdout.write(JSON.stringify([answers, refused, wrong, unknown]));

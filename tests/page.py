@@ -209,8 +209,24 @@ def node_cases(program, room):
     # The first is run with refused memory, too.
     cases.sort(key=lambda it: it[0] != FIRST)
     sources = [driver.read(os.path.join(driver.HOME, name)) for name, _, _ in cases]
-    return [*cases, *changed_cases(program, room, sources), *large_cases(program, room)]
+    return [*cases, *faulty_cases(program, room), *changed_cases(program, room, sources), *large_cases(program, room)]
 
+
+def faulty_cases(program, room):
+    """The same with a fault in the second source, in the library and in the hooks."""
+    files = {"good": SMALL, "bad": f"{SMALL}\nFeature: g\n", "own.steps": "step a => pass\nstep b => none\n", "own.hooks": "\n\n@never\n"}
+    driver.write(room, files)
+    for words, sources in ((["good", "bad"], ["good", "bad"]), (["--library", "own.steps", "good"], ["good"]), (["--hooks", "own.hooks", "good"], ["good"])):
+        request = {"sources": [[encoded(it), encoded(files[it])] for it in sources]}
+        if words[0].startswith("--"):
+            request[words[0][2:]] = [encoded(words[1]), encoded(files[words[1]])]
+        yield " ".join(words), request, wanted_of(program, words, room)
+
+
+def faulty_place(request, answer):
+    """Where a fault is, as its text begins: the name of the file and the line."""
+    files = request["sources"][answer["source"]:] if answer["input"] == "source" else [request.get(answer["input"], [""])]
+    return b"".join(base64.b64decode(name) for name, *_ in files[:1]) + b":%d: " % answer["line"]
 
 def in_node(program, room):
     """Each of these, by the module in Node."""
@@ -219,10 +235,14 @@ def in_node(program, room):
     command = ["node", os.path.join(driver.HOME, "tests", "page.mjs"), os.path.join(WEB, "source", "gherkin_run.js"),
                os.path.join(WEB, "gherkin_run.wasm"), os.path.join(room, "cases.json")]
     done = subprocess.run(command, capture_output=True, timeout=4 * PATIENCE, check=False)
-    answers, refused, lines = json.loads(done.stdout) if done.returncode == 0 else ([], [], [])
+    answers, refused, lines, unknown = json.loads(done.stdout) if done.returncode == 0 else ([], [], [], {"status": None, "text": ""})
     yield same(f"Node says {done.stderr.decode()}", (done.returncode, len(answers)), (0, len(cases)))
-    for (name, _, wanted), answer in zip(cases, answers):
-        yield same(f"{name} in Node", (answer["status"], answer["hasReport"], base64.b64decode(answer["text"])), wanted)
+    for (name, request, wanted), answer in zip(cases, answers):
+        text = base64.b64decode(answer["text"])
+        yield same(f"{name} in Node", (answer["status"], answer["hasReport"], text), wanted)
+        if answer["line"] or name == "good bad":
+            yield holds(f"the place of a fault in {name} in Node: {answer}", text.startswith(faulty_place(request, answer)))
+    yield same("an unknown format in Node", (unknown["status"], base64.b64decode(unknown["text"])), (2, b"unknown format"))
     yield from without_memory(refused, cases[0][2])
     yield same("lines in Node", lines, ["line 0", "Feature: f ... skipped", *["RangeError"] * 7])
     yield from guide_in_node(room)
@@ -409,6 +429,11 @@ def link(page):
     yield holds("fields that a link fills aren't open", page.value("[...document.querySelectorAll('details')].every((it) => it.open)"))
     page.load(link_to({"files": [["a.feature", SMALL]]}))
     yield same("a link to a file alone", (page.shown(), page.text("#notice")), (page.wanted(SMALL), ""))
+    for field, part in (("library", "library"), ("hooks", "hooks"), ("tags", "choice"), ("lines", "choice"), ("variables", "choice")):
+        page.load(link_to({"files": [["a.feature", SMALL]], field: FULL[field]}))
+        found = page.value("[...document.querySelectorAll('details[open]')].map((it) => it.id)")
+        yield same(f"what a link with {field} opens", found, [f"{part}Part"])
+    page.load(link_to({"files": [["a.feature", SMALL]]}))
     names = {"libraryName": "own.steps", "hooksName": "own.hooks", "format": "plain"}
     wanted = {name: names.get(name, type(value)()) for name, value in FULL.items()}
     yield same("the other fields then", page.inputs(), {**wanted, "files": [["a.feature", SMALL]]})
@@ -597,7 +622,7 @@ def wrong_field(page):
     line = '"{}" is not a line number: lines are whole numbers from 1 to 4294967295.'
     variable = '"{}" is not a variable: it needs a name, "=" and a text.'
     cases = (("lines", "1 4x 2", line.format("4x"), "2 3", ["--line=2", "--line=3"]),
-             ("lines", "0", line.format("0"), "+2,4294967295", ["--line=2", "--line=4294967295"]),
+             ("lines", "0", line.format("0"), "+2,\t4294967295", ["--line=2", "--line=4294967295"]),
              ("lines", "4294967296", line.format("4294967296"), "", []),
              ("variables", "A=1\nB\u0007", variable.format("B\\u0007"), "A=1\nB=C=", ["--env=A=1", "--env=B=C="]))
     text = "Feature: f\n  Scenario: s\n    Then the variable \"B\" should be \"C=\"\n  Scenario: t\n    Given it fails\n"
@@ -606,8 +631,8 @@ def wrong_field(page):
         page.fill("#files .text", text)
         page.type("#" + field, wrong)
         page.state("failed")
-        found = (page.shown(), page.one("#report", "dataset.fault"), page.one("#" + field, "ariaInvalid"), page.text(f"#{field}Wrong"))
-        yield same(f"{field} '{wrong}'", found, (("failed", "Not run", said), "true", "true", said))
+        found = (page.shown(), page.one("#report", "dataset.fault"), page.one("#" + field, "ariaInvalid"), page.text(f"#{field}Wrong"), page.text("#time"))
+        yield same(f"{field} '{wrong}'", found, (("failed", "Not run", said), "true", "true", said, ""))
         read_out = [it.get("description", {}).get("value") for it in page.tree("textbox")
                     if it["name"]["value"].lower().startswith(field)]
         yield same(f"what is read out at the {field}", read_out, [said])
@@ -697,6 +722,17 @@ def overtaken(page):
     time.sleep(0.4)
     yield same("the runs after five keys", page.value("asked") - before, 1)
     page.settle()
+    before = page.value("asked")
+    page.value("later(); runNow()")
+    time.sleep(0.4)
+    yield same("the runs after a key and Run", page.value("asked") - before, 1)
+    page.settle()
+    page.value(f"show({json.dumps(LONG_RUN)})")
+    page.fill("#lines", "x")
+    yield holds("a run goes on after a wrong line", page.state("failed") and page.value("answered === asked"))
+    page.fill("#lines", "")
+    page.value(f"show({json.dumps({'files': [['a', SMALL]]})})")
+    page.settle()
     page.value("runNow(); halt()")
     time.sleep(0.6)
     yield same("the status some time after a run that was ended at once", page.text("#status"), "Nothing failed, status 0")
@@ -709,7 +745,7 @@ def entered(page):
     page.focus("#files .name")
     page.press("Enter")
     yield holds("Enter in a field runs nothing", page.browser.wait("$('report').textContent !== ''", 5))
-    yield same("the address after Enter in a field", page.value("location.href"), PAGE)
+    yield same("the address and the files after Enter in a field", (page.value("location.href"), page.names()), (PAGE, [FIRST]))
 
 
 def long_report(page):
@@ -740,6 +776,9 @@ def scrolled(page):
     page.fill("#files .text", text + "Given it fails\n")
     page.settle()
     yield same("the place in the report after a change", page.one("#report", "scrollTop"), 2000)
+    page.fill("#files .text", driver.feature("Given it passes", name="long " * 300))
+    page.settle()
+    yield holds("a long line of the report is out of sight", page.value("[...$('report').children].every((it) => it.scrollWidth <= it.clientWidth)"))
     page.value(f"show({json.dumps({'files': [['a', text]]})})")
     page.settle()
     yield same("the place in the report of an example", page.one("#report", "scrollTop"), 0)

@@ -92,7 +92,7 @@ except (Fault, FaultError) as fault:
 # Options and files in any order.
 ORDERS = [
     [PAINT, "--tags", "@slow", PAINT, "--format", "progress"], ["--stop", PAINT, "--no-skipped", PAINT], [PAINT, "--line", "007", "--", PAINT],
-    ["--tags=~@slow", PAINT, "--env", "A=1", PAINT, "--env=A=2"], ["--tags", "@none", "--tags", "~@slow", PAINT],
+    ["--tags=~@slow", PAINT, "--env", "A=1", PAINT, "--env=A=2"],
 ]
 
 

@@ -14,6 +14,7 @@ import driver
 
 PROGRAM, ROOM = sys.argv[1:3]
 SPREAD = (sys.argv[3:] or [os.path.join(driver.HOME, "examples", "spread.sh")])[0]
+PATIENCE = 300  # seconds: the script starts many programs, also while proofs have the processors
 PASSES = "Feature: f\n  Scenario: s\n    Given it passes\n"
 SUITE = {
     **{f"{number}.feature": f"Feature: {number} \x7f \"x\" \\ \x01\n  @t{number}\n  Scenario: a\n    Given it passes\n  Scenario: b\n"
@@ -118,6 +119,11 @@ def environment_of(place, **more):
             "TMPDIR": os.path.join(place, "temporary"), **more}
 
 
+def start(program, words, folder, environment, **more):
+    """Runs the script, or a shell that does."""
+    return driver.start(program, words, folder, environment, patience=PATIENCE, **more)
+
+
 def left_in(place, temporary="temporary"):
     """What a run left in its home and among the temporary files."""
     return os.listdir(os.path.join(place, "home")) + os.listdir(os.path.join(place, temporary))
@@ -125,7 +131,7 @@ def left_in(place, temporary="temporary"):
 
 def spread(place, *words, folder=None, **environment):
     """Runs the script. Returns its status and what it printed; what it left over is a part of that."""
-    ended = driver.start(SPREAD, words, folder or suite(), environment_of(place, **environment))
+    ended = start(SPREAD, words, folder or suite(), environment_of(place, **environment))
     left = left_in(place)
     return (*ended[:2], ended[2] + f"left over: {left}\n".encode()) if left else ended
 
@@ -198,7 +204,7 @@ def of_standard_input():
     place = place_of("names from standard input")
     names = os.path.join(place, "names")
     driver.write(place, {"names": "".join(it + "\n" for it in FILES)})
-    ended = driver.start("sh", ["-c", f'exec "$0" "$@" < "{names}"', SPREAD, "--files", "2", PROGRAM, "--"], suite(), environment_of(place))
+    ended = start("sh", ["-c", f'exec "$0" "$@" < "{names}"', SPREAD, "--files", "2", PROGRAM, "--"], suite(), environment_of(place))
     return driver.trouble("names from standard input", ended, driver.start(PROGRAM, ["--format", "json", "--", *FILES], suite()))
 
 
@@ -214,7 +220,7 @@ def of_many_files(_):
     place = place_of("many files")
     names = [f"{'missing' * 30}{number}" for number in range(1500)]
     driver.write(place, {"names": "".join(it + "\n" for it in names)})
-    ended = driver.start("sh", ["-c", 'ulimit -s 1024; exec "$0" "$1" -- < "$PLACE/names"', SPREAD, PROGRAM], suite(), environment_of(place))
+    ended = start("sh", ["-c", 'ulimit -s 1024; exec "$0" "$1" -- < "$PLACE/names"', SPREAD, PROGRAM], suite(), environment_of(place))
     wanted = f"gherkin_run: {names[0]}: cannot read\n".encode()
     return unless("a fault among many files", ended[:2] == (3, b"") and ended[2].endswith(wanted), *ended)
 
@@ -345,7 +351,7 @@ def of_settings(case):
     folder = os.path.join(place, "suite")
     driver.write(folder, SUITE)
     own = ["--sshlogin", "2/" + machine] if machine else []
-    ended = driver.start(SPREAD, [*own, "--files", "5", PROGRAM, "--", *FILES], folder, {**environment_of(place), **on_machines(place), **SETTINGS[number]})
+    ended = start(SPREAD, [*own, "--files", "5", PROGRAM, "--", *FILES], folder, {**environment_of(place), **on_machines(place), **SETTINGS[number]})
     wanted = driver.start(PROGRAM, ["--format", "json", "--", *FILES], folder)
     left = set(os.listdir(folder)) - set(SUITE)
     return [driver.trouble(name, ended, wanted), unless(f"{name}: something is left", not left, *left)]
@@ -355,13 +361,13 @@ def of_no_home(_):
     place = place_of("no HOME and no TMPDIR")
     environment = {it: text for it, text in environment_of(place).items() if it not in ("HOME", "TMPDIR")}
     wanted = driver.start(PROGRAM, ["--format", "json", "--", *FILES], suite())
-    return driver.trouble("no HOME and no TMPDIR", driver.start(SPREAD, [PROGRAM, "--", *FILES], suite(), environment), wanted)
+    return driver.trouble("no HOME and no TMPDIR", start(SPREAD, [PROGRAM, "--", *FILES], suite(), environment), wanted)
 
 
 def of_relative_folder(_):
     """A relative TMPDIR is found, also if CDPATH has the folder in which the script runs."""
     place, files = place_of("a relative TMPDIR"), [os.path.join(suite(), "10.feature")]
-    ended = driver.start(SPREAD, [PROGRAM, "--", *files], place, {**environment_of(place), "TMPDIR": "temporary", "CDPATH": "."})
+    ended = start(SPREAD, [PROGRAM, "--", *files], place, {**environment_of(place), "TMPDIR": "temporary", "CDPATH": "."})
     left = left_in(place)
     return [driver.trouble("a relative TMPDIR", ended, driver.start(PROGRAM, ["--format", "json", "--", *files], place)),
             unless("a relative TMPDIR: something is left", not left, *left)]
@@ -398,17 +404,17 @@ def of_signal(case):
     with subprocess.Popen([SPREAD, *words], cwd=suite(), env=environment_of(place, **on_machines(place)), stdin=subprocess.DEVNULL,
                           stdout=subprocess.PIPE, stderr=subprocess.STDOUT, start_new_session=True,
                           preexec_fn=lambda: signal.signal(number, signal.SIG_DFL)) as process:
-        end = time.monotonic() + 30
+        end = time.monotonic() + PATIENCE
         while not lines_in(place, "begun") and time.monotonic() < end:
             time.sleep(0.05)
         process.send_signal(number)
         try:
-            printed = process.communicate(timeout=20)[0]
+            printed = process.communicate(timeout=40)[0]
         except subprocess.TimeoutExpired:
             os.killpg(process.pid, signal.SIGKILL)
             return [f"{name}: it goes on"]
     # A machine ends its job within a second after it has lost the connection.
-    end = time.monotonic() + 10
+    end = time.monotonic() + 40
     while any(map(goes_on, lines_in(place, "begun"))) and time.monotonic() < end:
         time.sleep(0.05)
     waiting = [it for it in lines_in(place, "begun") if goes_on(it)]
@@ -469,7 +475,7 @@ def of_long_option(_):
 def of_full_output(_):
     """A report that can't be written has the status that it has from the program."""
     with open("/dev/full", "wb") as full:
-        ended = driver.start(SPREAD, [PROGRAM, "--", "10.feature"], suite(), environment_of(place_of("full")), stdout=full)
+        ended = start(SPREAD, [PROGRAM, "--", "10.feature"], suite(), environment_of(place_of("full")), stdout=full)
     return unless("a full output", ended[0] == 3 and ended[2].endswith(b"add_reports: cannot write\n"), *ended)
 
 

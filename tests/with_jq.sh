@@ -167,6 +167,14 @@ for broken in empty cut two two_in_a_line other in_lines in_another_order indent
     check "a report that is $broken: something is printed" [ ! -s "$room/sum" ]
     check "a report that is $broken: it isn't named" grep -q "^add_reports: .*/$broken is no report" "$room/fault"
 done
+sed 's/"run":"passed","status":0/"run":"memory","status":4/' "$room/json" > "$room/memory"
+sed 's/"run":"passed","status":0/"run":"failed","status":1/' "$room/json" > "$room/failed"
+for order in "json failed memory" "memory failed json" "failed memory failed"; do
+    status=0
+    (cd "$room" && "$home/examples/add_reports.sh" $order) > "$room/sum" || status=$?
+    check "$order: another status" [ "$status" -eq 4 ]
+    check "$order: another end of the run" [ "$(jq --raw-output .run "$room/sum")" = memory ]
+done
 tr -d '\n' < "$room/json" > "$room/without_line_feed"
 examples/add_reports.sh "$room/without_line_feed" > "$room/sum" || true
 check "a report without its line feed: another sum" cmp "$room/json" "$room/sum"
