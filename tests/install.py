@@ -281,7 +281,8 @@ def together(trial):
     if statuses != [0] * 4 or not trial.is_new(folder, None) or not trial.ends_well(folder, None):
         wrong.append(f"four installations at the same time end with {statuses}")
     folder, statuses, _ = at_the_same_time(trial, ["--remove", None, None], trial.earlier)
-    if statuses != [0] * 3 or not trial.is_new(folder, None):
+    # Whoever is last decides; the removal may be.
+    if statuses != [0] * 3 or os.path.exists(folder) and not trial.is_new(folder, None):
         wrong.append(f"a removal and two installations at the same time end with {statuses}")
     folder, statuses, said = at_the_same_time(trial, ["--remove", "--remove"], trial.earlier)
     if sorted(statuses) != [0, 1] or os.path.exists(folder) or "there is no installation" not in "".join(said):
