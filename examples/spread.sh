@@ -153,9 +153,9 @@ run_engine() {
     exec parallel --plain "${engine[@]}" --results 'parts/{#}' "sh -c '$unpack' '$job' {}" < words > engine 2>&1
 }
 
-# Prints the last line of a part's faults, or the engine's if there is none.
+# Prints the last line of a part's faults, or the engine's if there is none, without zero bytes, of which bash would warn.
 said_last() {
-    { grep -a . "$room/parts/$number.err" 2> "$room/missing" || grep -a . "$room/engine"; } | tail -n 1
+    { grep -a . "$room/parts/$number.err" 2> "$room/missing" || grep -a . "$room/engine"; } | tail -n 1 | tr -d '\0'
 }
 
 # Ends the script, since a part is lost. It may be lost because another program is called parallel.

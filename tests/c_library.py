@@ -19,6 +19,7 @@ HOME = driver.HOME
 HEADER = os.path.join(HOME, "include", "gherkin_run.h")
 CHANGED = 300
 PREFIX = b"gherkin_run: "
+GHERKIN_OUT_OF_MEMORY = 4
 # Counts of arguments around powers of two, and more files than may be open at once.
 BAD_WORDS = [], ["--stop"], ["--line"], ["ten", "--line"], ["--env", "AB", "ten"], ["--unknown", "8", "ten"], ["-x", "ten"], ["--format", "xml", "ten"]
 OPEN_FILES = 256
@@ -61,6 +62,12 @@ class Comparisons(driver.Tests):
         self.room = room
         self.library = os.path.realpath(library)
         self.main = os.path.join(room, "main")
+        # Where the shared library has its versioned name.
+        self.found = {"LD_LIBRARY_PATH": os.path.join(room, "found")}
+        version = re.search(r"^#define GHERKIN_RUN_ABI_VERSION (\d+)$", driver.read(HEADER).decode(), re.MULTILINE)
+        self.versioned_name = f"libgherkin_run.so.{version[1]}"
+        os.mkdir(os.path.join(room, "found"))
+        os.symlink(os.path.join(room, "libgherkin_run.so"), os.path.join(room, "found", self.versioned_name))
 
     def compare(self, words, what, folder=HOME):
         """Expects both to write the same and to end with the same status."""
@@ -129,6 +136,18 @@ class Comparisons(driver.Tests):
                 status = driver.start(self.main, words, HOME, {**os.environ, **ENVIRONMENT}, stdout=full)[0]
             self.add(status != 3 and f"{words} with a full output ends with {status}")
 
+    def little_memory(self):
+        """Runs the example where there is no memory for a file, or for the room of its report."""
+        driver.write(self.room, {"large.feature": "#" * (1 << 23), "largest.feature": "#" * (1 << 26)})
+        for words in ["large.feature"], ["--hooks", "largest.feature", "good"]:
+            found = driver.start(os.path.join(self.room, "shared"), words, self.room, {**os.environ, **self.found}, before=self.limit)
+            self.add(driver.trouble(f"{words} without memory", found, (GHERKIN_OUT_OF_MEMORY, b"", b"")))
+
+    @staticmethod
+    def limit():
+        """Limits the memory of a process."""
+        resource.setrlimit(resource.RLIMIT_AS, (1 << 26, 1 << 26))
+
     def changed_files(self):
         """Runs examples whose bytes were changed at random."""
         sources = [driver.read(os.path.join(HOME, words[-1])) for words in driver.examples()]
@@ -151,7 +170,8 @@ class Comparisons(driver.Tests):
 
     def header(self):
         """Compiles the header in C and in C++."""
-        body = "int main(void) { gherkin_call call = GHERKIN_CALL; return call.format; }\n"
+        body = "int main(void) { const gherkin_call call = GHERKIN_CALL; gherkin_answer answer; " \
+               "gherkin_run(&call, 0, 0, &answer); return answer.status; }\n"
         self.compile("cc", "header.c", body, "-std=c11")
         self.compile("c++", "header.cc", body, "-std=c++11", "-Wold-style-cast")
         if shutil.which("c++"):
@@ -174,13 +194,11 @@ class Comparisons(driver.Tests):
         """Loads the shared library by its versioned name, and from Python, and looks at its names."""
         left = os.listdir(os.path.join(self.room, "temporary"))
         self.add(left and f"tools/shared_library.sh leaves {left} in TMPDIR")
-        version = re.search(r"^#define GHERKIN_RUN_ABI_VERSION (\d+)$", driver.read(HEADER).decode(), re.MULTILINE)
-        folder = os.path.join(self.room, "found")
-        os.mkdir(folder)
         built = os.path.join(self.room, "libgherkin_run.so")
-        os.symlink(built, os.path.join(folder, f"libgherkin_run.so.{version[1]}"))
-        found = ended([os.path.join(self.room, "shared"), "examples/paint.feature"], HOME, {"LD_LIBRARY_PATH": folder})
+        found = ended([os.path.join(self.room, "shared"), "examples/paint.feature"], HOME, self.found)
         self.add(driver.trouble("the shared library", found, ended([self.main, "examples/paint.feature"], HOME)))
+        self.add(f"{self.versioned_name}\0".encode() not in driver.read(built)
+                 and f"the name of the shared library isn't {self.versioned_name}")
         self.add(self.made_elsewhere() != driver.read(built) and "tools/shared_library.sh finds no library from another folder")
         self.add(not ctypes.CDLL(built).gherkin_run_version(None, 0) and "ctypes gets no version")
         if shutil.which("nm"):
@@ -218,6 +236,7 @@ def main():
     tests.command_lines()
     tests.texts()
     tests.full_output()
+    tests.little_memory()
     tests.changed_files()
     tests.header()
     tests.page()

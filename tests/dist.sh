@@ -33,12 +33,8 @@ has_its_sum() {
 
 holds "dist/gherkin_run was built from other sources" is_of_these_sources
 holds "dist/gherkin_run has another sum than dist/gherkin_run.sha256 says" has_its_sum
-names_its_kit() {
-    [ "$("$program" --version)" = "gherkin_run unreleased, proved with ${kit%% *}" ]
-}
 
 kit=$(rt version)
-holds "--version names another kit than 'rt version'; gk_cli/src/arguments.rt has its name" names_its_kit
 if [ "$kit" = "$(cat dist/gherkin_run.kit)" ]; then
     holds "dist/gherkin_run isn't the program that was just built" cmp "$program" dist/gherkin_run
 else

@@ -11,7 +11,8 @@ Fails where
 - a file of examples/ that a document shows isn't that file;
 - a definition of specs/ has no comment above it, or a broken one;
 - two crates have modules of the same name;
-- README.md has more than 120 lines, or a page for users is hard to read (prose.py says how that is counted);
+- README.md has more than 120 lines, a page for users is hard to read, or all of them have too many words (prose.py says how
+  that is counted);
 - a fault text or a reason of the program has no entry in docs/FAULTS.md, or an entry has no such text;
 - examples/default.steps isn't the built-in library;
 - a picture of docs/pictures/ isn't the one that its script draws;
@@ -111,10 +112,14 @@ PLAIN_WORDS = set("""
     NAME TEXT TO N E R EXAMPLES LINE FILE KEYWORD VERDICT STATUS REASON TYPE PATTERN ACTION h x n main run test given when then step
     all Andorra EU EN en json name text to absent present differs passed failed skipped undefined untested memory
 """.split())
+GUIDE = [it for it in PAGES if it.startswith("docs/guide/")]
+MAIN = ["README.md", "docs/FAULTS.md", *GUIDE]
+# Those of tests/runs/ and tests/side_by_side/ list what these folders have.
+READMES = [it for it in DOCUMENTS if it.endswith("/README.md") and it not in MAIN
+           and not it.startswith(("tests/runs/", "tests/side_by_side/"))]
 # The pages for users name words of features and libraries, not of the code: of them only names that can't
 # be anything else are looked up.
-GUIDE = [it for it in PAGES if it.startswith("docs/guide/")]
-USERS_PAGES = (*GUIDE, "docs/FAULTS.md", "tests/runs/README.md", "tests/side_by_side/README.md", "bench/README.md",
+USERS_PAGES = (*GUIDE, "docs/FAULTS.md", "tests/runs/README.md", "tests/side_by_side/README.md", "bench/README.md", "bench/figures.md",
                *(it for it in DOCUMENTS if it.startswith("examples/")))
 
 
@@ -426,8 +431,9 @@ def modules():
 
 
 def shared_modules():
+    """The modules that have the name of a module of another crate. Each crate may have its laws, and what its calls return."""
     for (kind, name), crates in sorted(modules().items()):
-        if len(crates) > 1:
+        if len(crates) > 1 and name not in ("laws", "Results"):
             yield f"a module {name} is in {kind}/ of {' and of '.join(sorted(crates))}"
 
 
@@ -556,9 +562,10 @@ def main():
         tests.check(f"examples in {page}", lines_of(page, example_differences(page)))
         for number, difference in run_differences(page, program, room):
             tests.check(f"{page}:{number}", [difference] if difference else [])
-    for page in sorted({"README.md", "docs/FAULTS.md", *GUIDE}):
+    for page in sorted({*MAIN, *READMES}):
         text = read(page)
         tests.check(f"how {page} reads", lines_of(page, prose.hard_to_read(page, text, without_blocks(text))))
+    tests.check("words of these pages", prose.too_many_words(*([without_blocks(read(it)) for it in pages] for pages in (MAIN, READMES))))
     tests.check("files of docs/guide/", shown_twice())
     tests.check("must-fail edits", edit_differences())
     for path in FILES:

@@ -152,8 +152,11 @@ def main():
         editors["vim"] = lambda text, arguments: in_vim(text, arguments, folder)
     else:
         print("no vim here: its two files aren't tried")
-    for arguments, wanted in RUNS:
-        text = printed(program, arguments, folder)
+    texts = [(arguments, printed(program, arguments, folder), wanted) for arguments, wanted in RUNS]
+    for end in (r"\.\.\. undefined", r"\.\.\. failed: .+", r"\.\.\. failed"):
+        # The same places if memory ran out there.
+        texts.append((EXPLAINED, re.sub(f"{end}$", "... memory", texts[0][1], flags=re.MULTILINE), texts[0][2]))
+    for arguments, text, wanted in texts:
         for name, places in editors.items():
             found = places(text, arguments)
             if found == wanted:
@@ -167,6 +170,12 @@ def main():
             passed += 1
         else:
             failed.append(f"vim finds {found} as docs/guide/editors.md says, and not {wanted}")
+    with open(os.path.join(EDITORS, "tasks.json"), encoding="utf-8") as file:
+        words = [it["args"] for it in json.load(file)["tasks"]]
+    if words == [["--explain", "${relativeFile}"], ["--lint", "${relativeFile}"]]:
+        passed += 1
+    else:
+        failed.append(f"tasks.json runs {words}: the program prints, and a matcher finds, only names from the workspace on")
     for it in failed:
         print(it)
     print(f"{passed} passed, {len(failed)} failed")

@@ -8,6 +8,7 @@ file less, and other contents. Ends with 0 if every claim holds; otherwise it sa
   dies      each is preceded by the signal KILL
   together  several ./install start at the same time
   modes     the repository and the caller have other permissions
+  sources   the repository has what Python left there, or no program
   lists     the list names what no ./install put there
   links     a folder is a link to another one
 """
@@ -103,11 +104,11 @@ def make_repository(folder, version):
         write(folder, name, f"{name} {version}\n")
 
 
-def make_steps(folder, names):
+def make_steps(folder, names, step=STEP):
     """Makes a folder with the commands that count."""
     os.makedirs(folder)
     for name in names:
-        write(folder, name, STEP % shutil.which(name), 0o755)
+        write(folder, name, step.replace("%s", shutil.which(name)), 0o755)
 
 
 def files_in(folder):
@@ -310,6 +311,19 @@ def modes(trial):
     return wrong
 
 
+def sources(trial):
+    """The claims that don't hold of what is installed from a repository with leavings, and from one without a program."""
+    repository, folder = os.path.join(trial.room, "left"), trial.place("left")
+    shutil.copytree(trial.second, repository)
+    write(repository, "examples/more/__pycache__/left.pyc", "left\n")
+    wrong = [] if trial.run(repository, folder).status == 0 and files_in(folder) == trial.alone[0] else ["what Python left is installed, too"]
+    write(repository, "run", "#!/bin/sh\necho 'run: no program' >&2\nexit 70\n", 0o755)
+    ended, before = trial.run(repository, folder), files_in(folder)
+    if (ended.status, ended.said, files_in(folder)) != (70, "run: no program\n", before):
+        wrong.append(f"without a program it ends with {ended.status}, and says {ended.said!r}")
+    return wrong
+
+
 def make_victim(folder):
     """Makes a folder of which nothing may be removed, beside PREFIX."""
     victim = os.path.join(os.path.dirname(folder), "victim")
@@ -391,7 +405,7 @@ def links(trial):
 
 
 # The tests that stop ./install have their names in STEPS.
-TESTS = {"together": together, "modes": modes, "lists": lists, "links": links}
+TESTS = {"together": together, "modes": modes, "sources": sources, "lists": lists, "links": links}
 
 
 def main():

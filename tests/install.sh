@@ -131,6 +131,12 @@ from_a_folder_that_is_gone() (
     mkdir "$room/gone" && cd "$room/gone" && rmdir "$room/gone" && refuses "is gone" elsewhere
 )
 
+# The folder for temporary files may be a relative one, and nothing is left there.
+with_a_relative_tmpdir() (
+    mkdir -- "$room/-t" && cd "$room" && export TMPDIR=-t &&
+        "$home/install" "$room/place" && "$home/install" --remove "$room/place" && [ -z "$(ls -A -- -t)" ]
+)
+
 with_the_folder_first() {
     "$home/install" "$room/place" && "$home/install" "$room/place" --remove && [ -z "$(ls -A "$room/place")" ]
 }
@@ -279,6 +285,25 @@ man_names_files() (
     "$home/install" --remove "$room/place"
 )
 
+# The commands of the man page's examples pass on two features that pass.
+man_shows_commands_that_run() (
+    mkdir "$room/shown" && cd "$room/shown" && cp "$home/examples/first.feature" login.feature && cp login.feature cart.feature
+    sed -n '/^\.SH EXAMPLES/,/^\.SH SEE/p' "$home/share/gherkin_run.1" | sed -n 's/\\-/-/g;s/^gherkin_run //p' > commands
+    [ "$(wc -l < commands)" -ge 2 ] || exit 1
+    while read -r words; do
+        "$program" $words < /dev/null || exit 1
+    done < commands
+)
+
+# The options of one word that the man page names anywhere.
+options_named_in_man() {
+    grep -oE -- '\\-\\-[a-z]+(\\-[a-z]+)*' "$home/share/gherkin_run.1" | tr -d '\\' | LC_ALL=C sort -u
+}
+
+long_spellings() {
+    spellings | grep -E '^--'
+}
+
 # The spellings alone.
 spellings() {
     options_of_help | sed -E 's/ [A-Z=]+$//;s/, /\n/' | LC_ALL=C sort
@@ -297,6 +322,30 @@ spellings_of_fish() {
 bash_completes() {
     bash -c '. "$0"; compopt() { :; }; COMP_WORDS=(gherkin_run "$@"); COMP_CWORD=$#; _gherkin_run
         printf "%s\n" ${COMPREPLY[@]+"${COMPREPLY[@]}"}' "$home/share/gherkin_run.bash" "$@" | LC_ALL=C sort
+}
+
+# The options with a value that may be given several times: for zsh they begin with a star.
+repeatable() {
+    for option in $(with_value); do
+        case $option in
+        --line) value=3 ;;
+        --env) value=A=b ;;
+        --library) value=$home/examples/default.steps ;;
+        --format) value=plain ;;
+        *) value=$home/examples/hooks.hooks ;;
+        esac
+        [ "$option" != --tags ] || value=@a
+        [ "$(status_of "$option" "$value" "$option" "$value" "$home/examples/first.feature")" -eq 2 ] || echo "$option"
+    done | LC_ALL=C sort
+}
+
+repeatable_in_zsh() {
+    sed -nE "s/^ *'\*(--[a-z-]+)=.*$/\1/p" "$home/share/_gherkin_run" | LC_ALL=C sort
+}
+
+# Every argument after -- is a file, which -S says to zsh, and nothing follows the help or the version.
+zsh_knows_what_ends_options() {
+    grep -qE '^_arguments -S ' "$home/share/_gherkin_run" && [ "$(grep -cF "'(- *)'{-" "$home/share/_gherkin_run")" -eq 2 ]
 }
 
 # Which of the options of the help take a value.
@@ -332,6 +381,11 @@ bash_completes_files_after_hyphens() {
 fish_completes_files_after_hyphens() {
     completed=$(fish --no-config -c "source $home/share/gherkin_run.fish; complete -C 'gherkin_run --form'
         complete -C 'gherkin_run -- --form'") && [ "$(printf '%s\n' "$completed" | cut -f 1)" = --format ]
+}
+
+fish_completes_files() {
+    fish --no-config -c "source $home/share/gherkin_run.fish; complete -C 'gherkin_run $home/READ'
+        complete -C 'gherkin_run --hooks $home/READ'" | grep -c README.md | grep -qx 2
 }
 
 # bash hands over --format=j as three words.
@@ -435,6 +489,7 @@ holds "it says what it did, and whether PATH has the program" says_what_it_did
 clear
 holds "a second installation replaces the first" twice
 holds "--remove may follow the folder" with_the_folder_first
+holds "with a relative folder for temporary files" with_a_relative_tmpdir
 clear
 holds "a second installation where only folders were" over_empty_folders
 clear
@@ -470,7 +525,7 @@ fi
 holds "a failure midway leaves nothing" fails_midway
 holds "a failure midway leaves the earlier installation" fails_midway_again
 for test in "fails: a failure at any step" "ends: the signal TERM at any step" "dies: the signal KILL at any step" \
-    "together: more than one at the same time" "modes: another umask" "lists: a list that ./install didn't write" \
+    "together: more than one at the same time" "modes: another umask" "sources: leavings of Python, and no program" "lists: a list that ./install didn't write" \
     "links: a link in place of a folder"; do
     holds "${test#*: }" python3 "$home/tests/install.py" "${test%%: *}"
 done
@@ -491,7 +546,12 @@ holds "each status of the man page is that of runs" lists_as statuses_of_man sta
 holds "the man page lists the steps of the built-in library" lists_as steps_of_man steps_of_library
 clear
 holds "the files that the man page names are installed" man_names_files
+holds "the commands that the man page shows run" man_shows_commands_that_run
+holds "the man page names no option that the help doesn't list" lists_as options_named_in_man long_spellings
 holds "the completions for zsh list the options of the help" lists_as spellings_of_zsh spellings
+holds "the completions for zsh repeat the options that may be repeated" lists_as repeatable_in_zsh repeatable
+holds "the completions for zsh know what ends the options" zsh_knows_what_ends_options
+holds "the man page is in the section that it is installed in" grep -qx '.TH GHERKIN_RUN 1 .*' share/gherkin_run.1
 holds "the completions for fish list the options of the help" lists_as spellings_of_fish spellings
 holds "the completions for zsh and fish say which options take a value" values_are_named
 holds "the completions for zsh and fish complete formats and files" values_are_completed
@@ -512,6 +572,7 @@ fi
 if command -v fish > /dev/null; then
     holds "fish reads its completions" fish --no-execute share/gherkin_run.fish
     holds "fish completes files after --" fish_completes_files_after_hyphens
+    holds "fish completes files" fish_completes_files
 else
     left_out="$left_out fish"
 fi

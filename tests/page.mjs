@@ -1,8 +1,9 @@
 // Runs requests by web/gherkin_run.wasm in Node: page.mjs CALLER MODULE CASES
 //
-// CALLER is web/source/gherkin_run.js, CASES a file of JSON: a list of requests, in which bytes are base64. Prints four values: the
+// CALLER is web/source/gherkin_run.js, CASES a file of JSON: a list of requests, in which bytes are base64. Prints six values: the
 // answers, with the text as base64 and the time of each run in milliseconds; the answers to the first request when little memory
-// is left, from none on; the first lines of the texts for some lines, or the names of their exceptions; and the answer to an unknown format.
+// is left, from none on; the first lines of the texts for some lines, or the names of their exceptions; the answer to an unknown format;
+// how many instances of the module the answers took; and the exception of a text that is too large for the memory.
 import { readFileSync } from "node:fs";
 
 const [caller, module, cases] = process.argv.slice(2);
@@ -38,7 +39,14 @@ function runWithout(compiled, request, most) {
     return [taken, shown(instance.called(prepared))];
 }
 
+let made = 0;
+const { Instance: Made } = WebAssembly;
+WebAssembly.Instance = function (...words) {
+    made += 1;
+    return new Made(...words);
+};
 const answers = requests.map(timed);
+WebAssembly.Instance = Made;
 const compiled = await WebAssembly.compile(readFileSync(module));
 const [all] = runWithout(compiled, requests[0], Infinity);
 const left = [0, 4, 16, 64, 128, 192, 256, 384, 512, 768, 1024, 2048].filter((blocks) => blocks <= all);
@@ -51,4 +59,10 @@ const wrong = [0, 4294967295, -1, 4294967296, 4294967298, 1.5, NaN, "2", 2n].map
     }
 });
 const unknown = shown(run({ sources: [["f", "Feature: f\n"]], format: "xml" }));
-process.stdout.write(JSON.stringify([answers, refused, wrong, unknown]));
+let large;
+try {
+    large = new Instance(compiled).room(2 ** 32);
+} catch (error) {
+    large = String(error);
+}
+process.stdout.write(JSON.stringify([answers, refused, wrong, unknown, made, large]));

@@ -41,7 +41,8 @@ LATER = "The link in the address can't be used. The fields are as they were."
 POLICY = "default-src 'none'; style-src 'sha256-?'; script-src 'sha256-?' 'wasm-unsafe-eval'; worker-src blob:; " \
          "form-action 'none'; base-uri 'none'"
 CONTROLS = {"textbox", "combobox", "button", "checkbox", "DisclosureTriangle", "region", "form"}
-# Pairs of an element that is seen, and the contrast of its text with its background.
+# Pairs of a part of an element that is seen, and its contrast with what is around it, in parts of the least: 4.5 for a text, 3 for
+# a border and for the ring around what has the focus.
 CONTRAST = """(() => {
     const canvas = document.createElement("canvas").getContext("2d", { willReadFrequently: true });
     const rgb = (color) => {
@@ -54,11 +55,26 @@ CONTRAST = """(() => {
     const light = (it) => 0.2126 * part(it[0]) + 0.7152 * part(it[1]) + 0.0722 * part(it[2]);
     const own = (it) => rgb(getComputedStyle(it).backgroundColor);
     const backdrop = (it) => own(it)[3] === 255 || !it.parentElement ? own(it) : backdrop(it.parentElement);
-    return [...document.querySelectorAll("body *")].filter((it) => it.checkVisibility()).map((it) => {
-        const both = [light(rgb(getComputedStyle(it).color)), light(backdrop(it))].sort((one, other) => other - one);
-        return [it.id || it.className || it.tagName, (both[0] + 0.05) / (both[1] + 0.05)];
+    const contrast = (color, other) => {
+        const both = [light(rgb(color)), light(other)].sort((one, other) => other - one);
+        return (both[0] + 0.05) / (both[1] + 0.05);
+    };
+    return [...document.querySelectorAll("body *")].filter((it) => it.checkVisibility()).flatMap((it) => {
+        const style = getComputedStyle(it), name = it.id || it.className || it.tagName;
+        const found = [[name, contrast(style.color, backdrop(it)) / 4.5]];
+        if (it.matches("input:not([type=checkbox]), textarea, select, button, pre")) {
+            found.push([`the border of ${name}`, contrast(style.borderTopColor, backdrop(it.parentElement)) / 3]);
+        }
+        if (it === document.activeElement) found.push([`the ring of ${name}`, contrast(style.outlineColor, backdrop(it.parentElement)) / 3]);
+        return found;
     });
 })()"""
+# The names of the colors of some parts: red, green or gray.
+COLORS = """["status.color", "report.color", "linesWrong.color", "lines.borderTopColor", "variables.borderTopColor"].map((it) => {
+    const [id, part] = it.split(".");
+    const [red, green] = getComputedStyle($(id))[part].match(/[0-9]+/g).map(Number);
+    return Math.abs(red - green) < 20 ? "gray" : red > green ? "red" : "green";
+})"""
 # How many elements of each kind there are, apart from the feature files and the pieces of the report.
 ELEMENTS = """(() => {
     const found = {};
@@ -89,6 +105,14 @@ TYPED_TWICE = """new Promise((done) => {
         put(%s);
         done();
     }, 5);
+})"""
+# Ends a worker that waits, and asks it to run something.
+ENDED_WORKER = """new Promise((done) => {
+    const older = worker;
+    halt();
+    older.onmessage = () => done("it runs");
+    older.postMessage({ number: 0, request: {} });
+    setTimeout(() => done("nothing"), 500);
 })"""
 # What the policy has to refuse, each an expression that gives something if it isn't refused.
 REFUSED = {
@@ -221,6 +245,11 @@ def faulty_cases(program, room):
         if words[0].startswith("--"):
             request[words[0][2:]] = [encoded(words[1]), encoded(files[words[1]])]
         yield " ".join(words), request, wanted_of(program, words, room)
+    # A byte order mark at the begin of a report or a fault is a part of the file's name.
+    driver.write(room, {"\ufeffgood": files["good"], "\ufeffbad": files["bad"]})
+    for name in ("good", "bad"):
+        request = {"sources": [[encoded(f"\ufeff{name}"), encoded(files[name])]], "format": "progress"}
+        yield f"a byte order mark before {name}", request, wanted_of(program, ["--format", "progress", f"\ufeff{name}"], room)
 
 
 def faulty_place(request, answer):
@@ -235,8 +264,9 @@ def in_node(program, room):
     command = ["node", os.path.join(driver.HOME, "tests", "page.mjs"), os.path.join(WEB, "source", "gherkin_run.js"),
                os.path.join(WEB, "gherkin_run.wasm"), os.path.join(room, "cases.json")]
     done = subprocess.run(command, capture_output=True, timeout=4 * PATIENCE, check=False)
-    answers, refused, lines, unknown = json.loads(done.stdout) if done.returncode == 0 else ([], [], [], {"status": None, "text": ""})
+    answers, refused, lines, unknown, made, large = json.loads(done.stdout) if done.returncode == 0 else ([], [], [], {"status": None, "text": ""}, 0, "")
     yield same(f"Node says {done.stderr.decode()}", (done.returncode, len(answers)), (0, len(cases)))
+    yield holds("runs in Node share a memory, which none gives back", made >= len(cases))
     for (name, request, wanted), answer in zip(cases, answers):
         text = base64.b64decode(answer["text"])
         yield same(f"{name} in Node", (answer["status"], answer["hasReport"], text), wanted)
@@ -245,6 +275,7 @@ def in_node(program, room):
     yield same("an unknown format in Node", (unknown["status"], base64.b64decode(unknown["text"])), (2, b"unknown format"))
     yield from without_memory(refused, cases[0][2])
     yield same("lines in Node", lines, ["line 0", "Feature: f ... skipped", *["RangeError"] * 7])
+    yield same("a text for which there is no memory in Node", large, "RangeError: out of memory")
     yield from guide_in_node(room)
     if answers:
         print(f"1,000 scenarios take {answers[-1]['time']:.0f} ms in Node")
@@ -442,6 +473,7 @@ def link(page):
     page.value(f"location.hash = {json.dumps(link_to({'files': [['b.feature', '']]}))}")
     page.browser.wait("inputs().format === 'plain'", 5)
     yield same("a link to a file alone after one to all", page.inputs(), {**wanted, "files": [["b.feature", ""]]})
+    yield same("the parts that it leaves open", page.value("document.querySelectorAll('details[open]').length"), 0)
 
 
 def copied(page):
@@ -457,6 +489,9 @@ def copied(page):
             yield same("the copied link", page.value("navigator.clipboard.readText()"), page.value("location.href"))
             late = page.value("(async () => { const made = makeLink(); forgetLink(); await made; return $('notice').textContent; })()")
             yield same("what is said of a link that is copied after a change", late, "")
+            late = page.value("(async () => { const made = makeLink(); history.replaceState(null, '', '#another'); $('notice').textContent = 'another'; "
+                              "await made; return $('notice').textContent; })()")
+            yield same("what is said of a link that is copied after another one is opened", late, "another")
 
 
 def address(page):
@@ -488,6 +523,9 @@ def address(page):
     page.load("?of=a#" + link_to(FULL)[1:])
     page.type("#files .text", "x")
     yield same("an address with a query", page.value("location.href"), PAGE + "?of=a")
+    page.click("#link")
+    page.browser.wait("location.hash !== ''", 5)
+    yield holds("a link drops the query of the address", page.value("location.href").startswith(PAGE + "?of=a#"))
 
 
 def wrong_fragments():
@@ -542,14 +580,16 @@ def later_link(page):
 def long_link(page):
     """Inputs that no address can hold get no link."""
     page.load()
-    page.fill("#files .text", "#" * 740000)
+    page.fill("#files .text", "")
+    most = 749999 - page.value("JSON.stringify(inputs()).length")
+    page.fill("#files .text", "#" * most)
     page.click("#link")
-    good = page.text("#notice").startswith("The link is ") and len(page.value("location.hash")) > 980000
-    yield holds(f"a link to 740,000 bytes: '{page.text('#notice')}'", good)
-    page.fill("#files .text", "#" * 760000)
+    found = (page.text("#notice")[:12], len(page.value("location.hash")))
+    yield same("the longest link", found, ("The link is ", 1000000))
+    page.fill("#files .text", "#" * (most + 1))
     page.click("#link")
-    good = page.text("#notice").startswith("These inputs are too long for a link: it would have 1013") and page.value("location.hash") == ""
-    yield holds(f"a link to 760,000 bytes: '{page.text('#notice')}'", good)
+    wanted = "These inputs are too long for a link: it would have 1000001 characters, and can have 1000000."
+    yield same("a longer link", (page.text("#notice"), page.value("location.hash")), (wanted, ""))
 
 
 # ---- the keyboard, and what is typed
@@ -639,6 +679,12 @@ def wrong_field(page):
         page.fill("#" + field, right)
         found = (page.shown(), page.one("#" + field, "ariaInvalid"), page.text(f"#{field}Wrong"))
         yield same(f"{field} '{right}'", found, (page.wanted(text, *options), "false", ""))
+    text = driver.feature('Then the variable "B" should be " x "')
+    page.fill("#files .text", text)
+    page.fill("#variables", "B= x ")
+    yield same("a variable with spaces around its text", page.shown(), page.wanted(text, "--env=B= x "))
+    page.fill("#variables", "=x")
+    yield same("a variable without a name", page.shown(), (2, False, b"bad variable"))
 
 
 def order(page):
@@ -672,10 +718,18 @@ def label(page):
     unlabeled = page.value("[...document.querySelectorAll('input, textarea, select')]"
                            ".filter((it) => !it.labels.length && !it.ariaLabel).length")
     yield same("fields without a label", unlabeled, 0)
+    yield same("how the page fits a phone, where it can be enlarged", page.one("meta[name=viewport]", "content"), "width=device-width, initial-scale=1")
     checked = page.value("[...document.querySelectorAll('textarea, input:not([type=checkbox])')]"
                          ".filter((it) => it.spellcheck).length")
     yield same("fields with a spelling checker", checked, 0)
     yield same("whether the browser fills the fields", page.one("#inputs", "autocomplete"), "off")
+    found = {role: [it["name"]["value"] for it in page.tree(role)] for role in ("banner", "main", "contentinfo", "heading")}
+    yield same("the parts and headings of the page", found, {"banner": [""], "main": [""], "contentinfo": [""], "heading": ["Try gherkin_run", "Report"]})
+    sizes = page.value("[...new Set([...document.querySelectorAll('textarea')].map((it) => getComputedStyle(it).resize))]")
+    yield same("how fields can be made larger", sizes, ["vertical"])
+    boxes = page.value("Object.fromEntries(FLAGS.map((it) => [it, $(it).labels[0].textContent.trim()]))")
+    yield same("the labels of the boxes", boxes, {"dryRun": "Dry run", "stop": "Stop at the first failure", "noSkipped": "Leave out skipped scenarios"})
+    yield same("the encoding of the page, by its own word", page.one("meta[charset]", "getAttribute('charset')"), "utf-8")
     yield same("the language of the page", page.one("html", "lang"), "en")
     yield same("how a feature's lines are broken", page.value("getComputedStyle(document.querySelector('#files .text')).whiteSpace"), "pre")
     yield same("what is said without scripts", page.one("noscript", "innerText").strip(), "<p>This page needs JavaScript.</p>")
@@ -736,6 +790,7 @@ def overtaken(page):
     page.value("runNow(); halt()")
     time.sleep(0.6)
     yield same("the status some time after a run that was ended at once", page.text("#status"), "Nothing failed, status 0")
+    yield same("what a worker that was ended still does", page.value(ENDED_WORKER), "nothing")
 
 
 def entered(page):
@@ -859,12 +914,18 @@ def contrast(page):
     for scheme in ("light", "dark"):
         page.browser.ask("Emulation.setEmulatedMedia", features=[{"name": "prefers-color-scheme", "value": scheme}])
         found = []
-        files = [[["a", SMALL]], [["a", driver.feature("Given it fails")]]]
-        for given in ({**FULL, "lines": "x"}, FULL, *({"files": it} for it in files)):
+        good, bad = ({"files": [["a", driver.feature(it)]]} for it in ("Given it passes", "Given it fails"))
+        for given, colors in (({**FULL, "lines": "x"}, "red red red red gray"), (FULL, "green gray red gray gray"),
+                              (good, "green gray red gray gray"), (bad, "red gray red gray gray")):
             page.load(link_to(given))
+            yield same(f"{scheme}: the colors of {colors}", " ".join(page.value(COLORS)), colors)
+            page.press("Tab")
             found += page.value(CONTRAST)
-        weak = [it for it in found if it[1] < 4.5]
-        yield holds(f"{scheme}: too little contrast: {weak}", len(found) > 100 and not weak)
+        weak = [it for it in found if it[1] < 1]
+        rings = [it for it in found if it[0].startswith("the ring of ")]
+        yield holds(f"{scheme}: too little contrast: {weak}", len(found) > 100 and len(rings) == 4 and not weak)
+        grounds = page.value("['.bar', 'body'].map((it) => getComputedStyle(document.querySelector(it)).backgroundColor)")
+        yield same(f"{scheme}: the background of the verdict, over which the report scrolls", *grounds)
         red = int(page.value("getComputedStyle(document.body).backgroundColor.match(/[0-9]+/)[0]"))
         yield same(f"{scheme}: whether the background is dark", red < 64, scheme == "dark")
     page.browser.ask("Emulation.setEmulatedMedia", features=[])

@@ -109,6 +109,37 @@ def pytest_collection_modifyitems(items):
 def pytest_collection_finish(session):
     session.items.extend(late)
 """
+# Memory runs out in each step that fails, and hooks of the feature fail. For good.feature Python itself has none.
+SHORT = """\
+import dataclasses
+import json
+from gherkin_run import pytest_plugin
+
+real = pytest_plugin.run
+
+def run(source, *files, dry_run, **options):
+    if source.name == "good.feature" and not dry_run:
+        raise MemoryError
+    report = real(source, *files, dry_run=dry_run, **options)
+    for feature in report.data["features"]:
+        feature["around"] = "failed"
+        for it in [step for scenario in feature["scenarios"] for step in scenario["steps"]] + feature["scenarios"]:
+            if it["status"] == "failed" and it.pop("reason", "") != "undefined":
+                it["status"] = "memory"
+    return dataclasses.replace(report, text=json.dumps(report.data))
+
+pytest_plugin.run = run
+"""
+SHORT_FAILURE = """
+Feature: bad ... memory
+  Scenario: fails ... memory
+    Given it passes ... passed
+    Given it fails ... memory
+    * own step ... skipped
+  (hooks and cleanups) ... failed
+
+bad.feature:5: memory
+"""
 CONTROLS = "\0\a\b\v\f\x1b\x7f\x85\x9b\u061c\u200e\u200f\u2028\u2029\u202a\u202e\u2066\u2069"
 SHOWN = r"\u{0}\u{7}\u{8}\u{b}\u{c}\u{1b}\u{7f}\u{85}\u{9b}\u{61c}\u{200e}\u{200f}\u{2028}\u{2029}\u{202a}\u{202e}\u{2066}\u{2069}"
 EVIL = {
@@ -207,6 +238,13 @@ def faults(python, room):
     files["pytest.ini"] = f"{SETTINGS}gherkin_library = bad.feature\n"
     wrong = Pytest(python, os.path.join(room, "wrong"), files)
     yield from lacks("a wrong library file", wrong()[1], "\nbad.feature:1: bad step type\n")
+    files["pytest.ini"] = f"{SETTINGS}gherkin_library = own.steps\ngherkin_hooks = bad.feature\n"
+    status, text = Pytest(python, os.path.join(room, "unhooked"), files)()
+    yield differs("the status with a wrong hooks file", status, 2)
+    yield from lacks("a wrong hooks file", text, "\nbad.feature:1: unexpected line\n")
+    files["pytest.ini"] = f"{SETTINGS}gherkin_library = /dev/zero\n"
+    files["conftest.py"] = "import resource\nresource.setrlimit(resource.RLIMIT_AS, (1_000_000_000, 1_000_000_000))\n"
+    yield from lacks("an endless library file", Pytest(python, os.path.join(room, "endless"), files)()[1], "/dev/zero: longer than 16777216 bytes\n")
     unloaded = {"GHERKIN_RUN_LIBRARY": "/none.so"}
     status, text = wrong(environment=unloaded)
     yield differs("the status without the shared library", status, 2)
@@ -223,6 +261,13 @@ def hooks(python, room):
         driver.write(pytest.folder, {"own.hooks": f"before_scenario:\nGiven a file named \"made\" containing \"x\"\n{hook}:\nGiven it fails\n"})
         yield differs(f"results with {hook}", set(pytest.results().values()), {"failure"})
         yield from lacks(f"the failure of {hook}", pytest("-k", "first")[1], end)
+
+
+def memory(python, room):
+    """What is said if memory runs out: in a step, or in Python."""
+    pytest = Pytest(python, os.path.join(room, "short"), {**SUITE, "conftest.py": SHORT})
+    yield from lacks("a step without memory", pytest("bad.feature")[1], SHORT_FAILURE)
+    yield from lacks("a run without memory", pytest("good.feature")[1], "\nconftest.py:9: MemoryError\n", "\nFAILED good.feature::one - MemoryError\n")
 
 
 def settings(python, room):
@@ -287,6 +332,8 @@ def installed(python, room):
     shutil.unpack_archive(os.path.join(room, "wheel", found[0]), site, "zip")
     files = sorted(os.listdir(os.path.join(driver.HOME, "python", "gherkin_run")))
     yield differs("files of the wheel", sorted(os.listdir(os.path.join(site, "gherkin_run"))), [it for it in files if it != "__pycache__"])
+    said = driver.read(os.path.join(site, f"gherkin_run-{gherkin_run.__version__}.dist-info", "METADATA")).decode()
+    yield from lacks("what the wheel asks for", said, "\nRequires-Python: >=3.9\n", "\nProvides-Extra: pytest\n")
     pytest = Pytest(python, os.path.join(room, "installed"), SUITE)
     path = {"PYTHONPATH": site}
     status, stdout, _ = driver.start(python, ["-m", "pytest", "-q", "good.feature"], pytest.folder, {**os.environ, **path})
@@ -355,7 +402,7 @@ def tests(room):
         print("the pytest plugin isn't tested: there is no python3 with pytest")
         return
     folder = os.path.join(room, "pytest")
-    for part in (suite, faults, hooks, settings, costs, late, controls, installed):
+    for part in (suite, faults, hooks, memory, settings, costs, late, controls, installed):
         yield from part(python, folder)
     yield from together(python)
 

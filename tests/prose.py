@@ -1,13 +1,15 @@
-"""How the pages for users read: what documents.py finds of README.md, docs/guide/ and docs/FAULTS.md.
+"""How the pages for users read: what documents.py finds of README.md, docs/guide/, docs/FAULTS.md and the READMEs of folders.
 
 Such a page has lines of at most 100 columns outside of tables and fenced blocks, sentences of at most 30 words, cells of
-at most 25, at most 4 marks for 1,000 words, and a page of docs/guide/ at most 200 lines. A mark is a word or a phrase that
-sounds translated.
+at most 25, at most one mark for 1,000 words, and a page of docs/guide/ at most 200 lines. A mark is a word or a phrase that
+sounds translated. Together these pages have at most 16,000 words, without the READMEs of folders at most 14,000.
 """
 
 import re
 
-COLUMNS, SENTENCE, CELL, MARKS, GUIDE_LINES = 100, 30, 25, 4, 200
+COLUMNS, SENTENCE, CELL, MARKS, GUIDE_LINES = 100, 30, 25, 1, 200
+# The words of README.md, docs/guide/ and docs/FAULTS.md together, and those with the READMEs of folders.
+MAIN_WORDS, ALL_WORDS = 14000, 16000
 FOREIGN = re.compile("|".join([
     r"\b[Ww]here (?:it|there|they|one|none|no|nothing|an?|the|that|this|each|all|what|memory|something|you|its|their)\b",
     r"\b(?:stands?|stood|standing|mend(?:s|ed)?|answer(?:s|ed)?|blanks?|besides|mostly|likewise|whereof)\b",
@@ -47,11 +49,33 @@ def long_pieces(text):
             yield number, f"a cell of {len(piece.split())} words"
 
 
+def words(text):
+    """The number of words of a page without fenced blocks."""
+    return sum(len(piece.split()) for _, piece, _ in pieces(text))
+
+
+def too_many_words(main, folders):
+    """Whether the main pages, and these and the READMEs of folders, have too many words."""
+    count = sum(words(it) for it in main)
+    if count > MAIN_WORDS:
+        yield f"README.md, docs/guide/ and docs/FAULTS.md have {count} words"
+    count += sum(words(it) for it in folders)
+    if count > ALL_WORDS:
+        yield f"with the READMEs of folders, these pages have {count} words"
+
+
 def marks(text):
     """The marks of a page that has too many of them."""
     found = [(number, f"'{it.group()}'") for number, piece, _ in pieces(text) for it in FOREIGN.finditer(piece)]
-    words = sum(len(piece.split()) for _, piece, _ in pieces(text))
-    return found if 1000 * len(found) > MARKS * max(words, 1000) else []
+    return found if 1000 * len(found) > MARKS * max(words(text), 1000) else []
+
+
+def rows_without_header(text):
+    """Rows of tables that follow an empty line and no header, so that they are shown as text."""
+    lines = ["", *text.split("\n"), ""]
+    for number, (above, line, below) in enumerate(zip(lines, lines[1:], lines[2:]), 1):
+        if line.startswith("|") and not above.startswith("|") and not re.fullmatch(r"[|\- ]+", below):
+            yield number, "a row without a header"
 
 
 def hard_to_read(page, text, without_blocks):
@@ -60,6 +84,7 @@ def hard_to_read(page, text, without_blocks):
         if len(line) > COLUMNS and not line.startswith("|"):
             yield number, f"{len(line)} columns"
     yield from long_pieces(without_blocks)
+    yield from rows_without_header(without_blocks)
     yield from marks(without_blocks)
     lines = text.count("\n")
     if page.startswith("docs/guide/") and lines > GUIDE_LINES:

@@ -37,7 +37,7 @@ REFUSED = [
     *(["--line", line, PAINT] for line in ("0", "-1", "4294967296", "x", "1_0", " 1", "")), ["--line"], [], ["--stop"], ["--"],
     *([*option, PAINT, *option] for option in (["--library", "x"], ["--hooks", "x"], ["--format", "json"], ["--dry-run"], ["--stop"], ["--no-skipped"])),
     ["--format", "xml", PAINT], ["--env", "A", PAINT], ["--env", "=x", PAINT], ["--tags", "", PAINT], ["--tags", "-@a", PAINT], ["--unknown", PAINT], ["--sto", PAINT], ["--dry", PAINT],
-    ["none.feature"], ["-"], [PAINT, "--", "--stop"], ["--library", "none.steps", PAINT],
+    ["none.feature"], ["-"], [PAINT, "--", "--stop"], ["--", PAINT, "--"], ["--library", "none.steps", PAINT],
     # A mistake in the arguments comes before one in a file.
     ["/proc/self/mem"], ["--library", "/proc/self/mem", PAINT],
     ["--env", "=x", "none.feature"], ["--line", "0", "none.feature"], ["--env", "a" * 256 + "=x", "none.feature"],
@@ -92,6 +92,7 @@ except (Fault, FaultError) as fault:
 # Options and files in any order.
 ORDERS = [
     [PAINT, "--tags", "@slow", PAINT, "--format", "progress"], ["--stop", PAINT, "--no-skipped", PAINT], [PAINT, "--line", "007", "--", PAINT],
+    ["--line", "+5", PAINT], ["--line=+05", "--line", "4294967295", PAINT],
     ["--tags=~@slow", PAINT, "--env", "A=1", PAINT, "--env=A=2"],
 ]
 
@@ -140,11 +141,18 @@ def options_alone(program):
 
 def long_files(program, room):
     """Compares which fault is named if a file is too long or can't be read. A file may have as many bytes as the program takes."""
-    driver.write(room, {"long.feature": b"#" * ((1 << 24) + 1), "most.feature": b"#" * ((1 << 24) - 1) + b"\n"})
-    for words in (["most.feature"], ["/proc/self/mem"], ["long.feature"], ["--tags", "@a @b", "long.feature"], ["--library", "long.feature", "none"], ["long.feature", "none"], ["none", "long.feature"]):
+    driver.write(room, {"long.feature": b"#" * ((1 << 24) + 1), "most.feature": b"#" * ((1 << 24) - 1) + b"\n",
+                        "equals.feature": driver.feature('Then the variable "A" should be "b=c"')})
+    for words in (["most.feature"], ["--env", "A=b=c", "equals.feature"], ["/proc/self/mem"], ["long.feature"], ["--tags", "@a @b", "long.feature"], ["--library", "long.feature", "none"], ["long.feature", "none"], ["none", "long.feature"],
+                  ["--hooks", "no.hooks", "--library", "no.steps", "none"], ["--hooks", "no.hooks", "none"], ["/dev/zero"], ["--library", "/dev/zero", "none"]):
         wanted = driver.start(program, words, room)
-        made = driver.start(sys.executable, ["-m", "gherkin_run", *words], room)
+        made = driver.start(sys.executable, ["-m", "gherkin_run", *words], room, before=with_little_memory)
         yield "" if made == wanted else f"{words} gives {made}, and not {wanted}"
+
+
+def with_little_memory():
+    """Limits the memory of a process, so that it can't read a file without an end."""
+    resource.setrlimit(resource.RLIMIT_AS, (1_000_000_000, 1_000_000_000))
 
 
 def failing_outputs(program):
@@ -166,6 +174,35 @@ def lacking_memory(room):
     driver.write(room, {"comments.feature": b"#" * 99 + b"\n" + b"# none\n" * 2_000_000})
     found = driver.start(sys.executable, ["-m", "gherkin_run", "comments.feature"], room, before=limited)
     yield "" if found == (4, b"", b"gherkin_run: out of memory\n") else f"without memory the command ends with {found}"
+
+
+def peak():
+    """Prints how much memory a run of a file of comments takes, in parts of the file."""
+    text = b"# none\n" * 2_000_000
+    gherkin_run.run([])
+    before = resource.getrusage(resource.RUSAGE_SELF).ru_maxrss
+    gherkin_run.run(gherkin_run.Source("comments", text))
+    print((resource.getrusage(resource.RUSAGE_SELF).ru_maxrss - before) * 1024 / len(text))
+
+
+def kept():
+    """Prints how many more files are open, and how many more parts of memory are taken, after many runs."""
+    def held():
+        return len(os.listdir("/proc/self/fd")), len(driver.read("/proc/self/maps").splitlines())
+
+    gherkin_run.run(PAINT)
+    before = held()
+    for _ in range(200):
+        gherkin_run.run(PAINT)
+    print(max(after - first for after, first in zip(held(), before)))
+
+
+def sparing():
+    """Tries how much memory a run takes, whose room is larger than most reports, and that nothing of it is kept."""
+    status, stdout, stderr = driver.start(sys.executable, [__file__, "peak"])
+    yield "" if (status, stderr) == (0, b"") and float(stdout) < 6 else f"a file of comments takes {stdout} times its bytes: {stderr.decode()}"
+    status, stdout, stderr = driver.start(sys.executable, ["-X", "dev", __file__, "kept"])
+    yield "" if (status, stderr) == (0, b"") and int(stdout) < 20 else f"runs keep {stdout} parts of memory, or say {stderr.decode()}"
 
 
 def changed_runs(program, room):
@@ -203,6 +240,7 @@ def faults():
         ({"features": [bad, bad], "hooks": hooks}, ["h:1: unexpected line", 3, "h", 1, "unexpected line"]),
         ({"features": bad, "hooks": hooks, "library": steps}, ["s:1:2: unknown action", 3, "s:1", 2, "unknown action"]),
         ({"features": [good, good, long]}, ["long: longer than 16777216 bytes", 3, "long", None, "longer than 16777216 bytes"]),
+        ({"features": gherkin_run.Source("ü", "Feature: F\nFeature: G\n")}, ["ü:2: unexpected line", 3, "ü", 2, "unexpected line"]),
         ({"features": bad, "tags": "@a and"}, ["bad tag expression", 2, None, None, "bad tag expression"]),
         ({"features": good, "tags": ["\udcff"]}, ["not UTF-8", 2, None, None, "not UTF-8"]),
         ({"features": good, "env": {"": "x"}}, ["bad variable", 2, None, None, "bad variable"]),
@@ -259,12 +297,17 @@ def reports():
     """Tries reports: their data, their hashes, and the error of `check`."""
     report = gherkin_run.run(PAINT, format="json")
     yield "" if report.data == json.loads(report.text) and not report.passed else "other data than the text's"
+    yield "" if report.data is report.data else "the data are parsed again"
     plain = gherkin_run.run(PAINT)
     for other in (plain, gherkin_run.run(PAINT, format="progress"), gherkin_run.run([])):
-        yield raises(ValueError, lambda it: it.data, it=other)
+        try:
+            yield f"data of {other.text!r}: {other.data}"
+        except ValueError as error:
+            yield "" if str(error) == "only a report in JSON has data" else f"data of another report: {error}"
     again = pickle.loads(pickle.dumps(report))
     yield "" if {report: 1}[gherkin_run.run(PAINT, format="json")] and again == report != plain else "reports aren't compared by their texts"
     yield "" if gherkin_run.run([]).check() is None else "a run that passed is no good"
+    yield from (raises(gherkin_run.RunFailedError, gherkin_run.Report(status, "").check) for status in (1, 4))
     escape = gherkin_run.run(gherkin_run.Source("e", "Feature: \x1b[1m\nScenario: s\nGiven it fails\n"))
     for failed in (plain, report, escape):
         try:
@@ -330,9 +373,11 @@ def checked_types(room):
 def same_version(program):
     """Compares the version of the shared library with the program's."""
     status, stdout, stderr = driver.start(program, ["--version"])
-    said = stdout.decode().strip()
-    wanted = f"gherkin_run {gherkin_run.version()}, proved with "
-    yield "" if (status, stderr) == (0, b"") and said.startswith(wanted) else f"the library's version is none of {said}"
+    wanted = f"gherkin_run {gherkin_run.version()}\n"
+    yield "" if (status, stdout.decode(), stderr) == (0, wanted, b"") else f"the library's version isn't that of {stdout.decode()}"
+    abi = re.search(rb"^#define GHERKIN_RUN_ABI_VERSION (\d+)$", driver.read(os.path.join(driver.HOME, "include", "gherkin_run.h")), re.MULTILINE)
+    named = b"libgherkin_run.so.%s\0" % abi[1] in driver.read(os.path.join(PACKAGE, "gherkin_run", "libgherkin_run.so"))
+    yield "" if named else "the shared library's own name isn't that of include/gherkin_run.h"
 
 
 def threads():
@@ -481,13 +526,15 @@ def main():
         return refused_here(sys.argv[2])
     if sys.argv[1] == "beside":
         return beside()
+    if sys.argv[1] in ("peak", "kept"):
+        return {"peak": peak, "kept": kept}[sys.argv[1]]()
     program, room, said = sys.argv[1:4]
     os.environ["TMPDIR"] = temporary = os.path.join(room, "temporary")
     os.mkdir(temporary)
     tests = driver.Tests(20)
     if said:
         tests.add(said if "isn't" in said else "")
-    parts = [example_runs(program), command_lines(program), options_alone(program), long_files(program, room), failing_outputs(program), lacking_memory(room), changed_runs(program, room),
+    parts = [example_runs(program), command_lines(program), options_alone(program), long_files(program, room), failing_outputs(program), lacking_memory(room), sparing(), changed_runs(program, room),
              faults(), values(), reports(), fitting(), checked_types(room), same_version(program), threads(), nuls(), loaded(), unloaded(room),
              waiting(room), refused(room), plugin.tests(room), python_pages.tests(room, plugin.interpreter()),
              left_over(temporary)]

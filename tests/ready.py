@@ -5,14 +5,17 @@ Each test works on a copy of the repository as a clone has it. Where ./run build
 is found, which proves nothing: it takes a moment for each crate, and 'builds' a program that says which it is.
 """
 
+import fcntl
 import glob
 import os
 import re
 import shutil
 import signal
+import struct
 import subprocess
 import sys
 import tempfile
+import termios
 import time
 
 HOME = os.path.dirname(os.path.dirname(os.path.realpath(__file__)))
@@ -34,12 +37,15 @@ version)
     ;;
 esac
 echo "$$" >> "$CALLS.pids"
+[ -z "${STUBBORN:-}" ] || trap '' TERM
 echo "so far: 1 of 2 functions checked"
+printf 'no text: \\377\\n'
 sleep "${SLOW:-0}"
 mkdir -p out
 echo kept > out/work
 [ "$1" = lib ] || printf '#!/bin/sh\\necho built here\\n' > out/gherkin_run
 [ "$1" = lib ] || chmod +x out/gherkin_run
+[ -z "${KILLED:-}" ] || kill -9 "$$"
 exit "${REFUSED:-0}"
 """
 
@@ -93,8 +99,8 @@ class Clone:
         out = self.path("out")
         return os.listdir(self.temporary) + [it for it in (os.listdir(out) if os.path.isdir(out) else []) if it not in KEPT]
 
-    def ended(self, name, *words, at, **more):
-        """Ends a script by the signal TERM while it reads the sources: its status. `at` begins a name in out/."""
+    def ended(self, name, *words, at, by=signal.SIGTERM, **more):
+        """Ends a script by a signal while it reads the sources: its status. `at` begins a name in out/."""
         commands = self.commands(True)
         slow = os.path.join(commands, "sha256sum")
         os.remove(slow)
@@ -104,7 +110,7 @@ class Clone:
         process = self.start(*words, script=self.path(name), PATH=commands, **more)
         while process.poll() is None and not glob.glob(self.path(f"out/{at}*")):
             time.sleep(0.01)
-        process.send_signal(signal.SIGTERM)
+        process.send_signal(by)
         process.communicate(timeout=60)
         return process.returncode
 
@@ -173,6 +179,17 @@ def it_runs_where_nothing_can_be_written(clone):
     return all(map(is_right, answers)) and is_clean
 
 
+def arguments_and_settings_reach_the_program(clone):
+    with open(clone.path("dist/gherkin_run"), "w", encoding="utf-8") as file:
+        file.write('#!/bin/sh\n[ "$*" != --help ] || exit 0\nprintf "%s|" "$GLIBC_TUNABLES" "$@"\nexit 7\n')
+    clone.renew_sums()
+    words = ["a  b", "*", "", "$HOME", "\\", "--build"]
+    for settings, wanted in (({}, "glibc.malloc.hugetlb=1"), ({"GLIBC_TUNABLES": "glibc.malloc.hugetlb=0"}, "glibc.malloc.hugetlb=0"), ({"GLIBC_TUNABLES": ""}, "")):
+        if clone.run(*words, **settings) != (7, "".join(f"{it}|" for it in [wanted, *words]).encode(), b""):
+            return False
+    return True
+
+
 def two_users_run_it_at_once(clone):
     started = [clone.start(EXAMPLE, user=user) for user in (None, as_nobody()) * 4]
     ended = [(*process.communicate(), process.returncode) for process in started]
@@ -226,8 +243,8 @@ def another_list_of_crates_is_a_change(clone):
 
 def a_change_that_is_not_proved_runs_nothing(clone):
     clone.change()
-    answer = clone.run(with_rt=True, REFUSED="1")
-    return says(answer, 70, b"could not be proved") and says(clone.run(), 70, b"needs the command rt")
+    answers = [clone.run(with_rt=True, **how) for how in ({"REFUSED": "1"}, {"KILLED": "1"})]
+    return all(says(it, 70, b"could not be proved") for it in answers) and says(clone.run(), 70, b"needs the command rt")
 
 
 def a_changed_byte_in_dist_is_refused(clone):
@@ -278,9 +295,11 @@ def two_builds_at_once_are_one(clone):
     return ended == [(b"built here\n", 0)] * 2 and clone.called().count("run gherkin_run") == 1
 
 
-def an_interrupt_leaves_nothing_half_built(clone):
-    clone.change()
-    process = clone.start(EXAMPLE, with_rt=True, SLOW="30")
+def ends_at_once(clone, **more):
+    """Whether a build that is interrupted ends soon, with all that it began."""
+    if os.path.exists(clone.calls + ".pids"):
+        os.remove(clone.calls + ".pids")
+    process = clone.start(EXAMPLE, with_rt=True, SLOW="30", **more)
     while not os.path.exists(clone.calls + ".pids") and process.poll() is None:
         time.sleep(0.05)
     time.sleep(0.3)
@@ -290,13 +309,47 @@ def an_interrupt_leaves_nothing_half_built(clone):
     with open(clone.calls + ".pids", encoding="utf-8") as file:
         left = [pid for pid in file.read().split() if is_running(pid)]
     is_clean = not left and not os.path.exists(clone.path("out/gherkin_run.sources"))
-    return is_clean and out == b"" and process.returncode != 0 and time.monotonic() - began < 20 and (
-        clone.run(with_rt=True)[1] == b"built here\n")
+    return is_clean and out == b"" and process.returncode != 0 and time.monotonic() - began < 20
+
+
+def an_interrupt_leaves_nothing_half_built(clone):
+    clone.change()
+    ended = [ends_at_once(clone, STUBBORN=it) for it in ("", "yes")]
+    return all(ended) and clone.run(with_rt=True)[1] == b"built here\n"
+
+
+def what_is_shown_on_a_terminal_fits_into_it(clone):
+    clone.change()
+    ours, theirs = os.openpty()
+    fcntl.ioctl(theirs, termios.TIOCSWINSZ, struct.pack("HHHH", 24, 40, 0, 0))
+    shown = []
+    process = subprocess.Popen(["./run", "--build"], cwd=clone.folder, stdin=subprocess.DEVNULL, stdout=theirs, stderr=theirs,
+                               env={"PATH": clone.commands(True), "CALLS": clone.calls, "TMPDIR": clone.temporary, "SLOW": "0.4"})
+    os.close(theirs)
+    try:
+        while part := os.read(ours, 1 << 16):
+            shown.append(part)
+    except OSError:
+        # Nothing holds the other side any more.
+        os.close(ours)
+    lines = [it for it in b"".join(shown).decode().split("\r\033[K") if it and not it.endswith("\n")]
+    return process.wait(60) == 0 and bool(lines) and max(map(len, lines)) < 40
 
 
 def an_end_while_it_looks_for_a_program_leaves_nothing(clone):
-    status = clone.ended("run", EXAMPLE, at="before.")
-    return status in (143, -signal.SIGTERM) and not clone.left() and is_right(clone.run())
+    for number in (signal.SIGTERM, signal.SIGINT, signal.SIGHUP):
+        if clone.ended("run", EXAMPLE, at="before.", by=number) not in (128 + number, -number) or clone.left():
+            return False
+    return is_right(clone.run())
+
+
+def a_change_while_it_looks_for_a_program_is_seen(clone):
+    commands = clone.commands(False)
+    os.remove(os.path.join(commands, "sha256sum"))
+    with open(os.path.join(commands, "sha256sum"), "w", encoding="utf-8") as file:
+        file.write(f'#!/bin/sh\ncase " $* " in *" -c "*) echo >> "$SOURCE" ;; esac\nexec {shutil.which("sha256sum")} "$@"\n')
+    os.chmod(file.name, 0o755)
+    return is_right(clone.run(PATH=commands, SOURCE=clone.path(SOURCE))) and says(clone.run(), 70, b"needs the command rt")
 
 
 def an_end_while_a_program_is_kept_leaves_nothing(clone):
@@ -365,12 +418,13 @@ def as_nobody():
 
 TESTS = [
     first_run_takes_less_than_five_seconds, later_runs_say_nothing_too, the_program_of_dist_is_named,
-    it_runs_from_any_folder, it_runs_through_a_link, it_runs_where_nothing_can_be_written, two_users_run_it_at_once,
+    it_runs_from_any_folder, it_runs_through_a_link, it_runs_where_nothing_can_be_written,
+    arguments_and_settings_reach_the_program, two_users_run_it_at_once,
     a_changed_source_is_built, what_was_built_runs_at_once, a_source_that_is_changed_back_runs_dist,
     a_source_more_or_less_is_a_change, another_list_of_crates_is_a_change, a_change_that_is_not_proved_runs_nothing, a_changed_byte_in_dist_is_refused,
     building_without_the_toolchain_says_so, building_where_nothing_can_be_written_says_so, another_processor_is_named,
     an_older_library_is_named, two_builds_at_once_are_one, an_interrupt_leaves_nothing_half_built,
-    an_end_while_it_looks_for_a_program_leaves_nothing, an_end_while_a_program_is_kept_leaves_nothing,
+    what_is_shown_on_a_terminal_fits_into_it, a_change_while_it_looks_for_a_program_is_seen, an_end_while_it_looks_for_a_program_leaves_nothing, an_end_while_a_program_is_kept_leaves_nothing,
     a_program_that_is_kept_in_part_has_no_sources, cleaning_leaves_the_program, a_word_of_the_script_stands_alone,
 ]
 

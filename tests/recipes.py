@@ -8,6 +8,7 @@ import json
 import os
 import re
 import resource
+import shlex
 import shutil
 import signal
 import subprocess
@@ -152,8 +153,14 @@ def unless(claim, holds, *shown):
 def annotations_trouble(report, printed):
     lines = printed.decode().split("\n")[:-1]
     odd = [it for it in lines if not re.fullmatch(r"::error (file=[^,:]*,line=\d+,)?title=[^,:]*::[^\r]*", it)]
-    return unless("annotations: lines that are none", not odd, *odd) or \
+    unescaped = [it for line in lines for it in re.findall("%(?!25|0A|3A|2C).{0,2}", line)]
+    texts = [line.split("::", 2)[2].replace("%0A", "\n").replace("%25", "%") for line in lines if line.count("::") > 1]
+    steps = [f"{it['keyword']} {it['text']} ... {it['status']}" for one in report["features"] for row in one["scenarios"]
+             for it in row["steps"] if it["status"] in BAD]
+    others = [it for it in steps if not any(text.startswith(escaped(it)) for text in texts)]
+    return unless("annotations: lines that are none", not odd and not unescaped, *odd, *unescaped) or \
         unless("annotations: control characters", not CONTROL.search(printed.decode())) or \
+        unless("annotations: steps that no line has", not others, *others) or \
         unless(f"annotations: {len(lines)} lines", len(lines) == bad_places(report))
 
 
@@ -190,6 +197,11 @@ def junit_trouble(report, printed):
         unless("JUnit: other names", names == [readable(it["name"]) for it in scenarios], *names)
 
 
+def escaped(text):
+    """A text with its control characters, apart from line feeds, escaped."""
+    return CONTROL.sub(lambda it: f"\\x{ord(it[0]):02x}", text)
+
+
 def readable(name):
     """A name as the JUnit file has it."""
     return "".join("\ufffd" if it in "\ufffe\uffff" else f"\\x{ord(it):02x}" if CONTROL.match(it) and it not in "\t\r" else it for it in name)
@@ -203,6 +215,14 @@ def failed_trouble(report, printed):
     return unless("failed: another number of lines", len(lines) == wanted, *lines) or \
         unless("failed: control characters", not CONTROL.search(printed.decode()), *lines) or \
         unless("failed: commands of GitHub's", not commands, *commands)
+
+
+def out_of_memory(report):
+    """A report in which memory ran out wherever something failed."""
+    made = json.loads(re.sub('"(status|around|run)":"failed"', r'"\1":"memory"', report.decode()))
+    for counts in made["summary"].values():
+        counts["memory"], counts["failed"] = counts["failed"], 0
+    return json.dumps(made, ensure_ascii=False, separators=(",", ":")).encode()
 
 
 MAKERS = {"annotations": annotations_trouble, "summary": summary_trouble, "junit": junit_trouble, "failed": failed_trouble}
@@ -220,7 +240,7 @@ def makers_troubles(program, room):
     names = sorted(os.path.join("features", it) for it in os.listdir(os.path.join(folder, "features")))
     # A command of GitHub's in the name of a file, of a feature and of a scenario, at the begin of a line and in it.
     commands = ["::error::pwned", " ::set-output name=a::b", "a\n::error::pwned", "\r::error::pwned", "a##[error]pwned", "\x1b[31m::stop-commands::x", "\u3000::error::pwned"]
-    driver.write(folder, {it: f"Feature: f\n  Scenario Outline: <n>\n    Given it fails\n    Examples:\n      | n |\n      | {row} |\n"
+    driver.write(folder, {it: f"Feature: f\n  Scenario Outline: <n>\n    Given <n>\n    Examples:\n      | n |\n      | {row} |\n"
                           for it, row in ((it, it.replace("\n", "\\n").replace("\r", "")) for it in commands)})
     runs += [("commands of GitHub's", folder, ["--", *commands])]
     runs += [("the suite", folder, names), ("the suite with hooks", folder, ["--hooks", "suite.hooks", *names]),
@@ -229,12 +249,18 @@ def makers_troubles(program, room):
         printed = driver.start(program, ["--format", "json", *arguments], place)[1]
         if not printed:
             continue
-        report = json.loads(printed)
-        driver.write(folder, {"report.json": printed})
-        for maker, trouble in MAKERS.items():
-            status, text, fault = made(folder, maker)
-            found = trouble(report, text) if status == 0 else f"{maker}.jq: {fault.decode()}"
-            yield f"{name}: {found}" if found else ""
+        yield from maker_troubles(folder, name, printed)
+        if place == folder:
+            yield from maker_troubles(folder, f"{name}, without memory", out_of_memory(printed))
+
+
+def maker_troubles(folder, name, printed):
+    """Each file over a report."""
+    driver.write(folder, {"report.json": printed})
+    for maker, trouble in MAKERS.items():
+        status, text, fault = made(folder, maker)
+        found = trouble(json.loads(printed), text) if status == 0 else f"{maker}.jq: {fault.decode()}"
+        yield f"{name}: {found}" if found else ""
 
 
 def whole_troubles(program, room):
@@ -350,7 +376,13 @@ def again_troubles(folder, command):
     status, printed, fault = shell(folder, command)
     headings = re.findall(rb"^  \S.* \.\.\. (failed|passed)$", printed, re.MULTILINE)
     yield unless("again.sh after a repair: other verdicts", sorted(headings) == [b"failed"] * 3 + [b"passed"], printed.decode("utf-8", "replace"))
-    driver.write(folder, {**SUITE, "rules.hooks": SUITE["suite.hooks"].partition("after_all")[0]})
+    report = driver.read(os.path.join(folder, "report.json"))
+    for name, text in (("ended.json", report), ("memory.json", out_of_memory(report))):
+        driver.write(folder, {name: text})
+    ended, without = (shell(folder, f"examples/recipes/again.sh {name} ./run") for name in ("ended.json", "memory.json"))
+    yield driver.trouble("again.sh of what ran out of memory", without, ended)
+    far = SUITE["features/rules.feature"].replace("    Scenario: four\n", "\n" * 1000 + "    Scenario: four\n")
+    driver.write(folder, {**SUITE, "rules.hooks": SUITE["suite.hooks"].partition("after_all")[0], "features/rules.feature": far})
     status, printed, fault = again(folder, "--hooks rules.hooks", "features/rules.feature")
     headings = re.findall(rb"^  (\S.*) \.\.\. \w+$", printed, re.MULTILINE)
     wanted = [b"Scenario: one", b"Scenario: two", b"Scenario: three", b"(rule, line 6: hooks and cleanups)", b"Scenario: four",
@@ -391,11 +423,12 @@ def again(folder, options, files):
 
 
 def usage_troubles(folder):
-    """Without arguments each script prints only its usage, and exits with 2."""
-    for script in ("recipes/again.sh", "recipes/check.sh", "recipes/long.sh", "add_reports.sh"):
-        status, printed, fault = shell(folder, f"examples/{script}")
+    """With too few arguments each script prints only its usage, and exits with 2."""
+    for script, words in (("recipes/again.sh", ""), ("recipes/again.sh", "report.json"), ("recipes/check.sh", ""), ("recipes/check.sh", "./run"),
+                          ("recipes/long.sh", ""), ("add_reports.sh", "")):
+        status, printed, fault = shell(folder, f"examples/{script} {words}")
         said = fault.decode()
-        yield unless(f"{script} without arguments", (status, printed, said.count("\n")) == (2, b"", 1) and said.startswith(f"usage: examples/{script} "), said)
+        yield unless(f"{script} {words} with too few arguments", (status, printed, said.count("\n")) == (2, b"", 1) and said.startswith(f"usage: examples/{script} "), said)
 
 
 def refused_troubles(folder):
@@ -424,6 +457,13 @@ def check_troubles(folder):
     for name, wanted in (("null", b"  Scenario: one\\x00 ... failed\n    Given it fails ... failed: fail step\n"), ("unknown", b"    Given it\\x00fails ... undefined\n")):
         status, printed, fault = shell(folder, f"examples/recipes/check.sh ./run {name}.feature")
         yield unless(f"check.sh of {name}.feature", status == 1 and wanted in printed and fault == b"", printed.decode(), fault.decode())
+    rows = "  Scenario Outline: row <n>\n    Given it <ends>\n    Examples:\n      | n | ends |\n      | 1 | passes |\n      | 2 | {} |\n"
+    driver.write(folder, {f"{ends}.feature": f"Feature: outlines\n{rows.format(ends)}" for ends in ("fails", "is unknown")})
+    for ends, words, kept in (("fails", "--no-skipped", b" ... failed"), ("is unknown", "--dry-run", b" ... undefined")):
+        *lines, first, second, third = driver.start(os.path.join(folder, "run"), [words, f"{ends}.feature"], folder)[1].splitlines(True)
+        wanted = b"".join([it for it in lines if kept in it and (ends == "fails" or it.startswith(b"    "))] + [first, second, third])
+        ended = shell(folder, f"examples/recipes/check.sh ./run '{ends}.feature'")
+        yield driver.trouble(f"check.sh of a row that {ends}", ended, (1, wanted, b""))
     rows = b"Feature: f ... memory\n  Scenario: s ... memory\n    Given it passes ... memory\n"
     driver.write(folder, {"said": rows + b"    Then it passes ... untested\n\none\ntwo\nthree\n",
                           "memory": '#!/bin/sh\n[ "$1" = --dry-run ] || { cat said; exit 4; }\n'})
@@ -484,6 +524,37 @@ def name_troubles(program, room):
         yield driver.trouble(f"again.sh {name}, with nothing to run", shell(folder, f'cp good.json "./{name}" && examples/recipes/again.sh "{name}" ./run'), (0, b"", b""))
         driver.write(folder, {name: report})
         yield driver.trouble(f"add_reports.sh {name}", shell(folder, f'examples/add_reports.sh "{name}"'), (1, report, b""))
+
+
+def hostile_troubles(program, room):
+    """Files and options with names that a shell or an option parser would read as something else are run as they are."""
+    folder = folder_of(program, room, "hostile")
+    names = ["-h.feature", "--format", "it's a.feature", "'$(touch pwned)'.feature", '"`touch pwned`".feature', "a\\b *.feature"]
+    fails = "Feature: f\n  @one\n  Scenario: s\n    Given it fails\n  Scenario: t\n    Then the variable \"A\" should be \"b  *\"\n"
+    driver.write(folder, {**dict.fromkeys(names, fails), "all.hooks": "after_all:\n  Given it fails\n"})
+    files = shlex.join(names)
+    for options in ([], ["--tags", "@one or @two"], ["--env", "A=b  *"], ["--hooks", "all.hooks"]):
+        words = shlex.join(options)
+        wanted = [driver.start(program, [*options, "--format", form, "--", *names], folder) for form in ("json", "plain")]
+        ended = shell(folder, f"printf '%s\\n' {files} | examples/recipes/long.sh --files 1 ./run {words}")
+        yield driver.trouble(f"long.sh {words} with such names", ended, wanted[0])
+        status, printed, fault = shell(folder, f"examples/recipes/check.sh ./run {words} -- {files}")
+        yield unless(f"check.sh {words} with such names", status == 1 and printed.endswith(wanted[1][1].partition(b"\n\n")[2][-60:]), printed.decode(), fault.decode())
+        driver.write(folder, {"ended.json": wanted[0][1]})
+        status, printed, fault = shell(folder, f"examples/recipes/again.sh ended.json ./run {words}")
+        runs = printed.count(b"\nFeature: ") + printed.startswith(b"Feature: ")
+        yield unless(f"again.sh {words} with such names", (status, runs, fault) == (1, len(names), b""), printed.decode(), fault.decode())
+    yield unless("a name was run as a command", not os.path.exists(os.path.join(folder, "pwned")))
+    many = [f"{number}.feature" for number in range(10, 30)]
+    driver.write(folder, {it: f"Feature: {it}\n" for it in many})
+    ended = shell(folder, "ls [12]?.feature | examples/recipes/long.sh --files 1 ./run")
+    yield driver.trouble("long.sh with twenty parts", ended, driver.start(program, ["--format", "json", *many], folder))
+    driver.write(folder, {"dies": '#!/bin/sh\n./run "$@"\nkill -9 $$\n', "says": "#!/bin/sh\nprintf 'a\\0\\377b\\n' >&2\nexit 2\n"})
+    for name, wanted in (("dies", (3, b"", b"long: a part was killed\n")), ("says", (2, b"", b"a\0\377b\n"))):
+        os.chmod(os.path.join(folder, name), 0o755)
+        status, printed, fault = shell(folder, f"ls 1?.feature | examples/recipes/long.sh ./{name}")
+        # A shell may say of its own that a program was killed.
+        yield driver.trouble(f"long.sh of a program that {name}", (status, printed, fault.removeprefix(b"Killed\n")), wanted)
 
 
 def setting_troubles(program, room):
@@ -569,7 +640,7 @@ def seconds_of(folder, command, **more):
 def main():
     program, room = sys.argv[1], sys.argv[2]
     tests = driver.Tests()
-    groups = (makers_troubles, whole_troubles, page_troubles, machine_troubles, escaped_troubles, name_troubles, setting_troubles, missing_troubles, signal_troubles)
+    groups = (makers_troubles, whole_troubles, page_troubles, machine_troubles, escaped_troubles, name_troubles, hostile_troubles, setting_troubles, missing_troubles, signal_troubles)
     for found in driver.on_all_processors(lambda it: list(it(program, room)), groups):
         tests.add_all(found)
     # By itself, since it counts the time of all that this driver starts.

@@ -5,6 +5,7 @@ A stand-in for the toolchain builds a program and a library in a moment. Whateve
 be either as they were or as a whole release makes them, with nothing left in out/ or TMPDIR; one line says why.
 """
 
+import glob
 import os
 import shutil
 import stat
@@ -37,6 +38,11 @@ echo a new library > "$2"
 # The commands that ./release and what it calls change files with, and those that read.
 CHANGING = ["chmod", "cp", "ln", "mkdir", "mktemp", "mv", "rm"]
 READING = ["cat", "cut", "find", "python3", "readlink", "sha256sum", "sort"]
+# The commands of a pipe run at the same time; each takes the next number that is free.
+STEP_OF_A_PIPE = STEP.replace('echo $((calls', """until (set -C; : > "$CALLS.$((calls + 1))") 2> /dev/null; do
+    calls=$((calls + 1))
+done
+echo $((calls""", 1)
 MORE_COMMANDS = ("basename env grep head ln nproc sed tr uname wc").split()
 
 
@@ -53,7 +59,7 @@ class Released:
             file.write("<!-- another page -->\n")
         self.commands = self.make_toolchain(room)
         self.steps = os.path.join(room, "steps")
-        make_steps(self.steps, CHANGING + READING)
+        make_steps(self.steps, CHANGING + READING, STEP_OF_A_PIPE)
         self.kept = os.path.join(room, "kept")
         for name in RELEASED:
             shutil.copytree(self.clone.path(name), os.path.join(self.kept, name))
@@ -97,22 +103,23 @@ class Released:
     def put_back(self):
         """Makes the three folders as they were before the first release."""
         for name in RELEASED:
-            shutil.rmtree(self.clone.path(name))
+            shutil.rmtree(self.clone.path(name), ignore_errors=True)
             shutil.copytree(os.path.join(self.kept, name), self.clone.path(name))
 
     def run(self, at=0, how="fails", umask=0o022, **more):
         """Runs ./release: its status, what it says on standard error, and how many steps it took."""
         write(self.clone.room, "steps taken", "0\n")
         calls = os.path.join(self.clone.room, "steps taken")
+        for it in glob.glob(glob.escape(calls) + ".[0-9]*"):
+            os.remove(it)
         # The stand-in notes its calls in the same variable.
         settings = {"PATH": f"{self.steps}:{self.commands}", "CALLS": calls, "AT": str(at), "HOW": how,
                     "TMPDIR": self.clone.temporary, **more}
         done = subprocess.run(["sh", "-c", 'PID=$$ exec ./release'], cwd=self.clone.folder, env=settings, check=False,
                               stdin=subprocess.DEVNULL, stdout=subprocess.PIPE, stderr=subprocess.PIPE, timeout=120,
                               umask=umask)
-        self.printed = done.stdout.decode()
-        with open(calls, encoding="utf-8") as file:
-            return done.returncode, done.stderr.decode(), int(file.read().split()[0])
+        self.printed = done.stdout.decode(errors="replace")
+        return done.returncode, done.stderr.decode(errors="replace"), len(glob.glob(glob.escape(calls) + ".[0-9]*"))
 
     def is_as_before(self, words, **more):
         """Whether ./release fails, says these words in its last line, and changes nothing."""
@@ -218,7 +225,8 @@ def stopped_at_each_step(released, how):
         status, said, _ = released.run(at=at, how=how)
         state = released.state()
         # The last step removes what the script itself made.
-        left = [it for it in released.clone.left() if at < released.first[2] or not it.startswith("release.")]
+        all_left = released.clone.left()
+        left = [it for it in all_left if at < released.first[2] or not it.startswith("release.")]
         last = (said.splitlines() or [""])[-1]
         is_right = state == released.after if status == 0 else (
             state == released.before and last.startswith("release: ") and said.count("release: ") == 1)
@@ -226,8 +234,9 @@ def stopped_at_each_step(released, how):
             wrong.append(at)
             print(f"at step {at} of {released.first[2]}: status {status}, left {left}, said {said}")
         released.put_back()
-        for it in left:
+        for it in all_left:
             shutil.rmtree(released.clone.path(f"out/{it}"), ignore_errors=True)
+            shutil.rmtree(os.path.join(released.clone.temporary, it), ignore_errors=True)
     return not wrong
 
 
@@ -239,11 +248,26 @@ def an_end_at_any_step_changes_nothing(released):
     return stopped_at_each_step(released, "ends")
 
 
+def what_was_missing_stays_missing(released):
+    """A release makes the files that are missing. If it fails at one of the last steps it leaves none of them."""
+    wrong = []
+    whole = {name: it for name, it in released.after.items() if name != "dist/README.md"}
+    for at in (0, *range(released.first[2] - 17, released.first[2] - 4)):
+        shutil.rmtree(released.clone.path("dist"))
+        os.remove(released.clone.path("python/gherkin_run/libgherkin_run.so"))
+        before = released.state()
+        status = released.run(at=at)[0]
+        if released.state() != (before if status else whole) or (status and not at):
+            wrong.append(at)
+        released.put_back()
+    return not wrong
+
+
 TESTS = [
     a_release_renews_everything, what_is_released_is_new, it_names_the_sum_and_the_kit, with_wasm_opt_the_module_is_renewed, anybody_may_read_it, a_library_that_is_not_proved_changes_nothing,
     a_linker_that_fails_changes_nothing, a_page_that_cannot_be_made_changes_nothing, other_sources_change_nothing,
     another_program_changes_nothing, no_program_changes_nothing, a_failure_at_any_step_changes_nothing,
-    an_end_at_any_step_changes_nothing,
+    an_end_at_any_step_changes_nothing, what_was_missing_stays_missing,
 ]
 
 

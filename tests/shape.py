@@ -19,10 +19,8 @@ LIMITS = os.path.join(driver.HOME, "tests", "shape.limits")
 WIDTH = 100  # columns of a contract line
 ARGUMENTS = 7  # of a function that isn't public
 SHARED = 10  # lines that two places may not share
-# Modules that have no specification by their kind.
-ROOTS = ("lib", "main")
-# A comment of specs/Lib.antt that marks the modules below it, up to the next comment.
-MACHINERY = "-- Proof machinery"
+# Modules that have no specification by their kind. What laws say is in the specifications of their subjects.
+ROOTS = ("lib", "main", "laws")
 BEGINS_LEFT_OUT = re.compile(r"(pub )?(ghost )?use\b|(pub )?(const|static) \w+: \[.*\] = \[$")
 WORKED_EXAMPLES = re.compile(r"(Worked.*|.*Examples)\.antt")
 # Words that a line's shape keeps.
@@ -165,17 +163,6 @@ def snake_case(name):
     return re.sub(r"(?<!^)(?=[A-Z])", "_", name).lower()
 
 
-def machinery(crate):
-    """The specifications that specs/Lib.antt of a crate marks as proof machinery."""
-    marked, is_marked = set(), False
-    for line in lines_of(os.path.join(crate, "specs", "Lib.antt")):
-        if line.startswith("--"):
-            is_marked = line.startswith(MACHINERY)
-        elif is_marked and line.startswith("pub mod "):
-            marked.add(line.removeprefix("pub mod ").strip())
-    return marked
-
-
 def modules_without_spec():
     """Modules of src/ for which specs/ has no file of the same name."""
     for crate in crates_with_specs():
@@ -183,17 +170,6 @@ def modules_without_spec():
         for name in names_in(os.path.join(crate, "src"), ".rt"):
             if name not in specified and name not in ROOTS:
                 yield Place(os.path.join(crate, "src", f"{name}.rt"), 1, "no file of specs/")
-
-
-def specs_without_module():
-    """Files of specs/ for which src/ has no module of the same name.
-
-    Proof machinery needs none."""
-    for crate in crates_with_specs():
-        modules, excepted = names_in(os.path.join(crate, "src"), ".rt"), machinery(crate)
-        for name in names_in(os.path.join(crate, "specs"), ".antt"):
-            if snake_case(name) not in modules and name not in excepted and name != "Lib":
-                yield Place(os.path.join(crate, "specs", f"{name}.antt"), 1, "no module of src/")
 
 
 # ---- lines of one shape
@@ -260,8 +236,7 @@ def repeated_places():
 
 # ---- all of it
 
-CHECKS = (wide_contract_lines, long_argument_lists, modules_without_spec, specs_without_module,
-          repeated_places)
+CHECKS = (wide_contract_lines, long_argument_lists, modules_without_spec, repeated_places)
 
 
 def limits():

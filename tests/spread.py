@@ -458,6 +458,13 @@ def of_fault(_):
                   and fault.count(b"\n") == 1 and b"\x1b" not in fault, status, fault)
 
 
+def of_bytes(_):
+    """A message of a lost part that is no text comes as it is, on one line."""
+    place = place_of("bytes", dying="#!/bin/sh\nprintf 'a\\0\\377b\\n' >&2\nexit 9\n")
+    ended = spread(place, os.path.join(place, "dying"), "--", "10.feature", LC_ALL="C.UTF-8")
+    return driver.trouble("a message of bytes", ended, (3, b"", b"spread: part 1 is lost, which begins with 10.feature: a\xffb\n"))
+
+
 def of_lost_words(_):
     """A machine that gets only some of the words runs nothing."""
     base64 = '#!/bin/sh\ncase $* in -d) /usr/bin/base64 -d | head -c 400 ;; *) exec /usr/bin/base64 "$@" ;; esac\n'
@@ -496,7 +503,7 @@ def works():
     yield from ((of_settings, (number, machine)) for number in range(len(SETTINGS)) for machine in ("", "one"))
     yield from ((of_refused, it) for it in REFUSED)
     yield from ((of_missing, it) for it in ("jq", "parallel"))
-    yield from ((it, None) for it in (of_one_job, of_many_files, of_two_lists, of_relative_folder, of_no_home, of_another_parallel, of_no_program, of_fault, of_full_output, of_lost_words, of_long_option))
+    yield from ((it, None) for it in (of_one_job, of_many_files, of_two_lists, of_relative_folder, of_no_home, of_another_parallel, of_no_program, of_fault, of_bytes, of_full_output, of_lost_words, of_long_option))
 
 
 def main():

@@ -175,6 +175,10 @@ for order in "json failed memory" "memory failed json" "failed memory failed"; d
     check "$order: another status" [ "$status" -eq 4 ]
     check "$order: another end of the run" [ "$(jq --raw-output .run "$room/sum")" = memory ]
 done
+run "$room/plain" examples/first.feature
+tail -n 3 "$room/plain" | sed 's/$/, 2 memory/' > "$room/wanted"
+sed 's/"memory":0/"memory":2/g' "$room/json" | jq --raw-output --from-file examples/recipes/plain.jq | tail -n 3 > "$room/made" || true
+check "plain.jq: other counts of what ran out of memory" cmp "$room/wanted" "$room/made"
 tr -d '\n' < "$room/json" > "$room/without_line_feed"
 examples/add_reports.sh "$room/without_line_feed" > "$room/sum" || true
 check "a report without its line feed: another sum" cmp "$room/json" "$room/sum"

@@ -85,7 +85,7 @@ export class Instance {
         const wanted = Number(said.getBigUint64(0, true));
         return {
             wanted,
-            text: new TextDecoder().decode(this.bytes(room, Math.min(wanted, length))),
+            text: new TextDecoder("utf-8", { ignoreBOM: true }).decode(this.bytes(room, Math.min(wanted, length))),
             hasReport: said.getUint8(22) === 1,
             status: said.getUint8(21),
             input: INPUTS[said.getUint8(20)],

@@ -4,7 +4,7 @@ use Rattle.std.specs.Prelude.{◌⊎◌, IfErr, IfOk, IsSome, IsSomeAnd, String,
 use Rattle.std.specs.declared.alloc.Global.{Global}
 use Rattle.std.specs.List.{All, Any}
 use Rattle.std.specs.Io.KnownBytes.{Appends, Keeps}
-use Rattle.std.proofs.lemmas.Option.{slice_get-map, slice_get_read, slice_get_within}
+use Rattle.std.proofs.lemmas.Option.{slice_get-map, slice_get_read}
 use Rattle.std.proofs.lemmas.List.{append-nil, drop_all, get_or-map, length-map, map_push, take_all}
 use Rattle.std.proofs.lemmas.List.Elements.{All-push}
 use Rattle.std.proofs.Math.Seq.{drop-cons, take-suc}
@@ -13,7 +13,6 @@ use Rattle.gk_world.specs.Refusals.{IsFault}
 use Rattle.gk_world.specs.Sandbox.{SandboxValue, new_sandbox, with_env}
 use Rattle.gk_world.specs.declared.refusals.WorldFault.{WorldFault}
 use Rattle.gk_world.specs.declared.refusals.WorldFault.TheVariants as world
-use Rattle.gk_select.specs.declared.select_fault.SelectFault.TheVariants as select
 use Rattle.gk_cli.specs.Arguments.{PairValue, pair_value}
 use Rattle.gk_cli.specs.Counted.{one_more}
 use Rattle.gk_cli.specs.Inputs.{Request}
@@ -22,8 +21,7 @@ use Rattle.gk_cli.specs.declared.source.Source.{Source}
 use Rattle.gk_cli.specs.GrowingReport.{StopsBy}
 use Rattle.gk_cli.specs.Suite.{Device, IsUntouched, SaysFault}
 use Rattle.gk_cli.specs.ExplainedSuite.{SaysExplanationFault}
-use Rattle.gk_cli.specs.SuiteFiles.{FilesValue, HaveSameNames, suite_value}
-use Rattle.gk_cli.specs.SuiteFiles as cli
+use Rattle.gk_cli.specs.SuiteFiles.{FilesValue, HaveSameNames, hooks_name, library_name, request_of_files, suite_value}
 use Rattle.gk_cli.specs.FaultNotes.{name_at_fault}
 use Rattle.gk_cli.specs.declared.suite_files.SuiteFiles.{SuiteFiles}
 use Rattle.gk_cli.specs.LintedSuite.{SaysLintFault}
@@ -34,12 +32,11 @@ use Rattle.gk_cli.specs.declared.arguments.Words.{Words}
 use Rattle.gk_cli.specs.declared.run_fault.RunFault.{RunFault}
 use Rattle.gk_cli.specs.declared.run_fault.RunFault.TheVariants as run
 use Rattle.gherkin_run.specs.Files.{AreRead, IsFaultOfFiles, IsFileFault, Reading, StopsReading, files_in_order, name_of}
-use Rattle.gherkin_run.specs.Program.{AreGiven, AreLeft, AreTaken, IsFaultAs, IsFaultOfGiven, IsFaultOfRun, IsFaultOfVariable, IsFlushedRun, IsGiven, IsNamed, IsRefused, IsRun, IsShown, IsTextFault, IsWithin, SaysCalls, SaysCallsOfRun, IsWrittenAs, SaysFaultAs, IsStoppedAs, hooks_name, library_name, names_given, SaysProgram, SaysSuite, SaysVariables, contents_given, bytes_given, request_of_files, variables_given, with_variables}
+use Rattle.gherkin_run.specs.Program.{AreGiven, AreLeft, AreTaken, IsFaultAs, IsFaultOfGiven, IsFaultOfRun, IsFaultOfVariable, IsFlushedRun, IsGiven, IsRefused, IsRun, IsShown, IsTextFault, SaysCalls, SaysCallsOfRun, IsWrittenAs, SaysFaultAs, IsStoppedAs, names_given, SaysProgram, SaysSuite, SaysVariables, contents_given, variables_given, with_variables}
 use Rattle.gherkin_run.proofs.FilesLemmas.{stops_for_memory}
-use Rattle.gherkin_run.specs.Fault.{IsFaultNamed}
 use Rattle.gherkin_run.specs.FaultListing.{IsListedAs}
 use Rattle.gherkin_run.specs.declared.fault.Fault.{Fault}
-use Rattle.gherkin_run.specs.declared.fault.Fault.TheVariants.{NotUtf8, Usage, Env, CannotRead, TooLong, Library, Hooks, Read, TooMany, BadTags, Unread, Write, Memory}
+use Rattle.gherkin_run.specs.declared.fault.Fault.TheVariants.{NotUtf8, Usage, Env, CannotRead, TooLong, OfRun, Unread, Write, Memory}
 
 -- what holds of a result, by what is known of it
 pub if_ok_both : {T E : Type 0} (P Q : T → Type 0) (r : Result T E) → IfOk r P → IfOk r Q → IfOk r (λ x. P x × Q x)
@@ -67,121 +64,50 @@ untouched d = record { written = nothing d.bytes; calls = refl; flushes = refl; 
 
 -- ---- a fault of the run
 
--- the source that is taken out of a place
-pub taken_out : {X : Type 0} (f : X → SourceValue) (xs : List X) (i : ℕ) (x : X) → i < length (map f xs) → x ≡ get_or xs i x → IsNamed (map f xs) i (f x).name
-taken_out f xs i x within is =
-    let many = length-map xs f in
-    let lt : i < length xs = omega (arith, within, many) in
-    (f x, slice_get-map f xs i ∙ ap (option_map f) (slice_get_read xs (length xs) i x refl lt is), refl)
+-- the name of the source that is taken out of a place, or none where there is no such place
+pub name_there : (xs : List Source) (i : ℕ) (x : Source) → i < length xs → x ≡ get_or xs i x → ◌≡◌ {A = Option (List ℕ)} (Some (string_bytes x.name)) (option_map (λ (s : SourceValue). s.name) (slice_get (map source_value xs) i))
+name_there xs i x lt is = sym (ap (option_map (λ (s : SourceValue). s.name)) (slice_get-map source_value xs i ∙ ap (option_map source_value) (slice_get_read xs (length xs) i x refl lt is)))
 
-not_empty : (a : List ℕ) (xs : List (List ℕ)) → a ∷ xs ≡ [] → ⊥
-not_empty a xs e = cc
+pub no_name_there : (xs : List Source) (i : ℕ) → length xs ≤ i → ◌≡◌ {A = Option (List ℕ)} None (option_map (λ (s : SourceValue). s.name) (slice_get (map source_value xs) i))
+no_name_there [] i past = refl
+no_name_there (x ∷ xs) zero past = absurd (omega arith)
+no_name_there (x ∷ xs) (suc i) past = no_name_there xs i (omega arith)
 
--- a source that has a name among others has it among those with the same names
-named_again : (old new : List SourceValue) (input : ℕ) (name : List ℕ) → names_of new ≡ names_of old → IsNamed new input name → IsNamed old input name
-named_again [] [] input name same is = is
-named_again [] (y ∷ ys) input name same is = absurd (not_empty y.name (names_of ys) same)
-named_again (x ∷ xs) [] input name same is = absurd (not_empty x.name (names_of xs) (sym same))
-named_again (x ∷ xs) (y ∷ ys) zero name same is = (x, refl, is.2 ∙ sym (ap (λ (s : SourceValue). s.name) (same_some y is.0 is.1)) ∙ same_first y.name x.name (names_of ys) (names_of xs) same)
-  where
-    same_some : (a b : SourceValue) → ◌≡◌ {A = Option SourceValue} (Some a) (Some b) → a ≡ b
-    same_some a b e = cc
+-- so a fault is of a file of the same name as before sources gave up their bytes
+named_still : (old new : List SourceValue) (input : ℕ) → names_of new ≡ names_of old → option_map (λ (s : SourceValue). s.name) (slice_get new input) ≡ option_map (λ (s : SourceValue). s.name) (slice_get old input)
+named_still old new input same = sym (slice_get-map (λ (s : SourceValue). s.name) new input) ∙ ap (λ names. slice_get names input) same ∙ slice_get-map (λ (s : SourceValue). s.name) old input
 
-    same_first : (a b : List ℕ) (xs ys : List (List ℕ)) → a ∷ xs ≡ b ∷ ys → a ≡ b
-    same_first a b xs ys e = cc
-named_again (x ∷ xs) (y ∷ ys) (suc i) name same is = named_again xs ys i name (same_rest y.name x.name (names_of ys) (names_of xs) same) is
-  where
-    same_rest : (a b : List ℕ) (xs ys : List (List ℕ)) → a ∷ xs ≡ b ∷ ys → xs ≡ ys
-    same_rest a b xs ys e = cc
+same_name : (old new : FilesValue) (by : RunFault) → HaveSameNames old new → name_at_fault new by ≡ name_at_fault old by
+same_name old new run.Write same = refl
+same_name old new run.Memory same = refl
+same_name old new (run.Read input f) same = named_still old.sources new.sources input same.sources
+same_name old new (run.Library f) same = ap (option_map (λ (s : SourceValue). s.name)) same.library
+same_name old new (run.Hooks f) same = ap (option_map (λ (s : SourceValue). s.name)) same.hooks
+same_name old new (run.Select (Some input) f) same = named_still old.sources new.sources input same.sources
+same_name old new (run.Select None f) same = refl
 
--- so a fault is named as before sources gave up their bytes
-pub named_as_before : (old new : SuiteFiles) (by : RunFault) (fault : Fault) → HaveSameNames old new → IsFaultOfRun (suite_value new) by fault → IsFaultOfRun (suite_value old) by fault
-named_as_before old new run.Write Write same is = tt
-named_as_before old new run.Write _ same is = absurd is
-named_as_before old new run.Memory Memory same is = tt
-named_as_before old new run.Memory _ same is = absurd is
-named_as_before old new (run.Read input f) (Read name g) same is = (is.0, named_again (suite_value old).sources (suite_value new).sources input (string_bytes name) same.sources is.1)
+-- and named as before
+named_as_before : (old new : FilesValue) (by : RunFault) (fault : Fault) → HaveSameNames old new → IsFaultOfRun new by fault → IsFaultOfRun old by fault
+named_as_before old new run.Write fault same is = is
+named_as_before old new run.Memory fault same is = is
+named_as_before old new (run.Read input f) (OfRun name g) same is = (is.0, is.1 ∙ same_name old new (run.Read input f) same)
 named_as_before old new (run.Read input f) _ same is = absurd is
-named_as_before old new (run.Library f) (Library name g) same is = (is.0, ap (option_map (λ (s : SourceValue). s.name)) (sym same.library) ∙ is.1)
+named_as_before old new (run.Library f) (OfRun name g) same is = (is.0, is.1 ∙ same_name old new (run.Library f) same)
 named_as_before old new (run.Library f) _ same is = absurd is
-named_as_before old new (run.Hooks f) (Hooks name g) same is = (is.0, ap (option_map (λ (s : SourceValue). s.name)) (sym same.hooks) ∙ is.1)
+named_as_before old new (run.Hooks f) (OfRun name g) same is = (is.0, is.1 ∙ same_name old new (run.Hooks f) same)
 named_as_before old new (run.Hooks f) _ same is = absurd is
-named_as_before old new (run.Select (Some input) f) (TooMany name) same is = named_again (suite_value old).sources (suite_value new).sources input (string_bytes name) same.sources is
-named_as_before old new (run.Select (Some input) f) _ same is = absurd is
-named_as_before old new (run.Select None f) BadTags same is = tt
-named_as_before old new (run.Select None f) _ same is = absurd is
-
--- as many sources as names
-as_many : (old new : List SourceValue) → names_of new ≡ names_of old → length new ≡ length old
-as_many old new same = sym (length-map new (λ (s : SourceValue). s.name)) ∙ ap length same ∙ length-map old (λ (s : SourceValue). s.name)
-
--- and what it speaks of is there still
-pub within_still : (old new : SuiteFiles) (by : RunFault) → HaveSameNames old new → IsWithin (suite_value old) by → IsWithin (suite_value new) by
-within_still old new (run.Read input f) same is = subst (λ n. input < n) (sym (as_many (suite_value old).sources (suite_value new).sources same.sources)) is
-within_still old new (run.Library f) same is = subst IsSome (sym same.library) is
-within_still old new (run.Hooks f) same is = subst IsSome (sym same.hooks) is
-within_still old new (run.Select (Some input) select.TooMany) same is = subst (λ n. input < n) (sym (as_many (suite_value old).sources (suite_value new).sources same.sources)) is
-within_still old new (run.Select (Some input) select.BadTagText) same is = is
-within_still old new (run.Select (Some input) select.Memory) same is = is
-within_still old new (run.Select None select.TooMany) same is = is
-within_still old new (run.Select None select.BadTagText) same is = is
-within_still old new (run.Select None select.Memory) same is = is
-within_still old new run.Write same is = tt
-within_still old new run.Memory same is = tt
+named_as_before old new (run.Select input f) (OfRun name g) same is = (is.0, is.1 ∙ same_name old new (run.Select input f) same)
+named_as_before old new (run.Select input f) _ same is = absurd is
 
 -- what is left of the files, in a mode that is known
-pub left_in_mode : (mode known : Mode) (old new : SuiteFiles) → mode ≡ known → AreLeft known old new → AreLeft mode old new
+pub left_in_mode : (mode known : Mode) (old new : FilesValue) → mode ≡ known → AreLeft known old new → AreLeft mode old new
 left_in_mode mode known old new is left = subst (λ (m : Mode). AreLeft m old new) (sym is) left
 
--- so what a fault speaks of is left, and the program's fault is that of the files before
-pub within_left : (mode : Mode) (old new : SuiteFiles) (by : RunFault) → AreLeft mode old new → IsWithin (suite_value old) by → IsWithin (suite_value new) by
-within_left Report old new by left is = within_still old new by left is
-within_left Explanation old new by left is = within_still old new by left is
-within_left Findings old new by left is = subst (λ (files : SuiteFiles). IsWithin (suite_value files) by) (sym left) is
-
-pub fault_as_before : (mode : Mode) (old new : SuiteFiles) (by : RunFault) (fault : Fault) → AreLeft mode old new → IsFaultAs mode (suite_value new) by fault → IsFaultAs mode (suite_value old) by fault
+-- so the program's fault is that of the files before
+pub fault_as_before : (mode : Mode) (old new : FilesValue) (by : RunFault) (fault : Fault) → AreLeft mode old new → IsFaultAs mode new by fault → IsFaultAs mode old by fault
 fault_as_before Report old new by fault left is = named_as_before old new by fault left is
 fault_as_before Explanation old new by fault left is = named_as_before old new by fault left is
-fault_as_before Findings old new by fault left is = subst (λ (files : SuiteFiles). IsFaultAs Findings (suite_value files) by fault) left is
-
--- the name of a source, and of a file that is given
-pub named_source : (sources : List SourceValue) (input : ℕ) (name : List ℕ) → IsNamed sources input name → name ≡ cli.name_of (slice_get sources input)
-named_source sources input name is = is.2 ∙ sym (ap cli.name_of is.1)
-
-pub named_file : (file : Option SourceValue) (name : List ℕ) → option_map (λ s. s.name) file ≡ Some name → name ≡ cli.name_of file
-named_file file name is = sym (ap (λ found. unwrap_or found []) is)
-
-is_named : (sources : List SourceValue) (input : ℕ) (name : List ℕ) → input < length sources → name ≡ cli.name_of (slice_get sources input) → IsNamed sources input name
-is_named [] input name less is = absurd (omega arith)
-is_named (s ∷ ss) zero name less is = (s, refl, is)
-is_named (s ∷ ss) (suc input) name less is = is_named ss input name (omega arith) is
-
-has_name : (file : Option SourceValue) (name : List ℕ) → IsSome file → name ≡ cli.name_of file → option_map (λ s. s.name) file ≡ Some name
-has_name None name some is = absurd cc
-has_name (Some s) name some is = sym (ap Some is)
-
--- the fault of a run, with the name of the file that it is of
-pub named_in : (files : FilesValue) (by : RunFault) (name : List ℕ) (fault : Fault) → IsWithin files by → name ≡ name_at_fault files by → IsFaultNamed by name fault → IsFaultOfRun files by fault
-named_in files (run.Read input f) name (Read other g) within is named = (named.0, is_named files.sources input (string_bytes other) within (named.1 ∙ is))
-named_in files (run.Read input f) name _ within is named = absurd named
-named_in files (run.Library f) name (Library other g) within is named = (named.0, has_name files.library (string_bytes other) within (named.1 ∙ is))
-named_in files (run.Library f) name _ within is named = absurd named
-named_in files (run.Hooks f) name (Hooks other g) within is named = (named.0, has_name files.hooks (string_bytes other) within (named.1 ∙ is))
-named_in files (run.Hooks f) name _ within is named = absurd named
-named_in files (run.Select (Some input) select.TooMany) name (TooMany other) within is named = is_named files.sources input (string_bytes other) within (named ∙ is)
-named_in files (run.Select (Some input) select.BadTagText) name _ within is named = absurd within
-named_in files (run.Select (Some input) select.Memory) name _ within is named = absurd within
-named_in files (run.Select (Some input) f) name _ within is named = absurd named
-named_in files (run.Select None f) name BadTags within is named = tt
-named_in files (run.Select None f) name _ within is named = absurd named
-named_in files run.Write name Write within is named = tt
-named_in files run.Write name _ within is named = absurd named
-named_in files run.Memory name Memory within is named = tt
-named_in files run.Memory name _ within is named = absurd named
-
-some_file : (file : Option SourceValue) (bytes : List ℕ) → bytes_given file ≡ Some bytes → IsSome file
-some_file None bytes e = absurd cc
-some_file (Some s) bytes e = refl
+fault_as_before Findings old new by fault left is = subst (λ (files : FilesValue). IsFaultAs Findings files by fault) left is
 
 -- what a fault says of a run whose report was asked for, of one whose explanation was, and of what is found before one
 pub of_report : (files : FilesValue) (r : Request) (c : Contents) (old new : Device) (by : RunFault) → SaysFault r c old new by → SaysFaultAs Report files r c old new by
@@ -219,42 +145,24 @@ stopped_by Explanation files r c old new by stopped = elim stopped.2 [
 stopped_by Findings files r c old new run.Write stopped = stopped.2.why
 stopped_by Findings files r c old new _ stopped = absurd stopped
 
-pub within : (mode : Mode) (options : Options) (files : FilesValue) (c : Contents) (old new : Device) (by : RunFault)
-    → SaysFaultAs mode files (request_of_files options files) c old new by → IsWithin files by
-within mode options files c old new (run.Read input fault) says = slice_get_within files.sources input says.0.0.first.source says.0.0.first.place
-within mode options files c old new (run.Library fault) says = some_file files.library says.0.bytes says.0.given
-within mode options files c old new (run.Hooks fault) says = some_file files.hooks says.0.bytes says.0.given
-within mode options files c old new (run.Select None select.BadTagText) says = tt
-within mode options files c old new (run.Select None select.TooMany) says = absurd says.0
-within mode options files c old new (run.Select None select.Memory) says = absurd says.0
-within mode options files c old new (run.Select (Some input) select.TooMany) says = slice_get_within files.sources input says.0.first.source says.0.first.place
-within mode options files c old new (run.Select (Some input) select.BadTagText) says = absurd says.0
-within mode options files c old new (run.Select (Some input) select.Memory) says = absurd says.0
-within mode options files c old new run.Write says = tt
-within mode options files c old new run.Memory says = tt
-
 pub fewer : (a b : ℕ) → a < 2 ^ 64 - 1 → b ≡ one_more a → a < b
 fewer a b room e = omega (arith, e)
 
 pub calls_of_run : (mode : Mode) (r : Request) (c : Contents) (old new : Device) (files : FilesValue) (by : RunFault) (fault : Fault)
     → old.failures < 2 ^ 64 - 1 → IsFaultOfRun files by fault → SaysFaultAs mode files r c old new by → SaysCallsOfRun old new fault
-calls_of_run mode r c old new files run.Write Write room is says =
+calls_of_run mode r c old new files run.Write fault room is says =
     let why : StopsBy old new run.Write = stopped_by mode files r c old new run.Write says in
-    (fewer old.failures new.failures room why.0, (let idle = why.1 in omega arith))
-calls_of_run mode r c old new files run.Write _ room is says = absurd is
-calls_of_run mode r c old new files run.Memory Memory room is (inl nothing) = inl nothing
-calls_of_run mode r c old new files run.Memory Memory room is (inr cut) = inr (mode, files, r, c, cut)
-calls_of_run mode r c old new files run.Memory _ room is says = absurd is
-calls_of_run mode r c old new files (run.Read input f) (Read name g) room is says = says.1
+    subst (SaysCallsOfRun old new) (sym is) (fewer old.failures new.failures room why.0, (let idle = why.1 in omega arith))
+calls_of_run mode r c old new files run.Memory fault room is (inl nothing) = subst (SaysCallsOfRun old new) (sym is) (inl nothing)
+calls_of_run mode r c old new files run.Memory fault room is (inr cut) = subst (SaysCallsOfRun old new) (sym is) (inr (mode, files, r, c, cut))
+calls_of_run mode r c old new files (run.Read input f) (OfRun name g) room is says = says.1
 calls_of_run mode r c old new files (run.Read input f) _ room is says = absurd is
-calls_of_run mode r c old new files (run.Library f) (Library name g) room is says = says.1
+calls_of_run mode r c old new files (run.Library f) (OfRun name g) room is says = says.1
 calls_of_run mode r c old new files (run.Library f) _ room is says = absurd is
-calls_of_run mode r c old new files (run.Hooks f) (Hooks name g) room is says = says.1
+calls_of_run mode r c old new files (run.Hooks f) (OfRun name g) room is says = says.1
 calls_of_run mode r c old new files (run.Hooks f) _ room is says = absurd is
-calls_of_run mode r c old new files (run.Select (Some input) f) (TooMany name) room is says = says.1
-calls_of_run mode r c old new files (run.Select (Some input) f) _ room is says = absurd is
-calls_of_run mode r c old new files (run.Select None f) BadTags room is says = says.1
-calls_of_run mode r c old new files (run.Select None f) _ room is says = absurd is
+calls_of_run mode r c old new files (run.Select input f) (OfRun name g) room is says = says.1
+calls_of_run mode r c old new files (run.Select input f) _ room is says = absurd is
 
 -- with `--lint`, all files that don't read are listed
 pub as_listed : (files : FilesValue) (by : RunFault) (fault : Fault) → by ≢ run.Write → by ≢ run.Memory → IsListedAs files by fault → IsFaultAs Findings files by fault
@@ -406,20 +314,16 @@ IsSuiteFault (TooLong name) = ⊥
 IsSuiteFault _ = Unit {0}
 
 suite_fault : (files : FilesValue) (by : RunFault) (fault : Fault) → IsFaultOfRun files by fault → IsSuiteFault fault
-suite_fault files run.Write Write is = tt
-suite_fault files run.Write _ is = absurd is
-suite_fault files run.Memory Memory is = tt
-suite_fault files run.Memory _ is = absurd is
-suite_fault files (run.Read input f) (Read name g) is = tt
+suite_fault files run.Write fault is = subst IsSuiteFault (sym is) tt
+suite_fault files run.Memory fault is = subst IsSuiteFault (sym is) tt
+suite_fault files (run.Read input f) (OfRun name g) is = tt
 suite_fault files (run.Read input f) _ is = absurd is
-suite_fault files (run.Library f) (Library name g) is = tt
+suite_fault files (run.Library f) (OfRun name g) is = tt
 suite_fault files (run.Library f) _ is = absurd is
-suite_fault files (run.Hooks f) (Hooks name g) is = tt
+suite_fault files (run.Hooks f) (OfRun name g) is = tt
 suite_fault files (run.Hooks f) _ is = absurd is
-suite_fault files (run.Select (Some input) f) (TooMany name) is = tt
-suite_fault files (run.Select (Some input) f) _ is = absurd is
-suite_fault files (run.Select None f) BadTags is = tt
-suite_fault files (run.Select None f) _ is = absurd is
+suite_fault files (run.Select input f) (OfRun name g) is = tt
+suite_fault files (run.Select input f) _ is = absurd is
 
 listed_fault : (files : FilesValue) (by : RunFault) (fault : Fault) → IsListedAs files by fault → IsSuiteFault fault
 listed_fault files by (Unread status lines) is = tt
@@ -441,11 +345,7 @@ suite_named mode files r c old new fault (inl says) = fault_as mode files says.0
 suite_named mode files r c old new fault (inr unflushed) = subst IsSuiteFault (sym unflushed.named) tt
 
 of_given : {S : Type 0} (r : Reading S) (w : Words) (a b : S) (old new : Device) (fault : Fault) → IsSuiteFault fault → IsFaultOfGiven r w a b old new fault → SaysProgram r w a b old new fault
-of_given r w a b old new (Library name f) is h = h
-of_given r w a b old new (Hooks name f) is h = h
-of_given r w a b old new (Read name f) is h = h
-of_given r w a b old new (TooMany name) is h = h
-of_given r w a b old new BadTags is h = h
+of_given r w a b old new (OfRun name f) is h = h
 of_given r w a b old new (Unread status lines) is h = h
 of_given r w a b old new Write is h = h
 of_given r w a b old new Memory is h = inr h
@@ -466,8 +366,8 @@ name_given : (file : Option Source) → option_map (λ s. s.name) (option_map so
 name_given None = refl
 name_given (Some x) = refl
 
-pub are_given : (w : Words) (files : SuiteFiles) → option_map name_of files.library ≡ option_map string_bytes w.library → option_map name_of files.hooks ≡ option_map string_bytes w.hooks
-    → map name_of files.sources.items ≡ map string_bytes w.files.items → AreGiven w (suite_value files)
+pub are_given : (w : Words) (files : SuiteFiles Source) → option_map name_of files.library ≡ option_map string_bytes w.library → option_map name_of files.hooks ≡ option_map string_bytes w.hooks
+    → map name_of files.sources.items ≡ map string_bytes w.files.items → AreGiven w (suite_value source_value files)
 are_given w files l h s = record {
   sources = their_names files.sources.items ∙ s;
   library = name_given files.library ∙ l;

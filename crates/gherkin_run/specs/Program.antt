@@ -1,5 +1,5 @@
 -- What the program returns and writes.
-use Rattle.std.specs.Prelude.{◌≡◌, ◌⊎◌, ◌<◌, ◌≤◌, ◌+◌, ℕ, List, [], ◌∷◌, length, map, Option, Some, None, Result, Ok, Err, IsSome, IsSomeAnd, option_map, slice_get, string_bytes}
+use Rattle.std.specs.Prelude.{◌≡◌, ◌⊎◌, ◌<◌, ◌≤◌, ◌+◌, ℕ, List, [], ◌∷◌, map, Option, Some, None, Result, Ok, Err, IsSome, IsSomeAnd, option_map, string_bytes}
 use Rattle.std.specs.Io.KnownBytes.{Keeps}
 use Rattle.std.specs.List.{All, Any}
 use Rattle.clap.specs.Words.{IsAmong, Text, kind_of}
@@ -10,10 +10,9 @@ use Rattle.gk_world.specs.Refusals.{put_refusal}
 use Rattle.gk_world.specs.Sandbox.{SandboxValue, with_env}
 use Rattle.gk_world.specs.declared.refusals.WorldFault.{WorldFault}
 use Rattle.gk_world.specs.declared.refusals.WorldFault.TheVariants as world
-use Rattle.gk_select.specs.declared.select_fault.SelectFault.TheVariants as select
 use Rattle.gk_cli.specs.Arguments.{PairValue, SaysArguments, faults_in, pair_value}
 use Rattle.gk_cli.specs.Counted.{one_more}
-use Rattle.gk_cli.specs.Inputs.{Request, request_of}
+use Rattle.gk_cli.specs.Inputs.{Request}
 use Rattle.gk_cli.specs.Source.{SourceValue}
 use Rattle.gk_cli.specs.declared.arguments.Options.{Options}
 use Rattle.gk_cli.specs.GrowingReport.{IsStopped, IsWritten, StopsBy}
@@ -21,8 +20,8 @@ use Rattle.gk_cli.specs.RunFault.{IsUnread}
 use Rattle.gk_cli.specs.Suite.{CutShort, Device, IsUntouched, JudgedReport, OnlyReport}
 use Rattle.gk_cli.specs.ExplainedSuite.{Explained, ExplainedInPart}
 use Rattle.gk_cli.specs.LintedSuite.{Linted, LintedInPart}
-use Rattle.gk_cli.specs.SuiteFiles.{FilesValue, HaveSameNames, name_of}
-use Rattle.gk_cli.specs.declared.suite_files.SuiteFiles.{SuiteFiles}
+use Rattle.gk_cli.specs.FaultNotes.{name_at_fault}
+use Rattle.gk_cli.specs.SuiteFiles.{FilesValue, HaveSameNames, hooks_name, library_name, request_of_files}
 use Rattle.gk_cli.specs.declared.arguments.Mode.{Mode}
 use Rattle.gk_cli.specs.declared.arguments.Mode.TheVariants.{Report, Explanation, Findings}
 use Rattle.gk_cli.specs.declared.arguments.Words.{Words}
@@ -32,7 +31,7 @@ use Rattle.gk_cli.specs.declared.run_fault.RunFault.TheVariants as run
 use Rattle.gherkin_run.specs.FaultListing.{IsListedAs}
 use Rattle.gherkin_run.specs.Files.{AreRead, Reading, StopsReading, files_in_order, names_in_order}
 use Rattle.gherkin_run.specs.declared.fault.Fault.{Fault}
-use Rattle.gherkin_run.specs.declared.fault.Fault.TheVariants.{NotUtf8, Usage, Env, CannotRead, TooLong, Library, Hooks, Read, TooMany, BadTags, Write, Memory}
+use Rattle.gherkin_run.specs.declared.fault.Fault.TheVariants.{NotUtf8, Usage, Env, CannotRead, TooLong, OfRun, Write, Memory}
 use Rattle.gherkin_run.specs.declared.program.Asked.{Asked}
 use Rattle.gherkin_run.specs.declared.program.Asked.TheVariants.{Help, Run}
 use Rattle.gherkin_run.specs.declared.program.Manner.{Manner}
@@ -67,14 +66,6 @@ IsArgumentsFault _ = ⊥
 abbrev pub SaysCalls : Device → Device → Fault → Type 0
 SaysCalls old new Write = (old.failures < new.failures) × (new.idle ≤ old.idle + 1)
 SaysCalls old new _ = IsUntouched old new
-
--- The name of the library file; no name where there is none.
-abbrev pub library_name : FilesValue → List ℕ
-library_name files = name_of files.library
-
--- The name of the hooks file; no name where there is none.
-abbrev pub hooks_name : FilesValue → List ℕ
-hooks_name files = name_of files.hooks
 
 -- What was written where this fault ended a run: a prefix of its report, or of what is said of it in an explanation, or of what is found before it. Standard output failed, and moved a byte in each other call; or it didn't fail, and moved one in each.
 abbrev pub IsStoppedAs : Mode → FilesValue → Request → Contents → Device → Device → RunFault → Type 0
@@ -153,35 +144,12 @@ SaysVariables variables old new (Err Env) = Any IsRefused variables
 SaysVariables variables old new (Err Memory) = Unit {0}
 SaysVariables variables old new (Err _) = ⊥
 
--- The bytes of the library file or of the hooks file, where one is named.
-abbrev pub bytes_given : Option SourceValue → Option (List ℕ)
-bytes_given file = option_map (λ s. s.bytes) file
-
--- The source at a place has this name.
-abbrev pub IsNamed : List SourceValue → ℕ → List ℕ → Type 0
-IsNamed sources input name = (source : SourceValue) × (slice_get sources input ≡ Some source) × (name ≡ source.name)
-
--- What a fault of the run speaks of is there.
-abbrev pub IsWithin : FilesValue → RunFault → Type 0
-IsWithin files (run.Read input fault) = input < length files.sources
-IsWithin files (run.Library fault) = IsSome files.library
-IsWithin files (run.Hooks fault) = IsSome files.hooks
-IsWithin files (run.Select (Some input) select.TooMany) = input < length files.sources
-IsWithin files (run.Select None select.BadTagText) = Unit {0}
-IsWithin files (run.Select input fault) = ⊥
-IsWithin files run.Write = Unit {0}
-IsWithin files run.Memory = Unit {0}
-
 -- The program's fault for a fault of the run: the same one, where a file has its name in place of its number.
 abbrev pub IsFaultOfRun : FilesValue → RunFault → Fault → Type 0
-IsFaultOfRun files (run.Read input fault) (Read name same) = (same ≡ fault) × IsNamed files.sources input (string_bytes name)
-IsFaultOfRun files (run.Library fault) (Library name same) = (same ≡ fault) × (option_map (λ s. s.name) files.library ≡ Some (string_bytes name))
-IsFaultOfRun files (run.Hooks fault) (Hooks name same) = (same ≡ fault) × (option_map (λ s. s.name) files.hooks ≡ Some (string_bytes name))
-IsFaultOfRun files (run.Select (Some input) fault) (TooMany name) = IsNamed files.sources input (string_bytes name)
-IsFaultOfRun files (run.Select None fault) BadTags = Unit {0}
-IsFaultOfRun files run.Write Write = Unit {0}
-IsFaultOfRun files run.Memory Memory = Unit {0}
-IsFaultOfRun files fault other = ⊥
+IsFaultOfRun files run.Write fault = fault ≡ Write
+IsFaultOfRun files run.Memory fault = fault ≡ Memory
+IsFaultOfRun files by (OfRun name same) = (same ≡ by) × (option_map string_bytes name ≡ name_at_fault files by)
+IsFaultOfRun files by other = ⊥
 
 -- The program's fault for a fault of the run, by what is written of it: with `--lint`, all files that don't read are listed.
 abbrev pub IsFaultAs : Mode → FilesValue → RunFault → Fault → Type 0
@@ -203,7 +171,7 @@ SaysFaultAs mode files request contents old new run.Memory = IsUntouched old new
 SaysFaultAs mode files request contents old new by = IsUnread request by × IsUntouched old new
 
 -- What is left of the files of a run: with `--lint` all that they were; else sources may have given up their bytes, and the names are as they were.
-abbrev pub AreLeft : Mode → SuiteFiles → SuiteFiles → Type 0
+abbrev pub AreLeft : Mode → FilesValue → FilesValue → Type 0
 AreLeft Findings old new = new ≡ old
 AreLeft mode old new = HaveSameNames old new
 
@@ -241,10 +209,6 @@ variables_given w = map pair_value w.env.items
 -- The contents that a run begins with: the variables alone.
 abbrev pub contents_given : Words → Contents
 contents_given w = with_variables nothing_yet (variables_given w)
-
--- What a run of these files is asked for.
-abbrev pub request_of_files : Options → FilesValue → Request
-request_of_files options files = request_of options (bytes_given files.library) (bytes_given files.hooks) files.sources
 
 -- A fault of the run of these files, or of the flush.
 abbrev pub SaysRun : Manner → FilesValue → Contents → Device → Device → Fault → Type 0

@@ -1,26 +1,29 @@
 //! What is printed, with `--lint`, of all files of a run that don't read.
 ghost use Rattle.std.specs.Prelude.{◌≡◌, ◌++◌, IfOk, OnOk, string_bytes};
+ghost use Rattle.gk_cli.specs.Source.{source_value};
 ghost use Rattle.gk_cli.specs.SuiteFiles.{suite_value};
 ghost use Rattle.gherkin_run.specs.FaultListing as spec;
 ghost use Rattle.gherkin_run.specs.FaultListing.{IsListedAs, IsListing};
 
-use crate::fault::{Fault, fault_named};
-use gk_cli::{RunFault, SuiteFiles, faults_after, name_at_fault, push_notes};
+use crate::fault::Fault;
+use gk_cli::{NamedFault, RunFault, Source, SuiteFiles, faults_after, name_at_fault, push_notes};
 use std::alloc::{AllocError, Global};
 
 // Pushes what is printed of a fault: the line that a run prints of it, and what is said below it.
 fn push_block(
     out: &mut String,
     alloc: Global,
-    files: &SuiteFiles,
+    files: &SuiteFiles<Source>,
     fault: RunFault,
 ) -> Result<(), AllocError>
     ensures { OnOk result (string_bytes out.new
-        ≡ string_bytes out.old ++ spec.block (suite_value files.now) fault) }
+        ≡ string_bytes out.old ++ spec.block (suite_value source_value files.now) fault) }
 {
-    let name = String::from_str(alloc, name_at_fault(files, fault))?;
-    let named = fault_named(fault, name);
-    write!(out, "{named}\n")?;
+    let named = NamedFault {
+        name: name_at_fault(files, fault),
+        fault,
+    };
+    write!(out, "gherkin_run: {named}\n")?;
     push_notes(out, alloc, files, fault)
 }
 
@@ -28,11 +31,11 @@ fn push_block(
 fn push_blocks(
     out: &mut String,
     alloc: Global,
-    files: &SuiteFiles,
+    files: &SuiteFiles<Source>,
     faults: &[RunFault],
 ) -> Result<(), AllocError>
     ensures { OnOk result (string_bytes out.new
-        ≡ string_bytes out.old ++ spec.blocks (suite_value files.now) faults.now) }
+        ≡ string_bytes out.old ++ spec.blocks (suite_value source_value files.now) faults.now) }
 {
     for fault in faults {
         push_block(out, alloc, files, *fault)?;
@@ -41,9 +44,9 @@ fn push_blocks(
 }
 
 // What is printed where a run of these files has this fault.
-fn listing(alloc: Global, files: &SuiteFiles, first: RunFault) -> Result<String, AllocError>
+fn listing(alloc: Global, files: &SuiteFiles<Source>, first: RunFault) -> Result<String, AllocError>
     ensures { IfOk result (λ text.
-        IsListing (suite_value files.now) first (string_bytes text)) }
+        IsListing (suite_value source_value files.now) first (string_bytes text)) }
 {
     let later = faults_after(alloc, files, first)?;
     let mut text = String::new(alloc);
@@ -54,8 +57,8 @@ fn listing(alloc: Global, files: &SuiteFiles, first: RunFault) -> Result<String,
 
 /// The program's fault where a run of these files has this one and `--lint` is given: what is printed has all faults of
 /// the files, from this one on. `Memory` comes only where a growth was refused.
-pub fn fault_listed(alloc: Global, files: &SuiteFiles, first: RunFault) -> Fault
-    ensures { IsListedAs (suite_value files.now) first result }
+pub fn fault_listed(alloc: Global, files: &SuiteFiles<Source>, first: RunFault) -> Fault
+    ensures { IsListedAs (suite_value source_value files.now) first result }
 {
     match listing(alloc, files, first) {
         Ok(lines) => Fault::Unread {

@@ -135,7 +135,7 @@ pub fn read_run_files<S: System>(
     library: Option<String>,
     hooks: Option<String>,
     names: Vec<String>,
-) -> Result<SuiteFiles, Fault>
+) -> Result<SuiteFiles<Source>, Fault>
     ensures library { IfOk result
         (λ files. option_map name_of files.library ≡ option_map string_bytes library) }
     ensures hooks { IfOk result
@@ -144,7 +144,7 @@ pub fn read_run_files<S: System>(
         (λ files. map name_of files.sources.items ≡ map string_bytes names.items) }
     // Each source has the bytes that the file of its name gave, and no other file was read.
     ensures read { IfOk result (λ files.
-        AreRead S.reads system.old (files_in_order (suite_value files)) system.new) }
+        AreRead S.reads system.old (files_in_order (suite_value source_value files)) system.new) }
     // The fault is of the first file that wasn't read, in the order library, hooks, files.
     ensures first { IfErr result (StopsReading S.reads system.old
         (names_in_order library hooks names.items) system.new) }

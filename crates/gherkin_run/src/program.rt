@@ -1,16 +1,16 @@
 //! From the arguments to what is printed.
-ghost use Rattle.std.specs.Prelude.{◌≡◌, ◌<◌, map, IfOk, IfErr, IsSome, OnOk, Some, option_map, string_bytes, vec_len};
+ghost use Rattle.std.specs.Prelude.{◌≡◌, map, IfOk, IfErr, OnOk, Some, option_map, slice_get, string_bytes};
 ghost use Rattle.gk_world.specs.Sandbox.{depth, new_sandbox};
 ghost use Rattle.gk_cli.specs.Arguments.{pair_value};
 ghost use Rattle.gk_cli.specs.Counted.{FailuresCanRise, flushes_of, failures_of, one_more};
 ghost use Rattle.gk_cli.specs.Suite.{device_of};
 ghost use Rattle.gk_cli.specs.Source.{source_value};
-ghost use Rattle.gk_cli.specs.SuiteFiles.{suite_value};
+ghost use Rattle.gk_cli.specs.SuiteFiles.{suite_value, request_of_files};
 ghost use Rattle.gk_cli.specs.FaultNotes.{name_at_fault};
 ghost use Rattle.gherkin_run.specs.Fault.{line_of, said_line};
-ghost use Rattle.gherkin_run.specs.Program.{SaysAsked, SaysError, IsTextFault, IsHelpFault, IsArgumentsFault, IsFaultOfVariable, SaysVariables, IsWithin, IsNamed, IsFaultOfRun, IsFaultAs, AreLeft, request_of_files, IsRunOfFiles, IsWrittenAs, SaysFaultAs, SaysRun, SaysCalls, SaysCallsOfRun, SaysProgram, IsRun, IsShown, IsHelp, IsDoneFor, IsFaultFor, IsDoneForSome, IsFaultForSome};
+ghost use Rattle.gherkin_run.specs.Program.{SaysAsked, SaysError, IsTextFault, IsHelpFault, IsArgumentsFault, IsFaultOfVariable, SaysVariables, IsFaultOfRun, IsFaultAs, AreLeft, IsRunOfFiles, IsWrittenAs, SaysFaultAs, SaysRun, SaysCalls, SaysCallsOfRun, SaysProgram, IsRun, IsShown, IsHelp, IsDoneFor, IsFaultFor, IsDoneForSome, IsFaultForSome};
 
-use crate::fault::{Fault, fault_named};
+use crate::fault::Fault;
 use crate::fault_listing::fault_listed;
 use crate::files::{System, read_run_files};
 use gk_cli::{
@@ -129,29 +129,35 @@ fn put_variables(sandbox: &mut Sandbox, variables: &[(String, String)]) -> Resul
     Ok(())
 }
 
-// The name of a file that is there.
-fn name_given(file: Option<Source>) -> String
-    requires { IsSome file }
-    ensures { option_map (λ source. source.name) (option_map source_value file)
-        ≡ Some (string_bytes result) }
+// The name of a file, if it is given.
+fn name_given(file: Option<Source>) -> Option<String>
+    ensures { option_map string_bytes result
+        ≡ option_map (λ source. source.name) (option_map source_value file) }
 {
-    file.unwrap().name
+    match file {
+        Some(source) => Some(source.name),
+        None => None,
+    }
 }
 
-// The name of the source at a place.
-fn name_at(sources: Vec<Source>, input: usize) -> String
-    requires { input < vec_len sources }
-    ensures { IsNamed (map source_value sources.items) input (string_bytes result) }
+// The name of the source at a place, if there is one.
+#[tactic(auto, using(crate::proofs::ProgramLemmas::name_there, crate::proofs::ProgramLemmas::no_name_there))]
+fn name_at(sources: Vec<Source>, input: usize) -> Option<String>
+    ensures { option_map string_bytes result
+        ≡ option_map (λ source. source.name) (slice_get (map source_value sources.items) input) }
 {
     let mut sources = sources;
-    sources.swap_remove(input).name
+    if input < sources.len() {
+        Some(sources.swap_remove(input).name)
+    } else {
+        None
+    }
 }
 
-// The name of the file that a fault of the run is of; an empty one where it is of none.
-#[tactic(auto, using(crate::proofs::ProgramLemmas::named_source, crate::proofs::ProgramLemmas::named_file))]
-fn name_of_fault(alloc: Global, fault: RunFault, files: SuiteFiles) -> String
-    requires { IsWithin (suite_value files) fault }
-    ensures { string_bytes result ≡ name_at_fault (suite_value files) fault }
+// The name of the file that a fault of the run is of, if it is of one.
+fn name_of_fault(fault: RunFault, files: SuiteFiles<Source>) -> Option<String>
+    ensures { option_map string_bytes result
+        ≡ name_at_fault (suite_value source_value files) fault }
 {
     match fault {
         RunFault::Read { input, .. } => name_at(files.sources, input),
@@ -159,31 +165,36 @@ fn name_of_fault(alloc: Global, fault: RunFault, files: SuiteFiles) -> String
         RunFault::Hooks(_) => name_given(files.hooks),
         RunFault::Select { input, .. } => match input {
             Some(input) => name_at(files.sources, input),
-            None => String::new(alloc),
+            None => None,
         },
-        RunFault::Write | RunFault::Memory => String::new(alloc),
+        RunFault::Write | RunFault::Memory => None,
     }
 }
 
 // The program's fault for one of the run: files have their names in place of numbers.
-fn fault_of_run(alloc: Global, fault: RunFault, files: SuiteFiles) -> Fault
-    requires { IsWithin (suite_value files) fault }
-    ensures named { IsFaultOfRun (suite_value files) fault result }
+fn fault_of_run(fault: RunFault, files: SuiteFiles<Source>) -> Fault
+    ensures named { IsFaultOfRun (suite_value source_value files) fault result }
     // This is what is printed of it.
-    ensures line { line_of result
-        ≡ Some (said_line (name_at_fault (suite_value files) fault) fault) }
+    ensures line { line_of result ≡ Some (said_line
+        (name_at_fault (suite_value source_value files) fault) fault) }
 {
-    fault_named(fault, name_of_fault(alloc, fault, files))
+    match fault {
+        RunFault::Write => Fault::Write,
+        RunFault::Memory => Fault::Memory,
+        _ => Fault::OfRun {
+            name: name_of_fault(fault, files),
+            fault,
+        },
+    }
 }
 
 // The program's fault for one of the run, by what is written of it. With `--lint`, all files that don't read are listed.
-fn fault_as(alloc: Global, mode: Mode, fault: RunFault, files: SuiteFiles) -> Fault
-    requires { IsWithin (suite_value files) fault }
-    ensures { IsFaultAs mode (suite_value files) fault result }
+fn fault_as(alloc: Global, mode: Mode, fault: RunFault, files: SuiteFiles<Source>) -> Fault
+    ensures { IsFaultAs mode (suite_value source_value files) fault result }
 {
     match mode {
-        Mode::Report => fault_of_run(alloc, fault, files),
-        Mode::Explanation => fault_of_run(alloc, fault, files),
+        Mode::Report => fault_of_run(fault, files),
+        Mode::Explanation => fault_of_run(fault, files),
         Mode::Findings => match fault {
             RunFault::Write => Fault::Write,
             RunFault::Memory => Fault::Memory,
@@ -205,19 +216,23 @@ fn write_run<W: Write>(
     alloc: Global,
     sandbox: &mut Sandbox,
     manner: Manner<'_>,
-    files: &mut SuiteFiles,
+    files: &mut SuiteFiles<Source>,
     out: &mut Counted<W>,
 ) -> Result<u8, RunFault>
     requires room { FailuresCanRise out.old }
     requires outside { depth sandbox.old ≡ 0 }
     // Files whose findings are written keep their bytes; the names stay in any case.
-    ensures left { AreLeft manner.entry.mode files.old files.new }
+    ensures left { AreLeft manner.entry.mode
+        (suite_value source_value files.old) (suite_value source_value files.new) }
     ensures quiet { OnOk result (failures_of out.new ≡ failures_of out.old) }
-    ensures written { IfOk result (IsWrittenAs manner.entry.mode (suite_value files.old)
-        (request_of_files manner.entry.options.now (suite_value files.old)) sandbox.old.now
+    ensures written { IfOk result (IsWrittenAs manner.entry.mode
+        (suite_value source_value files.old)
+        (request_of_files manner.entry.options.now (suite_value source_value files.old))
+        sandbox.old.now
         (device_of W.contents out.old) (device_of W.contents out.new)) }
-    ensures fault { IfErr result (SaysFaultAs manner.entry.mode (suite_value files.old)
-        (request_of_files manner.entry.options.now (suite_value files.old)) sandbox.old.now
+    ensures fault { IfErr result (SaysFaultAs manner.entry.mode (suite_value source_value files.old)
+        (request_of_files manner.entry.options.now (suite_value source_value files.old))
+        sandbox.old.now
         (device_of W.contents out.old) (device_of W.contents out.new)) }
 {
     let options = manner.options;
@@ -236,19 +251,19 @@ fn run_sources<W: Write>(
     alloc: Global,
     sandbox: &mut Sandbox,
     manner: Manner<'_>,
-    files: SuiteFiles,
+    files: SuiteFiles<Source>,
     out: &mut Counted<W>,
 ) -> Result<u8, Fault>
     requires room { FailuresCanRise out.old }
     requires outside { depth sandbox.old ≡ 0 }
     // What was written and the status are those of one run of these inputs, or of what is found in them.
-    ensures run { IfOk result (IsRunOfFiles manner.entry (suite_value files)
+    ensures run { IfOk result (IsRunOfFiles manner.entry (suite_value source_value files)
         sandbox.old.now (device_of W.contents out.old) (device_of W.contents out.new)) }
     // A status comes only where the writer did not fail, and was flushed once.
     ensures quiet { OnOk result (failures_of out.new ≡ failures_of out.old) }
     ensures flushed { OnOk result (flushes_of out.new ≡ one_more (flushes_of out.old)) }
     // A fault is that of the run, or the flush failed.
-    ensures fault { IfErr result (SaysRun manner.entry (suite_value files)
+    ensures fault { IfErr result (SaysRun manner.entry (suite_value source_value files)
         sandbox.old.now (device_of W.contents out.old) (device_of W.contents out.new)) }
     // Where standard output isn't at fault, it was not called, or memory was refused after a
     // prefix of what is written of the run.

@@ -116,9 +116,9 @@ request_is call format read is =
 
 line_is : (call : CallValue) (format : Format) (read : ReadCall) (fault : CallFault) → IsReadIn call format read → line_of_read read fault ≡ line_of_call call fault
 line_is call format read fault is =
-    ap (λ l. line_in l (option_map borrowed_value read.hooks) (map borrowed_value read.sources.items) fault) is.library
-    ∙ ap (λ h. line_in call.library h (map borrowed_value read.sources.items) fault) is.hooks
-    ∙ ap (λ s. line_in call.library call.hooks s fault) is.sources
+    ap (λ l. line_in (record { library = l; hooks = option_map borrowed_value read.files.hooks; sources = map borrowed_value read.files.sources.items }) fault) is.library
+    ∙ ap (λ h. line_in (record { library = call.library; hooks = h; sources = map borrowed_value read.files.sources.items }) fault) is.hooks
+    ∙ ap (λ s. line_in (record { library = call.library; hooks = call.hooks; sources = s }) fault) is.sources
 
 -- a call with a format, without line 0
 countable : (call : CallValue) (format : Format) → format_by call.format ≡ Some format → has_line_zero call.lines ≡ false → IsCountable call

@@ -9,8 +9,9 @@ use Rattle.gk_cli.specs.Arguments.{PairValue}
 use Rattle.gk_cli.specs.declared.arguments.Options.{Options}
 use Rattle.gk_cli.specs.declared.run_fault.RunFault.TheVariants.{Memory}
 use Rattle.gk_cli.specs.declared.source.BorrowedSource.{BorrowedSource}
-use Rattle.gk_cli.specs.Inputs.{Request, request_of}
+use Rattle.gk_cli.specs.Inputs.{Request}
 use Rattle.gk_cli.specs.Source.{SourceValue, borrowed_value}
+use Rattle.gk_cli.specs.SuiteFiles.{FilesValue, bytes_of, request_of_files, suite_value}
 use Rattle.gk_c.specs.declared.call.Call.{Call}
 use Rattle.gk_c.specs.declared.call.Named.{Named}
 use Rattle.gk_c.specs.declared.call.ReadCall.{ReadCall}
@@ -63,16 +64,16 @@ call_value call = record {
   format = call.format;
 }
 
+-- The files of a call.
+abbrev pub files_of : CallValue → FilesValue
+files_of call = record { library = call.library; hooks = call.hooks; sources = call.sources }
+
 -- The format of a number, if there is one.
 abbrev pub format_by : ℕ → Option Format
 format_by n =
     if nat_eq n 0 then Some Plain else
     (if nat_eq n 1 then Some Progress else
     (if nat_eq n 2 then Some Json else None))
-
--- The bytes of a file that may be given.
-abbrev pub bytes_by : Option SourceValue → Option (List ℕ)
-bytes_by file = option_map (λ f. f.bytes) file
 
 -- What a call asks for in a format.
 abbrev pub request_by : CallValue → Format → Request
@@ -82,8 +83,8 @@ request_by call format = record {
   dry_run = call.dry_run;
   stop = call.stop;
   style = record { format = format; no_skipped = call.no_skipped };
-  library = bytes_by call.library;
-  hooks = bytes_by call.hooks;
+  library = bytes_of call.library;
+  hooks = bytes_of call.hooks;
   sources = call.sources;
 }
 
@@ -122,7 +123,7 @@ HasFormat call = IsSome (format_by call.format)
 
 -- Proof machinery, from here on: what a `ReadCall` asks for.
 abbrev pub request_read : ReadCall → Request
-request_read read = request_of read.options (bytes_by (option_map borrowed_value read.library)) (bytes_by (option_map borrowed_value read.hooks)) (map borrowed_value read.sources.items)
+request_read read = request_of_files read.options (suite_value borrowed_value read.files)
 
 -- A text is the bytes, or these aren't UTF-8.
 abbrev pub SaysText : List ℕ → Result (Bor (List ℕ)) CallFault → Type 0
@@ -181,9 +182,9 @@ SaysOptions call format (Err fault) = ⊥
 -- What was read is what the call asks for in a format, with the names of its files.
 pub record IsReadIn (call : CallValue) (format : Format) (read : ReadCall) : Type 0 where
   pub options : AreOptions call format read.options
-  pub library : option_map borrowed_value read.library ≡ call.library
-  pub hooks : option_map borrowed_value read.hooks ≡ call.hooks
-  pub sources : map borrowed_value read.sources.items ≡ call.sources
+  pub library : option_map borrowed_value read.files.library ≡ call.library
+  pub hooks : option_map borrowed_value read.files.hooks ≡ call.hooks
+  pub sources : map borrowed_value read.files.sources.items ≡ call.sources
   pub texts : AreTexts call
 
 -- What a call asks for in a format, or why it can't be read.

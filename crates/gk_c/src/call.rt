@@ -3,7 +3,7 @@ ghost use Rattle.std.specs.Prelude.{◌≡◌, map};
 ghost use Rattle.gk_c.specs.Call.{call_value, format_by, given, source_named, text_value, SaysCopy, SaysGiven, SaysOptions, SaysRead, SaysReadIn, SaysSource, SaysSources, SaysText, SaysTexts};
 
 use crate::call_fault::CallFault;
-use gk_cli::{BorrowedSource, Options};
+use gk_cli::{BorrowedSource, Options, SuiteFiles};
 use gk_report::{Format, Style};
 use std::alloc::Global;
 use std::str;
@@ -54,9 +54,7 @@ pub struct Call<'a> {
 #[derive(Drop)]
 pub struct ReadCall<'a> {
     pub options: Options,
-    pub library: Option<BorrowedSource<'a>>,
-    pub hooks: Option<BorrowedSource<'a>>,
-    pub sources: Vec<BorrowedSource<'a>>,
+    pub files: SuiteFiles<BorrowedSource<'a>>,
 }
 
 // The format of a number, if there is one.
@@ -158,9 +156,11 @@ fn read_in<'a>(alloc: Global, call: &Call<'a>, format: Format) -> Result<ReadCal
 {
     Ok(ReadCall {
         options: options_from(alloc, call, format)?,
-        library: given_from(call.has_library, &call.library)?,
-        hooks: given_from(call.has_hooks, &call.hooks)?,
-        sources: sources_from(alloc, call.sources)?,
+        files: SuiteFiles {
+            library: given_from(call.has_library, &call.library)?,
+            hooks: given_from(call.has_hooks, &call.hooks)?,
+            sources: sources_from(alloc, call.sources)?,
+        },
     })
 }
 

@@ -1,11 +1,10 @@
 //! Running what a call asks for, in a world that is new.
-ghost use Rattle.std.specs.Prelude.{◌≡◌, [], map, IfOk, IfErr, OnOk, option_map};
+ghost use Rattle.std.specs.Prelude.{◌≡◌, [], map, IfOk, IfErr, OnOk};
 ghost use Rattle.gk_world.specs.Sandbox.{depth, new_sandbox};
 ghost use Rattle.gk_cli.specs.RunFault.{IsUnread};
-ghost use Rattle.gk_cli.specs.Source.{borrowed_value};
 ghost use Rattle.gk_cli.specs.Suite.{device_of, JudgedReport, OnlyReport};
 ghost use Rattle.gk_c.specs.Answer.{IsNoReport, IsReport};
-ghost use Rattle.gk_c.specs.Call.{bytes_by, call_value, request_read, variable_named};
+ghost use Rattle.gk_c.specs.Call.{call_value, request_read, variable_named};
 ghost use Rattle.gk_c.specs.CallFault.{own_line, place_of_call, status_of_call};
 ghost use Rattle.gk_c.specs.declared.call_fault.CallFault.TheVariants.{Run};
 ghost use Rattle.gk_c.specs.CalledRun.{AreTaken, IsAnswer, IsFaultSaid, IsRunAnswer, SaysPut, SaysPutOne, SaysRunFault, contents_by};
@@ -14,20 +13,10 @@ use crate::answer::{Answer, fault_answer, report_answer};
 use crate::call::{Call, Named, ReadCall, read_call, text_from};
 use crate::call_fault::{CallFault, line_of_own, line_of_run};
 use crate::fault_place::place_of;
-use gk_cli::{BorrowedSource, Counted, RunFault, run_borrowed_suite};
+use gk_cli::{Counted, RunFault, SuiteFiles, report_suite};
 use gk_world::{Sandbox, WorldFault};
 use std::alloc::Global;
 use std::io::Write;
-
-fn bytes_of<'a>(file: &Option<BorrowedSource<'a>>) -> Option<&'a [u8]>
-    ensures { option_map (λ bytes. bytes.now) result
-        ≡ bytes_by (option_map borrowed_value file.now) }
-{
-    match file {
-        Some(file) => Some(file.bytes),
-        None => None,
-    }
-}
 
 // Runs what was read. Where the writer failed, so did a growth of memory: a `Vec` takes every byte that there is
 // memory for.
@@ -44,17 +33,13 @@ fn run_read<W: Write>(
         (device_of W.contents out.old) (device_of W.contents out.new)) }
     ensures fault { IfErr result (IsUnread (request_read read.now)) }
 {
-    let library = bytes_of(&read.library);
-    let hooks = bytes_of(&read.hooks);
-    match run_borrowed_suite(
-        alloc,
-        sandbox,
-        &read.options,
-        library,
-        hooks,
-        read.sources.as_slice(),
-        out,
-    ) {
+    let sources = Vec::from_slice(alloc, read.files.sources.as_slice())?;
+    let mut files = SuiteFiles {
+        library: read.files.library,
+        hooks: read.files.hooks,
+        sources,
+    };
+    match report_suite(alloc, sandbox, &read.options, &mut files, out) {
         Ok(status) => Ok(status),
         Err(RunFault::Write) => Err(RunFault::Memory),
         Err(fault) => Err(fault),

@@ -8,7 +8,7 @@ use Rattle.gk_run.specs.Chosen.{ChosenValue}
 use Rattle.gk_cli.specs.declared.run_fault.RunFault.{RunFault}
 use Rattle.gk_cli.specs.declared.run_fault.RunFault.TheVariants.{Read, Library, Hooks, Select, Write, Memory}
 use Rattle.gk_cli.specs.AllFaults.{source_at, IsFaultOf, AreFaultsOf, library_files, hooks_files, sources_from, after_library, AllFaultsAreFound}
-use Rattle.gk_cli.specs.SuiteFiles.{request_of_files, suite_value}
+use Rattle.gk_cli.specs.SuiteFiles.{request_of_files}
 use Rattle.gk_cli.specs.Inputs.{AreRead}
 use Rattle.gk_cli.specs.Source.{SourceValue}
 use Rattle.gk_cli.proofs.InputsLemmas.{same_some}
@@ -49,27 +49,23 @@ stops_there chooses sources input before source fault later read place says rest
 pub all_found : AllFaultsAreFound
 all_found options files (Select None fault) later named unread h = h
 all_found options files (Library fault) later named unread h =
-    let value = suite_value files in
-    are_more (library_files value.library) (after_library value) (Library fault ∷ []) later (library_stops value.library unread.bytes fault unread.given unread.says unread.named) h
+    are_more (library_files files.library) (after_library files) (Library fault ∷ []) later (library_stops files.library unread.bytes fault unread.given unread.says unread.named) h
 all_found options files (Hooks fault) later named unread h =
-    let value = suite_value files in
-    are_more (library_files value.library) (after_library value) [] (Hooks fault ∷ later) (library_reads value.library unread.entries unread.library)
-    (are_more (hooks_files value.hooks) (sources_from 0 value.sources) (Hooks fault ∷ []) later (hooks_stop value.hooks unread.bytes fault unread.given unread.says unread.named) h)
+    are_more (library_files files.library) (after_library files) [] (Hooks fault ∷ later) (library_reads files.library unread.entries unread.library)
+    (are_more (hooks_files files.hooks) (sources_from 0 files.sources) (Hooks fault ∷ []) later (hooks_stop files.hooks unread.bytes fault unread.given unread.says unread.named) h)
 all_found options files (Read input fault) later named unread h =
-    let value = suite_value files in
     let r = request_of_files options files in
     let stops = unread.0 in
     let first = stops.first in
-    are_more (library_files value.library) (after_library value) [] (Read input fault ∷ later) (library_reads value.library stops.entries stops.library)
-    (are_more (hooks_files value.hooks) (sources_from 0 value.sources) [] (Read input fault ∷ later) (hooks_read value.hooks stops.hooks stops.around)
-    (stops_there (is_chosen stops.rules r.lines) value.sources input first.before first.source (Read input fault) later first.read first.place (λ k is. (is, first.unread, unread.1)) h))
+    are_more (library_files files.library) (after_library files) [] (Read input fault ∷ later) (library_reads files.library stops.entries stops.library)
+    (are_more (hooks_files files.hooks) (sources_from 0 files.sources) [] (Read input fault ∷ later) (hooks_read files.hooks stops.hooks stops.around)
+    (stops_there (is_chosen stops.rules r.lines) files.sources input first.before first.source (Read input fault) later first.read first.place (λ k is. (is, first.unread, unread.1)) h))
 all_found options files (Select (Some input) select_faults.TooMany) later named unread h =
-    let value = suite_value files in
     let r = request_of_files options files in
     let first = unread.first in
-    are_more (library_files value.library) (after_library value) [] (Select (Some input) select_faults.TooMany ∷ later) (library_reads value.library unread.entries unread.library)
-    (are_more (hooks_files value.hooks) (sources_from 0 value.sources) [] (Select (Some input) select_faults.TooMany ∷ later) (hooks_read value.hooks unread.hooks unread.around)
-    (stops_there (is_chosen unread.rules r.lines) value.sources input first.before first.source (Select (Some input) select_faults.TooMany) later first.read first.place (λ k is. (is, first.unread)) h))
+    are_more (library_files files.library) (after_library files) [] (Select (Some input) select_faults.TooMany ∷ later) (library_reads files.library unread.entries unread.library)
+    (are_more (hooks_files files.hooks) (sources_from 0 files.sources) [] (Select (Some input) select_faults.TooMany ∷ later) (hooks_read files.hooks unread.hooks unread.around)
+    (stops_there (is_chosen unread.rules r.lines) files.sources input first.before first.source (Select (Some input) select_faults.TooMany) later first.read first.place (λ k is. (is, first.unread)) h))
 all_found options files (Select (Some input) select_faults.BadTagText) later named unread h = absurd unread
 all_found options files (Select (Some input) select_faults.Memory) later named unread h = absurd unread
 all_found options files Write later named unread h = absurd unread

@@ -3,10 +3,9 @@ use Rattle.std.specs.List.{FoldsTo}
 use Rattle.std.proofs.Common.{◌≡◌, ℕ, Bool, true, false, ◌&&◌, List, [], ◌∷◌, ◌++◌, inl, inr, refl, ap, sym, subst, ◌∙◌, append_assoc}
 use Rattle.std.proofs.lemmas.List.{append-nil}
 use Rattle.gk_world.specs.State.{Contents, State, state_of}
-use Rattle.gk_world.specs.Sandbox.{SandboxValue}
+use Rattle.gk_world.specs.Sandbox.{SandboxValue, IsSame}
 use Rattle.gk_run.specs.declared.ending.Ending.{Ending}
 use Rattle.gk_run.specs.declared.ending.Ending.TheVariants as endings
-use Rattle.gk_run.specs.declared.open_run.state.Suite.{Suite}
 use Rattle.gk_run.specs.declared.results.Status.{Status}
 use Rattle.gk_run.specs.declared.section.Level.TheVariants as levels
 use Rattle.gk_run.specs.Results.{FeatureRow}
@@ -16,13 +15,11 @@ use Rattle.gk_run.specs.Cases.{stays_open}
 use Rattle.gk_run.specs.Ending.{has_passed, is_memory_ending}
 use Rattle.gk_run.specs.Features.{IsFeatureResult}
 use Rattle.gk_run.specs.Judged.{Judged, BeginsJudged}
-use Rattle.gk_run.specs.OpenRun.{AreFeatures, IsStarted, IsKept, FinishedRunsAreJudged}
-use Rattle.gk_run.specs.Events.{Event, Stand, left_by}
-use Rattle.gk_run.specs.SectionContracts.{EndsAround, IsEndTold}
-use Rattle.gk_run.specs.Running.{IsSame}
+use Rattle.gk_run.specs.OpenRun.{AreFeatures, FinishedRunsAreJudged, IsFinishTold, IsKept, IsStarted, SuiteValue, opens_features}
+use Rattle.gk_run.specs.Events.{Event, SoFar, Stand, left_by, stand_of}
+use Rattle.gk_run.specs.OpenSection.{IsEndTold}
 use Rattle.gk_run.specs.SectionHooks.{begun as begun_by, entered}
-use Rattle.gk_run.specs.WalkContracts.{SoFar, stand_of}
-use Rattle.gk_run.specs.Watching.{IsFeatureTold}
+use Rattle.gk_run.specs.Features.{IsFeatureTold}
 use Rattle.gk_report.specs.declared.summary.Summary.{Summary}
 use Rattle.gk_report.specs.Summary.{summary_of}
 use Rattle.gk_explain.specs.declared.explainer.Explainer.{Explainer}
@@ -163,9 +160,9 @@ passed_stand endings.Skipped all first start now told is passed = absurd cc
 passed_stand endings.Memory all first start now told is passed = absurd cc
 
 -- The beginning of a run and its features were told.
-pub first_explained : (run : Run) (hooks : List ℕ) (old started : SandboxValue) (suite : Suite) (first begun : Explainer) (features : List ChosenValue) (rows : List FeatureRow) (text : List ℕ) (told : Explainer) →
+pub first_explained : (run : Run) (hooks : List ℕ) (old started : SandboxValue) (suite : SuiteValue) (first begun : Explainer) (features : List ChosenValue) (rows : List FeatureRow) (text : List ℕ) (told : Explainer) →
     (start : IsStarted run old started suite) → said first ≡ nothing_said run.library hooks → FoldsTo Hears first start.opened.first begun →
-    AreExplained run (state_of started.now) suite.is_open features rows text begun told → AreFirstExplained run hooks (state_of old.now) start.opened.first features rows text told
+    AreExplained run (state_of started.now) (opens_features suite) features rows text begun told → AreFirstExplained run hooks (state_of old.now) start.opened.first features rows text told
 first_explained run hooks old started suite first begun features rows text told start silent opening explained =
     let outside = state_of old.now in
     let events = start.opened.first in
@@ -178,8 +175,8 @@ first_explained run hooks old started suite first begun features rows text told 
       opens = subst (λ (e : Ending). SoFar false (is_memory_ending e) all [] events) begins.ends begins.so_far;
       start = opening;
       state = state_of started.now;
-      from = λ passed. ap (λ (x : Stand). x.state) (passed_stand suite.section.before all events (entered outside) (stand_of started suite.section.cleanups) begins.so_far begins.stands (ap has_passed begins.ends ∙ passed));
-      told = subst (λ b. AreExplained run (state_of started.now) b features rows text begun told) (start.passed ∙ ap has_passed begins.ends) explained;
+      from = λ passed. ap (λ (x : Stand). x.state) (passed_stand suite.before all events (entered outside) (stand_of started suite.cleanups) begins.so_far begins.stands (ap has_passed begins.ends ∙ passed));
+      told = subst (λ b. AreExplained run (state_of started.now) b features rows text begun told) (start.opens ∙ ap has_passed begins.ends) explained;
     }
 
 -- All of a run was told and written.
@@ -232,10 +229,10 @@ pub record IsRunTold (run : Run) (hooks : List ℕ) (contents : Contents) (openi
   pub first : AreFirstExplained run hooks (state_of contents) opening features rows parts told
   pub finish : IsEndTold Hears run levels.Run [] (state_of contents) around opening told last
 
-pub run_told : FinishedRunsAreJudged → (run : Run) (hooks : List ℕ) (old started later : SandboxValue) (suite left : Suite) (first begun told last : Explainer) (features : List ChosenValue) (rows : List FeatureRow) (around : Status) (parts : List ℕ) →
+pub run_told : FinishedRunsAreJudged → (run : Run) (hooks : List ℕ) (old started later : SandboxValue) (suite left : SuiteValue) (first begun told last : Explainer) (features : List ChosenValue) (rows : List FeatureRow) (around : Status) (parts : List ℕ) →
     (start : IsStarted run old started suite) → said first ≡ nothing_said run.library hooks → FoldsTo Hears first start.opened.first begun →
-    AreFeatures run (state_of started.now) suite.is_open features rows → AreExplained run (state_of started.now) suite.is_open features rows parts begun told → IsKept suite left → IsSame started later →
-    EndsAround Hears run levels.Run [] left.section later around told last → IsRunTold run hooks old.now start.opened.first features rows around parts told last
+    AreFeatures run (state_of started.now) (opens_features suite) features rows → AreExplained run (state_of started.now) (opens_features suite) features rows parts begun told → IsKept suite left → IsSame started later →
+    IsFinishTold Hears run left later around told last → IsRunTold run hooks old.now start.opened.first features rows around parts told last
 run_told law run hooks old started later suite left first begun told last features rows around parts start silent opening are explained kept same finish = record {
   judged = judged_by law run old started later suite left around features rows start kept same are (λ outside events begins. let end = finish outside events begins in (end.0, end.2));
   first = first_explained run hooks old started suite first begun features rows parts told start silent opening explained;
@@ -243,10 +240,10 @@ run_told law run hooks old started later suite left first begun told last featur
 }
 
 -- Not all features of a run were told and written.
-pub part_explained : (run : Run) (hooks : List ℕ) (old started : SandboxValue) (suite : Suite) (first begun : Explainer) (features : List ChosenValue) (before : Device) (so_far : ExplainedSoFar) (new : Device) (fault : RunFault) →
+pub part_explained : (run : Run) (hooks : List ℕ) (old started : SandboxValue) (suite : SuiteValue) (first begun : Explainer) (features : List ChosenValue) (before : Device) (so_far : ExplainedSoFar) (new : Device) (fault : RunFault) →
     (start : IsStarted run old started suite) → said first ≡ nothing_said run.library hooks → FoldsTo Hears first start.opened.first begun → so_far.explainer ≡ begun →
-    ((done others : List ChosenValue) (rows : List FeatureRow) → AreFeatures run (state_of started.now) suite.is_open done rows → BeginsJudged run old.now (done ++ others) rows) →
-    AreExplainedUpTo run (state_of started.now) suite.is_open features before so_far new fault → IsExplainedUpTo run hooks old.now features before new fault
+    ((done others : List ChosenValue) (rows : List FeatureRow) → AreFeatures run (state_of started.now) (opens_features suite) done rows → BeginsJudged run old.now (done ++ others) rows) →
+    AreExplainedUpTo run (state_of started.now) (opens_features suite) features before so_far new fault → IsExplainedUpTo run hooks old.now features before new fault
 part_explained run hooks old started suite first begun features before so_far new fault start silent opening same begins up_to =
     inl
     (record {
@@ -259,6 +256,6 @@ part_explained run hooks old started suite first begun features before so_far ne
       text = up_to.text;
       told = up_to.told;
       explained = first_explained run hooks old started suite first begun up_to.done up_to.rows up_to.text up_to.told start silent opening
-          (subst (λ e. AreExplained run (state_of started.now) suite.is_open up_to.done up_to.rows up_to.text e up_to.told) same up_to.explained);
+          (subst (λ e. AreExplained run (state_of started.now) (opens_features suite) up_to.done up_to.rows up_to.text e up_to.told) same up_to.explained);
       stopped = up_to.stopped;
     })

@@ -289,25 +289,3 @@ unique reading rule library hooks r one other a b =
     let same = same_rules rule r.tags a.rules b.rules a.tags b.tags in
     alike (same_library library r.library one.library other.library a.library b.library) (same_hooks hooks r.hooks one.hooks other.hooks a.hooks b.hooks)
     (same_features reading (is_chosen a.rules r.lines) r.sources one.features other.features a.features (subst (λ rules. AreRead (is_chosen rules r.lines) r.sources other.features) (sym same) b.features))
-
--- ---- sources that are borrowed, one after another
-
--- An element that is known by its place alone.
-place_of : {A B : Type 0} (f : A → B) (xs : List A) (i : ℕ) (d : A) → i < length xs → slice_get (map f xs) i ≡ Some (f (get_or xs i d))
-place_of f [] i d less = absurd (omega arith)
-place_of f (y ∷ ys) zero d less = refl
-place_of f (y ∷ ys) (suc i) d less = place_of f ys i d (omega arith)
-
--- One source more is read.
-pub read_on : {X : Type 0} (chooses : CaseValue → Bool) (f : X → SourceValue) (xs : List X) (i : ℕ) (d : X) (old new : List Chosen) → i < length xs
-    → AreRead chooses (take i (map f xs)) (map chosen_value old) → IsReadOnto chooses (f (get_or xs i d)) old new → AreRead chooses (take (i + 1) (map f xs)) (map chosen_value new)
-read_on chooses f xs i d old new less read onto =
-    let source = f (get_or xs i d) in
-    subst (λ ss. AreRead chooses ss (map chosen_value new)) (sym (take_one (map f xs) i source (place_of f xs i d less)))
-    (subst (AreRead chooses (take i (map f xs) ++ source ∷ [])) (sym onto.added)
-    (read_one chooses (take i (map f xs)) (map chosen_value old) source onto.reading read onto.text onto.reads onto.limit))
-
--- The source at a place is the first that doesn't read.
-pub unread_at : {X : Type 0} (chooses : CaseValue → Bool) (f : X → SourceValue) (xs : List X) (i : ℕ) (d : X) (features : List ChosenValue) (fault : RunFault) → i < length xs
-    → AreRead chooses (take i (map f xs)) features → SaysSourceAt i (f (get_or xs i d)).bytes fault → SaysSources chooses (map f xs) fault
-unread_at chooses f xs i d features fault less read says = first_unread chooses (map f xs) features i (f (get_or xs i d)) fault read (place_of f xs i d less) says

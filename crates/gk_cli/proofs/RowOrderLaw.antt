@@ -15,6 +15,7 @@ use Rattle.gk_select.specs.FileOrder.{CasesAreInFileOrder}
 use Rattle.gk_select.specs.RuleOrder.{FallIntoRules}
 use Rattle.gk_steps.specs.Finding.{LibraryValue}
 use Rattle.gk_world.specs.State.{State, Contents, state_of}
+use Rattle.gk_run.specs.Observer.{result_of}
 use Rattle.gk_run.specs.declared.section.Level.TheVariants as levels
 use Rattle.gk_run.specs.OpenSection.{happened_in, section_state}
 use Rattle.gk_run.specs.Cases.{first_or, later, stays_open}
@@ -89,10 +90,10 @@ row_ordered f row o stands = record {
   rising_cases = rise_alike (λ (c : CaseRow). c.line) (λ (m : MemberValue). m.scenario.line) row.cases f.members stands.cases o.members;
 }
 
-rows_ordered : ResultsStandInFileOrder → (run : Run) (outside : State) (is_open : Bool) (cuts : List FeatureCuts) (fs : List ChosenValue) → AllByRecursion IsOrdered fs → RowsAreInFileOrder (features_of run outside is_open cuts fs)
+rows_ordered : ResultsStandInFileOrder → (run : Run) (outside : State) (is_open : Bool) (cuts : List FeatureCuts) (fs : List ChosenValue) → AllByRecursion IsOrdered fs → RowsAreInFileOrder (result_of (features_of run outside is_open cuts fs))
 rows_ordered stand run outside is_open cuts [] o = tt
 rows_ordered stand run outside is_open cuts (f ∷ fs) o =
-    let row = feature_of run outside is_open (first_or uncut_feature cuts) f in
+    let row = result_of (feature_of run outside is_open (first_or uncut_feature cuts) f) in
     (row_ordered f row o.0 (stand run outside is_open (first_or uncut_feature cuts) f o.0.falls), rows_ordered stand run outside (is_open && stays_open run row.status) (later cuts) fs o.1)
 
 -- In a dry run too there is a result for each rule and each case.

@@ -4,24 +4,20 @@ use Rattle.std.specs.List.{AllByRecursion, list_any}
 use Rattle.std.proofs.lemmas.Bool.{true≢false}
 use Rattle.std.proofs.lemmas.List.Folds.{list_any-append}
 use Rattle.gk_world.specs.State.{Contents, State, state_of}
-use Rattle.gk_world.specs.Sandbox.{SandboxValue}
-use Rattle.gk_run.specs.declared.open_run.state.Suite.{Suite}
+use Rattle.gk_world.specs.Sandbox.{SandboxValue, IsSame}
 use Rattle.gk_run.specs.declared.results.Status.{Status}
 use Rattle.gk_run.specs.declared.section.Level.TheVariants as levels
-use Rattle.gk_run.specs.Cleanups.{cleanups_value}
 use Rattle.gk_run.specs.Results.{CaseRow, FeatureRow, RuleRow, Results, is_memory, is_failed, is_undefined, is_untested, is_passed}
-use Rattle.gk_run.specs.Events.{Stand}
+use Rattle.gk_run.specs.Events.{Stand, stand_of}
 use Rattle.gk_run.specs.Section.{happened, before_passed}
 use Rattle.gk_run.specs.Run.{Run}
 use Rattle.gk_run.specs.Chosen.{ChosenValue}
 use Rattle.gk_run.specs.Cases.{case_statuses, first_or, later, stays_open}
 use Rattle.gk_run.specs.Features.{FeatureCuts, uncut_feature, rule_statuses, verdict_by, feature_verdict, feature_of, features_of}
-use Rattle.gk_run.specs.OpenSection.{section_state, section_events}
-use Rattle.gk_run.specs.SectionContracts.{IsBegun}
-use Rattle.gk_run.specs.declared.open_section.OpenSection.{OpenSection}
+use Rattle.gk_run.specs.Observer.{result_of}
+use Rattle.gk_run.specs.OpenSection.{IsBegun, section_state, section_events}
 use Rattle.gk_run.specs.Judged.{Cuts, dry_results, results_from, Judged, plain_results, is_memory_case, is_memory_feature, is_memory_rule, has_memory, OneList}
-use Rattle.gk_run.specs.Running.{IsSame}
-use Rattle.gk_run.specs.OpenRun.{IsStarted, IsKept, IsFinished, AreFeatures, FinishedRunsAreJudged}
+use Rattle.gk_run.specs.OpenRun.{AreFeatures, FinishedRunsAreJudged, IsFinished, IsKept, IsStarted, SuiteValue, opens_features}
 use Rattle.gk_run.specs.DryRun.{dry_features_of}
 use Rattle.gk_steps.specs.Finding.{LibraryValue}
 use Rattle.gk_report.specs.Summary.{feature_statuses, scenario_statuses, step_statuses, status}
@@ -42,23 +38,23 @@ and_left true b h = refl
 and_left false b h = h
 
 -- One feature after another keeps what the suite is.
-pub kept_through : (a b d : Suite) → IsKept a b → IsKept b d → IsKept a d
-kept_through a b d p q = record { section = q.section ∙ p.section; stops = q.stops ∙ p.stops }
+pub kept_through : (a b d : SuiteValue) → IsKept a b → IsKept b d → IsKept a d
+kept_through a b d p q = q ∙ ap (λ (x : SuiteValue). record x { has_failed = d.has_failed }) p
 
 -- And what the sandbox is.
 pub same_through : (a b d : SandboxValue) → IsSame a b → IsSame b d → IsSame a d
 same_through a b d p q = record { contents = q.contents ∙ p.contents; saved = q.saved ∙ p.saved; marks = q.marks ∙ p.marks; recorded = q.recorded ∙ p.recorded }
 
 -- A run that was begun is so still after features that leave the sandbox as it was.
-pub begun_still : (run : Run) (old started later : SandboxValue) (suite left : Suite) → (start : IsStarted run old started suite) → IsKept suite left → IsSame started later → IsBegun run levels.Run [] (state_of old.now) start.opened.first left.section later
+pub begun_still : (run : Run) (old started later : SandboxValue) (suite left : SuiteValue) → (start : IsStarted run old started suite) → IsKept suite left → IsSame started later → IsBegun run levels.Run [] (state_of old.now) start.opened.first left.before (stand_of later left.cleanups)
 begun_still run old started later suite left start kept same =
     let begins = start.opened.begins in
-    let stand : Contents → Stand = λ x. record { state = state_of x; cleanups = cleanups_value suite.section.cleanups } in
-    subst (λ (x : OpenSection). IsBegun run levels.Run [] (state_of old.now) start.opened.first x later) (sym kept.section) (record { so_far = begins.so_far; ends = begins.ends; stands = ap stand same.contents ∙ begins.stands })
+    let stand : Contents → Stand = λ x. record { state = state_of x; cleanups = suite.cleanups } in
+    subst (λ (x : SuiteValue). IsBegun run levels.Run [] (state_of old.now) start.opened.first x.before (stand_of later x.cleanups)) (sym kept) (record { so_far = begins.so_far; ends = begins.ends; stands = ap stand same.contents ∙ begins.stands })
 
 -- A run that was begun, whose features were run, and that was finished.
-pub judged_by : FinishedRunsAreJudged → (run : Run) (old started later : SandboxValue) (suite left : Suite) (around : Status) (features : List ChosenValue) (rows : List FeatureRow) →
-    IsStarted run old started suite → IsKept suite left → IsSame started later → AreFeatures run (state_of started.now) suite.is_open features rows → IsFinished run left.section later around →
+pub judged_by : FinishedRunsAreJudged → (run : Run) (old started later : SandboxValue) (suite left : SuiteValue) (around : Status) (features : List ChosenValue) (rows : List FeatureRow) →
+    IsStarted run old started suite → IsKept suite left → IsSame started later → AreFeatures run (state_of started.now) (opens_features suite) features rows → IsFinished run left later around →
     Judged run old.now features (record { features = rows; around = around })
 judged_by law run old started later suite left around features rows start kept same are finish =
     let end = finish (state_of old.now) start.opened.first (begun_still run old started later suite left start kept same) in
@@ -68,10 +64,10 @@ judged_by law run old started later suite left around features rows start kept s
 abbrev pub HasVerdict : FeatureRow → Type 0
 HasVerdict row = row.status ≡ feature_verdict row.around (rule_statuses row.rules) (case_statuses row.cases)
 
-all_verdicts : (run : Run) (outside : State) (is_open : Bool) (cuts : List FeatureCuts) (fs : List ChosenValue) → AllByRecursion HasVerdict (features_of run outside is_open cuts fs)
+all_verdicts : (run : Run) (outside : State) (is_open : Bool) (cuts : List FeatureCuts) (fs : List ChosenValue) → AllByRecursion HasVerdict (result_of (features_of run outside is_open cuts fs))
 all_verdicts run outside is_open cuts [] = tt
 all_verdicts run outside is_open cuts (f ∷ fs) =
-    let row = feature_of run outside is_open (first_or uncut_feature cuts) f in
+    let row = result_of (feature_of run outside is_open (first_or uncut_feature cuts) f) in
     (refl, all_verdicts run outside (is_open && stays_open run row.status) (later cuts) fs)
 
 all_dry_verdicts : (library : LibraryValue) (cuts : List FeatureCuts) (fs : List ChosenValue) → AllByRecursion HasVerdict (dry_features_of library cuts fs)

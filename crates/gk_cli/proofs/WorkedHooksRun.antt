@@ -4,19 +4,23 @@ use Rattle.std.specs.Io.KnownBytes.{Appends}
 use Rattle.std.specs.Fmt.{digits}
 use Rattle.std.specs.Str.{chars, is_utf8}
 use lib.Utf8
-use Rattle.std.proofs.Common.{refl, ap, sym, subst, arith}
+use Rattle.std.proofs.Common.{refl, arith}
 use Rattle.std.proofs.lemmas.Str.{IsUtf8-from_is_utf8}
 use Rattle.gk_gherkin.specs.declared.feature.StepType.TheVariants.{Given, Then}
-use Rattle.gk_gherkin.specs.declared.hooks.HookKind.{HookKind}
 use Rattle.gk_gherkin.specs.declared.hooks.HookKind.TheVariants.{BeforeScenario, AfterAll}
-use Rattle.gk_gherkin.specs.Lines.{LineValue, Lines, line_at, lines_of, IsText}
+use Rattle.gk_gherkin.specs.Lines.{lines_of, IsText}
 use Rattle.gk_gherkin.specs.Class.{class, class_of, class_of_words, step_keyword, step_text}
 use Rattle.gk_gherkin.specs.StepTypes.{type_after}
 use Rattle.gk_gherkin.specs.Feature.{Empty, StepValue}
 use Rattle.gk_gherkin.specs.Hooks.{HookValue}
-use Rattle.gk_gherkin.specs.HookHeadings.{HookHeading, hooks_class, hook_heading}
-use Rattle.gk_gherkin.specs.Grammar.{skip_none, none, more, IsStep}
-use Rattle.gk_gherkin.specs.HooksGrammar.{heading_of, IsHook, ReadsHooks}
+use Rattle.gk_gherkin.specs.HookHeadings.{hooks_class, hook_heading}
+use Rattle.gk_gherkin.specs.Rows.{cells_of, parts_of, unescaped}
+use Rattle.gk_gherkin.specs.DocStrings.{closes, content_of}
+use Rattle.gk_gherkin.specs.OpenParts.{on_row, on_block, on_body}
+use Rattle.gk_gherkin.specs.Reading.{step, run_by, finish, reading}
+use Rattle.gk_gherkin.specs.HooksReader.{on_hook, on_hook_body, on_plain_line, on}
+use Rattle.gk_gherkin.proofs.HooksReaderSound.{hooks_sound}
+use Rattle.gk_gherkin.specs.HooksGrammar.{ReadsHooks}
 use Rattle.gk_select.specs.Expansion.{cases}
 use Rattle.gk_select.specs.Choice.{is_chosen}
 use Rattle.gk_steps.specs.Matching.{match_of}
@@ -58,65 +62,10 @@ before_hook = record { kind = BeforeScenario; tag = None; line = 1; steps = befo
 abbrev after_hook : HookValue
 after_hook = record { kind = AfterAll; tag = None; line = 3; steps = after_step ∷ [] }
 
--- Its lines.
-abbrev line_1 : LineValue
-line_1 = line_at 1 (codes "before_scenario:")
-
-abbrev line_2 : LineValue
-line_2 = line_at 2 (codes "  Given it passes")
-
-abbrev line_3 : LineValue
-line_3 = line_at 3 (codes "after_all:")
-
-abbrev line_4 : LineValue
-line_4 = line_at 4 (codes "  Then it dances")
-
--- The lines from each of them on.
-abbrev from_4 : Lines
-from_4 = line_4 ∷ []
-
-abbrev from_3 : Lines
-from_3 = line_3 ∷ from_4
-
-abbrev from_2 : Lines
-from_2 = line_2 ∷ from_3
-
--- These are the lines of its bytes.
-hooks_lines : lines_of hooks_bytes ≡ line_1 ∷ from_2
-hooks_lines = refl
-
--- The second line spells the first step.
-before_step_reads : IsStep from_2 before_step from_3
-unfolding class class_of class_of_words step_keyword step_text
-before_step_reads = record { after_line = from_3; line = record { line = line_2; next = skip_none; is = refl; keyword = refl; text = refl; number = refl }; block = refl }
-
--- The fourth line spells the second.
-after_step_reads : IsStep from_4 after_step []
-unfolding class class_of class_of_words step_keyword step_text
-after_step_reads = record { after_line = []; line = record { line = line_4; next = skip_none; is = refl; keyword = refl; text = refl; number = refl }; block = refl }
-
--- The first two lines spell the first hook.
-before_hook_reads : IsHook (line_1 ∷ from_2) before_hook from_3
-unfolding hooks_class hook_heading type_after
-before_hook_reads = record { line = line_1; after_heading = from_2; next = skip_none; is = refl; heading = refl; number = refl; steps = record { parts = more before_step_reads none; types = (refl, tt) } }
-
--- The last two lines spell the second hook.
-after_hook_reads : IsHook from_3 after_hook []
-unfolding hooks_class hook_heading type_after
-after_hook_reads = record { line = line_3; after_heading = from_4; next = skip_none; is = refl; heading = refl; number = refl; steps = record { parts = more after_step_reads none; types = (refl, tt) } }
-
--- Their headings differ.
-other_kind : heading_of after_hook ≢ heading_of before_hook
-other_kind e = let kinds : ◌≡◌ {A = HookKind} AfterAll BeforeScenario = ap (λ (h : HookHeading). h.kind) e in let no : ⊥ = cc in absurd no
-
--- All lines spell the two hooks.
+-- Its lines spell the two hooks.
 hooks_read : ReadsHooks (lines_of hooks_bytes) (before_hook ∷ after_hook ∷ [])
-hooks_read = subst (λ (ls : Lines). ReadsHooks ls (before_hook ∷ after_hook ∷ [])) (sym hooks_lines) (record {
-  tail = [];
-  parts = more before_hook_reads (more after_hook_reads none);
-  end = skip_none;
-  distinct = ((other_kind, tt), (tt, tt));
-})
+unfolding class class_of class_of_words step_keyword step_text cells_of parts_of unescaped closes content_of type_after on_row on_block on_body hooks_class hook_heading on_hook on_hook_body on_plain_line on step run_by finish reading
+hooks_read = hooks_sound (lines_of hooks_bytes) (before_hook ∷ after_hook ∷ []) refl
 
 -- The bytes are a text.
 hooks_is_text : IsText hooks_bytes

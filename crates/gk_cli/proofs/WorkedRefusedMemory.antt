@@ -11,12 +11,11 @@ use Rattle.gk_select.specs.Choice.{is_chosen}
 use Rattle.gk_steps.specs.Matching.{match_of}
 use Rattle.gk_steps.specs.Finding.{LibraryValue, found}
 use Rattle.gk_world.specs.State.{nothing_yet, State}
-use Rattle.gk_run.specs.declared.results.Status.{Status}
 use Rattle.gk_run.specs.declared.results.Status.TheVariants as statuses
 use Rattle.gk_run.specs.declared.results.Reason.TheVariants as reasons
 use Rattle.gk_run.specs.declared.section.Level.TheVariants as levels
 use Rattle.gk_run.specs.Acting.{act}
-use Rattle.gk_run.specs.Results.{StepRow, CaseRow, Results}
+use Rattle.gk_run.specs.Results.{CaseRow, Results}
 use Rattle.gk_run.specs.Section.{Cut, nowhere, in_before, in_steps, in_after, in_cleanups}
 use Rattle.gk_run.specs.Run.{Run}
 use Rattle.gk_run.specs.Running.{reached_row}
@@ -32,7 +31,7 @@ use Rattle.gk_report.specs.PlainReport.{status_line, step_line, case_line, aroun
 use Rattle.gk_report.specs.Report.{report}
 use Rattle.gk_cli.specs.Inputs.{Request, Inputs, AreInputs, member_by}
 use Rattle.gk_cli.specs.Suite.{Device, IsReported, JudgedReport, InputsAreUnique, run_with}
-use Rattle.gk_cli.proofs.WorkedRun.{plain_style, bare_state, one_feature, two_feature, set_step, ask_step, results_from_bare, same_from_bare, one_request, one_inputs, one_inputs_read, one_results, one_report, one_reports, one_status, two_request, two_inputs, two_inputs_read, two_results, two_report, two_reports, two_status}
+use Rattle.gk_cli.proofs.WorkedRun.{plain_style, bare_state, one_feature, two_feature, set_step, ask_step, results_from_bare, same_from_bare, one_request, one_inputs, one_inputs_read, one_results, one_report, one_reports, one_status, two_request, two_inputs, two_inputs_read, two_results, two_report, two_reports, two_status, one_row, results_with, row_A, row_B, two_rows}
 
 -- This report was written, and this status is returned.
 abbrev IsReturned : Device → Device → ℕ → List ℕ → ℕ → Type 0
@@ -90,26 +89,7 @@ scenarios_cut library cuts source name line members =
 
 -- One scenario with one step, at which memory was refused.
 abbrev one_memory : Results
-one_memory = record {
-  features = record {
-    source = codes "one.feature";
-    name = codes "one";
-    line = 1;
-    status = statuses.Memory;
-    around = statuses.Passed;
-    rules = [];
-    cases = record {
-      keyword = codes "Scenario";
-      name = codes "first";
-      line = 2;
-      status = statuses.Memory;
-      around = statuses.Passed;
-      cleanups = [];
-      steps = record { keyword = codes "Given"; text = codes "it passes"; line = 3; status = statuses.Memory; reason = None } ∷ [];
-    } ∷ [];
-  } ∷ [];
-  around = statuses.Passed;
-}
+one_memory = results_with (one_row (codes "one.feature") statuses.Memory ∷ [])
 
 -- Their report.
 abbrev one_memory_report : List ℕ
@@ -151,45 +131,22 @@ one_judged unique old new answer judged =
       | inr is ↦ inr (returned old new answer results one_memory one_memory_report 4 is one_memory_reports refl reported)
     ]
 
--- Two scenarios, the second of which asks for what the first has set: their rows, by what became of their steps.
-abbrev row_A : Status → CaseRow
-row_A status = record {
-  keyword = codes "Scenario";
-  name = codes "A";
-  line = 2;
-  status = status;
-  around = statuses.Passed;
-  cleanups = [];
-  steps = record { keyword = codes "When"; text = codes "the variable \"X\" is set to \"1\""; line = 3; status = status; reason = None } ∷ [];
-}
+-- The row of the second scenario, where its step was carried out, and where memory was refused in it.
+abbrev failed_B : CaseRow
+failed_B = row_B statuses.Failed (Some reasons.Absent)
 
--- The step that asks, where it was carried out.
-abbrev failed_B : StepRow
-failed_B = record { keyword = codes "Then"; text = codes "the variable \"X\" should be \"1\""; line = 5; status = statuses.Failed; reason = Some reasons.Absent }
+abbrev memory_B : CaseRow
+memory_B = row_B statuses.Memory None
 
--- The same step, where memory was refused in it.
-abbrev memory_B : StepRow
-memory_B = record { keyword = codes "Then"; text = codes "the variable \"X\" should be \"1\""; line = 5; status = statuses.Memory; reason = None }
-
--- The row of the second scenario.
-abbrev row_B : StepRow → CaseRow
-row_B step = record { keyword = codes "Scenario"; name = codes "B"; line = 4; status = step.status; around = statuses.Passed; cleanups = []; steps = step ∷ [] }
-
--- The results of both, where memory was refused in one.
-abbrev two_memory : CaseRow → CaseRow → Results
-two_memory a b = record { features = record { source = codes "two.feature"; name = codes "two"; line = 1; status = statuses.Memory; around = statuses.Passed; rules = []; cases = a ∷ b ∷ [] } ∷ []; around = statuses.Passed }
-
--- Memory was refused in the first scenario.
+-- Memory was refused in the first scenario, in the second, and in each.
 abbrev memory_in_A : Results
-memory_in_A = two_memory (row_A statuses.Memory) (row_B failed_B)
+memory_in_A = two_rows statuses.Memory (row_A statuses.Memory) failed_B
 
--- Memory was refused in the second.
 abbrev memory_in_B : Results
-memory_in_B = two_memory (row_A statuses.Passed) (row_B memory_B)
+memory_in_B = two_rows statuses.Memory (row_A statuses.Passed) memory_B
 
--- Memory was refused in each.
 abbrev memory_in_both : Results
-memory_in_both = two_memory (row_A statuses.Memory) (row_B memory_B)
+memory_in_both = two_rows statuses.Memory (row_A statuses.Memory) memory_B
 
 -- The report of the first case.
 abbrev memory_in_A_report : List ℕ
@@ -245,7 +202,7 @@ A_by_cut (in_after n s) = inl refl
 A_by_cut (in_cleanups n s) = inl refl
 
 -- The row of the second scenario, by its cut.
-B_by_cut : (cut : Cut) → let row = reached_row (run_with two_request two_inputs) two_section cut case_B in (row ≡ row_B failed_B) ⊎ (row ≡ row_B memory_B)
+B_by_cut : (cut : Cut) → let row = reached_row (run_with two_request two_inputs) two_section cut case_B in (row ≡ failed_B) ⊎ (row ≡ memory_B)
 unfolding found match_of is_utf8 chars lib.Utf8.encode act
 B_by_cut nowhere = inl refl
 B_by_cut (in_before n s) = inl refl
@@ -256,10 +213,7 @@ B_by_cut (in_cleanups n s) = inl refl
 
 -- The results with these two rows.
 abbrev two_of : CaseRow → CaseRow → Results
-two_of a b = record {
-  features = record { source = codes "two.feature"; name = codes "two"; line = 1; status = feature_verdict statuses.Passed [] (a.status ∷ b.status ∷ []); around = statuses.Passed; rules = []; cases = a ∷ b ∷ [] } ∷ [];
-  around = statuses.Passed;
-}
+two_of a b = two_rows (feature_verdict statuses.Passed [] (a.status ∷ b.status ∷ [])) a b
 
 -- The results are those with the two scenarios' rows.
 two_by_rows : (a b : Cut) → results_from_bare (run_with two_request two_inputs) (cuts_of (a ∷ b ∷ [])) two_inputs.features ≡ two_of (reached_row (run_with two_request two_inputs) two_section a case_A) (reached_row (run_with two_request two_inputs) two_section b case_B)
@@ -267,7 +221,7 @@ unfolding cases is_chosen
 two_by_rows a b = refl
 
 -- The results with these rows are one of four.
-one_of_four : (a b : CaseRow) (results : Results) → results ≡ two_of a b → (a ≡ row_A statuses.Passed) ⊎ (a ≡ row_A statuses.Memory) → (b ≡ row_B failed_B) ⊎ (b ≡ row_B memory_B) → IsOneOfFour results
+one_of_four : (a b : CaseRow) (results : Results) → results ≡ two_of a b → (a ≡ row_A statuses.Passed) ⊎ (a ≡ row_A statuses.Memory) → (b ≡ failed_B) ⊎ (b ≡ memory_B) → IsOneOfFour results
 one_of_four a b results is (inl p) (inl q) = inl (is ∙ ap₂ two_of p q)
 one_of_four a b results is (inr p) (inl q) = inr (inl (is ∙ ap₂ two_of p q))
 one_of_four a b results is (inl p) (inr q) = inr (inr (inl (is ∙ ap₂ two_of p q)))

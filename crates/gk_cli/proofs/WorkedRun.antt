@@ -1,5 +1,5 @@
 -- Whole runs by computation: from the bytes of a feature file to the report's bytes and the status.
-use Rattle.std.specs.Prelude.{◌≡◌, ◌≢◌, ℕ, Bool, false, cond, not, List, [], ◌∷◌, slice_index, filter, Some, None, codes}
+use Rattle.std.specs.Prelude.{◌≡◌, ◌≢◌, ℕ, Bool, false, cond, not, List, [], ◌∷◌, slice_index, filter, Option, Some, None, codes}
 use Rattle.std.specs.Io.KnownBytes.{Appends}
 use Rattle.std.specs.Fmt.{digits}
 use Rattle.std.specs.FinMap.{get-empty}
@@ -10,11 +10,18 @@ use Rattle.std.proofs.Math.Path.{fun_ext}
 use Rattle.std.proofs.lemmas.Str.{IsUtf8-from_is_utf8}
 use Rattle.gk_gherkin.specs.declared.feature.StepType.TheVariants.{Given, When, Then}
 use Rattle.gk_gherkin.specs.Lines.{LineValue, Lines, line_at, lines_of, IsText}
+use Rattle.gk_gherkin.specs.Feature.{Empty, StepValue, ScenarioValue, FeatureValue}
+use Rattle.gk_gherkin.specs.Grammar.{Reads}
 use Rattle.gk_gherkin.specs.Class.{class, class_of, class_of_words, heading_keyword, heading_name, step_keyword, step_text}
+use Rattle.gk_gherkin.specs.Tags.{tags_of}
+use Rattle.gk_gherkin.specs.Rows.{cells_of, parts_of, unescaped}
+use Rattle.gk_gherkin.specs.DocStrings.{closes, content_of}
 use Rattle.gk_gherkin.specs.Language.{language_of}
 use Rattle.gk_gherkin.specs.StepTypes.{type_after}
-use Rattle.gk_gherkin.specs.Feature.{Empty, StepValue, ScenarioValue, FeatureValue}
-use Rattle.gk_gherkin.specs.Grammar.{skip_none, skip, none, more, untagged, described, IsStep, IsScenario, Reads}
+use Rattle.gk_gherkin.specs.OpenParts.{on_row, on_block, on_grid, on_body, on_open}
+use Rattle.gk_gherkin.specs.Reading.{step, run_by, finish, reading}
+use Rattle.gk_gherkin.specs.FeatureReader.{on_heading, on_line, on}
+use Rattle.gk_gherkin.proofs.FeatureReaderSound.{sound}
 use Rattle.gk_select.specs.Case.{CaseValue}
 use Rattle.gk_select.specs.Expansion.{cases}
 use Rattle.gk_select.specs.Choice.{is_chosen}
@@ -30,7 +37,9 @@ use Rattle.gk_world.specs.State.{nothing_yet, State, Map, nothing, state_of}
 use Rattle.gk_run.specs.declared.results.Status.TheVariants as statuses
 use Rattle.gk_run.specs.declared.results.Reason.TheVariants as reasons
 use Rattle.gk_run.specs.Acting.{act}
-use Rattle.gk_run.specs.Results.{FeatureRow, Results}
+use Rattle.gk_run.specs.declared.results.Reason.{Reason}
+use Rattle.gk_run.specs.declared.results.Status.{Status}
+use Rattle.gk_run.specs.Results.{StepRow, CaseRow, FeatureRow, Results}
 use Rattle.gk_run.specs.Run.{Run}
 use Rattle.gk_run.specs.Chosen.{ChosenValue}
 use Rattle.gk_run.specs.Judged.{Cuts, uncut, dry_results, results_from, results_of, plain_results}
@@ -99,65 +108,10 @@ one_scenario = record { keyword = codes "Scenario"; name = codes "first"; line =
 abbrev pub one_feature : FeatureValue
 one_feature = record { name = codes "one"; line = 1; tags = []; background = None; scenarios = one_scenario ∷ []; rules = [] }
 
--- Its lines.
-abbrev one_line_1 : LineValue
-one_line_1 = line_at 1 (codes "Feature: one")
-
-abbrev one_line_2 : LineValue
-one_line_2 = line_at 2 (codes "  Scenario: first")
-
-abbrev one_line_3 : LineValue
-one_line_3 = line_at 3 (codes "    Given it passes")
-
--- These are the lines of its bytes.
-one_lines : lines_of one_bytes ≡ one_line_1 ∷ one_line_2 ∷ one_line_3 ∷ []
-one_lines = refl
-
--- The last line spells the step.
-one_step_reads : IsStep (one_line_3 ∷ []) one_step []
-unfolding class class_of class_of_words step_keyword step_text
-one_step_reads = record { after_line = []; line = record { line = one_line_3; next = skip_none; is = refl; keyword = refl; text = refl; number = refl }; block = refl }
-
--- The last two lines spell the scenario.
-one_scenario_reads : IsScenario (one_line_2 ∷ one_line_3 ∷ []) one_scenario []
-unfolding class class_of class_of_words heading_keyword heading_name type_after
-one_scenario_reads = record {
-  line = one_line_2;
-  after_heading = one_line_3 ∷ [];
-  after_description = one_line_3 ∷ [];
-  after_steps = [];
-  heading = record { after_tags = one_line_2 ∷ one_line_3 ∷ []; above = untagged; heading = record { next = skip_none; is = refl } };
-  keyword = refl;
-  name = refl;
-  number = refl;
-  description = described;
-  steps = record { parts = more one_step_reads none; types = (refl, tt) };
-  examples = none;
-}
-
--- All lines spell the feature.
+-- Its lines spell it.
 one_reads : Reads (lines_of one_bytes) (Some one_feature)
-unfolding class class_of class_of_words heading_keyword heading_name
-one_reads = subst (λ (ls : Lines). Reads ls (Some one_feature)) (sym one_lines) (
-  [],
-  record {
-    after_scenarios = [];
-    container = record {
-      line = one_line_1;
-      after_heading = one_line_2 ∷ one_line_3 ∷ [];
-      after_description = one_line_2 ∷ one_line_3 ∷ [];
-      after_background = one_line_2 ∷ one_line_3 ∷ [];
-      heading = record { after_tags = one_line_1 ∷ one_line_2 ∷ one_line_3 ∷ []; above = untagged; heading = record { next = skip_none; is = refl } };
-      name = refl;
-      number = refl;
-      description = described;
-      background = refl;
-      scenarios = more one_scenario_reads none;
-    };
-    rules = none;
-  },
-  skip_none,
-)
+unfolding class class_of class_of_words heading_keyword heading_name step_keyword step_text tags_of cells_of parts_of unescaped closes content_of language_of type_after on_heading on_row on_block on_grid on_body on_open on_line on step run_by finish reading
+one_reads = sound (lines_of one_bytes) (Some one_feature) refl
 
 -- The bytes are a text.
 one_is_text : IsText one_bytes
@@ -220,28 +174,24 @@ one_inputs_read = record {
   features = (Some one_feature, [], one_is_text, one_reads, one_is_within_limit, refl, refl);
 }
 
+-- The row of a scenario with one step, by what became of that.
+abbrev pub one_step_row : List ℕ → ℕ → StepRow → CaseRow
+one_step_row name line s = record { keyword = codes "Scenario"; name = name; line = line; status = s.status; around = statuses.Passed; cleanups = []; steps = s ∷ [] }
+
+-- The results of features without rules, in which no hook and no cleanup failed.
+abbrev pub feature_row : List ℕ → List ℕ → Status → List CaseRow → FeatureRow
+feature_row source name verdict rows = record { source = source; name = name; line = 1; status = verdict; around = statuses.Passed; rules = []; cases = rows }
+
+abbrev pub results_with : List FeatureRow → Results
+results_with rows = record { features = rows; around = statuses.Passed }
+
+-- The row of the feature, by the name of its source and what became of its step.
+abbrev pub one_row : List ℕ → Status → FeatureRow
+one_row source verdict = feature_row source (codes "one") verdict (one_step_row (codes "first") 2 (record { keyword = codes "Given"; text = codes "it passes"; line = 3; status = verdict; reason = None }) ∷ [])
+
 -- The results that plain maps give.
 abbrev pub one_results : Results
-one_results = record {
-  features = record {
-    source = codes "one.feature";
-    name = codes "one";
-    line = 1;
-    status = statuses.Passed;
-    around = statuses.Passed;
-    rules = [];
-    cases = record {
-      keyword = codes "Scenario";
-      name = codes "first";
-      line = 2;
-      status = statuses.Passed;
-      around = statuses.Passed;
-      cleanups = [];
-      steps = record { keyword = codes "Given"; text = codes "it passes"; line = 3; status = statuses.Passed; reason = None } ∷ [];
-    } ∷ [];
-  } ∷ [];
-  around = statuses.Passed;
-}
+one_results = results_with (one_row (codes "one.feature") statuses.Passed ∷ [])
 
 -- They are those of the inputs.
 one_is_plain : plain_results (run_with one_request one_inputs) nothing_yet one_inputs.features ≡ one_results
@@ -301,106 +251,10 @@ scenario_B = record { keyword = codes "Scenario"; name = codes "B"; line = 4; ta
 abbrev pub two_feature : FeatureValue
 two_feature = record { name = codes "two"; line = 1; tags = []; background = None; scenarios = scenario_A ∷ scenario_B ∷ []; rules = [] }
 
--- Its lines.
-abbrev two_line_1 : LineValue
-two_line_1 = line_at 1 (codes "Feature: two")
-
-abbrev two_line_2 : LineValue
-two_line_2 = line_at 2 (codes "  Scenario: A")
-
-abbrev two_line_3 : LineValue
-two_line_3 = line_at 3 (codes "    When the variable \"X\" is set to \"1\"")
-
-abbrev two_line_4 : LineValue
-two_line_4 = line_at 4 (codes "  Scenario: B")
-
-abbrev two_line_5 : LineValue
-two_line_5 = line_at 5 (codes "    Then the variable \"X\" should be \"1\"")
-
--- The lines from each of them on.
-abbrev two_from_5 : Lines
-two_from_5 = two_line_5 ∷ []
-
-abbrev two_from_4 : Lines
-two_from_4 = two_line_4 ∷ two_from_5
-
-abbrev two_from_3 : Lines
-two_from_3 = two_line_3 ∷ two_from_4
-
-abbrev two_from_2 : Lines
-two_from_2 = two_line_2 ∷ two_from_3
-
--- These are the lines of its bytes.
-two_lines : lines_of two_bytes ≡ two_line_1 ∷ two_from_2
-two_lines = refl
-
--- The third line spells the step that sets.
-set_step_reads : IsStep two_from_3 set_step two_from_4
-unfolding class class_of class_of_words step_keyword step_text
-set_step_reads = record { after_line = two_from_4; line = record { line = two_line_3; next = skip_none; is = refl; keyword = refl; text = refl; number = refl }; block = refl }
-
--- The fifth line spells the step that asks.
-ask_step_reads : IsStep two_from_5 ask_step []
-unfolding class class_of class_of_words step_keyword step_text
-ask_step_reads = record { after_line = []; line = record { line = two_line_5; next = skip_none; is = refl; keyword = refl; text = refl; number = refl }; block = refl }
-
--- The second line and the third spell the first scenario.
-scenario_A_reads : IsScenario two_from_2 scenario_A two_from_4
-unfolding class class_of class_of_words heading_keyword heading_name type_after
-scenario_A_reads = record {
-  line = two_line_2;
-  after_heading = two_from_3;
-  after_description = two_from_3;
-  after_steps = two_from_4;
-  heading = record { after_tags = two_from_2; above = untagged; heading = record { next = skip_none; is = refl } };
-  keyword = refl;
-  name = refl;
-  number = refl;
-  description = described;
-  steps = record { parts = more set_step_reads none; types = (refl, tt) };
-  examples = none;
-}
-
--- The last two lines spell the second scenario.
-scenario_B_reads : IsScenario two_from_4 scenario_B []
-unfolding class class_of class_of_words heading_keyword heading_name type_after
-scenario_B_reads = record {
-  line = two_line_4;
-  after_heading = two_from_5;
-  after_description = two_from_5;
-  after_steps = [];
-  heading = record { after_tags = two_from_4; above = untagged; heading = record { next = skip_none; is = refl } };
-  keyword = refl;
-  name = refl;
-  number = refl;
-  description = described;
-  steps = record { parts = more ask_step_reads none; types = (refl, tt) };
-  examples = none;
-}
-
--- All lines spell the feature.
+-- Its lines spell it.
 two_reads : Reads (lines_of two_bytes) (Some two_feature)
-unfolding class class_of class_of_words heading_keyword heading_name
-two_reads = subst (λ (ls : Lines). Reads ls (Some two_feature)) (sym two_lines) (
-  [],
-  record {
-    after_scenarios = [];
-    container = record {
-      line = two_line_1;
-      after_heading = two_from_2;
-      after_description = two_from_2;
-      after_background = two_from_2;
-      heading = record { after_tags = two_line_1 ∷ two_from_2; above = untagged; heading = record { next = skip_none; is = refl } };
-      name = refl;
-      number = refl;
-      description = described;
-      background = refl;
-      scenarios = more scenario_A_reads (more scenario_B_reads none);
-    };
-    rules = none;
-  },
-  skip_none,
-)
+unfolding class class_of class_of_words heading_keyword heading_name step_keyword step_text tags_of cells_of parts_of unescaped closes content_of language_of type_after on_heading on_row on_block on_grid on_body on_open on_line on step run_by finish reading
+two_reads = sound (lines_of two_bytes) (Some two_feature) refl
 
 -- The bytes are a text.
 two_is_text : IsText two_bytes
@@ -489,36 +343,20 @@ two_is_read chooses = (Some two_feature, [], two_is_text, two_reads, two_is_with
 pub two_inputs_read : AreInputs two_request two_inputs
 two_inputs_read = record { rules = []; tags = refl; library = (variable_is_text, variable_reads); hooks = refl; features = two_is_read (is_chosen [] []) }
 
+-- The rows of the two scenarios, by what became of their steps.
+abbrev pub row_A : Status → CaseRow
+row_A verdict = one_step_row (codes "A") 2 (record { keyword = codes "When"; text = codes "the variable \"X\" is set to \"1\""; line = 3; status = verdict; reason = None })
+
+abbrev pub row_B : Status → Option Reason → CaseRow
+row_B verdict reason = one_step_row (codes "B") 4 (record { keyword = codes "Then"; text = codes "the variable \"X\" should be \"1\""; line = 5; status = verdict; reason = reason })
+
+-- The results with these rows, by the feature's verdict.
+abbrev pub two_rows : Status → CaseRow → CaseRow → Results
+two_rows verdict a b = results_with (feature_row (codes "two.feature") (codes "two") verdict (a ∷ b ∷ []) ∷ [])
+
 -- The results that plain maps give: nothing is left of the first scenario in the second.
 abbrev pub two_results : Results
-two_results = record {
-  features = record {
-    source = codes "two.feature";
-    name = codes "two";
-    line = 1;
-    status = statuses.Failed;
-    around = statuses.Passed;
-    rules = [];
-    cases = record {
-      keyword = codes "Scenario";
-      name = codes "A";
-      line = 2;
-      status = statuses.Passed;
-      around = statuses.Passed;
-      cleanups = [];
-      steps = record { keyword = codes "When"; text = codes "the variable \"X\" is set to \"1\""; line = 3; status = statuses.Passed; reason = None } ∷ [];
-    } ∷ record {
-      keyword = codes "Scenario";
-      name = codes "B";
-      line = 4;
-      status = statuses.Failed;
-      around = statuses.Passed;
-      cleanups = [];
-      steps = record { keyword = codes "Then"; text = codes "the variable \"X\" should be \"1\""; line = 5; status = statuses.Failed; reason = Some reasons.Absent } ∷ [];
-    } ∷ [];
-  } ∷ [];
-  around = statuses.Passed;
-}
+two_results = two_rows statuses.Failed (row_A statuses.Passed) (row_B statuses.Failed (Some reasons.Absent))
 
 -- They are those of the inputs.
 two_is_plain : plain_results (run_with two_request two_inputs) nothing_yet two_inputs.features ≡ two_results
@@ -577,34 +415,7 @@ line_inputs_read = record { rules = []; tags = refl; library = (variable_is_text
 
 -- The results that plain maps give: the second scenario is skipped.
 abbrev line_results : Results
-line_results = record {
-  features = record {
-    source = codes "two.feature";
-    name = codes "two";
-    line = 1;
-    status = statuses.Passed;
-    around = statuses.Passed;
-    rules = [];
-    cases = record {
-      keyword = codes "Scenario";
-      name = codes "A";
-      line = 2;
-      status = statuses.Passed;
-      around = statuses.Passed;
-      cleanups = [];
-      steps = record { keyword = codes "When"; text = codes "the variable \"X\" is set to \"1\""; line = 3; status = statuses.Passed; reason = None } ∷ [];
-    } ∷ record {
-      keyword = codes "Scenario";
-      name = codes "B";
-      line = 4;
-      status = statuses.Skipped;
-      around = statuses.Passed;
-      cleanups = [];
-      steps = record { keyword = codes "Then"; text = codes "the variable \"X\" should be \"1\""; line = 5; status = statuses.Skipped; reason = None } ∷ [];
-    } ∷ [];
-  } ∷ [];
-  around = statuses.Passed;
-}
+line_results = two_rows statuses.Passed (row_A statuses.Passed) (row_B statuses.Skipped None)
 
 -- They are those of the inputs.
 line_is_plain : plain_results (run_with line_request line_inputs) nothing_yet line_inputs.features ≡ line_results
@@ -632,14 +443,10 @@ line_run = ends_so line_request line_inputs line_results line_report 0 line_inpu
 abbrev comment_bytes : List ℕ
 comment_bytes = codes "# nothing\n\n"
 
--- These are the lines of its bytes.
-comment_lines : lines_of comment_bytes ≡ line_at 1 (codes "# nothing") ∷ line_at 2 [] ∷ []
-comment_lines = refl
-
 -- All lines are passed over.
 comment_reads : Reads (lines_of comment_bytes) None
-unfolding class class_of class_of_words language_of
-comment_reads = subst (λ (ls : Lines). Reads ls None) (sym comment_lines) (skip (tt, tt) (skip (tt, tt) skip_none))
+unfolding class class_of class_of_words heading_keyword heading_name step_keyword step_text tags_of cells_of parts_of unescaped closes content_of language_of type_after on_heading on_row on_block on_grid on_body on_open on_line on step run_by finish reading
+comment_reads = sound (lines_of comment_bytes) None refl
 
 -- The bytes are a text.
 comment_is_text : IsText comment_bytes
@@ -674,29 +481,9 @@ several_inputs_read =
       features = (Some one_feature, again, one_is_text, one_reads, one_is_within_limit, (None, again, comment_is_text, comment_reads, tt, (Some one_feature, [], one_is_text, one_reads, one_is_within_limit, refl, refl), refl), refl);
     }
 
--- The row of the feature, by the name of its source.
-abbrev one_row : List ℕ → FeatureRow
-one_row source = record {
-  source = source;
-  name = codes "one";
-  line = 1;
-  status = statuses.Passed;
-  around = statuses.Passed;
-  rules = [];
-  cases = record {
-    keyword = codes "Scenario";
-    name = codes "first";
-    line = 2;
-    status = statuses.Passed;
-    around = statuses.Passed;
-    cleanups = [];
-    steps = record { keyword = codes "Given"; text = codes "it passes"; line = 3; status = statuses.Passed; reason = None } ∷ [];
-  } ∷ [];
-}
-
 -- The results that plain maps give: the features in the order of their sources.
 abbrev several_results : Results
-several_results = record { features = one_row (codes "one.feature") ∷ one_row (codes "again.feature") ∷ []; around = statuses.Passed }
+several_results = results_with (one_row (codes "one.feature") statuses.Passed ∷ one_row (codes "again.feature") statuses.Passed ∷ [])
 
 -- They are those of the inputs.
 several_is_plain : plain_results (run_with several_request several_inputs) nothing_yet several_inputs.features ≡ several_results

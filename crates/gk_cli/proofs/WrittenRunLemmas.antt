@@ -10,6 +10,7 @@ use Rattle.gk_run.specs.Chosen.{ChosenValue}
 use Rattle.gk_run.specs.Cases.{stays_open}
 use Rattle.gk_run.specs.Features.{FeatureCuts, features_of, IsFeatureResult}
 use Rattle.gk_run.specs.Judged.{Judged, BeginsJudged, uncut, plain_results}
+use Rattle.gk_run.specs.Observer.{result_of}
 use Rattle.gk_run.specs.OpenRun.{AreFeatures}
 use Rattle.gk_run.specs.DryRun.{dry_feature_of, dry_features_of, AreDryFeatures}
 use Rattle.gk_steps.specs.Finding.{LibraryValue}
@@ -52,7 +53,7 @@ stops_here old g before rows grown = stopped_here before old (so_far g.style row
 abbrev pub RowsSoFar : Run → State → Bool → List ChosenValue → List FeatureRow → Bool → Type 0
 RowsSoFar run first first_open done rows is_open =
     (outside : State) → (first_open ≡ true → first ≡ outside) → (left : List ChosenValue) (cuts : List FeatureCuts) →
-    (whole : List FeatureCuts) × (rows ++ features_of run outside is_open cuts left ≡ features_of run outside first_open whole (done ++ left))
+    (whole : List FeatureCuts) × (rows ++ result_of (features_of run outside is_open cuts left) ≡ result_of (features_of run outside first_open whole (done ++ left)))
 
 pub rows_first : (run : Run) (first : State) (first_open : Bool) → RowsSoFar run first first_open [] [] first_open
 rows_first run first first_open outside opens left cuts = (cuts, refl)
@@ -64,18 +65,18 @@ rows_next run first now first_open done rows row is_open next f same earlier one
     let here = one outside (λ o. same ∙ opens (earlier o)) in
     let whole = held outside opens (f ∷ left) (here.0 ∷ cuts) in (
       whole.0,
-      append_assoc rows (row ∷ []) (features_of run outside next cuts left)
-          ∙ ap (λ b. rows ++ row ∷ features_of run outside b cuts left) nexts
-          ∙ ap (λ (x : FeatureRow). rows ++ x ∷ features_of run outside (is_open && stays_open run x.status) cuts left) here.1
+      append_assoc rows (row ∷ []) (result_of (features_of run outside next cuts left))
+          ∙ ap (λ b. rows ++ row ∷ result_of (features_of run outside b cuts left)) nexts
+          ∙ ap (λ (x : FeatureRow). rows ++ x ∷ result_of (features_of run outside (is_open && stays_open run x.status) cuts left)) here.1
           ∙ whole.1
-          ∙ ap (features_of run outside first_open whole.0) (sym (append_assoc done (f ∷ []) left)),
+          ∙ ap (λ fs. result_of (features_of run outside first_open whole.0 fs)) (sym (append_assoc done (f ∷ []) left)),
     )
 
 pub rows_last : (run : Run) (first : State) (first_open : Bool) (done : List ChosenValue) (rows : List FeatureRow) (is_open : Bool) →
     RowsSoFar run first first_open done rows is_open → AreFeatures run first first_open done rows
 rows_last run first first_open done rows is_open held outside opens =
     let whole = held outside opens [] [] in
-    (whole.0, sym (append-nil rows) ∙ whole.1 ∙ ap (features_of run outside first_open whole.0) (append-nil done))
+    (whole.0, sym (append-nil rows) ∙ whole.1 ∙ ap (λ fs. result_of (features_of run outside first_open whole.0 fs)) (append-nil done))
 
 -- The same of a dry run.
 abbrev pub DryRowsSoFar : LibraryValue → List ChosenValue → List FeatureRow → Type 0

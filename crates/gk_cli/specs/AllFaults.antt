@@ -11,8 +11,7 @@ use Rattle.gk_steps.specs.LibraryFault.{LibraryFaultSays}
 use Rattle.gk_cli.specs.declared.run_fault.RunFault.{RunFault}
 use Rattle.gk_cli.specs.declared.run_fault.RunFault.TheVariants.{Read, Library, Hooks, Select, Write, Memory}
 use Rattle.gk_cli.specs.declared.arguments.Options.{Options}
-use Rattle.gk_cli.specs.declared.suite_files.SuiteFiles.{SuiteFiles}
-use Rattle.gk_cli.specs.SuiteFiles.{FilesValue, request_of_files, suite_value}
+use Rattle.gk_cli.specs.SuiteFiles.{FilesValue, request_of_files}
 use Rattle.gk_cli.specs.Inputs.{IsLibrary, AreHooks, HasFault, HasTooMany}
 use Rattle.gk_cli.specs.LintedSources.{IsReadAs}
 use Rattle.gk_cli.specs.RunFault.{IsUnread}
@@ -86,8 +85,8 @@ with_first first later = first ∷ later
 -- Law: where what is asked for with these files doesn't read and this is why, it and the faults of the files that are read after it are the faults of all files.
 abbrev pub AllFaultsAreFound : Type 0
 AllFaultsAreFound =
-    (options : Options) (files : SuiteFiles) (first : RunFault) (later : List RunFault) → first ≢ Memory → IsUnread (request_of_files options files) first
-    → AreFaultsOf (files_after (suite_value files) first) later → AreFaultsOf (run_files (suite_value files)) (with_first first later)
+    (options : Options) (files : FilesValue) (first : RunFault) (later : List RunFault) → first ≢ Memory → IsUnread (request_of_files options files) first
+    → AreFaultsOf (files_after files first) later → AreFaultsOf (run_files files) (with_first first later)
 
 -- Proof machinery, from here on: what reading one file answers, or none.
 abbrev pub SaysOfFiles : List RunFile → Result (Unit {0}) RunFault → Type 0

@@ -12,12 +12,10 @@ use Rattle.gk_run.specs.Chosen.{ChosenValue, chosen_value}
 use Rattle.gk_run.specs.Cases.{stays_open}
 use Rattle.gk_run.specs.Ending.{has_passed}
 use Rattle.gk_run.specs.Events.{Event, ended_in}
-use Rattle.gk_run.specs.Features.{IsFeatureResult}
+use Rattle.gk_run.specs.Features.{IsFeatureResult, IsFeatureTold}
 use Rattle.gk_run.specs.Judged.{Judged, BeginsJudged}
-use Rattle.gk_run.specs.OpenRun.{AreFeatures}
-use Rattle.gk_run.specs.OpenSection.{section_state}
-use Rattle.gk_run.specs.SectionContracts.{IsEndTold, IsOpening}
-use Rattle.gk_run.specs.Watching.{IsFeatureTold}
+use Rattle.gk_run.specs.OpenRun.{AreFeatures, opens_features}
+use Rattle.gk_run.specs.OpenSection.{IsEndTold, IsOpening, section_state}
 use Rattle.gk_report.specs.declared.report.Format.TheVariants as formats
 use Rattle.gk_report.specs.declared.report.Style.{Style}
 use Rattle.gk_report.specs.Report.{tail}
@@ -132,7 +130,7 @@ pub record IsExplainedNext (run : Run) (now : State) (is_open next : Bool) (f : 
 -- The next feature of a run was run and told.
 abbrev pub ExplainsNext : Glue → SandboxValue → Chosen → Device → ExplainedSoFar → Device → ExplainedSoFar → Type 0
 ExplainsNext glue now feature old before new after =
-    IsExplainedNext (run_of glue.library.now glue.hooks.now before.suite.stop) (state_of now.now) before.suite.is_open after.suite.is_open (chosen_value feature) old before new after
+    IsExplainedNext (run_of glue.library.now glue.hooks.now before.suite.stop) (state_of now.now) (opens_features before.suite) (opens_features after.suite) (chosen_value feature) old before new after
 
 -- A feature has no result, or it was told and what was ready of it wasn't written whole.
 abbrev pub EndsExplaining : Run → State → Bool → ChosenValue → Explainer → Device → Device → RunFault → Type 0
@@ -143,7 +141,7 @@ EndsExplaining run now is_open f old there new fault =
 -- The same of the next feature of a run.
 abbrev pub EndsNextExplaining : Glue → SandboxValue → Chosen → Device → ExplainedSoFar → Device → RunFault → Type 0
 EndsNextExplaining glue now feature old before new fault =
-    EndsExplaining (run_of glue.library.now glue.hooks.now before.suite.stop) (state_of now.now) before.suite.is_open (chosen_value feature) before.explainer old new fault
+    EndsExplaining (run_of glue.library.now glue.hooks.now before.suite.stop) (state_of now.now) (opens_features before.suite) (chosen_value feature) before.explainer old new fault
 
 -- Features were run and told, and what the explainer had ready of them was written.
 pub record AreExplainedNext (run : Run) (now : State) (is_open : Bool) (features : List ChosenValue) (old : Device) (so_far : ExplainedSoFar) (new : Device) (grown : ExplainedSoFar) : Type 0 where
@@ -169,12 +167,12 @@ pub record AreExplainedUpTo (run : Run) (now : State) (is_open : Bool) (features
 -- The features of a run were run and told.
 abbrev pub ExplainsFeatures : Glue → SandboxValue → List ChosenValue → Device → ExplainedSoFar → Device → ExplainedSoFar → Type 0
 ExplainsFeatures glue now features old before new after =
-    AreExplainedNext (run_of glue.library.now glue.hooks.now before.suite.stop) (state_of now.now) before.suite.is_open features old before new after
+    AreExplainedNext (run_of glue.library.now glue.hooks.now before.suite.stop) (state_of now.now) (opens_features before.suite) features old before new after
 
 -- The first features of a run were run and told.
 abbrev pub EndsExplainingFeatures : Glue → SandboxValue → List ChosenValue → Device → ExplainedSoFar → Device → RunFault → Type 0
 EndsExplainingFeatures glue now features old before new fault =
-    AreExplainedUpTo (run_of glue.library.now glue.hooks.now before.suite.stop) (state_of now.now) before.suite.is_open features old before new fault
+    AreExplainedUpTo (run_of glue.library.now glue.hooks.now before.suite.stop) (state_of now.now) (opens_features before.suite) features old before new fault
 
 -- What an explainer has ready was taken and written.
 pub record IsReadyWritten (old : Device) (there : Explainer) (new : Device) (here : Explainer) : Type 0 where

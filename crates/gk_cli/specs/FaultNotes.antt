@@ -1,6 +1,5 @@
 -- What is said below a fault of a run.
 use Rattle.std.specs.Prelude.{ℕ, ◌-◌, List, [], ◌++◌, codes, slice_get, Option, Some, None, option_map}
-use denote.Ref.{Bor}
 use Rattle.std.specs.Str.Lines.{lines}
 use Rattle.std.specs.Str.Lossy.{utf8_lossy}
 use Rattle.gk_gherkin.specs.ReadFault.{line_of_fault}
@@ -9,13 +8,8 @@ use Rattle.gk_explain.specs.Shown.{shown}
 use Rattle.gk_cli.specs.declared.run_fault.RunFault.{RunFault}
 use Rattle.gk_cli.specs.declared.run_fault.RunFault.TheVariants.{Read, Library, Hooks, Select, Write, Memory}
 use Rattle.gk_cli.specs.Hints.{hint}
-use Rattle.gk_cli.specs.Source.{SourceValue, source_value}
-use Rattle.gk_cli.specs.SuiteFiles.{FilesValue, name_of}
-use Rattle.gk_cli.specs.declared.source.Source.{Source}
-
--- A borrowed file, where there is one.
-abbrev pub lent_value : Option (Bor Source) → Option SourceValue
-lent_value file = option_map (λ (source : Bor Source). source_value source.now) file
+use Rattle.gk_cli.specs.Source.{SourceValue}
+use Rattle.gk_cli.specs.SuiteFiles.{FilesValue}
 
 -- The file that a fault is of: none for the texts of tags, and where no file is at fault.
 abbrev pub file_of : FilesValue → RunFault → Option SourceValue
@@ -27,9 +21,9 @@ file_of files (Select None fault) = None
 file_of files Write = None
 file_of files Memory = None
 
--- The name of the file that a fault is of; no name where it is of none.
-abbrev pub name_at_fault : FilesValue → RunFault → List ℕ
-name_at_fault files fault = name_of (file_of files fault)
+-- The name of the file that a fault is of.
+abbrev pub name_at_fault : FilesValue → RunFault → Option (List ℕ)
+name_at_fault files fault = option_map (λ (file : SourceValue). file.name) (file_of files fault)
 
 -- The line that a fault names.
 abbrev pub line_at_fault : RunFault → Option ℕ

@@ -3,14 +3,12 @@ pub mod Arguments
 pub mod Counted
 pub mod Source
 pub mod Inputs
-pub mod BorrowedSuite
 pub mod RunFault
 pub mod SuiteFiles
 pub mod Suite
 pub mod RowOrder
 pub mod GrowingReport
 pub mod WrittenRun
-pub mod ReportedSuite
 pub mod ExplainedRun
 pub mod ExplainedSuite
 pub mod FindingLines
@@ -18,4 +16,5 @@ pub mod LintedSources
 pub mod LintedSuite
 pub mod AllFaults
 pub mod Hints
+pub mod FaultLine
 pub mod FaultNotes

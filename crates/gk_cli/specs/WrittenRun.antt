@@ -7,14 +7,13 @@ use Rattle.gk_steps.specs.Finding.{LibraryValue, library_value}
 use Rattle.gk_world.specs.State.{Contents, State, state_of}
 use Rattle.gk_world.specs.Sandbox.{SandboxValue}
 use Rattle.gk_run.specs.declared.chosen.Chosen.{Chosen}
-use Rattle.gk_run.specs.declared.open_run.state.Suite.{Suite}
 use Rattle.gk_run.specs.Results.{FeatureRow, Results}
 use Rattle.gk_run.specs.Run.{Run, run_of}
 use Rattle.gk_run.specs.Chosen.{ChosenValue, chosen_value}
 use Rattle.gk_run.specs.Cases.{stays_open}
 use Rattle.gk_run.specs.Features.{FeatureCuts, IsFeatureResult}
 use Rattle.gk_run.specs.Judged.{Judged}
-use Rattle.gk_run.specs.OpenRun.{AreFeatures}
+use Rattle.gk_run.specs.OpenRun.{AreFeatures, SuiteValue, opens_features}
 use Rattle.gk_run.specs.DryRun.{dry_feature_of}
 use Rattle.gk_report.specs.declared.report.Style.{Style}
 use Rattle.gk_report.specs.Report.{report}
@@ -81,13 +80,13 @@ AreWrittenUpTo Give features old g new fault =
 -- The next feature of a run was run, and its part was written.
 abbrev pub RunsNext : Glue → SandboxValue → Chosen → Device → RunSoFar → Device → RunSoFar → Type 0
 RunsNext glue now feature old before new after =
-    IsRunNext (run_of glue.library.now glue.hooks.now before.suite.stop) (state_of now.now) before.suite.is_open after.suite.is_open (chosen_value feature) old before.report new after.report
+    IsRunNext (run_of glue.library.now glue.hooks.now before.suite.stop) (state_of now.now) (opens_features before.suite) (opens_features after.suite) (chosen_value feature) old before.report new after.report
 
 -- The next feature of a run has no result, or its part wasn't written whole.
 abbrev pub EndsRunNext : Glue → SandboxValue → Chosen → Device → RunSoFar → Device → RunFault → Type 0
 EndsRunNext glue now feature old before new fault =
-    EndsNext (run_of glue.library.now glue.hooks.now before.suite.stop) (state_of now.now) before.suite.is_open (chosen_value feature) old before.report new fault
+    EndsNext (run_of glue.library.now glue.hooks.now before.suite.stop) (state_of now.now) (opens_features before.suite) (chosen_value feature) old before.report new fault
 
 -- These rows are results of these features, for some cuts, in a run that stands so, from this sandbox.
-abbrev pub AreRun : Glue → SandboxValue → Suite → List ChosenValue → List FeatureRow → Type 0
-AreRun glue now suite = AreFeatures (run_of glue.library.now glue.hooks.now suite.stop) (state_of now.now) suite.is_open
+abbrev pub AreRun : Glue → SandboxValue → SuiteValue → List ChosenValue → List FeatureRow → Type 0
+AreRun glue now suite = AreFeatures (run_of glue.library.now glue.hooks.now suite.stop) (state_of now.now) (opens_features suite)

@@ -1,7 +1,7 @@
 //! The faults of all files of a run.
-ghost use Rattle.std.specs.Prelude.{List, ◌∷◌, ◌+◌, [], drop, map, IfOk, OnOk};
+ghost use Rattle.std.specs.Prelude.{List, ◌∷◌, ◌+◌, [], drop, map, option_map, IfOk, OnOk};
 ghost use Rattle.gk_cli.specs.AllFaults.{RunFile, source_at, AllFaultsAreFound, AreFaultsOf, AreAdded, SaysOfFiles, after_library, files_after, hooks_files, library_files, run_files, sources_from};
-ghost use Rattle.gk_cli.specs.SuiteFiles.{file_value, suite_value};
+ghost use Rattle.gk_cli.specs.SuiteFiles.{suite_value};
 ghost use Rattle.gk_cli.specs.Source.{source_value};
 
 use crate::inputs::{hooks_fault, library_fault, read_hook_file, read_step_library};
@@ -13,7 +13,7 @@ use std::alloc::{AllocError, Global};
 
 // Whether the library file reads, if there is one.
 fn check_library(alloc: Global, library: &Option<Source>) -> Result<(), RunFault>
-    ensures { SaysOfFiles (library_files (file_value library.now)) result }
+    ensures { SaysOfFiles (library_files (option_map source_value library.now)) result }
 {
     match read_step_library(alloc, bytes_of(library)) {
         Ok(_library) => Ok(()),
@@ -23,7 +23,7 @@ fn check_library(alloc: Global, library: &Option<Source>) -> Result<(), RunFault
 
 // Whether the hooks file reads, if there is one.
 fn check_hooks(alloc: Global, hooks: &Option<Source>) -> Result<(), RunFault>
-    ensures { SaysOfFiles (hooks_files (file_value hooks.now)) result }
+    ensures { SaysOfFiles (hooks_files (option_map source_value hooks.now)) result }
 {
     match read_hook_file(alloc, bytes_of(hooks)) {
         Ok(_hooks) => Ok(()),
@@ -95,9 +95,9 @@ fn add_sources_after(
 fn add_after_library(
     faults: &mut Vec<RunFault>,
     alloc: Global,
-    files: &SuiteFiles,
+    files: &SuiteFiles<Source>,
 ) -> Result<(), AllocError>
-    ensures { OnOk result (AreAdded (after_library (suite_value files.now))
+    ensures { OnOk result (AreAdded (after_library (suite_value source_value files.now))
         faults.old.items faults.new.items) }
 {
     add_fault(faults, check_hooks(alloc, &files.hooks))?;
@@ -105,8 +105,12 @@ fn add_after_library(
 }
 
 // Adds the faults of all files.
-fn add_all(faults: &mut Vec<RunFault>, alloc: Global, files: &SuiteFiles) -> Result<(), AllocError>
-    ensures { OnOk result (AreAdded (run_files (suite_value files.now))
+fn add_all(
+    faults: &mut Vec<RunFault>,
+    alloc: Global,
+    files: &SuiteFiles<Source>,
+) -> Result<(), AllocError>
+    ensures { OnOk result (AreAdded (run_files (suite_value source_value files.now))
         faults.old.items faults.new.items) }
 {
     add_fault(faults, check_library(alloc, &files.library))?;
@@ -117,10 +121,10 @@ fn add_all(faults: &mut Vec<RunFault>, alloc: Global, files: &SuiteFiles) -> Res
 fn add_after(
     faults: &mut Vec<RunFault>,
     alloc: Global,
-    files: &SuiteFiles,
+    files: &SuiteFiles<Source>,
     first: RunFault,
 ) -> Result<(), AllocError>
-    ensures { OnOk result (AreAdded (files_after (suite_value files.now) first)
+    ensures { OnOk result (AreAdded (files_after (suite_value source_value files.now) first)
         faults.old.items faults.new.items) }
 {
     let sources = files.sources.as_slice();
@@ -142,11 +146,11 @@ fn add_after(
 /// growth was refused.
 pub fn faults_after(
     alloc: Global,
-    files: &SuiteFiles,
+    files: &SuiteFiles<Source>,
     first: RunFault,
 ) -> Result<Vec<RunFault>, AllocError>
     ensures { IfOk result (λ faults.
-        AreFaultsOf (files_after (suite_value files.now) first) faults.items) }
+        AreFaultsOf (files_after (suite_value source_value files.now) first) faults.items) }
 {
     let mut faults = Vec::new(alloc);
     add_after(&mut faults, alloc, files, first)?;

@@ -49,7 +49,7 @@ const EXPLANATION_CLASH: &str =
 const LINT_CLASH: &str =
     "the argument '--lint' cannot be used with '--explain', '--format', '--dry-run', '--no-skipped', '--stop' or '--env'";
 
-const VERSION: &str = "unreleased, proved with rattle-kit-13b";
+const VERSION: &str = "unreleased";
 
 /// Which scenarios run, how they run, and how the report is written.
 #[derive(Debug, Drop)]

@@ -1,10 +1,9 @@
 //! A run whose explanation is written as its features end.
 ghost use Rattle.std.specs.Prelude.{◌≡◌, map, IfOk, IfErr, OnOk};
 ghost use Rattle.std.specs.List.{AllByRecursion};
-ghost use Rattle.gk_world.specs.Sandbox.{depth};
+ghost use Rattle.gk_world.specs.Sandbox.{depth, IsSame};
 ghost use Rattle.gk_run.specs.Run.{run_of};
 ghost use Rattle.gk_run.specs.Chosen.{chosen_value, IsFormed};
-ghost use Rattle.gk_run.specs.Running.{IsSame};
 ghost use Rattle.gk_run.specs.OpenRun.{IsKept};
 ghost use Rattle.gk_cli.specs.Suite.{device_of};
 ghost use Rattle.gk_cli.specs.ExplainedRun.{IsExplained, IsExplainedUpTo, ExplainsNext, EndsNextExplaining, ExplainsFeatures, EndsExplainingFeatures, IsReadyWritten, IsReadyStopped, IsEndWritten, IsEndStopped};
@@ -68,7 +67,7 @@ fn explain_next<W: Write>(
     feature: Chosen,
     out: &mut Counted<W>,
 ) -> Result<(), RunFault>
-    requires innermost { so_far.old.suite.section.layer ≡ depth sandbox.old }
+    requires innermost { so_far.old.suite.layer ≡ depth sandbox.old }
     requires formed { IsFormed feature }
     ensures kept { IsKept so_far.old.suite so_far.new.suite }
     ensures same { IsSame sandbox.old sandbox.new }
@@ -107,7 +106,7 @@ fn explain_features<W: Write>(
     features: Vec<Chosen>,
     out: &mut Counted<W>,
 ) -> Result<(), RunFault>
-    requires innermost { so_far.old.suite.section.layer ≡ depth sandbox.old }
+    requires innermost { so_far.old.suite.layer ≡ depth sandbox.old }
     requires formed { AllByRecursion IsFormed features.items }
     ensures kept { IsKept so_far.old.suite so_far.new.suite }
     ensures same { IsSame sandbox.old sandbox.new }

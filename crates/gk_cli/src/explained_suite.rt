@@ -1,17 +1,17 @@
 //! The whole run, explained.
 ghost use Rattle.std.specs.Prelude.{◌≡◌, IfOk, IfErr, OnOk};
-ghost use Rattle.gk_world.specs.Sandbox.{depth};
-ghost use Rattle.gk_run.specs.Running.{IsSame};
+ghost use Rattle.gk_world.specs.Sandbox.{depth, IsSame};
 ghost use Rattle.gk_cli.specs.Counted.{HasNotFailed, IsUnflushed, IsNeverIdle};
 ghost use Rattle.gk_cli.specs.Suite.{device_of};
-ghost use Rattle.gk_cli.specs.SuiteFiles.{request_of_files, hooks_name, HaveSameNames, AreGivenUp, AreGivenUpInTurn};
+ghost use Rattle.gk_cli.specs.SuiteFiles.{suite_value, request_of_files, hooks_name, HaveSameNames, AreGivenUp, AreGivenUpInTurn};
 ghost use Rattle.gk_cli.specs.ExplainedSuite.{Explained, SaysExplanationFault};
 
 use crate::arguments::Options;
 use crate::counted::Counted;
 use crate::explained_run::{Explaining, write_explanation};
-use crate::inputs::take_inputs;
+use crate::inputs::read_inputs;
 use crate::run_fault::RunFault;
+use crate::source::FeatureSource;
 use crate::suite_files::{SuiteFiles, name_of};
 use gk_world::Sandbox;
 use std::alloc::Global;
@@ -29,11 +29,11 @@ use std::io::Write;
 /// files, variables, values and layers of the sandbox are as they were, and nothing is flushed. The sources are given
 /// up as in `report_suite`, and the names stay. No layer of the sandbox is open. A count of the writer's that has
 /// reached `u64::MAX` stays there.
-pub fn explain_suite<W: Write>(
+pub fn explain_suite<S: FeatureSource, W: Write>(
     alloc: Global,
     sandbox: &mut Sandbox,
     options: &Options,
-    files: &mut SuiteFiles,
+    files: &mut SuiteFiles<S>,
     out: &mut Counted<W>,
 ) -> Result<u8, RunFault>
     requires outside { depth sandbox.old ≡ 0 }
@@ -41,26 +41,30 @@ pub fn explain_suite<W: Write>(
     // What was written is the explanation of a run that was told event by event, whose results are judged; the
     // status is theirs.
     ensures explained { IfOk result (Explained
-        (request_of_files options.now files.old) (hooks_name files.old) sandbox.old.now
+        (request_of_files options.now (suite_value S.value files.old))
+        (hooks_name (suite_value S.value files.old)) sandbox.old.now
         (device_of W.contents out.old) (device_of W.contents out.new)) }
     // Whatever is returned, files, variables, values and layers are as they were.
     ensures same { IsSame sandbox.old sandbox.new }
     // Which fault it is, and what was written.
     ensures fault { IfErr result (SaysExplanationFault
-        (request_of_files options.now files.old) (hooks_name files.old) sandbox.old.now
+        (request_of_files options.now (suite_value S.value files.old))
+        (hooks_name (suite_value S.value files.old)) sandbox.old.now
         (device_of W.contents out.old) (device_of W.contents out.new)) }
     // Whatever is returned, the names stay.
-    ensures names { HaveSameNames files.old files.new }
+    ensures names { HaveSameNames (suite_value S.value files.old) (suite_value S.value files.new) }
     // The sources gave up their bytes one after another; at a status each has.
-    ensures in_turn { AreGivenUpInTurn files.old files.new }
-    ensures given_up { OnOk result (AreGivenUp files.old files.new) }
+    ensures in_turn { AreGivenUpInTurn
+        (suite_value S.value files.old) (suite_value S.value files.new) }
+    ensures given_up { OnOk result (AreGivenUp
+        (suite_value S.value files.old) (suite_value S.value files.new)) }
     // A status comes only where the writer didn't fail.
     ensures quiet { OnOk result (HasNotFailed out.old out.new) }
     // Each call of the writer moved at least one byte.
     ensures busy { OnOk result (IsNeverIdle out.old out.new) }
     ensures unflushed { IsUnflushed out.old out.new }
 {
-    match take_inputs(alloc, options, files) {
+    match read_inputs(alloc, options, files) {
         Ok(inputs) => {
             let explaining = Explaining {
                 alloc,

@@ -3,20 +3,21 @@ ghost use Rattle.std.specs.Prelude.{◌≡◌, ◌-◌, option_map, slice_get};
 ghost use Rattle.std.specs.Str.Lines.{lines};
 ghost use Rattle.gk_report.specs.ReportTexts.{Pushes};
 ghost use Rattle.gk_explain.specs.Shown.{shown};
+ghost use Rattle.gk_cli.specs.Source.{source_value};
 ghost use Rattle.gk_cli.specs.SuiteFiles.{suite_value};
 ghost use Rattle.gk_cli.specs.FaultNotes as spec;
-ghost use Rattle.gk_cli.specs.FaultNotes.{lent_value};
 
 use crate::hints::hint;
 use crate::run_fault::RunFault;
-use crate::source::Source;
+use crate::source::{FeatureSource, Source};
 use crate::suite_files::SuiteFiles;
 use gk_explain::push_shown;
 use std::alloc::{AllocError, Global};
 
 // The file that a fault is of, if it is of one.
-fn file_of<'a>(files: &'a SuiteFiles, fault: RunFault) -> Option<&'a Source>
-    ensures { lent_value result ≡ spec.file_of (suite_value files.now) fault }
+fn file_of<'a, S: FeatureSource>(files: &'a SuiteFiles<S>, fault: RunFault) -> Option<&'a S>
+    ensures { option_map (λ file. S.value file.now) result
+        ≡ spec.file_of (suite_value S.value files.now) fault }
 {
     match fault {
         RunFault::Read { input, .. } => files.sources.get(input),
@@ -30,14 +31,17 @@ fn file_of<'a>(files: &'a SuiteFiles, fault: RunFault) -> Option<&'a Source>
     }
 }
 
-/// The name of the file that a fault of a run of these files is of; an empty one where it is of none. Takes no
-/// memory.
-pub fn name_at_fault<'a>(files: &'a SuiteFiles, fault: RunFault) -> &'a str
-    ensures { result.now ≡ spec.name_at_fault (suite_value files.now) fault }
+/// Returns the name of the file that a fault of a run of these files is of, if it is of one. Takes no memory.
+pub fn name_at_fault<'a, S: FeatureSource>(
+    files: &'a SuiteFiles<S>,
+    fault: RunFault,
+) -> Option<&'a str>
+    ensures { option_map (λ name. name.now) result
+        ≡ spec.name_at_fault (suite_value S.value files.now) fault }
 {
     match file_of(files, fault) {
-        Some(file) => file.name.as_str(),
-        None => "",
+        Some(file) => Some(file.name()),
+        None => None,
     }
 }
 
@@ -90,14 +94,16 @@ fn push_line(out: &mut String, alloc: Global, bytes: &[u8], line: u32) -> Result
     }
 }
 
-// Pushes the line of a file, where both are there.
+// Pushes the line of a file, if both are known.
 fn push_quote(
     out: &mut String,
     alloc: Global,
     file: Option<&Source>,
     line: Option<u32>,
 ) -> Result<(), AllocError>
-    ensures { Pushes out.old (spec.quote_of (lent_value file.entry) line) result out.new }
+    ensures { Pushes out.old
+        (spec.quote_of (option_map (λ file. source_value file.now) file.entry) line)
+        result out.new }
 {
     match file {
         Some(file) => match line {
@@ -114,10 +120,11 @@ fn push_quote(
 pub fn push_notes(
     out: &mut String,
     alloc: Global,
-    files: &SuiteFiles,
+    files: &SuiteFiles<Source>,
     fault: RunFault,
 ) -> Result<(), AllocError>
-    ensures { Pushes out.old (spec.notes (suite_value files.now) fault) result out.new }
+    ensures { Pushes out.old
+        (spec.notes (suite_value source_value files.now) fault) result out.new }
 {
     push_quote(out, alloc, file_of(files, fault), line_at_fault(fault))?;
     push_note(out, hint(fault))

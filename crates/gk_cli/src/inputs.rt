@@ -10,9 +10,8 @@ ghost use Rattle.gk_select.specs.Expansion.{IsExpandable};
 ghost use Rattle.gk_select.specs.TagRules.{tag_rule_value};
 ghost use Rattle.gk_steps.specs.Finding.{library_value};
 ghost use Rattle.gk_run.specs.Chosen.{chosen_value, head_value, IsFormed};
-ghost use Rattle.gk_cli.specs.Source.{borrowed_value, source_value, names_of, without_bytes, GaveUpInTurn};
-ghost use Rattle.gk_cli.specs.SuiteFiles.{request_of_files, HaveSameNames, AreGivenUp, AreGivenUpInTurn};
-ghost use Rattle.gk_cli.specs.BorrowedSuite.{asked_borrowed};
+ghost use Rattle.gk_cli.specs.Source.{names_of, without_bytes, GaveUpInTurn};
+ghost use Rattle.gk_cli.specs.SuiteFiles.{suite_value, request_of_files, HaveSameNames, AreGivenUp, AreGivenUpInTurn};
 ghost use Rattle.gk_cli.specs.Inputs as spec;
 ghost use Rattle.gk_cli.specs.Inputs.{asked_of, AreRules, IsLibrary, AreHooks, AreRead, AreInputs, IsReading, IsReadBefore, IsReadOnto, inputs_value};
 ghost use Rattle.gk_cli.specs.RunFault as faults;
@@ -20,12 +19,12 @@ ghost use Rattle.gk_cli.specs.RunFault.{IsUnread, IsUnreadBefore, SaysTags, Says
 
 use crate::arguments::Options;
 use crate::run_fault::RunFault;
-use crate::source::{BorrowedSource, Source};
+use crate::source::FeatureSource;
 use crate::suite_files::{SuiteFiles, bytes_of};
 use gk_gherkin::{Feature, HookFile, ReadFault, Rule, read_feature, read_hooks};
 use gk_run::{Chosen, RuleHead};
 use gk_select::{
-    Case, Choice, SelectFault, TagRule, cases_fall_into_rules, into_cases,
+    Case, Choice, SelectFault, TagRule, cases_fall_into_rules, copied_texts, into_cases,
     read_features_are_expandable, read_tags,
 };
 use gk_steps::{Library, LibraryFault, default_library, read_library};
@@ -111,31 +110,13 @@ pub fn hooks_fault(fault: ReadFault) -> RunFault
     }
 }
 
-fn copied_lines(alloc: Global, lines: &[u32]) -> Result<Vec<u32>, AllocError>
-    ensures { IfOk result (λ copy. copy.items ≡ lines.now) }
-{
-    let mut copy = Vec::new(alloc);
-    copy.extend_from_slice(lines)?;
-    Ok(copy)
-}
-
 // The choice by these rules and lines.
 fn choice_by(alloc: Global, rules: Vec<TagRule>, lines: &[u32]) -> Result<Choice, AllocError>
     ensures { IfOk result (λ choice. chosen_by choice
         ≡ is_chosen (map tag_rule_value rules.items) lines.now) }
 {
-    let lines = copied_lines(alloc, lines)?;
+    let lines = Vec::from_slice(alloc, lines)?;
     Ok(Choice::new(rules, lines))
-}
-
-fn copied_texts(alloc: Global, from: &[String]) -> Result<Vec<String>, AllocError>
-    ensures { IfOk result (λ copy. texts copy.items ≡ texts from.now) }
-{
-    let mut copy = Vec::new(alloc);
-    for text in from {
-        copy.push(String::from_str(alloc, text.as_str())?)?;
-    }
-    Ok(copy)
 }
 
 // For each case whether it is chosen.
@@ -227,8 +208,8 @@ fn chosen_of(
     })
 }
 
-/// The fault of the source at a place, from that of its file. Takes no memory.
-pub fn read_fault_at(input: usize, fault: ReadFault) -> RunFault
+// The fault of the source at a place, from that of its file. Takes no memory.
+fn read_fault_at(input: usize, fault: ReadFault) -> RunFault
     ensures { result ≡ faults.read_fault_at input fault }
 {
     match fault {
@@ -250,8 +231,8 @@ pub fn select_fault_at(input: usize, fault: SelectFault) -> RunFault
     }
 }
 
-// The feature of these bytes of the source at a place, if they have one.
-fn feature_at(alloc: Global, input: usize, bytes: &[u8]) -> Result<Option<Feature>, RunFault>
+/// The feature of these bytes of the source at a place, if they have one. An error says why they don't read.
+pub fn feature_at(alloc: Global, input: usize, bytes: &[u8]) -> Result<Option<Feature>, RunFault>
     ensures read { IfOk result (λ feature. IsReading bytes.now (option_map feature_value feature)) }
     ensures fault { IfErr result (λ e. SaysSourceAt input bytes.now e) }
 {
@@ -263,125 +244,75 @@ fn feature_at(alloc: Global, input: usize, bytes: &[u8]) -> Result<Option<Featur
     }
 }
 
-// A source by its place and its name.
-#[derive(Clone, Copy)]
-struct SourceAt<'a> {
-    input: usize,
-    name: &'a str,
-}
-
-// Adds the feature of a source after those of other sources.
+// Adds the feature of the source at a place, of this name, after those of other sources.
 fn add_feature(
     alloc: Global,
     choice: &Choice,
-    source: SourceAt<'_>,
+    input: usize,
+    name: &str,
     feature: Feature,
     features: &mut Vec<Chosen>,
 ) -> Result<(), RunFault>
     requires { IsExpandable (feature_value feature) }
     ensures added { OnOk result (map chosen_value features.new.items
         ≡ map chosen_value features.old.items ++ spec.chosen_of
-        (chosen_by choice.now) source.entry.name.now (feature_value feature) ∷ []) }
+        (chosen_by choice.now) name.now (feature_value feature) ∷ []) }
     ensures formed { OnOk result (AllByRecursion IsFormed features.old.items
         → AllByRecursion IsFormed features.new.items) }
     ensures limit { OnOk result (spec.IsWithinLimit (Some (feature_value feature))) }
-    ensures fault { IfErr result (λ e. SaysTooMany source.entry.input (feature_value feature) e) }
+    ensures fault { IfErr result (λ e. SaysTooMany input (feature_value feature) e) }
 {
-    let chosen = match chosen_of(alloc, choice, source.name, feature) {
+    let chosen = match chosen_of(alloc, choice, name, feature) {
         Ok(chosen) => chosen,
-        Err(fault) => return Err(select_fault_at(source.input, fault)),
+        Err(fault) => return Err(select_fault_at(input, fault)),
     };
     features.push(chosen)?;
     Ok(())
 }
 
-// Reads the source at a place, and adds its feature after those of other sources, if it has one.
-fn read_onto(
+// Reads the source at a place, and adds its feature after those of other sources, if it has one. The source gives up
+// its bytes before the cases of its feature are listed.
+fn read_onto<S: FeatureSource>(
     alloc: Global,
     choice: &Choice,
     input: usize,
-    source: &BorrowedSource<'_>,
+    source: &mut S,
     features: &mut Vec<Chosen>,
 ) -> Result<(), RunFault>
-    ensures ok { OnOk result (IsReadOnto (chosen_by choice.now) (borrowed_value source.now)
+    ensures given_up { S.value source.new ≡ without_bytes (S.value source.old) }
+    ensures ok { OnOk result (IsReadOnto (chosen_by choice.now) (S.value source.old)
         features.old.items features.new.items) }
-    ensures fault { IfErr result (λ e. SaysSourceAt input source.now.bytes.now e) }
+    ensures fault { IfErr result (λ e. SaysSourceAt input (S.value source.old).bytes e) }
 {
-    let name = source.name;
-    match feature_at(alloc, input, source.bytes) {
-        Ok(Some(feature)) => {
-            add_feature(alloc, choice, SourceAt { input, name }, feature, features)
-        }
-        Ok(None) => Ok(()),
-        Err(fault) => Err(fault),
-    }
-}
-
-// Does what `read_onto` does, and the source gives up its bytes, before the cases of its feature are listed.
-fn take_onto(
-    alloc: Global,
-    choice: &Choice,
-    input: usize,
-    source: &mut Source,
-    features: &mut Vec<Chosen>,
-) -> Result<(), RunFault>
-    ensures given_up { source_value source.new ≡ without_bytes (source_value source.old) }
-    ensures ok { OnOk result (IsReadOnto (chosen_by choice.now) (source_value source.old)
-        features.old.items features.new.items) }
-    ensures fault { IfErr result (λ e. SaysSourceAt input source.old.bytes.items e) }
-{
-    let read = feature_at(alloc, input, source.bytes.as_slice());
-    source.bytes = Vec::new(alloc);
-    let name = source.name.as_str();
+    let read = feature_at(alloc, input, source.bytes());
+    source.give_up(alloc);
+    let name = source.name();
     match read {
-        Ok(Some(feature)) => {
-            add_feature(alloc, choice, SourceAt { input, name }, feature, features)
-        }
+        Ok(Some(feature)) => add_feature(alloc, choice, input, name, feature, features),
         Ok(None) => Ok(()),
         Err(fault) => Err(fault),
     }
 }
 
-fn read_sources(
+// Reads sources, each of which gives up its bytes before the next one is read.
+fn read_sources<S: FeatureSource>(
     alloc: Global,
     choice: &Choice,
-    sources: &[BorrowedSource<'_>],
+    sources: &mut [S],
 ) -> Result<Vec<Chosen>, RunFault>
     ensures read { IfOk result (λ features. AreRead (chosen_by choice.now)
-        (map borrowed_value sources.now) (map chosen_value features.items)) }
+        (map S.value sources.old) (map chosen_value features.items)) }
     ensures formed { IfOk result (λ features. AllByRecursion IsFormed features.items) }
     ensures fault { IfErr result (λ e. SaysSources (chosen_by choice.now)
-        (map borrowed_value sources.now) e) }
-{
-    let mut features = Vec::new(alloc);
-    for (input, source) in sources.iter().enumerate() {
-        if let Err(fault) = read_onto(alloc, choice, input, source, &mut features) {
-            return Err(fault);
-        }
-    }
-    Ok(features)
-}
-
-// Does what `read_sources` does, and the sources give up their bytes, each before the next one is read.
-fn take_sources(
-    alloc: Global,
-    choice: &Choice,
-    sources: &mut [Source],
-) -> Result<Vec<Chosen>, RunFault>
-    ensures read { IfOk result (λ features. AreRead (chosen_by choice.now)
-        (map source_value sources.old) (map chosen_value features.items)) }
-    ensures formed { IfOk result (λ features. AllByRecursion IsFormed features.items) }
-    ensures fault { IfErr result (λ e. SaysSources (chosen_by choice.now)
-        (map source_value sources.old) e) }
-    ensures names { names_of (map source_value sources.new)
-        ≡ names_of (map source_value sources.old) }
-    ensures in_turn { GaveUpInTurn (map source_value sources.old) (map source_value sources.new) }
-    ensures given_up { OnOk result (map source_value sources.new
-        ≡ map without_bytes (map source_value sources.old)) }
+        (map S.value sources.old) e) }
+    ensures names { names_of (map S.value sources.new) ≡ names_of (map S.value sources.old) }
+    ensures in_turn { GaveUpInTurn (map S.value sources.old) (map S.value sources.new) }
+    ensures given_up { OnOk result (map S.value sources.new
+        ≡ map without_bytes (map S.value sources.old)) }
 {
     let mut features = Vec::new(alloc);
     for (input, source) in sources.iter_mut().enumerate() {
-        if let Err(fault) = take_onto(alloc, choice, input, source, &mut features) {
+        if let Err(fault) = read_onto(alloc, choice, input, source, &mut features) {
             return Err(fault);
         }
     }
@@ -428,50 +359,23 @@ pub fn read_before(
     })
 }
 
-/// Reads what a run is asked for: first the texts of tags, then the library, then the hooks, then each
-/// source in turn. An error names the first that doesn't read.
-pub fn read_inputs(
+/// Reads what a run is asked for: first the texts of tags, then the library, then the hooks, then each source. An error
+/// names the first that doesn't read. Each source gives up its bytes before the next one is read, and the names stay.
+pub fn read_inputs<S: FeatureSource>(
     alloc: Global,
     options: &Options,
-    library: Option<&[u8]>,
-    hooks: Option<&[u8]>,
-    sources: &[BorrowedSource<'_>],
+    files: &mut SuiteFiles<S>,
 ) -> Result<ReadInputs, RunFault>
+    ensures names { HaveSameNames (suite_value S.value files.old) (suite_value S.value files.new) }
+    ensures in_turn { AreGivenUpInTurn
+        (suite_value S.value files.old) (suite_value S.value files.new) }
+    ensures given_up { OnOk result (AreGivenUp
+        (suite_value S.value files.old) (suite_value S.value files.new)) }
     ensures read { IfOk result (λ inputs. AreInputs
-        (asked_borrowed options.now library.entry hooks.entry sources.now) (inputs_value inputs)) }
+        (request_of_files options.now (suite_value S.value files.old)) (inputs_value inputs)) }
     ensures formed { IfOk result (λ inputs. AllByRecursion IsFormed inputs.features.items) }
     ensures fault { IfErr result (λ e. IsUnread
-        (asked_borrowed options.now library.entry hooks.entry sources.now) e) }
-{
-    let before = match read_before(alloc, options, library, hooks) {
-        Ok(before) => before,
-        Err(fault) => return Err(fault),
-    };
-    let choice = choice_by(alloc, before.rules, options.lines.as_slice())?;
-    match read_sources(alloc, &choice, sources) {
-        Ok(features) => Ok(ReadInputs {
-            library: before.library,
-            hooks: before.hooks,
-            features,
-        }),
-        Err(fault) => Err(fault),
-    }
-}
-
-/// Reads these files as `read_inputs` does. Each source gives up its bytes before the next one is read, and the
-/// names stay.
-pub fn take_inputs(
-    alloc: Global,
-    options: &Options,
-    files: &mut SuiteFiles,
-) -> Result<ReadInputs, RunFault>
-    ensures names { HaveSameNames files.old files.new }
-    ensures in_turn { AreGivenUpInTurn files.old files.new }
-    ensures given_up { OnOk result (AreGivenUp files.old files.new) }
-    ensures read { IfOk result (λ inputs. AreInputs
-        (request_of_files options.now files.old) (inputs_value inputs)) }
-    ensures formed { IfOk result (λ inputs. AllByRecursion IsFormed inputs.features.items) }
-    ensures fault { IfErr result (λ e. IsUnread (request_of_files options.now files.old) e) }
+        (request_of_files options.now (suite_value S.value files.old)) e) }
 {
     let library = bytes_of(&files.library);
     let hooks = bytes_of(&files.hooks);
@@ -480,7 +384,7 @@ pub fn take_inputs(
         Err(fault) => return Err(fault),
     };
     let choice = choice_by(alloc, before.rules, options.lines.as_slice())?;
-    match take_sources(alloc, &choice, files.sources.as_mut_slice()) {
+    match read_sources(alloc, &choice, files.sources.as_mut_slice()) {
         Ok(features) => Ok(ReadInputs {
             library: before.library,
             hooks: before.hooks,

@@ -4,10 +4,10 @@
 
 mod all_faults;
 mod arguments;
-mod borrowed_suite;
 mod counted;
 mod explained_run;
 mod explained_suite;
+mod fault_line;
 mod fault_notes;
 mod finding_lines;
 mod growing_report;
@@ -15,7 +15,6 @@ mod hints;
 mod inputs;
 mod linted_sources;
 mod linted_suite;
-mod reported_suite;
 mod row_order;
 mod run_fault;
 mod source;
@@ -25,14 +24,13 @@ mod written_run;
 
 pub use all_faults::{all_faults_are_found, faults_after};
 pub use arguments::{Mode, Options, Words, WordsFault, read_words};
-pub use borrowed_suite::run_borrowed_suite;
 pub use counted::{Counted, NotWritten, write_whole};
 pub use explained_suite::explain_suite;
+pub use fault_line::NamedFault;
 pub use fault_notes::{name_at_fault, push_notes};
 pub use linted_suite::lint_suite;
-pub use reported_suite::report_suite;
 pub use row_order::judged_rows_are_in_file_order;
 pub use run_fault::RunFault;
-pub use source::{BorrowedSource, Source, SourceFault, read_source};
-pub use suite::{inputs_are_unique, run_suite};
+pub use source::{BorrowedSource, FeatureSource, Source, SourceFault, read_source};
+pub use suite::{inputs_are_unique, report_suite, run_suite};
 pub use suite_files::SuiteFiles;

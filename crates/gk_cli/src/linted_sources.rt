@@ -13,10 +13,10 @@ ghost use Rattle.gk_cli.specs.LintedSources as spec;
 ghost use Rattle.gk_cli.specs.LintedSources.{IsReadAs, IsLintOf, IsLintedOnto, SaysOfSources, used_by};
 
 use crate::finding_lines::push_findings;
-use crate::inputs::{read_fault_at, select_fault_at};
+use crate::inputs::{feature_at, select_fault_at};
 use crate::run_fault::RunFault;
 use crate::source::Source;
-use gk_gherkin::{Feature, LIMIT, read_feature, text_of};
+use gk_gherkin::{Feature, LIMIT, text_of};
 use gk_lint::{Finding, StepFindings, in_order, lint_feature, lint_steps};
 use gk_select::{SelectFault, expand, read_features_are_expandable};
 use gk_steps::Library;
@@ -59,16 +59,13 @@ pub fn read_one(alloc: Global, input: usize, source: &Source) -> Result<Option<F
         (option_map feature_value feature)) }
     ensures fault { IfErr result (λ e. SaysSourceAt input source.now.bytes.items e) }
 {
-    let feature = match read_feature(alloc, source.bytes.as_slice()) {
-        Ok(Some(feature)) => feature,
-        Ok(None) => return Ok(None),
-        Err(fault) => return Err(read_fault_at(input, fault)),
-    };
-    // No code runs here: the law says that what was read can be expanded.
-    read_features_are_expandable();
-    match check_limit(alloc, &feature) {
-        Ok(()) => Ok(Some(feature)),
-        Err(fault) => Err(select_fault_at(input, fault)),
+    match feature_at(alloc, input, source.bytes.as_slice()) {
+        Ok(Some(feature)) => match check_limit(alloc, &feature) {
+            Ok(()) => Ok(Some(feature)),
+            Err(fault) => Err(select_fault_at(input, fault)),
+        },
+        Ok(None) => Ok(None),
+        Err(fault) => Err(fault),
     }
 }
 

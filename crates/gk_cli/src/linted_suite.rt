@@ -1,5 +1,5 @@
 //! What is found before a run, in all that it is asked for.
-ghost use Rattle.std.specs.Prelude.{◌≡◌, ◌++◌, map, string_bytes, IfOk, IfErr, OnOk};
+ghost use Rattle.std.specs.Prelude.{◌≡◌, ◌++◌, map, option_map, string_bytes, IfOk, IfErr, OnOk};
 ghost use Rattle.gk_gherkin.specs.Feature.{feature_value};
 ghost use Rattle.gk_gherkin.specs.Hooks.{hooks_value};
 ghost use Rattle.gk_report.specs.ReportTexts.{Pushes};
@@ -7,7 +7,8 @@ ghost use Rattle.gk_steps.specs.Finding.{library_value};
 ghost use Rattle.gk_lint.specs.Findings.{AreInOrder};
 ghost use Rattle.gk_cli.specs.Counted.{HasNotFailed, IsUnflushed, IsNeverIdle};
 ghost use Rattle.gk_cli.specs.SuiteFiles as of_files;
-ghost use Rattle.gk_cli.specs.SuiteFiles.{file_value, request_of_files, library_name, hooks_name};
+ghost use Rattle.gk_cli.specs.Source.{source_value};
+ghost use Rattle.gk_cli.specs.SuiteFiles.{suite_value, request_of_files, library_name, hooks_name};
 ghost use Rattle.gk_cli.specs.FindingLines.{finding_lines};
 ghost use Rattle.gk_cli.specs.RunFault.{IsUnread};
 ghost use Rattle.gk_cli.specs.Suite.{device_of};
@@ -40,8 +41,8 @@ fn push_library_findings(
     library: &Option<Source>,
     used: &[usize],
 ) -> Result<(), AllocError>
-    requires { AreTexts (of_files.bytes_of (file_value library.now)) }
-    ensures { let file = file_value library.now in Pushes out.old (finding_lines
+    requires { AreTexts (of_files.bytes_of (option_map source_value library.now)) }
+    ensures { let file = option_map source_value library.now in Pushes out.old (finding_lines
         (of_files.name_of file)
         (library_findings (of_files.bytes_of file) used.now)) result out.new }
 {
@@ -78,15 +79,17 @@ fn findings_of_hooks(
 fn whole_text(
     alloc: Global,
     options: &Options,
-    files: &SuiteFiles,
+    files: &SuiteFiles<Source>,
     before: &ReadBefore,
     so_far: LintSoFar,
 ) -> Result<String, AllocError>
-    requires texts { AreTexts (of_files.bytes_of (file_value files.now.library)) }
+    requires texts { AreTexts (of_files.bytes_of (option_map source_value files.now.library)) }
     requires used { so_far.used.items ≡ used_by (library_value before.now.library)
         (map feature_value so_far.features.items) }
-    ensures { IfOk result (λ text. IsTextOf (request_of_files options.now files.now)
-        (library_name files.now) (hooks_name files.now)
+    ensures { IfOk result (λ text. IsTextOf
+        (request_of_files options.now (suite_value source_value files.now))
+        (library_name (suite_value source_value files.now))
+        (hooks_name (suite_value source_value files.now))
         (read_of before.now so_far) (string_bytes text)) }
 {
     let LintSoFar {
@@ -110,10 +113,17 @@ fn whole_text(
 }
 
 // Reads what is asked for, and answers the text of all that is found in it.
-fn read_and_lint(alloc: Global, options: &Options, files: &SuiteFiles) -> Result<String, RunFault>
-    ensures linted { IfOk result (λ text. IsLinted (request_of_files options.now files.now)
-        (library_name files.now) (hooks_name files.now) (string_bytes text)) }
-    ensures fault { IfErr result (λ e. IsUnread (request_of_files options.now files.now) e) }
+fn read_and_lint(
+    alloc: Global,
+    options: &Options,
+    files: &SuiteFiles<Source>,
+) -> Result<String, RunFault>
+    ensures linted { IfOk result (λ text. IsLinted
+        (request_of_files options.now (suite_value source_value files.now))
+        (library_name (suite_value source_value files.now))
+        (hooks_name (suite_value source_value files.now)) (string_bytes text)) }
+    ensures fault { IfErr result (λ e. IsUnread
+        (request_of_files options.now (suite_value source_value files.now)) e) }
 {
     let library = bytes_of(&files.library);
     let hooks = bytes_of(&files.hooks);
@@ -147,16 +157,20 @@ fn status_of(text: &str) -> u8
 pub fn lint_suite<W: Write>(
     alloc: Global,
     options: &Options,
-    files: &SuiteFiles,
+    files: &SuiteFiles<Source>,
     out: &mut Counted<W>,
 ) -> Result<u8, RunFault>
     // All that is found was written, and nothing else; the status says whether anything was found.
-    ensures linted { IfOk result (Linted (request_of_files options.now files.now)
-        (library_name files.now) (hooks_name files.now)
+    ensures linted { IfOk result (Linted
+        (request_of_files options.now (suite_value source_value files.now))
+        (library_name (suite_value source_value files.now))
+        (hooks_name (suite_value source_value files.now))
         (device_of W.contents out.old) (device_of W.contents out.new)) }
     // Which fault it is, and what was written.
-    ensures fault { IfErr result (SaysLintFault (request_of_files options.now files.now)
-        (library_name files.now) (hooks_name files.now)
+    ensures fault { IfErr result (SaysLintFault
+        (request_of_files options.now (suite_value source_value files.now))
+        (library_name (suite_value source_value files.now))
+        (hooks_name (suite_value source_value files.now))
         (device_of W.contents out.old) (device_of W.contents out.new)) }
     // A status comes only where the writer didn't fail.
     ensures quiet { OnOk result (HasNotFailed out.old out.new) }

@@ -1,18 +1,21 @@
 //! The whole run.
-ghost use Rattle.std.specs.Prelude.{◌≡◌, map, IfOk, IfErr, OnOk};
-ghost use Rattle.gk_world.specs.Sandbox.{depth};
-ghost use Rattle.gk_run.specs.Running.{IsSame};
+ghost use Rattle.std.specs.Prelude.{◌≡◌, map, option_map, IfOk, IfErr, OnOk};
+ghost use Rattle.gk_world.specs.Sandbox.{depth, IsSame};
 ghost use Rattle.gk_cli.specs.Counted.{HasNotFailed, IsUnflushed, IsNeverIdle};
 ghost use Rattle.gk_cli.specs.Source.{borrowed_value, source_value};
 ghost use Rattle.gk_cli.specs.Inputs.{asked};
+ghost use Rattle.gk_cli.specs.SuiteFiles.{bytes_of, suite_value, request_of_files, HaveSameNames, AreGivenUp, AreGivenUpInTurn};
 ghost use Rattle.gk_cli.specs.Suite.{device_of, Reported, JudgedReport, OnlyReport, SaysFault, InputsAreUnique};
 
 use crate::arguments::Options;
-use crate::borrowed_suite::run_borrowed_suite;
 use crate::counted::Counted;
+use crate::inputs::read_inputs;
 use crate::run_fault::RunFault;
-use crate::source::{BorrowedSource, Source};
+use crate::source::{BorrowedSource, FeatureSource, Source};
+use crate::suite_files::SuiteFiles;
+use crate::written_run::write_run;
 use gk_gherkin::{hooks_reading_is_unique, reading_is_unique};
+use gk_run::without_memory_there_is_one_list;
 use gk_select::texts_have_one_rule;
 use gk_steps::library_reading_is_unique;
 use gk_world::Sandbox;
@@ -29,7 +32,7 @@ pub fn inputs_are_unique()
     hooks_reading_is_unique();
 }
 
-// The sources, lent.
+// Borrows each source.
 fn lent<'a>(alloc: Global, sources: &'a [Source]) -> Result<Vec<BorrowedSource<'a>>, AllocError>
     ensures { IfOk result (λ v. map borrowed_value v.items ≡ map source_value sources.entry.now) }
 {
@@ -41,6 +44,73 @@ fn lent<'a>(alloc: Global, sources: &'a [Source]) -> Result<Vec<BorrowedSource<'
         })?;
     }
     Ok(borrowed)
+}
+
+// Names the bytes of a file, if it is given, by an empty name.
+fn unnamed<'a>(bytes: Option<&'a [u8]>) -> Option<BorrowedSource<'a>>
+    ensures { bytes_of (option_map borrowed_value result)
+        ≡ option_map (λ bytes. bytes.now) bytes.entry }
+{
+    match bytes {
+        Some(bytes) => Some(BorrowedSource { name: "", bytes }),
+        None => None,
+    }
+}
+
+/// Runs these files and writes the report as `run_suite` does, with the same answer and the same errors. Each source
+/// gives up its bytes as soon as its feature is read, before the next one is read. So the bytes of sources that own them
+/// and what is made of them are never all held at once.
+///
+/// Whatever is returned, the names are as they were, so a caller can name the source of a fault, and so are the library
+/// file and the hooks file. At a status no source has bytes any more; at an error perhaps only the first have none, and
+/// the others have theirs.
+pub fn report_suite<S: FeatureSource, W: Write>(
+    alloc: Global,
+    sandbox: &mut Sandbox,
+    options: &Options,
+    files: &mut SuiteFiles<S>,
+    out: &mut Counted<W>,
+) -> Result<u8, RunFault>
+    requires outside { depth sandbox.old ≡ 0 }
+
+    // What was written and what is returned are the report and the status of one list of results.
+    ensures reported { IfOk result (Reported options.now.style
+        (device_of W.contents out.old) (device_of W.contents out.new)) }
+    // That list is judged.
+    ensures judged { IfOk result (JudgedReport
+        (request_of_files options.now (suite_value S.value files.old)) sandbox.old.now
+        (device_of W.contents out.old) (device_of W.contents out.new)) }
+    // At each status but 4 it is the one that plain maps give, and there is no other.
+    ensures plain { IfOk result (OnlyReport
+        (request_of_files options.now (suite_value S.value files.old)) sandbox.old.now
+        (device_of W.contents out.old) (device_of W.contents out.new)) }
+    // Whatever is returned, files, variables, values and layers are as they were.
+    ensures same { IsSame sandbox.old sandbox.new }
+    // Which fault it is, and what was written.
+    ensures fault { IfErr result (SaysFault
+        (request_of_files options.now (suite_value S.value files.old)) sandbox.old.now
+        (device_of W.contents out.old) (device_of W.contents out.new)) }
+    // Whatever is returned, the names stay.
+    ensures names { HaveSameNames (suite_value S.value files.old) (suite_value S.value files.new) }
+    // The sources gave up their bytes one after another; at a status each has.
+    ensures in_turn { AreGivenUpInTurn
+        (suite_value S.value files.old) (suite_value S.value files.new) }
+    ensures given_up { OnOk result (AreGivenUp
+        (suite_value S.value files.old) (suite_value S.value files.new)) }
+    // A status comes only where the writer didn't fail.
+    ensures quiet { OnOk result (HasNotFailed out.old out.new) }
+    // Each call of the writer moved at least one byte.
+    ensures busy { OnOk result (IsNeverIdle out.old out.new) }
+    ensures unflushed { IsUnflushed out.old out.new }
+{
+    // No code runs in these two: the laws say that what is asked for reads in one way, and that results
+    // without a mark of memory are the plain ones.
+    inputs_are_unique();
+    without_memory_there_is_one_list();
+    match read_inputs(alloc, options, files) {
+        Ok(inputs) => write_run(alloc, sandbox, options, inputs, out),
+        Err(fault) => Err(fault),
+    }
 }
 
 /// Reads what is asked for, runs the selected scenarios of the features in order, with the hooks and cleanups
@@ -89,6 +159,13 @@ pub fn run_suite<W: Write>(
     ensures busy { OnOk result (IsNeverIdle out.old out.new) }
     ensures unflushed { IsUnflushed out.old out.new }
 {
-    let borrowed = lent(alloc, sources)?;
-    run_borrowed_suite(alloc, sandbox, options, library, hooks, &borrowed, out)
+    let library = unnamed(library);
+    let hooks = unnamed(hooks);
+    let sources = lent(alloc, sources)?;
+    let mut files = SuiteFiles {
+        library,
+        hooks,
+        sources,
+    };
+    report_suite(alloc, sandbox, options, &mut files, out)
 }

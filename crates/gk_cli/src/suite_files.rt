@@ -1,36 +1,36 @@
 //! The files of a run.
 ghost use Rattle.std.specs.Prelude.{◌≡◌, option_map};
 ghost use Rattle.gk_cli.specs.SuiteFiles as spec;
-ghost use Rattle.gk_cli.specs.SuiteFiles.{file_value};
 
-use crate::source::Source;
+use crate::source::FeatureSource;
 
 /// The files of a run, each with its name.
 #[derive(Drop)]
-pub struct SuiteFiles {
+pub struct SuiteFiles<S> {
     /// The library file; without it the steps are those of the default library.
-    pub library: Option<Source>,
+    pub library: Option<S>,
     /// The hooks file; without it there are no hooks.
-    pub hooks: Option<Source>,
-    pub sources: Vec<Source>,
+    pub hooks: Option<S>,
+    pub sources: Vec<S>,
 }
 
-/// The bytes of a file that may be there. Takes no memory.
-pub fn bytes_of(file: &Option<Source>) -> Option<&[u8]>
-    ensures { option_map (λ bytes. bytes.now) result ≡ spec.bytes_of (file_value file.now) }
+/// Returns the bytes of a file, if it is given. Takes no memory.
+pub fn bytes_of<S: FeatureSource>(file: &Option<S>) -> Option<&[u8]>
+    ensures { option_map (λ bytes. bytes.now) result
+        ≡ spec.bytes_of (option_map S.value file.now) }
 {
     match file {
-        Some(source) => Some(source.bytes.as_slice()),
+        Some(source) => Some(source.bytes()),
         None => None,
     }
 }
 
-/// The name of a file that may be there; no name where there is none. Takes no memory.
-pub fn name_of(file: &Option<Source>) -> &str
-    ensures { result.now ≡ spec.name_of (file_value file.now) }
+/// Returns the name of a file, or no name if it isn't given. Takes no memory.
+pub fn name_of<S: FeatureSource>(file: &Option<S>) -> &str
+    ensures { result.now ≡ spec.name_of (option_map S.value file.now) }
 {
     match file {
-        Some(source) => source.name.as_str(),
+        Some(source) => source.name(),
         None => "",
     }
 }

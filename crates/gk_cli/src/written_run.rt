@@ -1,12 +1,11 @@
 //! A run whose report is written as its features end.
 ghost use Rattle.std.specs.Prelude.{◌≡◌, map, IfOk, IfErr, OnOk};
 ghost use Rattle.std.specs.List.{AllByRecursion};
-ghost use Rattle.gk_world.specs.Sandbox.{depth};
+ghost use Rattle.gk_world.specs.Sandbox.{depth, IsSame};
 ghost use Rattle.gk_world.specs.State.{Contents};
 ghost use Rattle.gk_steps.specs.Finding.{library_value};
 ghost use Rattle.gk_run.specs.Run.{run_of};
 ghost use Rattle.gk_run.specs.Chosen.{chosen_value, IsFormed};
-ghost use Rattle.gk_run.specs.Running.{IsSame};
 ghost use Rattle.gk_run.specs.OpenRun.{IsKept};
 ghost use Rattle.gk_run.specs.DryRun.{AreDryFeatures};
 ghost use Rattle.gk_cli.specs.Inputs.{inputs_value};
@@ -52,7 +51,7 @@ fn run_next<W: Write>(
     feature: Chosen,
     out: &mut Counted<W>,
 ) -> Result<(), RunFault>
-    requires innermost { so_far.old.suite.section.layer ≡ depth sandbox.old }
+    requires innermost { so_far.old.suite.layer ≡ depth sandbox.old }
     requires formed { IsFormed feature }
     ensures ok { OnOk result (RunsNext glue.now sandbox.old feature
         (device_of W.contents out.old) so_far.old
@@ -78,7 +77,7 @@ fn run_features<W: Write>(
     features: Vec<Chosen>,
     out: &mut Counted<W>,
 ) -> Result<(), RunFault>
-    requires innermost { so_far.old.suite.section.layer ≡ depth sandbox.old }
+    requires innermost { so_far.old.suite.layer ≡ depth sandbox.old }
     requires formed { AllByRecursion IsFormed features.items }
     ensures ok { OnOk result (AreWritten (AreRun glue.now sandbox.old so_far.old.suite)
         (map chosen_value features.items)

@@ -10,14 +10,14 @@ use Rattle.gk_run.specs.declared.ending.Ending.TheVariants as endings
 use Rattle.gk_run.specs.declared.acting.Site.TheVariants as sites
 use Rattle.gk_run.specs.declared.section.Level.{Level}
 use Rattle.gk_run.specs.declared.section.Level.TheVariants as levels
-use Rattle.gk_run.specs.declared.section.Place.{Place}
+use Rattle.gk_run.specs.declared.section.Stage.{Stage}
 use Rattle.gk_run.specs.Acting.{CleanupValue, act, done_of}
-use Rattle.gk_run.specs.Closing.{clean_each}
+use Rattle.gk_run.specs.SectionEnd.{clean_each}
 use Rattle.gk_run.specs.Ending.{ending_of, has_passed}
 use Rattle.gk_run.specs.Events.{Event as Told, of_step, of_cleanup, Stand, cut_at, ended_in, left_by, refused}
 use Rattle.gk_run.specs.Run.{Run}
 use Rattle.gk_run.specs.Running.{alone}
-use Rattle.gk_run.specs.Section.{Cut, nowhere, in_before, in_steps, in_after, in_cleanups, Events, after_of, before_of, happened, in_order, is_place, site_of}
+use Rattle.gk_run.specs.Section.{Cut, nowhere, in_before, in_steps, in_after, in_cleanups, Events, after_of, before_of, happened, in_order, has_event, site_of}
 use Rattle.gk_run.specs.SectionHooks.{after_lists, before_list, entered, walk_each}
 use Rattle.gk_run.specs.Walk.{one_step, steps_from, walk}
 use Rattle.gk_explain.specs.declared.explainer.Explainer.{Explainer}
@@ -39,7 +39,7 @@ at_if : (level : Level) (test : Bool) (xs : List Told) → AllAt level xs → Al
 at_if level true xs a = a
 at_if level false xs a = tt
 
-at_walk : (library : LibraryValue) (place : Place) (s : State) (steps : List StepValue) → AllAt place.level (walk library place s steps)
+at_walk : (library : LibraryValue) (place : Stage) (s : State) (steps : List StepValue) → AllAt place.level (walk library place s steps)
 at_walk library place s [] = tt
 at_walk library place s (step ∷ steps) =
     let this = one_step library (site_of place) s step in
@@ -81,10 +81,10 @@ either_at level false x y a b = b
 
 are_happened : (level : Level) (cut : Cut) (t : Events) → AreAt level t → AreAt level (happened cut t)
 are_happened level nowhere t a = a
-are_happened level (in_before n s) t a = either_at level (is_place n t.before) _ t (at_cut level n s t.before a.0, tt, tt, tt) a
-are_happened level (in_steps n s) t a = either_at level (is_place n t.steps) _ t (a.0, at_cut level n s t.steps a.1, tt, tt) a
-are_happened level (in_after n s) t a = either_at level (is_place n t.after) _ t (a.0, a.1, at_cut level n s t.after a.2, tt) a
-are_happened level (in_cleanups n s) t a = either_at level (is_place n t.cleanups) _ t (a.0, a.1, a.2, at_cut level n s t.cleanups a.3) a
+are_happened level (in_before n s) t a = either_at level (has_event n t.before) _ t (at_cut level n s t.before a.0, tt, tt, tt) a
+are_happened level (in_steps n s) t a = either_at level (has_event n t.steps) _ t (a.0, at_cut level n s t.steps a.1, tt, tt) a
+are_happened level (in_after n s) t a = either_at level (has_event n t.after) _ t (a.0, a.1, at_cut level n s t.after a.2, tt) a
+are_happened level (in_cleanups n s) t a = either_at level (has_event n t.cleanups) _ t (a.0, a.1, a.2, at_cut level n s t.cleanups a.3) a
 
 are_case : (run : Run) (section : State) (c : CaseValue) → AreAt levels.Scenario (alone run section c)
 are_case run section c =

@@ -20,9 +20,9 @@ use Rattle.gk_run.specs.declared.results.Reason.TheVariants as reasons
 use Rattle.gk_run.specs.declared.section.Level.{Level}
 use Rattle.gk_run.specs.declared.section.Level.TheVariants as levels
 use Rattle.gk_run.specs.declared.section.Part.TheVariants as parts
-use Rattle.gk_run.specs.declared.section.Place.{Place}
-use Rattle.gk_run.specs.Acting.{Acted as Result, CleanupValue, Given, act, at_site, done_of, fails, given, is_pass, may_register, registers as registers_found, without_cleanups}
-use Rattle.gk_run.specs.Closing.{clean_each}
+use Rattle.gk_run.specs.declared.section.Stage.{Stage}
+use Rattle.gk_run.specs.Acting.{Acted as Result, CleanupValue, ArgumentsValue, act, at_site, done_of, fails, arguments_of, is_pass, may_register, registers as registers_found, without_cleanups}
+use Rattle.gk_run.specs.SectionEnd.{clean_each}
 use Rattle.gk_run.specs.Ending.{ending_of, has_passed}
 use Rattle.gk_run.specs.Events.{Event as Told, of_step, Stand, after_event, ended_in, left_by}
 use Rattle.gk_run.specs.Running.{alone}
@@ -83,7 +83,7 @@ at_cleanup true None s block r = none
 at_cleanup true (Some f) s block r = record { pairs = (r, record { found = f; block = block }) ∷ []; is_places = refl; is_both = refl; is_cleanups = refl }
 
 -- What an action registers.
-by_action : (a : Action) (site : Site) (library : LibraryValue) (g : Given) (s : State) (r : Registration) →
+by_action : (a : Action) (site : Site) (library : LibraryValue) (g : ArgumentsValue) (s : State) (r : Registration) →
     (let acted = at_site a site library g s in
     ArePaired (cond (is_pass acted.done.outcome && is_at_cleanup a) (r ∷ []) []) (all_at r acted.registered) acted.registered)
 by_action actions.WriteFile site library g s r = no_cleanup (at_site actions.WriteFile site library g s).done.outcome (r ∷ [])
@@ -117,7 +117,7 @@ by_found : (o : Option FoundValue) (library : LibraryValue) (site : Site) (s : S
     ArePaired (cond (is_passed this.mark && found_registers library o) (r ∷ []) []) (all_at r this.registered) this.registered)
 unfolding act
 by_found None library site s step r = none
-by_found (Some f) library site s step r = by_action (action_of library f) site library (given library f step.block) s r
+by_found (Some f) library site s step r = by_action (action_of library f) site library (arguments_of library f step.block) s r
 
 -- What is registered by events that lead from some cleanups to others, and come to no cleanup that runs.
 record Adds (library : LibraryValue) (ts : List Told) (before after : List CleanupValue) : Type 0 where
@@ -134,7 +134,7 @@ adds_none library c = record {
   passes = λ rs later. ap (λ (rs : List Registration). placed_cleanups library rs later) (sym (append-nil rs));
 }
 
-adds_first : (library : LibraryValue) (place : Place) (step : StepValue) (mark : Mark) (s : State) (ts : List Told) (c registered after : List CleanupValue) →
+adds_first : (library : LibraryValue) (place : Stage) (step : StepValue) (mark : Mark) (s : State) (ts : List Told) (c registered after : List CleanupValue) →
     ArePaired (registered_by library (of_step place step mark registered s)) (placed_by (of_step place step mark registered s)) registered → Adds library ts (c ++ registered) after → Adds library (of_step place step mark registered s ∷ ts) c after
 adds_first library place step mark s ts c registered after first rest =
     let t : Told = of_step place step mark registered s in
@@ -172,7 +172,7 @@ adds_if : (test : Bool) (library : LibraryValue) (stand : Stand) (ts : List Told
 adds_if true library stand ts a = a
 adds_if false library stand ts a = adds_none library stand.cleanups
 
-adds_walk : (library : LibraryValue) (place : Place) (s : State) (c : List CleanupValue) (steps : List StepValue) → AddsFrom library (at s c) (walk library place s steps)
+adds_walk : (library : LibraryValue) (place : Stage) (s : State) (c : List CleanupValue) (steps : List StepValue) → AddsFrom library (at s c) (walk library place s steps)
 adds_walk library place s c [] = adds_none library c
 adds_walk library place s c (step ∷ steps) =
     let this = one_step library (site_of place) s step in

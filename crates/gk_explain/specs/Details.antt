@@ -13,7 +13,7 @@ use Rattle.gk_run.specs.declared.results.Outcome.{Outcome}
 use Rattle.gk_run.specs.declared.results.Outcome.TheVariants.{Failed}
 use Rattle.gk_run.specs.declared.results.Reason.{Reason}
 use Rattle.gk_run.specs.declared.results.Reason.TheVariants as reasons
-use Rattle.gk_run.specs.Acting.{Given, given}
+use Rattle.gk_run.specs.Acting.{ArgumentsValue, arguments_of}
 use Rattle.gk_run.specs.Events.{Event as Told, of_step, of_cleanup}
 use Rattle.gk_report.specs.ReportTexts.{line_feed}
 use Rattle.gk_explain.specs.declared.details.Given as declared
@@ -49,7 +49,7 @@ held kinds.Variable s name = s.env name
 held kinds.Value s name = see s name
 
 -- What an action finds under the name that it is given.
-abbrev pub found_text : Action → Given → State → List ℕ
+abbrev pub found_text : Action → ArgumentsValue → State → List ℕ
 found_text action g s = unwrap_or (held (kind_of action) s g.name) []
 
 -- A text that is expected.
@@ -85,7 +85,7 @@ unfoldable pub unequal : ℤ → List ℕ → List ℕ
 unequal expected there = expected_number expected ++ found_below there
 
 -- What an action expected that found something else.
-abbrev pub difference : Action → Given → List ℕ → List ℕ
+abbrev pub difference : Action → ArgumentsValue → List ℕ → List ℕ
 difference actions.FileContains g there = lacking (unwrap_or g.text []) there
 difference actions.NumberIs g there = unequal g.number there
 difference action g there = compared (unwrap_or g.text []) there
@@ -101,7 +101,7 @@ unfoldable pub absent_line : Kind → List ℕ → List ℕ
 absent_line kind name = codes "      there is no " ++ (kind_word kind ++ (codes " \"" ++ (shown name ++ codes "\"\n")))
 
 -- What stands in an action's way: what is there under its name, or, where a file is renamed, under the new one.
-abbrev pub present_text : Action → Given → State → List ℕ
+abbrev pub present_text : Action → ArgumentsValue → State → List ℕ
 present_text actions.RenameFile g s = unwrap_or (s.files g.to) []
 present_text action g s = found_text action g s
 
@@ -118,7 +118,7 @@ unfoldable pub in_outer_layer : List ℕ → List ℕ
 in_outer_layer there = found_below there ++ codes "      it is set in an outer layer alone\n"
 
 -- The name that an action gives to what it changes: of a file that is renamed the new one, of a table of files the one at which it ends.
-abbrev pub given_name : Action → Given → List ℕ
+abbrev pub given_name : Action → ArgumentsValue → List ℕ
 given_name actions.RenameFile g = g.to
 given_name actions.WriteFiles g = (refused_file g.block).0
 given_name action g = g.name
@@ -128,7 +128,7 @@ unfoldable pub name_length : ℕ → List ℕ
 name_length count = codes "      the name has " ++ (decimal count ++ codes " bytes; 1 to 255 are allowed\n")
 
 -- The text that an action gives to what it changes: of a file that is extended the whole text, of a table of files the one at which it ends.
-abbrev pub new_text : Action → Given → State → List ℕ
+abbrev pub new_text : Action → ArgumentsValue → State → List ℕ
 new_text actions.AppendFile g s = joined s.files g.name (unwrap_or g.text [])
 new_text actions.WriteFiles g s = (refused_file g.block).1
 new_text action g s = unwrap_or g.text []
@@ -138,7 +138,7 @@ unfoldable pub text_length : ℕ → List ℕ
 text_length count = codes "      the text has " ++ (decimal count ++ codes " bytes; at most 1048576 are allowed\n")
 
 -- What a reason means for an action at a state. Where a text that is to be run at the end finds no entry, the nearest is named.
-abbrev pub details : LibraryValue → Action → Given → Reason → State → List ℕ
+abbrev pub details : LibraryValue → Action → ArgumentsValue → Reason → State → List ℕ
 details library action g reasons.Differs s = difference action g (found_text action g s)
 details library action g reasons.Absent s = absent_line (kind_of action) g.name
 details library action g reasons.Present s = found_below (present_text action g s)
@@ -153,7 +153,7 @@ details library action g _ s = []
 
 -- What an outcome means for what was found, with a step's block.
 abbrev pub outcome_details : LibraryValue → FoundValue → BlockValue → Outcome → State → List ℕ
-outcome_details library f block (Failed why) s = details library (action_of library f) (given library f block) why s
+outcome_details library f block (Failed why) s = details library (action_of library f) (arguments_of library f block) why s
 outcome_details library f block outcome s = []
 
 -- The same of what a look-up found.
@@ -173,5 +173,5 @@ event_details library (of_step place step mark cleanups s) = mark_details librar
 event_details library (of_cleanup level cleanup outcome s) = outcome_details library cleanup.found cleanup.block outcome s
 
 -- What a `Given` says beside its action.
-abbrev pub given_value : declared.Given → Given
+abbrev pub given_value : declared.Given → ArgumentsValue
 given_value g = record { name = g.name.now; to = g.to.now; step = g.step.now; number = g.number; text = option_copied g.text; block = block_value g.block.now }

@@ -7,7 +7,7 @@ use Rattle.gk_run.specs.declared.results.Mark.TheVariants.{Acted}
 use Rattle.gk_run.specs.declared.results.Outcome.{Outcome}
 use Rattle.gk_run.specs.declared.section.Part.{Part}
 use Rattle.gk_run.specs.declared.section.Part.TheVariants as parts
-use Rattle.gk_run.specs.declared.section.Place.{Place}
+use Rattle.gk_run.specs.declared.section.Stage.{Stage}
 use Rattle.gk_run.specs.Ending.{status_of_mark, reason_of_mark}
 use Rattle.gk_run.specs.Events.{Event as Told, of_step, of_cleanup}
 use Rattle.gk_steps.specs.Finding.{LibraryValue}
@@ -57,7 +57,7 @@ unfoldable pub line_of_cleanup : NamesValue → Option Registration → Outcome 
 line_of_cleanup names at outcome = status_line (codes "  " ++ registered_text names at ++ codes "cleanup") (mark_text (Acted outcome))
 
 -- The line of a step.
-unfoldable pub line_of_step : NamesValue → Place → StepValue → Mark → List ℕ
+unfoldable pub line_of_step : NamesValue → Stage → StepValue → Mark → List ℕ
 line_of_step names place step mark =
     status_line (codes "  " ++ place_text (file_of names place.part) step.line ++ part_text place.part ++ step.keyword ++ codes " " ++ escaped step.text) (mark_text mark)
 

@@ -101,8 +101,8 @@ fn doc_string(block: &Block) -> Option<&str>
 fn given_to<'a>(library: &Library, found: &'a Found, block: &'a Block) -> Given<'a>
     ensures action { result.action
         ≡ action_of (library_value library.now) (found_value found.now) }
-    ensures given { given_value result
-        ≡ acting.given (library_value library.now) (found_value found.now) (block_value block.now) }
+    ensures given { given_value result ≡ acting.arguments_of
+        (library_value library.now) (found_value found.now) (block_value block.now) }
 {
     let used = library.used_fields(found);
     Given {

@@ -3,14 +3,14 @@ ghost use Rattle.std.specs.Prelude.{◌≡◌};
 ghost use Rattle.gk_explain.specs.Event as spec;
 
 use gk_gherkin::{Block, Step};
-use gk_run::{Level, Mark, Outcome, Place};
+use gk_run::{Level, Mark, Outcome, Stage};
 use gk_steps::Found;
 use gk_world::Sandbox;
 
 /// What happened to a step: where it stands, what became of it, and the sandbox that it left.
 #[derive(Clone, Copy)]
 pub struct StepEvent<'a> {
-    pub place: Place,
+    pub place: Stage,
     pub step: &'a Step,
     pub mark: Mark,
     pub sandbox: &'a Sandbox,

@@ -11,7 +11,7 @@ use crate::registrations::Registration;
 use crate::shown::push_escaped;
 use gk_gherkin::Step;
 use gk_report::push_ending;
-use gk_run::{Mark, Outcome, Part, Place, reason_of, status_of};
+use gk_run::{Mark, Outcome, Part, Stage, reason_of, status_of};
 use std::alloc::AllocError;
 
 /// The names of the hooks file and of the feature file that steps stand in.
@@ -64,7 +64,7 @@ fn push_mark(out: &mut String, mark: Mark) -> Result<(), AllocError>
 fn push_step_line(
     out: &mut String,
     names: Names<'_>,
-    place: Place,
+    place: Stage,
     step: &Step,
     mark: Mark,
 ) -> Result<(), AllocError>

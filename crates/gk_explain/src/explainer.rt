@@ -12,7 +12,7 @@ use crate::event::{CleanupEvent, Event, StepEvent};
 use crate::explanation::Explanation;
 use gk_gherkin::{Block, Step};
 use gk_run::{
-    CaseResult, FeatureResult, Level, Mark, Observer, Outcome, Place, RuleResult, Status,
+    CaseResult, FeatureResult, Level, Mark, Observer, Outcome, RuleResult, Stage, Status,
 };
 use gk_steps::{Found, Library};
 use gk_world::Sandbox;
@@ -138,7 +138,7 @@ impl Observer for Explainer<'_> {
 
     ghost ends = { Ends };
 
-    fn step(&mut self, place: Place, step: &Step, mark: Mark, sandbox: &Sandbox) {
+    fn step(&mut self, place: Stage, step: &Step, mark: Mark, sandbox: &Sandbox) {
         if self.cut {
             return;
         }

@@ -15,7 +15,7 @@ use Rattle.gk_gherkin.specs.Class.{class, is_colon}
 use Rattle.gk_gherkin.specs.Text.{begins}
 use Rattle.gk_gherkin.specs.Tags.{is_tag}
 use Rattle.gk_gherkin.specs.Hooks.{HookValue}
-use Rattle.gk_gherkin.specs.HookHeadings.{hooks_class, HookHeading, hook_heading, plain_heading, tag_alone, tag_between, tag_heading, or_else}
+use Rattle.gk_gherkin.specs.HookHeadings.{hooks_class, HookHeadingValue, hook_heading, plain_heading, tag_alone, tag_between, tag_heading, or_else}
 use Rattle.gk_gherkin.specs.HooksGrammar.{heading_of}
 use Rattle.gk_gherkin.proofs.HookHeadingTexts.{but_last}
 use Rattle.gk_gherkin.proofs.HookHeadingsDecided.{IsFresh}
@@ -119,7 +119,7 @@ tag_found n =
     ∙ ap (λ (t : List ℕ). tag_alone (trim_front t)) (before_colon (codes " @a" ++ letters n))
     ∙ tag_stands n
 
-abbrev heading_with : ℕ → HookHeading
+abbrev heading_with : ℕ → HookHeadingValue
 heading_with n = record { kind = BeforeTag; tag = Some (tag_of n) }
 
 pub fresh_line : ℕ → LineValue
@@ -137,8 +137,8 @@ pub fresh_heading : (n : ℕ) → hook_heading (fresh_line n) ≡ Some (heading_
 unfolding hook_heading fresh_line
 fresh_heading n =
     ap (λ (t : List ℕ). or_else (plain_heading t) (or_else (tag_heading (codes "before_tag") BeforeTag t) (tag_heading (codes "after_tag") AfterTag t))) (trimmed n)
-    ∙ ap (λ (h : Option HookHeading). or_else h (or_else (tag_heading (codes "before_tag") BeforeTag (heading_text n)) (tag_heading (codes "after_tag") AfterTag (heading_text n)))) (no_plain n)
-    ∙ ap (λ (t : Option (List ℕ)). let h : Option HookHeading = option_map (λ tag. record { kind = BeforeTag; tag = Some tag }) t in or_else h (tag_heading (codes "after_tag") AfterTag (heading_text n))) (tag_found n)
+    ∙ ap (λ (h : Option HookHeadingValue). or_else h (or_else (tag_heading (codes "before_tag") BeforeTag (heading_text n)) (tag_heading (codes "after_tag") AfterTag (heading_text n)))) (no_plain n)
+    ∙ ap (λ (t : Option (List ℕ)). let h : Option HookHeadingValue = option_map (λ tag. record { kind = BeforeTag; tag = Some tag }) t in or_else h (tag_heading (codes "after_tag") AfterTag (heading_text n))) (tag_found n)
 
 -- a tag longer than all tags of some hooks together
 abbrev tag_size : Option (List ℕ) → ℕ
@@ -149,11 +149,11 @@ pub size_of : List HookValue → ℕ
 size_of [] = 0
 size_of (hook ∷ hooks) = tag_size hook.tag + size_of hooks
 
-fresh_by : (heading : HookHeading) (hooks : List HookValue) → size_of hooks < tag_size heading.tag → IsFresh heading hooks
+fresh_by : (heading : HookHeadingValue) (hooks : List HookValue) → size_of hooks < tag_size heading.tag → IsFresh heading hooks
 unfolding size_of
 fresh_by heading [] h = tt
 fresh_by heading (hook ∷ hooks) h =
-    let differs : heading ≢ heading_of hook = λ e. let same : tag_size heading.tag ≡ tag_size hook.tag = ap (λ (h : HookHeading). tag_size h.tag) e in absurd (omega (arith, h, same)) in
+    let differs : heading ≢ heading_of hook = λ e. let same : tag_size heading.tag ≡ tag_size hook.tag = ap (λ (h : HookHeadingValue). tag_size h.tag) e in absurd (omega (arith, h, same)) in
     (differs, fresh_by heading hooks (omega (arith, h)))
 
 pub is_fresh : (hooks : List HookValue) → IsFresh (heading_with (size_of hooks)) hooks

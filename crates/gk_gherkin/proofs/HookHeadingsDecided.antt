@@ -5,10 +5,10 @@ use Rattle.std.proofs.lemmas.Slice.Eq.{bytes_eq-Decides}
 use Rattle.std.specs.List.{AllByRecursion}
 use Rattle.gk_gherkin.specs.declared.hooks.HookKind.{HookKind}
 use Rattle.gk_gherkin.specs.declared.hooks.HookKind.TheVariants.{BeforeAll, AfterAll, BeforeFeature, AfterFeature, BeforeRule, AfterRule, BeforeScenario, AfterScenario, BeforeTag, AfterTag}
-use Rattle.gk_gherkin.specs.Hooks.{HookValue, place_of_kind, is_same_kind, is_same_tag}
-use Rattle.gk_gherkin.specs.HookHeadings.{HookHeading}
+use Rattle.gk_gherkin.specs.Hooks.{HookValue, number_of_kind, is_same_kind, is_same_tag}
+use Rattle.gk_gherkin.specs.HookHeadings.{HookHeadingValue}
 use Rattle.gk_gherkin.specs.HooksGrammar.{heading_of, AreDistinct}
-use Rattle.gk_gherkin.specs.HooksPlace.{stands}
+use Rattle.gk_gherkin.specs.HooksReader.{has_heading}
 
 both : (a b : Bool) → (a && b) ≡ true → (a ≡ true) × (b ≡ true)
 both true true h = (refl, refl)
@@ -33,7 +33,7 @@ kind_at (suc (suc (suc (suc (suc (suc (suc zero))))))) = AfterScenario
 kind_at (suc (suc (suc (suc (suc (suc (suc (suc zero)))))))) = BeforeTag
 kind_at _ = AfterTag
 
-kind_back : (k : HookKind) → kind_at (place_of_kind k) ≡ k
+kind_back : (k : HookKind) → kind_at (number_of_kind k) ≡ k
 unfolding kind_at
 kind_back BeforeAll = refl
 kind_back AfterAll = refl
@@ -53,7 +53,7 @@ same_eqb : (m : ℕ) → (m == m) ≡ true
 same_eqb m = grind (arith, nat_tests)
 
 kind_so : (a b : HookKind) → is_same_kind a b ≡ true → a ≡ b
-kind_so a b h = sym (kind_back a) ∙ ap kind_at (eqb_same (place_of_kind a) (place_of_kind b) h) ∙ kind_back b
+kind_so a b h = sym (kind_back a) ∙ ap kind_at (eqb_same (number_of_kind a) (number_of_kind b) h) ∙ kind_back b
 
 tag_so : (a b : Option (List ℕ)) → is_same_tag a b ≡ true → a ≡ b
 tag_so None None h = refl
@@ -71,45 +71,45 @@ and_true true false e f = f
 and_true false b e f = e
 
 -- whether two headings are the same
-abbrev pub is_same_heading : HookHeading → HookHeading → Bool
+abbrev pub is_same_heading : HookHeadingValue → HookHeadingValue → Bool
 is_same_heading a b = is_same_kind a.kind b.kind && is_same_tag a.tag b.tag
 
-pub heading_so : (a b : HookHeading) → is_same_heading a b ≡ true → a ≡ b
+pub heading_so : (a b : HookHeadingValue) → is_same_heading a b ≡ true → a ≡ b
 heading_so a b h =
     let k = both (is_same_kind a.kind b.kind) (is_same_tag a.tag b.tag) h in
-    ap (λ (kind : HookKind). let made : HookHeading = record { kind = kind; tag = a.tag } in made) (kind_so a.kind b.kind k.0)
-    ∙ ap (λ (tag : Option (List ℕ)). let made : HookHeading = record { kind = b.kind; tag = tag } in made) (tag_so a.tag b.tag k.1)
+    ap (λ (kind : HookKind). let made : HookHeadingValue = record { kind = kind; tag = a.tag } in made) (kind_so a.kind b.kind k.0)
+    ∙ ap (λ (tag : Option (List ℕ)). let made : HookHeadingValue = record { kind = b.kind; tag = tag } in made) (tag_so a.tag b.tag k.1)
 
-heading_itself : (a : HookHeading) → is_same_heading a a ≡ true
-heading_itself a = and_true (is_same_kind a.kind a.kind) (is_same_tag a.tag a.tag) (same_eqb (place_of_kind a.kind)) (tag_itself a.tag)
+heading_itself : (a : HookHeadingValue) → is_same_heading a a ≡ true
+heading_itself a = and_true (is_same_kind a.kind a.kind) (is_same_tag a.tag a.tag) (same_eqb (number_of_kind a.kind)) (tag_itself a.tag)
 
 not_true : (b : Bool) → b ≡ false → b ≡ true → ⊥
 not_true true e f = cc
 not_true false e f = cc
 
-heading_differs : (a b : HookHeading) → is_same_heading a b ≡ false → b ≢ a
-heading_differs a b h e = not_true (is_same_heading a b) h (ap (λ (b : HookHeading). is_same_heading a b) e ∙ heading_itself a)
+heading_differs : (a b : HookHeadingValue) → is_same_heading a b ≡ false → b ≢ a
+heading_differs a b h e = not_true (is_same_heading a b) h (ap (λ (b : HookHeadingValue). is_same_heading a b) e ∙ heading_itself a)
 
 -- a heading that none of some hooks has
-abbrev pub IsFresh : HookHeading → List HookValue → Type 0
+abbrev pub IsFresh : HookHeadingValue → List HookValue → Type 0
 IsFresh heading hooks = AllByRecursion (λ hook. heading ≢ heading_of hook) hooks
 
-pub fresh_so : (heading : HookHeading) (hooks : List HookValue) → stands heading hooks ≡ false → IsFresh heading hooks
+pub fresh_so : (heading : HookHeadingValue) (hooks : List HookValue) → has_heading heading hooks ≡ false → IsFresh heading hooks
 fresh_so heading [] h = tt
 fresh_so heading (hook ∷ hooks) h =
-    let k = either (is_same_heading (heading_of hook) heading) (stands heading hooks) h in
+    let k = either (is_same_heading (heading_of hook) heading) (has_heading heading hooks) h in
     (heading_differs (heading_of hook) heading k.0, fresh_so heading hooks k.1)
 
-none_same : (a b : HookHeading) (r : Bool) → is_same_heading a b ≡ r → b ≢ a → r ≡ false
+none_same : (a b : HookHeadingValue) (r : Bool) → is_same_heading a b ≡ r → b ≢ a → r ≡ false
 none_same a b true e n = absurd (n (sym (heading_so a b e)))
 none_same a b false e n = refl
 
-pub fresh_stands : (heading : HookHeading) (hooks : List HookValue) → IsFresh heading hooks → stands heading hooks ≡ false
+pub fresh_stands : (heading : HookHeadingValue) (hooks : List HookValue) → IsFresh heading hooks → has_heading heading hooks ≡ false
 fresh_stands heading [] f = refl
 fresh_stands heading (hook ∷ hooks) f =
-    ap (λ (b : Bool). b || stands heading hooks) (none_same (heading_of hook) heading (is_same_heading (heading_of hook) heading) refl f.0) ∙ fresh_stands heading hooks f.1
+    ap (λ (b : Bool). b || has_heading heading hooks) (none_same (heading_of hook) heading (is_same_heading (heading_of hook) heading) refl f.0) ∙ fresh_stands heading hooks f.1
 
-differ_push : (heading : HookHeading) (hooks : List HookValue) (hook : HookValue) → AllByRecursion (λ other. heading_of other ≢ heading) hooks → heading_of hook ≢ heading → AllByRecursion (λ other. heading_of other ≢ heading) (hooks ++ hook ∷ [])
+differ_push : (heading : HookHeadingValue) (hooks : List HookValue) (hook : HookValue) → AllByRecursion (λ other. heading_of other ≢ heading) hooks → heading_of hook ≢ heading → AllByRecursion (λ other. heading_of other ≢ heading) (hooks ++ hook ∷ [])
 differ_push heading [] hook a n = (n, tt)
 differ_push heading (first ∷ hooks) hook a n = (a.0, differ_push heading hooks hook a.1 n)
 
@@ -118,7 +118,7 @@ pub distinct_push : (hooks : List HookValue) (hook : HookValue) → AreDistinct 
 distinct_push [] hook d f = (tt, tt)
 distinct_push (first ∷ hooks) hook d f = (differ_push (heading_of first) hooks hook d.0 f.0, distinct_push hooks hook d.1 f.1)
 
-differ_at : (heading : HookHeading) (hooks : List HookValue) (hook : HookValue) (others : List HookValue) → AllByRecursion (λ other. heading_of other ≢ heading) (hooks ++ hook ∷ others) → heading_of hook ≢ heading
+differ_at : (heading : HookHeadingValue) (hooks : List HookValue) (hook : HookValue) (others : List HookValue) → AllByRecursion (λ other. heading_of other ≢ heading) (hooks ++ hook ∷ others) → heading_of hook ≢ heading
 differ_at heading [] hook others a = a.0
 differ_at heading (first ∷ hooks) hook others a = differ_at heading hooks hook others a.1
 

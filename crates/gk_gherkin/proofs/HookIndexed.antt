@@ -10,7 +10,7 @@ use Rattle.gk_gherkin.specs.declared.hooks.Hook.{Hook}
 use Rattle.gk_gherkin.specs.declared.hooks.HookKind.{HookKind}
 use Rattle.gk_gherkin.specs.declared.hook_index.HookIndex.{HookIndex}
 use Rattle.gk_gherkin.specs.Hooks.{HookValue, hook_value, is_same_kind, is_same_tag, is_for}
-use Rattle.gk_gherkin.specs.HookIndex.{is_among, places_of, AreListed, AreListedTo, IsFirst}
+use Rattle.gk_gherkin.specs.HookIndex.{is_among, positions_of, AreListed, AreListedTo, IsFirst}
 
 second : (a b : Bool) → (a && b) ≡ true → b ≡ true
 second true b e = e
@@ -41,29 +41,29 @@ among_at : (n : ℕ) (ns : List ℕ) → is_among n ns ≡ true → (k : ℕ) ×
 among_at n [] h = let never : ⊥ = cc in absurd never
 among_at n (k ∷ ns) h = among_next n k ns (n == k) refl h (among_at n ns)
 
--- a place that was added under a tag
-pub added_there : (t tag : List ℕ) (place : ℕ) (before after : List ℕ) → after ≡ cond (bytes_eq t tag) (before ++ place ∷ []) before → tag ≡ t → is_among place after ≡ true
-added_there t tag place before after e same =
-    ap (λ ns. is_among place ns) (e ∙ ap (λ (b : Bool). cond b (before ++ place ∷ []) before) ((bytes_eq-Decides t tag).1 (sym same))) ∙ among_last place before
+-- a position that was added under a tag
+pub added_there : (t tag : List ℕ) (position : ℕ) (before after : List ℕ) → after ≡ cond (bytes_eq t tag) (before ++ position ∷ []) before → tag ≡ t → is_among position after ≡ true
+added_there t tag position before after e same =
+    ap (λ ns. is_among position ns) (e ∙ ap (λ (b : Bool). cond b (before ++ position ∷ []) before) ((bytes_eq-Decides t tag).1 (sym same))) ∙ among_last position before
 
 pub on_ok : {X E P Q : Type 0} (r : Result X E) → (P → Q) → OnOk r P → OnOk r Q
 on_ok (Ok x) f h = f h
 on_ok (Err e) f h = h
 
 -- hooks that are listed
-pub listed_kept : (old new : HookIndex) (hooks : List Hook) → ((t : Option (List ℕ)) (n : ℕ) → is_among n (places_of old t) ≡ true → is_among n (places_of new t) ≡ true) → AreListed old hooks → AreListed new hooks
-listed_kept old new hooks kept listed place hook at = kept (option_map string_bytes hook.tag) place (listed place hook at)
+pub listed_kept : (old new : HookIndex) (hooks : List Hook) → ((t : Option (List ℕ)) (n : ℕ) → is_among n (positions_of old t) ≡ true → is_among n (positions_of new t) ≡ true) → AreListed old hooks → AreListed new hooks
+listed_kept old new hooks kept listed position hook at = kept (option_map string_bytes hook.tag) position (listed position hook at)
 
-last_or_before : (hooks : List Hook) (last hook : Hook) (place : ℕ) (P : ℕ → Hook → Type 0) → ((i : ℕ) (h : Hook) → slice_get hooks i ≡ Some h → P i h) → P (length hooks) last → slice_get (hooks ++ last ∷ []) place ≡ Some hook → P place hook
+last_or_before : (hooks : List Hook) (last hook : Hook) (position : ℕ) (P : ℕ → Hook → Type 0) → ((i : ℕ) (h : Hook) → slice_get hooks i ≡ Some h → P i h) → P (length hooks) last → slice_get (hooks ++ last ∷ []) position ≡ Some hook → P position hook
 last_or_before [] last hook zero P before end at = let same : last ≡ hook = cc in subst (P 0) same end
-last_or_before [] last hook (suc place) P before end at = let never : ⊥ = cc in absurd never
+last_or_before [] last hook (suc position) P before end at = let never : ⊥ = cc in absurd never
 last_or_before (h ∷ hooks) last hook zero P before end at = before 0 hook at
-last_or_before (h ∷ hooks) last hook (suc place) P before end at = last_or_before hooks last hook place (λ i g. P (suc i) g) (λ i g e. before (suc i) g e) end at
+last_or_before (h ∷ hooks) last hook (suc position) P before end at = last_or_before hooks last hook position (λ i g. P (suc i) g) (λ i g e. before (suc i) g e) end at
 
-pub listed_push : (old new : HookIndex) (hooks : List Hook) (hook : Hook) → ((t : Option (List ℕ)) (n : ℕ) → is_among n (places_of old t) ≡ true → is_among n (places_of new t) ≡ true)
-    → is_among (length hooks) (places_of new (option_map string_bytes hook.tag)) ≡ true → AreListed old hooks → AreListed new (hooks ++ hook ∷ [])
-listed_push old new hooks hook kept added listed place other at =
-    last_or_before hooks hook other place (λ i h. is_among i (places_of new (option_map string_bytes h.tag)) ≡ true) (listed_kept old new hooks kept listed) added at
+pub listed_push : (old new : HookIndex) (hooks : List Hook) (hook : Hook) → ((t : Option (List ℕ)) (n : ℕ) → is_among n (positions_of old t) ≡ true → is_among n (positions_of new t) ≡ true)
+    → is_among (length hooks) (positions_of new (option_map string_bytes hook.tag)) ≡ true → AreListed old hooks → AreListed new (hooks ++ hook ∷ [])
+listed_push old new hooks hook kept added listed position other at =
+    last_or_before hooks hook other position (λ i h. is_among i (positions_of new (option_map string_bytes h.tag)) ≡ true) (listed_kept old new hooks kept listed) added at
 
 -- the first that passes
 find_past : {X : Type 0} (test : X → Bool) (x : X) (xs : List X) (r : ℕ) (b : Bool) → test x ≡ b → (test x ≡ true → suc r ≤ 0) → slice_get xs r ≡ find test xs → slice_get xs r ≡ cond (test x) (Some x) (find test xs)
@@ -97,7 +97,7 @@ within_all [] k n e = let never : ⊥ = cc in absurd never
 within_all (m ∷ ns) zero n e = omega arith
 within_all (m ∷ ns) (suc k) n e = let less = within_all ns k n e in omega arith
 
-pub found_is : (index : HookIndex) (hooks : List Hook) (kind : HookKind) (tag : Option (List ℕ)) (r : ℕ) → AreListed index hooks → IsFirst (λ hook. is_for (hook_value hook) kind tag) hooks (places_of index tag) (length (places_of index tag)) r
+pub found_is : (index : HookIndex) (hooks : List Hook) (kind : HookKind) (tag : Option (List ℕ)) (r : ℕ) → AreListed index hooks → IsFirst (λ hook. is_for (hook_value hook) kind tag) hooks (positions_of index tag) (length (positions_of index tag)) r
     → option_map hook_value (slice_get hooks r) ≡ find (λ (h : HookValue). is_for h kind tag) (map hook_value hooks)
 found_is index hooks kind tag r listed first =
     ap (option_map hook_value) (find_first (λ hook. is_for (hook_value hook) kind tag) hooks r first.within first.passes least)
@@ -105,47 +105,47 @@ found_is index hooks kind tag r listed first =
       least : (i : ℕ) (hook : Hook) → slice_get hooks i ≡ Some hook → is_for (hook_value hook) kind tag ≡ true → r ≤ i
       least i hook at passes =
           let same = same_tag (option_map string_bytes hook.tag) tag (second (is_same_kind hook.kind kind) (is_same_tag (option_map string_bytes hook.tag) tag) passes) in
-          let there = among_at i (places_of index tag) (subst (λ t. is_among i (places_of index t) ≡ true) same (listed i hook at)) in
-          first.least there.0 i hook (within_all (places_of index tag) there.0 i there.1) there.1 at passes
+          let there = among_at i (positions_of index tag) (subst (λ t. is_among i (positions_of index t) ≡ true) same (listed i hook at)) in
+          first.least there.0 i hook (within_all (positions_of index tag) there.0 i there.1) there.1 at passes
 
 pub read_behind : {X Y : Type 0} (f : X → Y) (o : Option (Bor X)) → option_map (λ x. f x.now) o ≡ option_map f (option_copied o)
 read_behind f None = refl
 read_behind f (Some x) = refl
 
--- the first of more places
+-- the first of more positions
 pub get_number : (ns : List ℕ) (k : ℕ) → k < length ns → slice_get ns k ≡ Some (get_or ns k 0)
 get_number [] k l = let never : ⊥ = omega arith in absurd never
 get_number (n ∷ ns) zero l = refl
 get_number (n ∷ ns) (suc k) l = get_number ns k (omega arith)
 
-same_place : (a b : ℕ) → ◌≡◌ {A = Option ℕ} (Some a) (Some b) → a ≡ b
-same_place a b e = cc
+same_position : (a b : ℕ) → ◌≡◌ {A = Option ℕ} (Some a) (Some b) → a ≡ b
+same_position a b e = cc
 
 same_hook : (a b : Hook) → ◌≡◌ {A = Option Hook} (Some a) (Some b) → a ≡ b
 same_hook a b e = cc
 
-pub first_taken : (test : Hook → Bool) (hooks : List Hook) (places : List ℕ) (k first place : ℕ) (hook : Hook) → slice_get places k ≡ Some place → slice_get hooks place ≡ Some hook → test hook ≡ true
-    → place < first → IsFirst test hooks places k first → IsFirst test hooks places (k + 1) place
-first_taken test hooks places k first place hook here at passes less before = record {
+pub first_taken : (test : Hook → Bool) (hooks : List Hook) (positions : List ℕ) (k first position : ℕ) (hook : Hook) → slice_get positions k ≡ Some position → slice_get hooks position ≡ Some hook → test hook ≡ true
+    → position < first → IsFirst test hooks positions k first → IsFirst test hooks positions (k + 1) position
+first_taken test hooks positions k first position hook here at passes less before = record {
   within = omega (arith, less, before.within);
   passes = λ other e. subst (λ h. test h ≡ true) (same_hook hook other (sym at ∙ e)) passes;
   least = λ j p other l e found good. elim (cases_lt j k) [
     | inl lt ↦ let low = before.least j p other lt e found good in omega (arith, less, low)
     | inr ge ↦ let end : j ≡ k = omega (arith, l, ge) in
-        let same : place ≡ p = same_place place p (sym here ∙ subst (λ i. slice_get places i ≡ Some p) end e) in omega (arith, same)
+        let same : position ≡ p = same_position position p (sym here ∙ subst (λ i. slice_get positions i ≡ Some p) end e) in omega (arith, same)
   ];
 }
 
-pub first_passed : (test : Hook → Bool) (hooks : List Hook) (places : List ℕ) (k first place : ℕ) → slice_get places k ≡ Some place
-    → ((hook : Hook) → place < first → slice_get hooks place ≡ Some hook → test hook ≡ true → ⊥) → IsFirst test hooks places k first → IsFirst test hooks places (k + 1) first
-first_passed test hooks places k first place here never before = record {
+pub first_passed : (test : Hook → Bool) (hooks : List Hook) (positions : List ℕ) (k first position : ℕ) → slice_get positions k ≡ Some position
+    → ((hook : Hook) → position < first → slice_get hooks position ≡ Some hook → test hook ≡ true → ⊥) → IsFirst test hooks positions k first → IsFirst test hooks positions (k + 1) first
+first_passed test hooks positions k first position here never before = record {
   within = before.within;
   passes = before.passes;
   least = λ j p other l e found good. elim (cases_lt j k) [
     | inl lt ↦ before.least j p other lt e found good
     | inr ge ↦ let end : j ≡ k = omega (arith, l, ge) in
-        let same : p ≡ place = same_place p place (sym (subst (λ i. slice_get places i ≡ Some p) end e) ∙ here) in
-        elim (cases_lt place first) [
+        let same : p ≡ position = same_position p position (sym (subst (λ i. slice_get positions i ≡ Some p) end e) ∙ here) in
+        elim (cases_lt position first) [
           | inl less ↦ absurd (never other less (subst (λ i. slice_get hooks i ≡ Some other) same found) good)
           | inr more ↦ omega (arith, same, more)
         ]
@@ -157,8 +157,8 @@ got_at [] i x l e = let never : ⊥ = omega arith in absurd never
 got_at (y ∷ ys) zero x l e = ap Some (sym e)
 got_at (y ∷ ys) (suc i) x l e = got_at ys i x (omega arith) e
 
-pub never_both : (test : Hook → Bool) (hooks : List Hook) (place : ℕ) (a b : Hook) → slice_get hooks place ≡ Some a → test a ≡ false → slice_get hooks place ≡ Some b → test b ≡ true → ⊥
-never_both test hooks place a b here bad there good =
+pub never_both : (test : Hook → Bool) (hooks : List Hook) (position : ℕ) (a b : Hook) → slice_get hooks position ≡ Some a → test a ≡ false → slice_get hooks position ≡ Some b → test b ≡ true → ⊥
+never_both test hooks position a b here bad there good =
     let no : test b ≡ false = subst (λ h. test h ≡ false) (same_hook a b (sym here ∙ there)) bad in
     let never : true ≡ false = sym good ∙ no in cc
 
@@ -175,25 +175,25 @@ pub some_mapped : {X Y : Type 0} (f : X → Y) (o : Option X) → is_some o ≡ 
 some_mapped f None = refl
 some_mapped f (Some x) = refl
 
--- what a slice gives at a place
-pub looked_up : (hooks : List Hook) (place : ℕ) (o : Option (Bor Hook)) → is_some o ≡ ltb place (length hooks) → IfSome o (λ x. x.now ≡ get_or hooks place x.now) → option_copied o ≡ slice_get hooks place
-looked_up hooks place None none same = elim (cases_lt place (length hooks)) [
-  | inl less ↦ let never : false ≡ true = none ∙ lt-ltb place (length hooks) less in absurd cc
-  | inr past ↦ sym (slice_get_past hooks place past)
+-- what a slice gives at a position
+pub looked_up : (hooks : List Hook) (position : ℕ) (o : Option (Bor Hook)) → is_some o ≡ ltb position (length hooks) → IfSome o (λ x. x.now ≡ get_or hooks position x.now) → option_copied o ≡ slice_get hooks position
+looked_up hooks position None none same = elim (cases_lt position (length hooks)) [
+  | inl less ↦ let never : false ≡ true = none ∙ lt-ltb position (length hooks) less in absurd cc
+  | inr past ↦ sym (slice_get_past hooks position past)
 ]
-looked_up hooks place (Some x) some same = sym (got_at hooks place x.now (ltb-true place (length hooks) (sym some)) same)
+looked_up hooks position (Some x) some same = sym (got_at hooks position x.now (ltb-true position (length hooks) (sym some)) same)
 
--- hooks that are listed up to a place
+-- hooks that are listed up to a position
 pub none_listed : (index : HookIndex) (hooks : List Hook) → AreListedTo index hooks 0
-none_listed index hooks place hook less at = let never : ⊥ = omega arith in absurd never
+none_listed index hooks position hook less at = let never : ⊥ = omega arith in absurd never
 
-pub one_more_listed : (old new : HookIndex) (hooks : List Hook) (k : ℕ) → ((t : Option (List ℕ)) (n : ℕ) → is_among n (places_of old t) ≡ true → is_among n (places_of new t) ≡ true)
-    → ((hook : Hook) → slice_get hooks k ≡ Some hook → is_among k (places_of new (option_map string_bytes hook.tag)) ≡ true) → AreListedTo old hooks k → AreListedTo new hooks (k + 1)
-one_more_listed old new hooks k kept added listed place hook less at = elim (cases_lt place k) [
-  | inl lt ↦ kept (option_map string_bytes hook.tag) place (listed place hook lt at)
-  | inr ge ↦ let end : k ≡ place = omega (arith, less, ge) in
-      subst (λ p. is_among p (places_of new (option_map string_bytes hook.tag)) ≡ true) end (added hook (subst (λ p. slice_get hooks p ≡ Some hook) (sym end) at))
+pub one_more_listed : (old new : HookIndex) (hooks : List Hook) (k : ℕ) → ((t : Option (List ℕ)) (n : ℕ) → is_among n (positions_of old t) ≡ true → is_among n (positions_of new t) ≡ true)
+    → ((hook : Hook) → slice_get hooks k ≡ Some hook → is_among k (positions_of new (option_map string_bytes hook.tag)) ≡ true) → AreListedTo old hooks k → AreListedTo new hooks (k + 1)
+one_more_listed old new hooks k kept added listed position hook less at = elim (cases_lt position k) [
+  | inl lt ↦ kept (option_map string_bytes hook.tag) position (listed position hook lt at)
+  | inr ge ↦ let end : k ≡ position = omega (arith, less, ge) in
+      subst (λ p. is_among p (positions_of new (option_map string_bytes hook.tag)) ≡ true) end (added hook (subst (λ p. slice_get hooks p ≡ Some hook) (sym end) at))
 ]
 
 pub all_listed : (index : HookIndex) (hooks : List Hook) (k : ℕ) → length hooks ≤ k → AreListedTo index hooks k → AreListed index hooks
-all_listed index hooks k past listed place hook at = let less = slice_get_within hooks place hook at in listed place hook (omega (arith, less, past)) at
+all_listed index hooks k past listed position hook at = let less = slice_get_within hooks position hook at in listed position hook (omega (arith, less, past)) at

@@ -16,7 +16,7 @@ use Rattle.gk_gherkin.specs.HookHeadings.{hooks_class}
 use Rattle.gk_gherkin.specs.HooksGrammar.{AreHooksReadable}
 use Rattle.gk_gherkin.proofs.HookClasses.{class_plain}
 
--- Where a list is cut at two places: these are the same, or one lies after the other.
+-- Where a list is cut at two lines: these are the same, or one lies after the other.
 pub data Cuts (a b more others : Lines) (x y : LineValue) : Type 0 where
   same : a ≡ b → x ≡ y → Cuts a b more others x y
   first : (mid : Lines) → b ≡ a ++ x ∷ mid → more ≡ mid ++ y ∷ others → Cuts a b more others x y
@@ -73,21 +73,21 @@ module _ (Readable : Lines → Type 0) {C : Type 0} (kind : LineValue → C) whe
   not_before before mid line stops (inr (extra, readable)) = not_in_readable before (mid ++ extra ∷ []) line stops (subst Readable (append_assoc before (line ∷ mid) (extra ∷ [])) readable)
 
   -- two faults on lines are on one line
-  one_place_of : (ls : Lines) (n m : ℕ) (F G : Lines → LineValue → Type 0) (f : StopsAt Readable kind ls n F) (g : StopsAt Readable kind ls m G) → Cuts f.before g.before f.after g.after f.line g.line → (f.before ≡ g.before) × (f.line ≡ g.line)
-  one_place_of ls n m F G f g (same d e) = (d, e)
-  one_place_of ls n m F G f g (first mid e more) = absurd (not_before f.before mid f.line f.stops (subst (λ t. Readable t ⊎ ((extra : LineValue) × Readable (t ++ extra ∷ []))) e g.fits))
-  one_place_of ls n m F G f g (second mid e more) = absurd (not_before g.before mid g.line g.stops (subst (λ t. Readable t ⊎ ((extra : LineValue) × Readable (t ++ extra ∷ []))) e f.fits))
+  one_cut_of : (ls : Lines) (n m : ℕ) (F G : Lines → LineValue → Type 0) (f : StopsAt Readable kind ls n F) (g : StopsAt Readable kind ls m G) → Cuts f.before g.before f.after g.after f.line g.line → (f.before ≡ g.before) × (f.line ≡ g.line)
+  one_cut_of ls n m F G f g (same d e) = (d, e)
+  one_cut_of ls n m F G f g (first mid e more) = absurd (not_before f.before mid f.line f.stops (subst (λ t. Readable t ⊎ ((extra : LineValue) × Readable (t ++ extra ∷ []))) e g.fits))
+  one_cut_of ls n m F G f g (second mid e more) = absurd (not_before g.before mid g.line g.stops (subst (λ t. Readable t ⊎ ((extra : LineValue) × Readable (t ++ extra ∷ []))) e f.fits))
 
-  pub one_place : (ls : Lines) (n m : ℕ) (F G : Lines → LineValue → Type 0) (f : StopsAt Readable kind ls n F) (g : StopsAt Readable kind ls m G) → (f.before ≡ g.before) × (f.line ≡ g.line)
-  one_place ls n m F G f g = one_place_of ls n m F G f g (cuts f.before g.before f.after g.after f.line g.line (sym f.whole ∙ g.whole))
+  pub one_cut : (ls : Lines) (n m : ℕ) (F G : Lines → LineValue → Type 0) (f : StopsAt Readable kind ls n F) (g : StopsAt Readable kind ls m G) → (f.before ≡ g.before) × (f.line ≡ g.line)
+  one_cut ls n m F G f g = one_cut_of ls n m F G f g (cuts f.before g.before f.after g.after f.line g.line (sym f.whole ∙ g.whole))
 
   pub one_line : (ls : Lines) (n m : ℕ) (F G : Lines → LineValue → Type 0) → StopsAt Readable kind ls n F → StopsAt Readable kind ls m G → n ≡ m
-  one_line ls n m F G f g = sym f.number ∙ (ap (λ (l : LineValue). l.line) (one_place ls n m F G f g).1 ∙ g.number)
+  one_line ls n m F G f g = sym f.number ∙ (ap (λ (l : LineValue). l.line) (one_cut ls n m F G f g).1 ∙ g.number)
 
   -- two that no line has at once are not both there
   pub not_both : (ls : Lines) (n m : ℕ) (F G : Lines → LineValue → Type 0) → ((before : Lines) (line : LineValue) → F before line → G before line → ⊥) → StopsAt Readable kind ls n F → StopsAt Readable kind ls m G → ⊥
   not_both ls n m F G never f g =
-      let e = one_place ls n m F G f g in
+      let e = one_cut ls n m F G f g in
       never g.before g.line (subst (λ (ls : Lines). F ls g.line) e.0 (subst (λ (l : LineValue). F f.before l) e.1 f.fault)) g.fault
 
   -- where a line more makes lines readable, none of them is faulty

@@ -8,8 +8,8 @@ use Rattle.gk_gherkin.specs.declared.class.Fence.TheVariants.{Backticks, Quotes}
 use Rattle.gk_gherkin.specs.declared.read_fault.ReadFault.TheVariants as faults
 use Rattle.gk_gherkin.specs.declared.class.Fence.{Fence}
 use Rattle.gk_gherkin.specs.declared.read_fault.ReadFault.{ReadFault}
-use Rattle.gk_gherkin.specs.FeaturePlace.{Above, FeaturePlace, Inside, OpenFeature, Tagged, Untagged, by_language, feature_places, on, on_comment, takes_text}
-use Rattle.gk_gherkin.specs.Reading.{At, InText, State, longer, opening, run, step}
+use Rattle.gk_gherkin.specs.FeatureReader.{Above, FeatureReader, InFeature, OpenFeature, Tagged, Untagged, by_language, feature_readers, on, on_comment, takes_text}
+use Rattle.gk_gherkin.specs.Reading.{Outside, InText, State, longer, opening, run, step}
 use Rattle.gk_gherkin.specs.Text.{begins, trim}
 use Rattle.gk_gherkin.specs.Lines.{LineValue, Lines, line_at}
 use Rattle.gk_gherkin.specs.Class.{class, class_of, class_of_words, fence_text}
@@ -17,12 +17,12 @@ use Rattle.gk_gherkin.specs.DocStrings.{closes}
 use Rattle.gk_gherkin.specs.Language.{language_of}
 use Rattle.gk_gherkin.specs.Grammar.{IsIgnored, IsIgnoredClass, IsReadable, Skips, skip, skip_none}
 use Rattle.gk_gherkin.specs.ReadFault.{BeginsSome, EndsInDocString, EndsInTags, FeatureFault, IsBadRow, IsBadTag, IsOtherLanguage, IsOtherWidth, NoneLikeIt, StopsAt, TakesTags}
-use Rattle.gk_gherkin.specs.Gives.{◌>>=◌}
+use Rattle.gk_gherkin.specs.Results.{◌>>=◌}
 use Rattle.gk_gherkin.proofs.ReadingRuns.{no_ok, one_more_line, run-append}
 use Rattle.gk_gherkin.proofs.ReadingStates.{no_fence, step_plain, step_stays}
 use Rattle.gk_gherkin.proofs.ReadingStops.{IsOpen, closed, not_in_text, open_until, still_open}
-use Rattle.gk_gherkin.proofs.FeaturePlaceStops.{before_text, behind_text, feature_runs, heading_for, plain_fence, readable_after_tags, readable_at, text_takes}
-use Rattle.gk_gherkin.proofs.OneFault.{Cuts, bad_row_before_width, closing_line, cuts, first, no_fault_before_end, no_fault_in_doc_string, not_both, one_line, one_opening, one_place, same, second, unexpected_before_bad_row, unexpected_before_bad_tag, unexpected_before_width}
+use Rattle.gk_gherkin.proofs.FeatureReaderStops.{before_text, behind_text, feature_runs, heading_for, plain_fence, readable_after_tags, readable_at, text_takes}
+use Rattle.gk_gherkin.proofs.OneFault.{Cuts, bad_row_before_width, closing_line, cuts, first, no_fault_before_end, no_fault_in_doc_string, not_both, one_line, one_opening, one_cut, same, second, unexpected_before_bad_row, unexpected_before_bad_tag, unexpected_before_width}
 use Rattle.gk_gherkin.proofs.RowStops.{line_of}
 
 -- a comment that names no language can stand wherever the lines before it begin a readable list
@@ -42,55 +42,55 @@ unfolding closes
 comment_open Quotes = refl
 comment_open Backticks = refl
 
-commented : (feature : OpenFeature) (s : FeaturePlace) → on_comment feature s comment ≡ Ok s
+commented : (feature : OpenFeature) (s : FeatureReader) → on_comment feature s comment ≡ Ok s
 commented Above s = ap (λ (r : Option (List ℕ)). by_language r s comment) comment_language
-commented (Inside top part) s = refl
+commented (InFeature top part) s = refl
 
-comment_on : (place : FeaturePlace) → on place comment (class comment) ≡ Ok place
+comment_on : (reader : FeatureReader) → on reader comment (class comment) ≡ Ok reader
 unfolding on
 comment_on (Untagged feature) = ap (on (Untagged feature) comment) comment_class ∙ commented feature (Untagged feature)
 comment_on (Tagged feature tags n) = ap (on (Tagged feature tags n) comment) comment_class ∙ commented feature (Tagged feature tags n)
 
-comment_step : (place : FeaturePlace) → step feature_places (At place) comment ≡ Ok (At place)
-comment_step place = step_plain feature_places place place comment (ap (opening (takes_text place)) comment_class ∙ no_fence (takes_text place) Comment tt) (comment_on place)
+comment_step : (reader : FeatureReader) → step feature_readers (Outside reader) comment ≡ Ok (Outside reader)
+comment_step reader = step_plain feature_readers reader reader comment (ap (opening (takes_text reader)) comment_class ∙ no_fence (takes_text reader) Comment tt) (comment_on reader)
 
-comment_at : (place : FeaturePlace) (before : Lines) → run feature_places (At feature_places.first) before ≡ Ok (At place) → BeginsSome IsReadable class (before ++ comment ∷ [])
+comment_at : (reader : FeatureReader) (before : Lines) → run feature_readers (Outside feature_readers.first) before ≡ Ok (Outside reader) → BeginsSome IsReadable class (before ++ comment ∷ [])
 comment_at (Untagged feature) before r =
-    let readable = readable_at (before ++ comment ∷ []) feature (one_more_line (step feature_places) (At feature_places.first) before (At (Untagged feature)) (At (Untagged feature)) comment r (comment_step (Untagged feature))) in
+    let readable = readable_at (before ++ comment ∷ []) feature (one_more_line (step feature_readers) (Outside feature_readers.first) before (Outside (Untagged feature)) (Outside (Untagged feature)) comment r (comment_step (Untagged feature))) in
     ([], subst IsReadable (sym (append-nil (before ++ comment ∷ []))) readable)
 comment_at (Tagged feature tags n) before r =
-    (heading_for feature ∷ [], readable_after_tags (before ++ comment ∷ []) feature tags n (one_more_line (step feature_places) (At feature_places.first) before (At (Tagged feature tags n)) (At (Tagged feature tags n)) comment r (comment_step (Tagged feature tags n))))
+    (heading_for feature ∷ [], readable_after_tags (before ++ comment ∷ []) feature tags n (one_more_line (step feature_readers) (Outside feature_readers.first) before (Outside (Tagged feature tags n)) (Outside (Tagged feature tags n)) comment r (comment_step (Tagged feature tags n))))
 
-comment_after : (s : State FeaturePlace) (before : Lines) → run feature_places (At feature_places.first) before ≡ Ok s → BeginsSome IsReadable class (before ++ comment ∷ [])
-comment_after (At place) before r = comment_at place before r
-comment_after (InText place text) before r =
+comment_after : (s : State FeatureReader) (before : Lines) → run feature_readers (Outside feature_readers.first) before ≡ Ok s → BeginsSome IsReadable class (before ++ comment ∷ [])
+comment_after (Outside reader) before r = comment_at reader before r
+comment_after (InText reader text) before r =
     let more = longer text comment in
     let end = line_at 1 (fence_text text.fence) in
-    let reached : run feature_places (At feature_places.first) (before ++ comment ∷ []) ≡ Ok (InText place more) = one_more_line (step feature_places) (At feature_places.first) before (InText place text) (InText place more) comment r (step_stays feature_places place text comment (comment_open text.fence)) in
-    (end ∷ [], closed feature_places IsReadable class feature_runs before_text behind_text (before ++ comment ∷ []) place more end reached (text_takes before place text r) (closing_line text.fence))
+    let reached : run feature_readers (Outside feature_readers.first) (before ++ comment ∷ []) ≡ Ok (InText reader more) = one_more_line (step feature_readers) (Outside feature_readers.first) before (InText reader text) (InText reader more) comment r (step_stays feature_readers reader text comment (comment_open text.fence)) in
+    (end ∷ [], closed feature_readers IsReadable class feature_runs before_text behind_text (before ++ comment ∷ []) reader more end reached (text_takes before reader text r) (closing_line text.fence))
 
-comment_by : (r : Result (State FeaturePlace) ReadFault) (before : Lines) (extra : LineValue) (place : FeaturePlace) → run feature_places (At feature_places.first) before ≡ r → (r >>= λ t. run feature_places t (extra ∷ [])) ≡ Ok (At place) → BeginsSome IsReadable class (before ++ comment ∷ [])
-comment_by (Ok s) before extra place is h = comment_after s before is
-comment_by (Err e) before extra place is h = no_ok h
+comment_by : (r : Result (State FeatureReader) ReadFault) (before : Lines) (extra : LineValue) (reader : FeatureReader) → run feature_readers (Outside feature_readers.first) before ≡ r → (r >>= λ t. run feature_readers t (extra ∷ [])) ≡ Ok (Outside reader) → BeginsSome IsReadable class (before ++ comment ∷ [])
+comment_by (Ok s) before extra reader is h = comment_after s before is
+comment_by (Err e) before extra reader is h = no_ok h
 
 comment_stands : (before : Lines) → IsReadable before ⊎ ((extra : LineValue) × IsReadable (before ++ extra ∷ [])) → BeginsSome IsReadable class (before ++ comment ∷ [])
-comment_stands before (inl readable) = let k = feature_runs before readable in comment_after (At k.0) before k.1
+comment_stands before (inl readable) = let k = feature_runs before readable in comment_after (Outside k.0) before k.1
 comment_stands before (inr (extra, readable)) =
     let k = feature_runs (before ++ extra ∷ []) readable in
-    comment_by (run feature_places (At feature_places.first) before) before extra k.0 refl (sym (run-append (step feature_places) (At feature_places.first) before (extra ∷ [])) ∙ k.1)
+    comment_by (run feature_readers (Outside feature_readers.first) before) before extra k.0 refl (sym (run-append (step feature_readers) (Outside feature_readers.first) before (extra ∷ [])) ∙ k.1)
 
 unexpected_before_language : (ls : Lines) (n m : ℕ) → StopsAt IsReadable class ls n (NoneLikeIt IsReadable class) → StopsAt IsReadable class ls m IsOtherLanguage → ⊥
 unexpected_before_language ls n m f g =
-    let e = one_place IsReadable class ls n m (NoneLikeIt IsReadable class) IsOtherLanguage f g in
+    let e = one_cut IsReadable class ls n m (NoneLikeIt IsReadable class) IsOtherLanguage f g in
     let more = comment_stands f.before f.fits in
     f.fault comment (comment_class ∙ sym (ap class e.1 ∙ g.fault.is)) more.0 more.1
 
 -- a fence that opens a doc string is at no readable end until it is closed
 abbrev Open : Lines → Fence → Type 0
-Open ls fence = IsOpen feature_places IsReadable class feature_runs plain_fence ls fence
+Open ls fence = IsOpen feature_readers IsReadable class feature_runs plain_fence ls fence
 
 not_open : (ls : Lines) (fence : Fence) → Open ls fence → IsReadable ls → ⊥
-not_open ls fence o readable = not_in_text feature_places IsReadable class feature_runs ls o.place o.text o.reached readable
+not_open ls fence o readable = not_in_text feature_readers IsReadable class feature_runs ls o.reader o.text o.reached readable
 
 open_at_end : (ls : Lines) (n : ℕ) (d : EndsInDocString IsReadable class ls n) → Open ls d.fence
 open_at_end ls n d =
@@ -99,7 +99,7 @@ open_at_end ls n d =
     let here : IsReadable ((d.before ++ d.opening ∷ d.content) ++ closing ∷ []) = subst (λ (ls : Lines). IsReadable (ls ++ closing ∷ [])) d.whole closed in
     let whole : IsReadable (d.before ++ d.opening ∷ (d.content ++ closing ∷ [])) = subst IsReadable (append_assoc d.before (d.opening ∷ d.content) (closing ∷ [])) here in
     let some : BeginsSome IsReadable class (d.before ++ d.opening ∷ []) = (d.content ++ closing ∷ [], subst IsReadable (sym (append_assoc d.before (d.opening ∷ []) (d.content ++ closing ∷ []))) whole) in
-    subst (λ (ls : Lines). Open ls d.fence) (sym d.whole) (still_open feature_places IsReadable class feature_runs plain_fence d.before d.content d.opening d.fence d.is d.fits d.opens d.inside some)
+    subst (λ (ls : Lines). Open ls d.fence) (sym d.whole) (still_open feature_readers IsReadable class feature_runs plain_fence d.before d.content d.opening d.fence d.is d.fits d.opens d.inside some)
 
 -- a line that closes a doc string is a fence
 fence_alone : (fence : Fence) (text : List ℕ) → (begins text (fence_text fence) && (length text == 3)) ≡ true → text ≡ fence_text fence
@@ -116,14 +116,14 @@ heading_in_text : (b : Bool) (fence : Fence) (ls : Lines) (l : LineValue) → Op
 heading_in_text true fence ls l o c takes readable = subst TakesTags (closing_class fence l c) takes
 heading_in_text false fence ls l o c takes readable =
     let more = longer o.text l in
-    let stays : step feature_places (InText o.place o.text) l ≡ Ok (InText o.place more) = step_stays feature_places o.place o.text l (ap (λ (fence : Fence). closes fence l) o.same ∙ c) in
-    not_open (ls ++ l ∷ []) fence (record { place = o.place; text = more; takes = o.takes; same = o.same; reached = one_more_line (step feature_places) (At feature_places.first) ls (InText o.place o.text) (InText o.place more) l o.reached stays }) readable
+    let stays : step feature_readers (InText o.reader o.text) l ≡ Ok (InText o.reader more) = step_stays feature_readers o.reader o.text l (ap (λ (fence : Fence). closes fence l) o.same ∙ c) in
+    not_open (ls ++ l ∷ []) fence (record { reader = o.reader; text = more; takes = o.takes; same = o.same; reached = one_more_line (step feature_readers) (Outside feature_readers.first) ls (InText o.reader o.text) (InText o.reader more) l o.reached stays }) readable
 
 text_before_tags : (ls : Lines) (n m : ℕ) → EndsInDocString IsReadable class ls n → EndsInTags ls m → ⊥
 text_before_tags ls n m d t = heading_in_text (closes d.fence t.fits.0) d.fence ls t.fits.0 (open_at_end ls n d) refl t.fits.1 t.fits.2
 
 one_text : (ls : Lines) (n m : ℕ) → EndsInDocString IsReadable class ls n → EndsInDocString IsReadable class ls m → n ≡ m
-one_text ls n m f g = one_opening IsReadable class (open_until feature_places IsReadable class feature_runs plain_fence) ls n m f g (cuts f.before g.before f.content g.content f.opening g.opening (sym f.whole ∙ g.whole))
+one_text ls n m f g = one_opening IsReadable class (open_until feature_readers IsReadable class feature_runs plain_fence) ls n m f g (cuts f.before g.before f.content g.content f.opening g.opening (sym f.whole ∙ g.whole))
 
 -- of two tag lines at the end the last
 ignored_in : (mid rest : Lines) (l : LineValue) {ks : Lines} → ks ≡ mid ++ l ∷ rest → Skips IsIgnored ks [] → IsIgnored l

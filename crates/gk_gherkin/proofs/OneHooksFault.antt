@@ -2,19 +2,19 @@
 use Rattle.std.proofs.Common.{◌≡◌, ◌≢◌, ℕ, refl, ap, sym, ◌∙◌}
 use Rattle.gk_gherkin.specs.declared.read_fault.ReadFault.TheVariants as faults
 use Rattle.gk_gherkin.specs.declared.read_fault.ReadFault.{ReadFault}
-use Rattle.gk_gherkin.specs.HooksPlace.{hooks_places}
+use Rattle.gk_gherkin.specs.HooksReader.{hooks_readers}
 use Rattle.gk_gherkin.specs.HookHeadings.{hooks_class}
 use Rattle.gk_gherkin.specs.HooksGrammar.{AreHooksReadable}
 use Rattle.gk_gherkin.specs.Lines.{Lines}
 use Rattle.gk_gherkin.specs.ReadFault.{EndsInDocString, HooksFault, IsBadHook, IsBadRow, IsOtherWidth, NoneLikeIt}
 use Rattle.gk_gherkin.proofs.ReadingStops.{open_until}
-use Rattle.gk_gherkin.proofs.HooksPlaceStops.{hook_runs, hooks_readable_at}
+use Rattle.gk_gherkin.proofs.HooksReaderStops.{hook_runs, hooks_readable_at}
 use Rattle.gk_gherkin.proofs.OneFault.{bad_hook_before_bad_row, bad_hook_before_width, bad_row_before_width, cuts, no_fault_in_doc_string, not_both, one_line, one_opening, unexpected_before_bad_hook, unexpected_before_bad_row, unexpected_before_width}
 
 -- a fence that opens a doc string is at no readable end until it is closed
 one_text : (ls : Lines) (n m : ℕ) → EndsInDocString AreHooksReadable hooks_class ls n → EndsInDocString AreHooksReadable hooks_class ls m → n ≡ m
 one_text ls n m f g =
-    let until = open_until hooks_places AreHooksReadable hooks_class hook_runs (λ ls place next l fence is e r. hooks_readable_at ls next r) in
+    let until = open_until hooks_readers AreHooksReadable hooks_class hook_runs (λ ls reader next l fence is e r. hooks_readable_at ls next r) in
     one_opening AreHooksReadable hooks_class until ls n m f g (cuts f.before g.before f.content g.content f.opening g.opening (sym f.whole ∙ g.whole))
 
 -- each fault and any other

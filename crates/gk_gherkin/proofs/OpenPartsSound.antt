@@ -8,7 +8,7 @@ use Rattle.gk_gherkin.specs.declared.feature.StepType.TheVariants.{Given}
 use Rattle.gk_gherkin.specs.declared.class.Class.{Class}
 use Rattle.gk_gherkin.specs.declared.read_fault.ReadFault.{ReadFault}
 use Rattle.gk_gherkin.specs.declared.feature.StepType.{StepType}
-use Rattle.gk_gherkin.specs.OpenParts.{Bodied, Body, Describing, Exampled, Grid, HeadValue, Headed, NoRows, OfBackground, OfScenario, Open, OutlineValue, Owner, Rows, SectionValue, Stepped, body_takes_text, body_with_text, examples_of, head_from, header_of, is_empty, on_block, on_body, on_grid, on_open, on_row, outline_of, owner_section, row_from, row_of, rows_of, scenario_of, section_of, step_from, steps_of, width_of, with_block, with_examples, with_scenario}
+use Rattle.gk_gherkin.specs.OpenParts.{InBody, Body, NoSteps, InExamples, Grid, HeadValue, InDescription, NoRows, OfBackground, OfScenario, Open, OutlineValue, Owner, Rows, ChildrenValue, Steps, body_takes_text, body_with_text, examples_of, head_from, header_of, is_empty, on_block, on_body, on_grid, on_open, on_row, outline_of, owner_children, row_from, row_of, rows_of, scenario_of, children_of, step_from, steps_of, width_of, with_block, with_examples, with_scenario}
 use Rattle.gk_gherkin.specs.Lines.{LineValue, Lines}
 use Rattle.gk_gherkin.specs.Class.{class, heading_keyword, heading_name}
 use Rattle.gk_gherkin.specs.Rows.{cells_of}
@@ -56,52 +56,52 @@ pub record HeadBuilt (Ignored : LineValue → Type 0) (kind : Class) (head : Hea
   pub name : head.name ≡ heading_name line
   pub number : head.line ≡ line.line
 
-pub record SectionBuilt (section : SectionValue) (ls rest : Lines) : Type 0 where
+pub record SectionBuilt (children : ChildrenValue) (ls rest : Lines) : Type 0 where
   pub after_description : Lines
   pub after_background : Lines
   pub description : Describes MayDescribeFeature ls after_description
-  pub background : Perhaps IsBackground after_description section.background after_background
-  pub scenarios : Many IsScenario after_background section.scenarios rest
+  pub background : Perhaps IsBackground after_description children.background after_background
+  pub scenarios : Many IsScenario after_background children.scenarios rest
 
 -- what stands before the first step, and the steps
 abbrev pub StepsBuilt : (Lines → Lines → Type 0) → Body → Lines → Lines → Type 0
-StepsBuilt Before Describing ls rest = Before ls rest
-StepsBuilt Before (Stepped steps step) ls rest = (a : Lines) × (b : Lines) × Before ls a × Many IsStep a steps b × IsStep b step rest × AreTyped (steps ++ step ∷ [])
+StepsBuilt Before NoSteps ls rest = Before ls rest
+StepsBuilt Before (Steps steps step) ls rest = (a : Lines) × (b : Lines) × Before ls a × Many IsStep a steps b × IsStep b step rest × AreTyped (steps ++ step ∷ [])
 
 abbrev pub BodyBuilt : Body → Lines → Lines → Type 0
 BodyBuilt body ls rest = StepsBuilt (Describes MayDescribeScenario) body ls rest
 
 abbrev pub OwnerBuilt : Owner → Lines → Lines → Type 0
 OwnerBuilt (OfBackground n) ls rest = (mid : Lines) × (line : LineValue) × Describes MayDescribeFeature ls mid × IsHeading IsIgnored BackgroundHeading mid line rest × (n ≡ line.line)
-OwnerBuilt (OfScenario section keyword head) ls rest = (mid : Lines) × SectionBuilt section ls mid × (built : HeadBuilt IsIgnored ScenarioHeading head mid rest) × (keyword ≡ heading_keyword built.line)
+OwnerBuilt (OfScenario children keyword head) ls rest = (mid : Lines) × SectionBuilt children ls mid × (built : HeadBuilt IsIgnored ScenarioHeading head mid rest) × (keyword ≡ heading_keyword built.line)
 
 abbrev pub GridBuilt : Grid → Lines → Lines → Type 0
 GridBuilt NoRows ls rest = Describes MayDescribeExamples ls rest
 GridBuilt (Rows header rows) ls rest = (mid : Lines) × (first : RowValue) × Describes MayDescribeExamples ls mid × (header ≡ first.cells) × IsTable mid (first ∷ rows) rest
 
 abbrev pub OpenBuilt : Open → Lines → Lines → Type 0
-OpenBuilt Headed ls rest = Describes MayDescribeFeature ls rest
-OpenBuilt (Bodied owner body) ls rest = (mid : Lines) × OwnerBuilt owner ls mid × BodyBuilt body mid rest
-OpenBuilt (Exampled section scenario head grid) ls rest = (a : Lines) × (b : Lines) × (c : Lines) × SectionBuilt section ls a × IsScenario a scenario b × HeadBuilt IsIgnored ExamplesHeading head b c × GridBuilt grid c rest
+OpenBuilt InDescription ls rest = Describes MayDescribeFeature ls rest
+OpenBuilt (InBody owner body) ls rest = (mid : Lines) × OwnerBuilt owner ls mid × BodyBuilt body mid rest
+OpenBuilt (InExamples children scenario head grid) ls rest = (a : Lines) × (b : Lines) × (c : Lines) × SectionBuilt children ls a × IsScenario a scenario b × HeadBuilt IsIgnored ExamplesHeading head b c × GridBuilt grid c rest
 
 -- closing what is open
 pub closed_steps : (Before : Lines → Lines → Type 0) (body : Body) (ls rest : Lines) → StepsBuilt Before body ls rest → (mid : Lines) × Before ls mid × AreSteps mid (steps_of body) rest
-closed_steps Before Describing ls rest b = (rest, b, record { parts = none; types = tt })
-closed_steps Before (Stepped steps st) ls rest b = (b.0, b.2, record { parts = Many-push b.3 b.4; types = b.5 })
+closed_steps Before NoSteps ls rest b = (rest, b, record { parts = none; types = tt })
+closed_steps Before (Steps steps st) ls rest b = (b.0, b.2, record { parts = Many-push b.3 b.4; types = b.5 })
 
-scenario_built : (section : SectionValue) (keyword : List ℕ) (head : HeadValue) (steps : List StepValue) (ls mid behind rest : Lines) → (o : OwnerBuilt (OfScenario section keyword head) ls mid) → Describes MayDescribeScenario mid behind → AreSteps behind steps rest → IsScenario o.0 (scenario_of keyword head steps) rest
-scenario_built section keyword head steps ls mid behind rest o d s =
+scenario_built : (children : ChildrenValue) (keyword : List ℕ) (head : HeadValue) (steps : List StepValue) (ls mid behind rest : Lines) → (o : OwnerBuilt (OfScenario children keyword head) ls mid) → Describes MayDescribeScenario mid behind → AreSteps behind steps rest → IsScenario o.0 (scenario_of keyword head steps) rest
+scenario_built children keyword head steps ls mid behind rest o d s =
     let h = o.2 in
     record { line = h.line; after_heading = mid; after_description = behind; after_steps = rest; heading = h.heading; keyword = o.3; name = h.name; number = h.number; description = d; steps = s; examples = none }
 
-more_scenarios : (section : SectionValue) (s : ScenarioValue) (ls mid rest : Lines) → SectionBuilt section ls mid → IsScenario mid s rest → SectionBuilt (with_scenario section s) ls rest
-more_scenarios section s ls mid rest b i = record { after_description = b.after_description; after_background = b.after_background; description = b.description; background = b.background; scenarios = Many-push b.scenarios i }
+more_scenarios : (children : ChildrenValue) (s : ScenarioValue) (ls mid rest : Lines) → SectionBuilt children ls mid → IsScenario mid s rest → SectionBuilt (with_scenario children s) ls rest
+more_scenarios children s ls mid rest b i = record { after_description = b.after_description; after_background = b.after_background; description = b.description; background = b.background; scenarios = Many-push b.scenarios i }
 
-closed_owner : (owner : Owner) (steps : List StepValue) (ls mid behind rest : Lines) → OwnerBuilt owner ls mid → Describes MayDescribeScenario mid behind → AreSteps behind steps rest → SectionBuilt (owner_section owner steps) ls rest
+closed_owner : (owner : Owner) (steps : List StepValue) (ls mid behind rest : Lines) → OwnerBuilt owner ls mid → Describes MayDescribeScenario mid behind → AreSteps behind steps rest → SectionBuilt (owner_children owner steps) ls rest
 closed_owner (OfBackground n) steps ls mid behind rest o d s =
     record { after_description = o.0; after_background = rest; description = o.2; background = record { line = o.1; after_heading = mid; after_description = behind; heading = o.3; number = o.4; description = d; steps = s }; scenarios = none }
-closed_owner (OfScenario section keyword head) steps ls mid behind rest o d s =
-    more_scenarios section (scenario_of keyword head steps) ls o.0 rest o.1 (scenario_built section keyword head steps ls mid behind rest o d s)
+closed_owner (OfScenario children keyword head) steps ls mid behind rest o d s =
+    more_scenarios children (scenario_of keyword head steps) ls o.0 rest o.1 (scenario_built children keyword head steps ls mid behind rest o d s)
 
 closed_grid : (grid : Grid) (ls rest : Lines) → GridBuilt grid ls rest → (mid : Lines) × Describes MayDescribeExamples ls mid × HasTable mid (header_of grid) (rows_of grid) rest
 closed_grid NoRows ls rest b = (rest, b, inl (refl, refl, refl))
@@ -113,26 +113,26 @@ more_examples s head grid a b c rest i h g =
     let made : AreExamples b (examples_of head grid) rest = record { line = h.line; after_heading = c; after_description = t.0; heading = h.heading; name = h.name; number = h.number; description = t.1; table = t.2 } in
     record { line = i.line; after_heading = i.after_heading; after_description = i.after_description; after_steps = i.after_steps; heading = i.heading; keyword = i.keyword; name = i.name; number = i.number; description = i.description; steps = i.steps; examples = Many-push i.examples made }
 
-pub closed : (part : Open) (ls rest : Lines) → OpenBuilt part ls rest → SectionBuilt (section_of part) ls rest
-closed Headed ls rest b = record { after_description = rest; after_background = rest; description = b; background = refl; scenarios = none }
-closed (Bodied owner body) ls rest b =
+pub closed : (part : Open) (ls rest : Lines) → OpenBuilt part ls rest → SectionBuilt (children_of part) ls rest
+closed InDescription ls rest b = record { after_description = rest; after_background = rest; description = b; background = refl; scenarios = none }
+closed (InBody owner body) ls rest b =
     let s = closed_steps (Describes MayDescribeScenario) body b.0 rest b.2 in
     closed_owner owner (steps_of body) ls b.0 s.0 rest b.1 s.1 s.2
-closed (Exampled section scenario head grid) ls rest b = more_scenarios section (with_examples scenario (examples_of head grid)) ls b.0 rest b.3 (more_examples scenario head grid b.0 b.1 b.2 rest b.4 b.5 b.6)
+closed (InExamples children scenario head grid) ls rest b = more_scenarios children (with_examples scenario (examples_of head grid)) ls b.0 rest b.3 (more_examples scenario head grid b.0 b.1 b.2 rest b.4 b.5 b.6)
 
 -- the scenario that examples may follow
-pub outline_built : (part : Open) (outline : OutlineValue) (ls rest : Lines) → outline_of part ≡ Some outline → OpenBuilt part ls rest → (mid : Lines) × SectionBuilt outline.section ls mid × IsScenario mid outline.scenario rest
-outline_built Headed outline ls rest e b = let no : ⊥ = cc in absurd no
-outline_built (Bodied (OfBackground n) body) outline ls rest e b = let no : ⊥ = cc in absurd no
-outline_built (Bodied (OfScenario section keyword head) body) outline ls rest e b =
+pub outline_built : (part : Open) (outline : OutlineValue) (ls rest : Lines) → outline_of part ≡ Some outline → OpenBuilt part ls rest → (mid : Lines) × SectionBuilt outline.children ls mid × IsScenario mid outline.scenario rest
+outline_built InDescription outline ls rest e b = let no : ⊥ = cc in absurd no
+outline_built (InBody (OfBackground n) body) outline ls rest e b = let no : ⊥ = cc in absurd no
+outline_built (InBody (OfScenario children keyword head) body) outline ls rest e b =
     let s = closed_steps (Describes MayDescribeScenario) body b.0 rest b.2 in
-    let made : OutlineValue = record { section = section; scenario = scenario_of keyword head (steps_of body) } in
+    let made : OutlineValue = record { children = children; scenario = scenario_of keyword head (steps_of body) } in
     let same : made ≡ outline = cc in
-    subst (λ (o : OutlineValue). (mid : Lines) × SectionBuilt o.section ls mid × IsScenario mid o.scenario rest) same (b.1.0, b.1.1, scenario_built section keyword head (steps_of body) ls b.0 s.0 rest b.1 s.1 s.2)
-outline_built (Exampled section scenario head grid) outline ls rest e b =
-    let made : OutlineValue = record { section = section; scenario = with_examples scenario (examples_of head grid) } in
+    subst (λ (o : OutlineValue). (mid : Lines) × SectionBuilt o.children ls mid × IsScenario mid o.scenario rest) same (b.1.0, b.1.1, scenario_built children keyword head (steps_of body) ls b.0 s.0 rest b.1 s.1 s.2)
+outline_built (InExamples children scenario head grid) outline ls rest e b =
+    let made : OutlineValue = record { children = children; scenario = with_examples scenario (examples_of head grid) } in
     let same : made ≡ outline = cc in
-    subst (λ (o : OutlineValue). (mid : Lines) × SectionBuilt o.section ls mid × IsScenario mid o.scenario rest) same (b.0, b.3, more_examples scenario head grid b.0 b.1 b.2 rest b.4 b.5 b.6)
+    subst (λ (o : OutlineValue). (mid : Lines) × SectionBuilt o.children ls mid × IsScenario mid o.scenario rest) same (b.0, b.3, more_examples scenario head grid b.0 b.1 b.2 rest b.4 b.5 b.6)
 
 -- parts that a line begins
 abbrev pub head_line : {Ignored : LineValue → Type 0} {ls mid rest : Lines} {tags : List (List ℕ)} (kind : Class) (l : LineValue) → AreTags Ignored ls tags mid → Skips Ignored mid (l ∷ rest) → class l ≡ kind → HeadBuilt Ignored kind (head_from tags l) ls rest
@@ -206,16 +206,16 @@ on_grid-built (Rows header rows) ls mid rest l RowLine t c b n e =
 on_grid-built (Rows header rows) ls mid rest l _ t c b n e = no_ok e
 
 -- a line that takes no tags
-pub first_step-built : (Before : Lines → Lines → Type 0) (ls mid rest : Lines) (l : LineValue) (t : Body) → class l ≡ StepLine → Before ls mid → Skips IsIgnored mid (l ∷ rest) → on_body Describing l StepLine ≡ Ok t → StepsBuilt Before t ls rest
+pub first_step-built : (Before : Lines → Lines → Type 0) (ls mid rest : Lines) (l : LineValue) (t : Body) → class l ≡ StepLine → Before ls mid → Skips IsIgnored mid (l ∷ rest) → on_body NoSteps l StepLine ≡ Ok t → StepsBuilt Before t ls rest
 unfolding on_body
 first_step-built Before ls mid rest l t c b n e = subst (λ t. StepsBuilt Before t ls rest) (ok_same e) (mid, mid, b, none, step_line Given l n c, (refl, tt))
 
-pub stepped-built : (Before : Lines → Lines → Type 0) (steps : List StepValue) (st : StepValue) (ls mid rest : Lines) (l : LineValue) (c : Class) (t : Body) → class l ≡ c → StepsBuilt Before (Stepped steps st) ls mid → Skips IsIgnored mid (l ∷ rest) → on_body (Stepped steps st) l c ≡ Ok t → StepsBuilt Before t ls rest
+pub stepped-built : (Before : Lines → Lines → Type 0) (steps : List StepValue) (st : StepValue) (ls mid rest : Lines) (l : LineValue) (c : Class) (t : Body) → class l ≡ c → StepsBuilt Before (Steps steps st) ls mid → Skips IsIgnored mid (l ∷ rest) → on_body (Steps steps st) l c ≡ Ok t → StepsBuilt Before t ls rest
 unfolding on_body
 stepped-built Before steps st ls mid rest l StepLine t c b n e =
     subst (λ t. StepsBuilt Before t ls rest) (ok_same e) (b.0, mid, b.2, Many-push b.3 b.4, step_line st.step_type l n c, typed_push Given steps st (step_from st.step_type l) b.5 refl)
 stepped-built Before steps st ls mid rest l RowLine t c b n e =
-    let r = bind_is (on_block st.block l) (λ (block : BlockValue). Stepped steps (with_block st block)) t e in
+    let r = bind_is (on_block st.block l) (λ (block : BlockValue). Steps steps (with_block st block)) t e in
     let i = b.4 in
     let k = i.line in
     let made : IsStep b.1 (with_block st r.0) rest = record { after_line = i.after_line; line = record { line = k.line; next = k.next; is = k.is; keyword = k.keyword; text = k.text; number = k.number }; block = on_block-built st.block i.after_line mid rest l r.0 c i.block n r.1 } in
@@ -224,26 +224,26 @@ stepped-built Before steps st ls mid rest l _ t c b n e = no_ok e
 
 on_body-built : (body : Body) (ls mid rest : Lines) (l : LineValue) (c : Class) (t : Body) → class l ≡ c → BodyBuilt body ls mid → Skips IsIgnored mid (l ∷ rest) → on_body body l c ≡ Ok t → BodyBuilt t ls rest
 unfolding on_body
-on_body-built Describing ls mid rest l StepLine t c b n e = first_step-built (Describes MayDescribeScenario) ls mid rest l t c b n e
-on_body-built Describing ls mid rest l RowLine t c b n e = subst (λ t. BodyBuilt t ls rest) (ok_same e) (Describes-more b n (subst MayDescribeScenario (sym c) tt))
-on_body-built Describing ls mid rest l (FenceLine fence) t c b n e = subst (λ t. BodyBuilt t ls rest) (ok_same e) (Describes-more b n (subst MayDescribeScenario (sym c) tt))
-on_body-built Describing ls mid rest l Other t c b n e = subst (λ t. BodyBuilt t ls rest) (ok_same e) (Describes-more b n (subst MayDescribeScenario (sym c) tt))
-on_body-built Describing ls mid rest l _ t c b n e = no_ok e
-on_body-built (Stepped steps st) ls mid rest l k t c b n e = stepped-built (Describes MayDescribeScenario) steps st ls mid rest l k t c b n e
+on_body-built NoSteps ls mid rest l StepLine t c b n e = first_step-built (Describes MayDescribeScenario) ls mid rest l t c b n e
+on_body-built NoSteps ls mid rest l RowLine t c b n e = subst (λ t. BodyBuilt t ls rest) (ok_same e) (Describes-more b n (subst MayDescribeScenario (sym c) tt))
+on_body-built NoSteps ls mid rest l (FenceLine fence) t c b n e = subst (λ t. BodyBuilt t ls rest) (ok_same e) (Describes-more b n (subst MayDescribeScenario (sym c) tt))
+on_body-built NoSteps ls mid rest l Other t c b n e = subst (λ t. BodyBuilt t ls rest) (ok_same e) (Describes-more b n (subst MayDescribeScenario (sym c) tt))
+on_body-built NoSteps ls mid rest l _ t c b n e = no_ok e
+on_body-built (Steps steps st) ls mid rest l k t c b n e = stepped-built (Describes MayDescribeScenario) steps st ls mid rest l k t c b n e
 
 pub on_open-built : (part : Open) (ls mid rest : Lines) (l : LineValue) (c : Class) (t : Open) → class l ≡ c → OpenBuilt part ls mid → Skips IsIgnored mid (l ∷ rest) → on_open part l c ≡ Ok t → OpenBuilt t ls rest
 unfolding on_open
-on_open-built Headed ls mid rest l BackgroundHeading t c b n e = subst (λ t. OpenBuilt t ls rest) (ok_same e) (rest, (mid, l, b, record { next = n; is = c }, refl), described)
-on_open-built Headed ls mid rest l StepLine t c b n e = subst (λ t. OpenBuilt t ls rest) (ok_same e) (Describes-more b n (subst MayDescribeFeature (sym c) tt))
-on_open-built Headed ls mid rest l RowLine t c b n e = subst (λ t. OpenBuilt t ls rest) (ok_same e) (Describes-more b n (subst MayDescribeFeature (sym c) tt))
-on_open-built Headed ls mid rest l (FenceLine fence) t c b n e = subst (λ t. OpenBuilt t ls rest) (ok_same e) (Describes-more b n (subst MayDescribeFeature (sym c) tt))
-on_open-built Headed ls mid rest l Other t c b n e = subst (λ t. OpenBuilt t ls rest) (ok_same e) (Describes-more b n (subst MayDescribeFeature (sym c) tt))
-on_open-built Headed ls mid rest l _ t c b n e = no_ok e
-on_open-built (Bodied owner body) ls mid rest l k t c b n e =
-    let r = bind_is (on_body body l k) (Bodied owner) t e in
+on_open-built InDescription ls mid rest l BackgroundHeading t c b n e = subst (λ t. OpenBuilt t ls rest) (ok_same e) (rest, (mid, l, b, record { next = n; is = c }, refl), described)
+on_open-built InDescription ls mid rest l StepLine t c b n e = subst (λ t. OpenBuilt t ls rest) (ok_same e) (Describes-more b n (subst MayDescribeFeature (sym c) tt))
+on_open-built InDescription ls mid rest l RowLine t c b n e = subst (λ t. OpenBuilt t ls rest) (ok_same e) (Describes-more b n (subst MayDescribeFeature (sym c) tt))
+on_open-built InDescription ls mid rest l (FenceLine fence) t c b n e = subst (λ t. OpenBuilt t ls rest) (ok_same e) (Describes-more b n (subst MayDescribeFeature (sym c) tt))
+on_open-built InDescription ls mid rest l Other t c b n e = subst (λ t. OpenBuilt t ls rest) (ok_same e) (Describes-more b n (subst MayDescribeFeature (sym c) tt))
+on_open-built InDescription ls mid rest l _ t c b n e = no_ok e
+on_open-built (InBody owner body) ls mid rest l k t c b n e =
+    let r = bind_is (on_body body l k) (InBody owner) t e in
     subst (λ t. OpenBuilt t ls rest) r.2 (b.0, b.1, on_body-built body b.0 mid rest l k r.0 c b.2 n r.1)
-on_open-built (Exampled section scenario head grid) ls mid rest l k t c b n e =
-    let r = bind_is (on_grid grid l k) (Exampled section scenario head) t e in
+on_open-built (InExamples children scenario head grid) ls mid rest l k t c b n e =
+    let r = bind_is (on_grid grid l k) (InExamples children scenario head) t e in
     subst (λ t. OpenBuilt t ls rest) r.2 (b.0, b.1, b.2, b.3, b.4, b.5, on_grid-built grid b.2 mid rest l k r.0 c b.6 n r.1)
 
 empty_block : (block : BlockValue) → is_empty block ≡ true → block ≡ Empty
@@ -257,8 +257,8 @@ Skips-append (skip n s) t = skip n (Skips-append s t)
 
 -- a doc string under the last step
 pub text_under : (Before : Lines → Lines → Type 0) (body : Body) (ls mid after rest : Lines) (text : List ℕ) → body_takes_text body ≡ true → StepsBuilt Before body ls mid → Skips IsIgnored mid after → IsDocString after text rest → StepsBuilt Before (body_with_text body text) ls rest
-text_under Before Describing ls mid after rest text t b n d = let no : ⊥ = cc in absurd no
-text_under Before (Stepped steps st) ls mid after rest text t b n d =
+text_under Before NoSteps ls mid after rest text t b n d = let no : ⊥ = cc in absurd no
+text_under Before (Steps steps st) ls mid after rest text t b n d =
     let i = b.4 in
     let k = i.line in
     let here : i.after_line ≡ mid = subst (λ (block : BlockValue). IsBlock i.after_line block mid) (empty_block st.block t) i.block in

@@ -5,7 +5,7 @@ use Rattle.std.proofs.lemmas.List.{drop_all}
 use Rattle.gk_gherkin.specs.declared.read_fault.ReadFault.{ReadFault}
 use Rattle.gk_gherkin.specs.declared.read_fault.ReadFault.TheVariants as faults
 use Rattle.gk_gherkin.specs.Lines.{LineValue, line_at, numbered_from}
-use Rattle.gk_gherkin.specs.Gives.{Fails, ◌>>=◌}
+use Rattle.gk_gherkin.specs.Results.{Fails, ◌>>=◌}
 use Rattle.gk_gherkin.specs.Reading.{run_by, Need, need_at_end, need_here, need_later}
 
 -- step: what a line makes of a state; all: the texts of the lines; i: how many are read; n: the next line's number

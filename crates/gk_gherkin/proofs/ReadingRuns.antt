@@ -2,7 +2,7 @@
 use Rattle.std.proofs.Common.{◌≡◌, [], ◌∷◌, ◌++◌, Result, Ok, Err, refl, ap, ◌∙◌, append_assoc}
 use Rattle.gk_gherkin.specs.declared.read_fault.ReadFault.{ReadFault}
 use Rattle.gk_gherkin.specs.Lines.{LineValue, Lines}
-use Rattle.gk_gherkin.specs.Gives.{◌>>=◌}
+use Rattle.gk_gherkin.specs.Results.{◌>>=◌}
 use Rattle.gk_gherkin.specs.Reading.{run_by}
 
 pub no_err : {A : Type 0} {x : A} {e : ReadFault} {P : Type 0} → ◌≡◌ {A = Result A ReadFault} (Ok x) (Err e) → P

@@ -8,7 +8,7 @@ use Rattle.gk_gherkin.specs.Lines.{LineValue}
 use Rattle.gk_gherkin.specs.Class.{class}
 use Rattle.gk_gherkin.specs.DocStrings.{closes}
 use Rattle.gk_gherkin.specs.Grammar.{IsIgnoredClass}
-use Rattle.gk_gherkin.specs.Reading.{DocStringValue, Places, State, At, InText, placed, opening, opened, longer, whole_text, at_place, in_text, step}
+use Rattle.gk_gherkin.specs.Reading.{DocStringValue, Readers, State, Outside, InText, outside, opening, opened, longer, whole_text, outside_text, in_text, step}
 use Rattle.gk_gherkin.proofs.ReadingRuns.{ok_same, no_ok, no_err, err_same}
 
 -- which lines open a doc string
@@ -37,47 +37,47 @@ opens_by true (FenceLine other) fence e = (refl, ap FenceLine (some_same e))
 opens_by true _ fence e = not_some e
 opens_by false c fence e = not_some e
 
-pub placed_ok : {P : Type 0} (r : Result P ReadFault) (t : State P) → placed r ≡ Ok t → (place : P) × (r ≡ Ok place) × (At place ≡ t)
-placed_ok (Ok place) t e = (place, refl, ok_same e)
-placed_ok (Err x) t e = no_ok e
+pub outside_ok : {P : Type 0} (r : Result P ReadFault) (t : State P) → outside r ≡ Ok t → (reader : P) × (r ≡ Ok reader) × (Outside reader ≡ t)
+outside_ok (Ok reader) t e = (reader, refl, ok_same e)
+outside_ok (Err x) t e = no_ok e
 
-placed_err : {P : Type 0} (r : Result P ReadFault) (e : ReadFault) → placed r ≡ Err e → r ≡ Err e
-placed_err (Ok place) e h = no_err h
-placed_err (Err x) e h = ap Err (err_same h)
+outside_err : {P : Type 0} (r : Result P ReadFault) (e : ReadFault) → outside r ≡ Err e → r ≡ Err e
+outside_err (Ok reader) e h = no_err h
+outside_err (Err x) e h = ap Err (err_same h)
 
-module _ {P A : Type 0} (places : Places P A) where
-  pub step_at : (place : P) (l : LineValue) (o : Option Fence) → opening (places.takes_text place) (class l) ≡ o → step places (At place) l ≡ at_place places o place l
+module _ {P A : Type 0} (readers : Readers P A) where
+  pub step_at : (reader : P) (l : LineValue) (o : Option Fence) → opening (readers.takes_text reader) (class l) ≡ o → step readers (Outside reader) l ≡ outside_text readers o reader l
   unfolding step
-  step_at place l o e = ap (λ (o : Option Fence). at_place places o place l) e
+  step_at reader l o e = ap (λ (o : Option Fence). outside_text readers o reader l) e
 
-  pub step_plain : (place next : P) (l : LineValue) → opening (places.takes_text place) (class l) ≡ None → places.after_line place l ≡ Ok next → step places (At place) l ≡ Ok (At next)
-  step_plain place next l o e = step_at place l None o ∙ ap (λ (r : Result P ReadFault). placed r) e
+  pub step_plain : (reader next : P) (l : LineValue) → opening (readers.takes_text reader) (class l) ≡ None → readers.after_line reader l ≡ Ok next → step readers (Outside reader) l ≡ Ok (Outside next)
+  step_plain reader next l o e = step_at reader l None o ∙ ap (λ (r : Result P ReadFault). outside r) e
 
-  pub step_refused : (place : P) (l : LineValue) (e : ReadFault) → opening (places.takes_text place) (class l) ≡ None → places.after_line place l ≡ Err e → step places (At place) l ≡ Err e
-  step_refused place l e o h = step_at place l None o ∙ ap (λ (r : Result P ReadFault). placed r) h
+  pub step_refused : (reader : P) (l : LineValue) (e : ReadFault) → opening (readers.takes_text reader) (class l) ≡ None → readers.after_line reader l ≡ Err e → step readers (Outside reader) l ≡ Err e
+  step_refused reader l e o h = step_at reader l None o ∙ ap (λ (r : Result P ReadFault). outside r) h
 
-  pub step_opens : (place : P) (l : LineValue) (fence : Fence) → places.takes_text place ≡ true → class l ≡ FenceLine fence → step places (At place) l ≡ Ok (InText place (opened fence l))
-  step_opens place l fence t is = step_at place l (Some fence) (ap (λ (b : Bool). opening b (class l)) t ∙ ap (opening true) is)
+  pub step_opens : (reader : P) (l : LineValue) (fence : Fence) → readers.takes_text reader ≡ true → class l ≡ FenceLine fence → step readers (Outside reader) l ≡ Ok (InText reader (opened fence l))
+  step_opens reader l fence t is = step_at reader l (Some fence) (ap (λ (b : Bool). opening b (class l)) t ∙ ap (opening true) is)
 
-  in_text_by : (b : Bool) (place : P) (text : DocStringValue) (l : LineValue) → closes text.fence l ≡ b → step places (InText place text) l ≡ Ok (in_text places b place text l)
+  in_text_by : (b : Bool) (reader : P) (text : DocStringValue) (l : LineValue) → closes text.fence l ≡ b → step readers (InText reader text) l ≡ Ok (in_text readers b reader text l)
   unfolding step
-  in_text_by b place text l e = ap (λ (b : Bool). let r : Result (State P) ReadFault = Ok (in_text places b place text l) in r) e
+  in_text_by b reader text l e = ap (λ (b : Bool). let r : Result (State P) ReadFault = Ok (in_text readers b reader text l) in r) e
 
-  pub step_closes : (place : P) (text : DocStringValue) (l : LineValue) → closes text.fence l ≡ true → step places (InText place text) l ≡ Ok (At (places.after_text place (whole_text text.content)))
-  step_closes place text l e = in_text_by true place text l e
+  pub step_closes : (reader : P) (text : DocStringValue) (l : LineValue) → closes text.fence l ≡ true → step readers (InText reader text) l ≡ Ok (Outside (readers.after_text reader (whole_text text.content)))
+  step_closes reader text l e = in_text_by true reader text l e
 
-  pub step_stays : (place : P) (text : DocStringValue) (l : LineValue) → closes text.fence l ≡ false → step places (InText place text) l ≡ Ok (InText place (longer text l))
-  step_stays place text l e = in_text_by false place text l e
+  pub step_stays : (reader : P) (text : DocStringValue) (l : LineValue) → closes text.fence l ≡ false → step readers (InText reader text) l ≡ Ok (InText reader (longer text l))
+  step_stays reader text l e = in_text_by false reader text l e
 
   -- no line in a doc string is refused
-  pub never : (place : P) (text : DocStringValue) (l : LineValue) (e : ReadFault) {Q : Type 0} → step places (InText place text) l ≡ Err e → Q
+  pub never : (reader : P) (text : DocStringValue) (l : LineValue) (e : ReadFault) {Q : Type 0} → step readers (InText reader text) l ≡ Err e → Q
   unfolding step
-  never place text l e h = no_err h
+  never reader text l e h = no_err h
 
-  at_refused : (o : Option Fence) (place : P) (l : LineValue) (e : ReadFault) → opening (places.takes_text place) (class l) ≡ o → at_place places o place l ≡ Err e → (opening (places.takes_text place) (class l) ≡ None) × (places.after_line place l ≡ Err e)
-  at_refused (Some fence) place l e w h = no_err h
-  at_refused None place l e w h = (w, placed_err (places.after_line place l) e h)
+  at_refused : (o : Option Fence) (reader : P) (l : LineValue) (e : ReadFault) → opening (readers.takes_text reader) (class l) ≡ o → outside_text readers o reader l ≡ Err e → (opening (readers.takes_text reader) (class l) ≡ None) × (readers.after_line reader l ≡ Err e)
+  at_refused (Some fence) reader l e w h = no_err h
+  at_refused None reader l e w h = (w, outside_err (readers.after_line reader l) e h)
 
-  -- what is refused at a place opens no doc string, and is refused there as any other line
-  pub refused_at : (place : P) (l : LineValue) (e : ReadFault) → step places (At place) l ≡ Err e → (opening (places.takes_text place) (class l) ≡ None) × (places.after_line place l ≡ Err e)
-  refused_at place l e h = at_refused (opening (places.takes_text place) (class l)) place l e refl (sym (step_at place l (opening (places.takes_text place) (class l)) refl) ∙ h)
+  -- what a reader refuses opens no doc string, and is refused there as any other line
+  pub refused_at : (reader : P) (l : LineValue) (e : ReadFault) → step readers (Outside reader) l ≡ Err e → (opening (readers.takes_text reader) (class l) ≡ None) × (readers.after_line reader l ≡ Err e)
+  refused_at reader l e h = at_refused (opening (readers.takes_text reader) (class l)) reader l e refl (sym (step_at reader l (opening (readers.takes_text reader) (class l)) refl) ∙ h)

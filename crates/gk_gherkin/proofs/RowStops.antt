@@ -7,14 +7,14 @@ use Rattle.gk_gherkin.specs.declared.class.Class.TheVariants.{RowLine, StepLine}
 use Rattle.gk_gherkin.specs.declared.read_fault.ReadFault.TheVariants.{BadRow, CellCount, Unexpected}
 use Rattle.gk_gherkin.specs.declared.class.Class.{Class}
 use Rattle.gk_gherkin.specs.declared.read_fault.ReadFault.{ReadFault}
-use Rattle.gk_gherkin.specs.OpenParts.{Stepped, on_block, on_body, on_row, row_of, width_of, with_block}
+use Rattle.gk_gherkin.specs.OpenParts.{Steps, on_block, on_body, on_row, row_of, width_of, with_block}
 use Rattle.gk_gherkin.specs.Lines.{LineValue, Lines}
 use Rattle.gk_gherkin.specs.Class.{class, class_of, class_of_words}
 use Rattle.gk_gherkin.specs.Rows.{cells_of, parts_of, unescaped}
 use Rattle.gk_gherkin.specs.Feature.{BlockValue, Empty, RowValue, StepValue, Table, Text}
 use Rattle.gk_gherkin.specs.Grammar.{IsBlock, IsRow, IsTable, Many, more}
 use Rattle.gk_gherkin.specs.ReadFault.{BeginsNone, BeginsSome, IsBadRow, IsOtherWidth}
-use Rattle.gk_gherkin.specs.Gives.{◌>>=◌}
+use Rattle.gk_gherkin.specs.Results.{◌>>=◌}
 use Rattle.gk_gherkin.proofs.ReadingRuns.{bind_err, err_same, no_err}
 use Rattle.gk_gherkin.proofs.OpenPartsSound.{StepsBuilt, eqb_same}
 
@@ -124,11 +124,11 @@ block_stops (Table cells) ls mid l e b h =
     inr (subst (λ (c : List (List (List ℕ))). RowStop (λ o. on_row (width_of c) o >>= λ new. Ok (Table (cells ++ new ∷ []))) l RowLine e) (sym b.2) (rows_stop b.0 ls mid l e b.1 cells k2))
 block_stops (Text text) ls mid l e b h = inl (err_same h, λ o. refl)
 
-pub stepped_stops : (Before : Lines → Lines → Type 0) (steps : List StepValue) (st : StepValue) (ls mid : Lines) (l : LineValue) (c : Class) (e : ReadFault) → StepsBuilt Before (Stepped steps st) ls mid → on_body (Stepped steps st) l c ≡ Err e → Stopped (λ o. on_body (Stepped steps st) o c) l c e
+pub stepped_stops : (Before : Lines → Lines → Type 0) (steps : List StepValue) (st : StepValue) (ls mid : Lines) (l : LineValue) (c : Class) (e : ReadFault) → StepsBuilt Before (Steps steps st) ls mid → on_body (Steps steps st) l c ≡ Err e → Stopped (λ o. on_body (Steps steps st) o c) l c e
 unfolding on_body
 stepped_stops Before steps st ls mid l StepLine e b h = no_err h
 stepped_stops Before steps st ls mid l RowLine e b h =
-    stopped_then (on_block st.block) (λ block. Stepped steps (with_block st block)) l RowLine e (block_stops st.block b.4.after_line mid l e b.4.block (bind_err (on_block st.block l) (λ (block : BlockValue). Stepped steps (with_block st block)) e h))
+    stopped_then (on_block st.block) (λ block. Steps steps (with_block st block)) l RowLine e (block_stops st.block b.4.after_line mid l e b.4.block (bind_err (on_block st.block l) (λ (block : BlockValue). Steps steps (with_block st block)) e h))
 stepped_stops Before steps st ls mid l _ e b h = inl (err_same h, λ o. refl)
 
 no_cells : (width : Option ℕ) (l : LineValue) (e : ReadFault) → row_of width l None ≡ Err e → BadRow l.line ≡ e

@@ -4,7 +4,7 @@ use Rattle.std.specs.List.{list_all, ends_with, before_last}
 use Rattle.std.specs.Str.{bytes_eq}
 use Rattle.gk_gherkin.specs.declared.hooks.HookKind.{HookKind}
 use Rattle.gk_gherkin.specs.declared.hooks.HookKind.TheVariants.{BeforeAll, AfterAll, BeforeFeature, AfterFeature, BeforeRule, AfterRule, BeforeScenario, AfterScenario, BeforeTag, AfterTag}
-use Rattle.gk_gherkin.specs.declared.hook_headings.Heading.{Heading}
+use Rattle.gk_gherkin.specs.declared.hook_headings.HookHeading.{HookHeading}
 use Rattle.gk_gherkin.specs.declared.hook_headings.HooksClass.{HooksClass}
 use Rattle.gk_gherkin.specs.declared.hook_headings.HooksClass.TheVariants.{HookLine, Plain}
 use Rattle.gk_gherkin.specs.Lines.{LineValue}
@@ -18,7 +18,7 @@ unfoldable pub hooks_class : LineValue → HooksClass
 hooks_class line = if begins (trim line.text) (codes "before_") || begins (trim line.text) (codes "after_") then HookLine else Plain (class line)
 
 -- What a hook's heading says: its kind, and the tag that it is for, where its kind has one. (behave's documentation: environment file functions)
-pub record HookHeading : Type 0 where
+pub record HookHeadingValue : Type 0 where
   pub kind : HookKind
   pub tag : Option (List ℕ)
 
@@ -36,11 +36,11 @@ plain_headings =
     ∷ record { text = codes "before_scenario:"; kind = BeforeScenario } ∷ record { text = codes "after_scenario:"; kind = AfterScenario } ∷ []
 
 -- The heading without a tag that a text is.
-abbrev pub plain_heading : List ℕ → Option HookHeading
+abbrev pub plain_heading : List ℕ → Option HookHeadingValue
 plain_heading text = option_map (λ (h : PlainHeading). record { kind = h.kind; tag = None }) (find (λ (h : PlainHeading). bytes_eq text h.text) plain_headings)
 
 -- A heading without a tag, of this kind. Proof machinery.
-abbrev pub plain : HookKind → HookHeading
+abbrev pub plain : HookKind → HookHeadingValue
 plain kind = record { kind = kind; tag = None }
 
 -- The text, where it is a tag without blanks.
@@ -54,7 +54,7 @@ tag_between word text =
     then tag_alone (trim_front (before_last is_colon (drop (length word) text))) else None
 
 -- The heading with a tag that a text is, where it begins with this word.
-abbrev pub tag_heading : List ℕ → HookKind → List ℕ → Option HookHeading
+abbrev pub tag_heading : List ℕ → HookKind → List ℕ → Option HookHeadingValue
 tag_heading word kind text = option_map (λ tag. record { kind = kind; tag = Some tag }) (tag_between word text)
 
 -- The first of two answers that there is.
@@ -63,10 +63,10 @@ or_else None other = other
 or_else (Some x) other = Some x
 
 -- The heading that a line is: one of those without a tag, or `before_tag` or `after_tag`, blanks, a tag and a colon; none for any other text. (behave's documentation: environment file functions)
-unfoldable pub hook_heading : LineValue → Option HookHeading
+unfoldable pub hook_heading : LineValue → Option HookHeadingValue
 hook_heading line = or_else (plain_heading (trim line.text))
     (or_else (tag_heading (codes "before_tag") BeforeTag (trim line.text)) (tag_heading (codes "after_tag") AfterTag (trim line.text)))
 
--- What a `Heading` says. Proof machinery.
-abbrev pub heading_value : Heading → HookHeading
+-- What a `HookHeading` says. Proof machinery.
+abbrev pub heading_value : HookHeading → HookHeadingValue
 heading_value h = record { kind = h.kind; tag = option_map (λ t. t.now) h.tag }

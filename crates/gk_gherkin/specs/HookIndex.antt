@@ -1,4 +1,4 @@
--- Proof machinery: where an index lists the hooks of a file, by their tags. No public contract cites it.
+-- Where an index lists the hooks of a file, by their tags.
 use Rattle.std.specs.Prelude.{◌≡◌, ◌==◌, ◌≤◌, ◌<◌, ℕ, Bool, true, List, [], length, slice_get, Vec, String, Option, Some, None, option_map}
 use Rattle.std.specs.Option.{option_map_or}
 use Rattle.std.specs.List.{list_any}
@@ -12,25 +12,25 @@ use Rattle.gk_gherkin.specs.declared.hook_index.HookIndex.{HookIndex}
 abbrev pub is_among : ℕ → List ℕ → Bool
 is_among n ns = list_any (λ k. n == k) ns
 
--- The places under a tag.
-abbrev pub places_under : BTreeMap (String Global) (Vec ℕ Global) → List ℕ → List ℕ
-places_under tagged tag = option_map_or (λ (places : Vec ℕ Global). places.items) (get_by_text tagged tag) []
+-- The positions under a tag.
+abbrev pub positions_under : BTreeMap (String Global) (Vec ℕ Global) → List ℕ → List ℕ
+positions_under tagged tag = option_map_or (λ (positions : Vec ℕ Global). positions.items) (get_by_text tagged tag) []
 
--- The places of the hooks for a tag, or of those without one.
-abbrev pub places_of : HookIndex → Option (List ℕ) → List ℕ
-places_of index None = index.untagged.items
-places_of index (Some tag) = places_under index.tagged tag
+-- The positions of the hooks for a tag, or of those without one.
+abbrev pub positions_of : HookIndex → Option (List ℕ) → List ℕ
+positions_of index None = index.untagged.items
+positions_of index (Some tag) = positions_under index.tagged tag
 
--- Each of some hooks is listed by its tag, at its place.
+-- Each of some hooks is listed by its tag, at its position.
 abbrev pub AreListed : HookIndex → List Hook → Type 0
-AreListed index hooks = (place : ℕ) (hook : Hook) → slice_get hooks place ≡ Some hook → is_among place (places_of index (option_map string_bytes hook.tag)) ≡ true
+AreListed index hooks = (position : ℕ) (hook : Hook) → slice_get hooks position ≡ Some hook → is_among position (positions_of index (option_map string_bytes hook.tag)) ≡ true
 
--- The same of those before a place.
+-- Proof machinery from here on: the same of those before a position.
 abbrev pub AreListedTo : HookIndex → List Hook → ℕ → Type 0
-AreListedTo index hooks end = (place : ℕ) (hook : Hook) → place < end → slice_get hooks place ≡ Some hook → is_among place (places_of index (option_map string_bytes hook.tag)) ≡ true
+AreListedTo index hooks end = (position : ℕ) (hook : Hook) → position < end → slice_get hooks position ≡ Some hook → is_among position (positions_of index (option_map string_bytes hook.tag)) ≡ true
 
--- The least of the first of some places whose hook passes a test, or how many hooks there are where none does.
-pub record IsFirst (test : Hook → Bool) (hooks : List Hook) (places : List ℕ) (count first : ℕ) : Type 0 where
+-- The least of the first of some positions whose hook passes a test, or how many hooks there are where none does.
+pub record IsFirst (test : Hook → Bool) (hooks : List Hook) (positions : List ℕ) (count first : ℕ) : Type 0 where
   pub within : first ≤ length hooks
   pub passes : (hook : Hook) → slice_get hooks first ≡ Some hook → test hook ≡ true
-  pub least : (k place : ℕ) (hook : Hook) → k < count → slice_get places k ≡ Some place → slice_get hooks place ≡ Some hook → test hook ≡ true → first ≤ place
+  pub least : (k position : ℕ) (hook : Hook) → k < count → slice_get positions k ≡ Some position → slice_get hooks position ≡ Some hook → test hook ≡ true → first ≤ position

@@ -24,21 +24,21 @@ abbrev pub hooks_value : HookFile → List HookValue
 hooks_value file = map hook_value file.hooks.items
 
 -- Where a kind stands among the kinds.
-abbrev pub place_of_kind : HookKind → ℕ
-place_of_kind BeforeAll = 0
-place_of_kind AfterAll = 1
-place_of_kind BeforeFeature = 2
-place_of_kind AfterFeature = 3
-place_of_kind BeforeRule = 4
-place_of_kind AfterRule = 5
-place_of_kind BeforeScenario = 6
-place_of_kind AfterScenario = 7
-place_of_kind BeforeTag = 8
-place_of_kind AfterTag = 9
+abbrev pub number_of_kind : HookKind → ℕ
+number_of_kind BeforeAll = 0
+number_of_kind AfterAll = 1
+number_of_kind BeforeFeature = 2
+number_of_kind AfterFeature = 3
+number_of_kind BeforeRule = 4
+number_of_kind AfterRule = 5
+number_of_kind BeforeScenario = 6
+number_of_kind AfterScenario = 7
+number_of_kind BeforeTag = 8
+number_of_kind AfterTag = 9
 
 -- Whether two kinds are the same.
 abbrev pub is_same_kind : HookKind → HookKind → Bool
-is_same_kind a b = place_of_kind a == place_of_kind b
+is_same_kind a b = number_of_kind a == number_of_kind b
 
 -- Whether two tags are the same, or both none.
 abbrev pub is_same_tag : Option (List ℕ) → Option (List ℕ) → Bool

@@ -3,12 +3,12 @@ use Rattle.std.specs.Prelude.{◌≡◌, ◌≢◌, List, [], ◌∷◌, Some}
 use Rattle.std.specs.List.{AllByRecursion}
 use Rattle.gk_gherkin.specs.declared.hook_headings.HooksClass.TheVariants.{HookLine}
 use Rattle.gk_gherkin.specs.Lines.{LineValue, Lines}
-use Rattle.gk_gherkin.specs.HookHeadings.{hooks_class, HookHeading, hook_heading}
+use Rattle.gk_gherkin.specs.HookHeadings.{hooks_class, HookHeadingValue, hook_heading}
 use Rattle.gk_gherkin.specs.Hooks.{HookValue}
 use Rattle.gk_gherkin.specs.Grammar.{IsIgnored, Skips, Next, Many, AreSteps}
 
 -- The heading of a hook.
-abbrev pub heading_of : HookValue → HookHeading
+abbrev pub heading_of : HookValue → HookHeadingValue
 heading_of hook = record { kind = hook.kind; tag = hook.tag }
 
 -- HookPart = hook StepPart*. (behave's documentation: environment file functions)

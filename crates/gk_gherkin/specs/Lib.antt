@@ -13,12 +13,12 @@ pub mod Hooks
 pub mod HookHeadings
 pub mod HooksGrammar
 pub mod HookTable
+pub mod HookIndex
 pub mod ReadFault
 -- Proof machinery: how lines are read one after the other.
-pub mod Gives
+pub mod Results
 pub mod OpenParts
 pub mod Reading
-pub mod FeaturePlace
+pub mod FeatureReader
 pub mod HooksSoFar
-pub mod HooksPlace
-pub mod HookIndex
+pub mod HooksReader

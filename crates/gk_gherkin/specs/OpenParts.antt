@@ -13,7 +13,7 @@ use Rattle.gk_gherkin.specs.Class.{heading_keyword, heading_name, step_keyword, 
 use Rattle.gk_gherkin.specs.Rows.{cells_of}
 use Rattle.gk_gherkin.specs.StepTypes.{type_after}
 use Rattle.gk_gherkin.specs.Feature.{BlockValue, Empty, Text, Table, StepValue, RowValue, ExamplesValue, BackgroundValue, ScenarioValue}
-use Rattle.gk_gherkin.specs.Gives.{◌>>=◌}
+use Rattle.gk_gherkin.specs.Results.{◌>>=◌}
 
 -- What the heading of a feature, a rule, a scenario or examples says.
 pub record HeadValue : Type 0 where
@@ -21,20 +21,20 @@ pub record HeadValue : Type 0 where
   pub name : List ℕ
   pub line : ℕ
 
--- The finished parts after the description of a feature or a rule.
-pub record SectionValue : Type 0 where
+-- The finished children of a feature or a rule: its background and its scenarios.
+pub record ChildrenValue : Type 0 where
   pub background : Option BackgroundValue
   pub scenarios : List ScenarioValue
 
 -- In a description, or after steps, of which the last is open.
 pub data Body : Type 0 where
-  Describing : Body
-  Stepped : List StepValue → StepValue → Body
+  NoSteps : Body
+  Steps : List StepValue → StepValue → Body
 
 -- Whose steps these are: a background's, or a scenario's, with what is finished before it.
 pub data Owner : Type 0 where
   OfBackground : ℕ → Owner
-  OfScenario : SectionValue → List ℕ → HeadValue → Owner
+  OfScenario : ChildrenValue → List ℕ → HeadValue → Owner
 
 -- In the description of examples, or after rows: the header and those under it.
 pub data Grid : Type 0 where
@@ -43,13 +43,13 @@ pub data Grid : Type 0 where
 
 -- The open part of a feature or a rule: its description, or steps, or examples with the scenario before them.
 pub data Open : Type 0 where
-  Headed : Open
-  Bodied : Owner → Body → Open
-  Exampled : SectionValue → ScenarioValue → HeadValue → Grid → Open
+  InDescription : Open
+  InBody : Owner → Body → Open
+  InExamples : ChildrenValue → ScenarioValue → HeadValue → Grid → Open
 
 -- A scenario, with what is finished before it.
 pub record OutlineValue : Type 0 where
-  pub section : SectionValue
+  pub children : ChildrenValue
   pub scenario : ScenarioValue
 
 -- What a line says.
@@ -62,29 +62,29 @@ step_from before line = record { keyword = step_keyword line; step_type = type_a
 
 -- Closing what is open.
 abbrev pub steps_of : Body → List StepValue
-steps_of Describing = []
-steps_of (Stepped steps step) = steps ++ step ∷ []
+steps_of NoSteps = []
+steps_of (Steps steps step) = steps ++ step ∷ []
 
 -- A scenario without examples.
 abbrev pub scenario_of : List ℕ → HeadValue → List StepValue → ScenarioValue
 scenario_of keyword head steps = record { keyword = keyword; name = head.name; line = head.line; tags = head.tags; steps = steps; examples = [] }
 
--- Nothing finished yet.
-abbrev pub no_section : SectionValue
-no_section = record { background = None; scenarios = [] }
+-- No children yet.
+abbrev pub no_children : ChildrenValue
+no_children = record { background = None; scenarios = [] }
 
--- A section with one scenario more.
-abbrev pub with_scenario : SectionValue → ScenarioValue → SectionValue
-with_scenario section scenario = record { background = section.background; scenarios = section.scenarios ++ scenario ∷ [] }
+-- Children with one scenario more.
+abbrev pub with_scenario : ChildrenValue → ScenarioValue → ChildrenValue
+with_scenario children scenario = record { background = children.background; scenarios = children.scenarios ++ scenario ∷ [] }
 
--- A section that a background begins.
-abbrev pub background_section : ℕ → List StepValue → SectionValue
-background_section n steps = record { background = Some (record { line = n; steps = steps }); scenarios = [] }
+-- Children that a background begins.
+abbrev pub background_children : ℕ → List StepValue → ChildrenValue
+background_children n steps = record { background = Some (record { line = n; steps = steps }); scenarios = [] }
 
--- The section that the steps of an owner close.
-abbrev pub owner_section : Owner → List StepValue → SectionValue
-owner_section (OfBackground n) steps = background_section n steps
-owner_section (OfScenario section keyword head) steps = with_scenario section (scenario_of keyword head steps)
+-- The children that the steps of an owner close.
+abbrev pub owner_children : Owner → List StepValue → ChildrenValue
+owner_children (OfBackground n) steps = background_children n steps
+owner_children (OfScenario children keyword head) steps = with_scenario children (scenario_of keyword head steps)
 
 -- The header of rows.
 abbrev pub header_of : Grid → List (List ℕ)
@@ -104,26 +104,26 @@ examples_of head grid = record { name = head.name; line = head.line; tags = head
 abbrev pub with_examples : ScenarioValue → ExamplesValue → ScenarioValue
 with_examples s examples = record { keyword = s.keyword; name = s.name; line = s.line; tags = s.tags; steps = s.steps; examples = s.examples ++ examples ∷ [] }
 
--- The section that an open part closes.
-abbrev pub section_of : Open → SectionValue
-section_of Headed = no_section
-section_of (Bodied owner body) = owner_section owner (steps_of body)
-section_of (Exampled section scenario head grid) = with_scenario section (with_examples scenario (examples_of head grid))
+-- The children that an open part closes.
+abbrev pub children_of : Open → ChildrenValue
+children_of InDescription = no_children
+children_of (InBody owner body) = owner_children owner (steps_of body)
+children_of (InExamples children scenario head grid) = with_scenario children (with_examples scenario (examples_of head grid))
 
 -- The scenario that examples may follow.
 abbrev pub outline_of : Open → Option OutlineValue
-outline_of Headed = None
-outline_of (Bodied (OfBackground n) body) = None
-outline_of (Bodied (OfScenario section keyword head) body) = Some (record { section = section; scenario = scenario_of keyword head (steps_of body) })
-outline_of (Exampled section scenario head grid) = Some (record { section = section; scenario = with_examples scenario (examples_of head grid) })
+outline_of InDescription = None
+outline_of (InBody (OfBackground n) body) = None
+outline_of (InBody (OfScenario children keyword head) body) = Some (record { children = children; scenario = scenario_of keyword head (steps_of body) })
+outline_of (InExamples children scenario head grid) = Some (record { children = children; scenario = with_examples scenario (examples_of head grid) })
 
--- A scenario that begins after a section, with this keyword and this head.
-abbrev pub begun_scenario : SectionValue → List ℕ → HeadValue → Open
-begun_scenario section keyword head = Bodied (OfScenario section keyword head) Describing
+-- A scenario that begins after these children, with this keyword and this head.
+abbrev pub begun_scenario : ChildrenValue → List ℕ → HeadValue → Open
+begun_scenario children keyword head = InBody (OfScenario children keyword head) NoSteps
 
 -- The same by the line of its heading, and the tags above it.
-abbrev pub scenario_from : SectionValue → List (List ℕ) → LineValue → Open
-scenario_from section tags line = begun_scenario section (heading_keyword line) (head_from tags line)
+abbrev pub scenario_from : ChildrenValue → List (List ℕ) → LineValue → Open
+scenario_from children tags line = begun_scenario children (heading_keyword line) (head_from tags line)
 
 -- A row of any width, or of this one.
 abbrev pub row_of : Option ℕ → LineValue → Option (List (List ℕ)) → Result (List (List ℕ)) ReadFault
@@ -175,25 +175,25 @@ on_grid (Rows header rows) line _ = Err (Unexpected line.line)
 
 -- A line in a description or after steps.
 unfoldable pub on_body : Body → LineValue → Class → Result Body ReadFault
-on_body Describing line StepLine = Ok (Stepped [] (step_from Given line))
-on_body Describing line RowLine = Ok Describing
-on_body Describing line (FenceLine fence) = Ok Describing
-on_body Describing line Other = Ok Describing
-on_body Describing line _ = Err (Unexpected line.line)
-on_body (Stepped steps step) line StepLine = Ok (Stepped (steps ++ step ∷ []) (step_from step.step_type line))
-on_body (Stepped steps step) line RowLine = on_block step.block line >>= λ block. Ok (Stepped steps (with_block step block))
-on_body (Stepped steps step) line _ = Err (Unexpected line.line)
+on_body NoSteps line StepLine = Ok (Steps [] (step_from Given line))
+on_body NoSteps line RowLine = Ok NoSteps
+on_body NoSteps line (FenceLine fence) = Ok NoSteps
+on_body NoSteps line Other = Ok NoSteps
+on_body NoSteps line _ = Err (Unexpected line.line)
+on_body (Steps steps step) line StepLine = Ok (Steps (steps ++ step ∷ []) (step_from step.step_type line))
+on_body (Steps steps step) line RowLine = on_block step.block line >>= λ block. Ok (Steps steps (with_block step block))
+on_body (Steps steps step) line _ = Err (Unexpected line.line)
 
 -- A line that takes no tags.
 unfoldable pub on_open : Open → LineValue → Class → Result Open ReadFault
-on_open Headed line BackgroundHeading = Ok (Bodied (OfBackground line.line) Describing)
-on_open Headed line StepLine = Ok Headed
-on_open Headed line RowLine = Ok Headed
-on_open Headed line (FenceLine fence) = Ok Headed
-on_open Headed line Other = Ok Headed
-on_open Headed line _ = Err (Unexpected line.line)
-on_open (Bodied owner body) line class = on_body body line class >>= λ next. Ok (Bodied owner next)
-on_open (Exampled section scenario head grid) line class = on_grid grid line class >>= λ next. Ok (Exampled section scenario head next)
+on_open InDescription line BackgroundHeading = Ok (InBody (OfBackground line.line) NoSteps)
+on_open InDescription line StepLine = Ok InDescription
+on_open InDescription line RowLine = Ok InDescription
+on_open InDescription line (FenceLine fence) = Ok InDescription
+on_open InDescription line Other = Ok InDescription
+on_open InDescription line _ = Err (Unexpected line.line)
+on_open (InBody owner body) line class = on_body body line class >>= λ next. Ok (InBody owner next)
+on_open (InExamples children scenario head grid) line class = on_grid grid line class >>= λ next. Ok (InExamples children scenario head next)
 
 -- Whether nothing stands under a step yet.
 abbrev pub is_empty : BlockValue → Bool
@@ -202,20 +202,20 @@ is_empty _ = false
 
 -- Whether a doc string may stand under the last step of a body.
 abbrev pub body_takes_text : Body → Bool
-body_takes_text Describing = false
-body_takes_text (Stepped steps step) = is_empty step.block
+body_takes_text NoSteps = false
+body_takes_text (Steps steps step) = is_empty step.block
 
 -- A body with this doc string under its last step.
 abbrev pub body_with_text : Body → List ℕ → Body
-body_with_text Describing text = Describing
-body_with_text (Stepped steps step) text = Stepped steps (with_block step (Text text))
+body_with_text NoSteps text = NoSteps
+body_with_text (Steps steps step) text = Steps steps (with_block step (Text text))
 
 -- Whether a doc string may stand under the last step of an open part.
 abbrev pub open_takes_text : Open → Bool
-open_takes_text (Bodied owner body) = body_takes_text body
+open_takes_text (InBody owner body) = body_takes_text body
 open_takes_text _ = false
 
 -- An open part with this doc string under its last step.
 abbrev pub open_with_text : Open → List ℕ → Open
-open_with_text (Bodied owner body) text = Bodied owner (body_with_text body text)
+open_with_text (InBody owner body) text = InBody owner (body_with_text body text)
 open_with_text part text = part

@@ -1,5 +1,5 @@
 -- What each fault of a feature file and of a hooks file says.
-use Rattle.std.specs.Prelude.{codes, ◌≡◌, ◌≢◌, ℕ, true, false, ◌⊎◌, List, [], ◌∷◌, ◌++◌, length, Option, Some, None, IfSome, Result, Ok, Err, option_map}
+use Rattle.std.specs.Prelude.{codes, ◌≡◌, ◌≢◌, ℕ, true, false, ◌⊎◌, List, [], ◌∷◌, ◌++◌, length, Option, Some, None, IfSome, Result, Ok, Err}
 use Rattle.std.specs.List.{AllByRecursion}
 use Rattle.gk_gherkin.specs.declared.read_fault.ReadFault.{ReadFault}
 use Rattle.gk_gherkin.specs.declared.read_fault.ReadFault.TheVariants.{NotUtf8, Unexpected, BadTag, CellCount, UnclosedText, TagsAtEnd, Language, TooLong, Memory, BadHook, BadRow}
@@ -12,12 +12,9 @@ use Rattle.gk_gherkin.specs.Tags.{is_tag, words_before_comment, tags_of}
 use Rattle.gk_gherkin.specs.Rows.{cells_of}
 use Rattle.gk_gherkin.specs.DocStrings.{closes}
 use Rattle.gk_gherkin.specs.Language.{NamesOtherLanguage}
-use Rattle.gk_gherkin.specs.declared.feature.Feature.{Feature}
-use Rattle.gk_gherkin.specs.Feature.{FeatureValue, feature_value}
 use Rattle.gk_gherkin.specs.Grammar.{IsIgnored, IsIgnoredAbove, Skips, Next, IsReadable}
-use Rattle.gk_gherkin.specs.declared.hooks.HookFile.{HookFile}
 use Rattle.gk_gherkin.specs.declared.hook_headings.HooksClass.TheVariants.{HookLine}
-use Rattle.gk_gherkin.specs.Hooks.{HookValue, hooks_value}
+use Rattle.gk_gherkin.specs.Hooks.{HookValue}
 use Rattle.gk_gherkin.specs.HookHeadings.{hooks_class, hook_heading}
 use Rattle.gk_gherkin.specs.HooksGrammar.{heading_of, ReadsHooks, AreHooksReadable}
 
@@ -185,15 +182,10 @@ abbrev pub LinesFaultSays : ReadFault → List ℕ → Type 0
 LinesFaultSays Memory bytes = IsText bytes
 LinesFaultSays fault bytes = FaultSays (λ other ls. ⊥) fault bytes
 
--- What was answered has this reading, or memory ran out.
-abbrev pub AnswersOrLacksMemory : Result (Option Feature) ReadFault → Option FeatureValue → Type 0
-AnswersOrLacksMemory (Ok answer) reading = option_map feature_value answer ≡ reading
-AnswersOrLacksMemory (Err fault) reading = fault ≡ Memory
-
--- What was answered are these hooks, or memory ran out.
-abbrev pub AnswersHooksOrLacksMemory : Result HookFile ReadFault → List HookValue → Type 0
-AnswersHooksOrLacksMemory (Ok file) hooks = hooks_value file ≡ hooks
-AnswersHooksOrLacksMemory (Err fault) hooks = fault ≡ Memory
+-- What was answered has this value, or memory ran out.
+abbrev pub AnswersOrLacksMemory : {X V : Type 0} → (X → V) → Result X ReadFault → V → Type 0
+AnswersOrLacksMemory value (Ok answer) said = value answer ≡ said
+AnswersOrLacksMemory value (Err fault) said = fault ≡ Memory
 
 -- The line that a fault names.
 abbrev pub line_of_fault : ReadFault → Option ℕ
@@ -204,10 +196,10 @@ line_of_fault (CellCount n) = Some n
 line_of_fault (UnclosedText n) = Some n
 line_of_fault (TagsAtEnd n) = Some n
 line_of_fault (Language n) = Some n
-line_of_fault (BadRow n) = Some n
-line_of_fault (BadHook n) = Some n
 line_of_fault TooLong = None
 line_of_fault Memory = None
+line_of_fault (BadHook n) = Some n
+line_of_fault (BadRow n) = Some n
 
 -- What a fault is called, without its line.
 abbrev pub text_of_fault : ReadFault → List ℕ
@@ -218,7 +210,7 @@ text_of_fault (CellCount n) = codes "row with another number of cells"
 text_of_fault (UnclosedText n) = codes "doc string without end"
 text_of_fault (TagsAtEnd n) = codes "tags before nothing"
 text_of_fault (Language n) = codes "language not known"
-text_of_fault (BadRow n) = codes "row without closing bar"
-text_of_fault (BadHook n) = codes "bad hook heading"
 text_of_fault TooLong = codes "longer than 16777216 bytes"
 text_of_fault Memory = codes "out of memory"
+text_of_fault (BadHook n) = codes "bad hook heading"
+text_of_fault (BadRow n) = codes "row without closing bar"

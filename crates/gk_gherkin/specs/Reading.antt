@@ -1,5 +1,5 @@
 -- Proof machinery: how a file is read line after line, the same for a feature file and for a hooks file. No public contract cites it.
--- A place says what was read so far. A fence opens a doc string at a place whose last step may have one; up to the fence that closes it each line is content. What any other line makes of a place is said by the kind of file.
+-- A reader says what was read so far. A fence opens a doc string if the last step may have one; up to the fence that closes it each line is content. What any other line adds is said by the kind of file.
 pub mod Views
 use Rattle.std.specs.Prelude.{◌≡◌, ◌≢◌, ◌⊎◌, ℕ, ◌-◌, Bool, true, false, List, [], ◌∷◌, ◌++◌, Option, Some, None, Result, Ok, Err}
 use Rattle.gk_gherkin.specs.declared.class.Class.{Class}
@@ -11,7 +11,7 @@ use Rattle.gk_gherkin.specs.Lines.{LineValue, Lines, lines_of, IsText}
 use Rattle.gk_gherkin.specs.Class.{class}
 use Rattle.gk_gherkin.specs.DocStrings.{closes, content_of}
 use Rattle.gk_gherkin.specs.ReadFault.{LinesFaultSays}
-use Rattle.gk_gherkin.specs.Gives.{◌>>=◌}
+use Rattle.gk_gherkin.specs.Results.{◌>>=◌}
 
 -- An open doc string: its fence, the column and the number of that fence's line, and the text so far, if it has a line.
 pub record DocStringValue : Type 0 where
@@ -20,13 +20,13 @@ pub record DocStringValue : Type 0 where
   pub line : ℕ
   pub content : Option (List ℕ)
 
--- The places of a kind of file.
-pub record Places (P A : Type 0) : Type 1 where
+-- How a kind of file is read.
+pub record Readers (P A : Type 0) : Type 1 where
   -- before the first line
   pub first : P
   -- after a line that is no part of a doc string
   pub after_line : P → LineValue → Result P ReadFault
-  -- whether a doc string may stand there, and the place after it
+  -- whether the last step may have a doc string, and the reader after it
   pub takes_text : P → Bool
   pub after_text : P → List ℕ → P
   -- what was read, where the lines end there
@@ -35,20 +35,20 @@ pub record Places (P A : Type 0) : Type 1 where
   pub needs : P → LineValue → Type 0
   pub needs_at_end : P → Type 0
 
--- At a place, or in a doc string under the last step there.
+-- Outside of doc strings, or in a doc string under the last step.
 pub data State (P : Type 0) : Type 0 where
-  At : P → State P
+  Outside : P → State P
   InText : P → DocStringValue → State P
 
--- The state at a place that was reached.
-abbrev pub placed : {P : Type 0} → Result P ReadFault → Result (State P) ReadFault
-placed (Ok place) = Ok (At place)
-placed (Err e) = Err e
+-- The state outside of doc strings.
+abbrev pub outside : {P : Type 0} → Result P ReadFault → Result (State P) ReadFault
+outside (Ok reader) = Ok (Outside reader)
+outside (Err e) = Err e
 
 -- The state with this doc string open, or none.
 abbrev pub state_of : {P : Type 0} → P → Option DocStringValue → State P
-state_of place None = At place
-state_of place (Some text) = InText place text
+state_of reader None = Outside reader
+state_of reader (Some text) = InText reader text
 
 -- The fence of a line that opens a doc string where one may stand.
 abbrev pub opening : Bool → Class → Option Fence
@@ -84,21 +84,21 @@ pub data Need {S : Type 0} (step : S → LineValue → Result S ReadFault) (In :
   need_here : {state : S} {line : LineValue} {lines : Lines} → In state line → Need step In AtEnd state (line ∷ lines)
   need_later : {state next : S} {line : LineValue} {lines : Lines} → step state line ≡ Ok next → Need step In AtEnd next lines → Need step In AtEnd state (line ∷ lines)
 
-module _ {P A : Type 0} (places : Places P A) where
-  -- A line at a place, with the fence that it opens a doc string by, if it does.
-  abbrev pub at_place : Option Fence → P → LineValue → Result (State P) ReadFault
-  at_place (Some fence) place line = Ok (InText place (opened fence line))
-  at_place None place line = placed (places.after_line place line)
+module _ {P A : Type 0} (readers : Readers P A) where
+  -- A line outside of doc strings, with the fence if it opens one.
+  abbrev pub outside_text : Option Fence → P → LineValue → Result (State P) ReadFault
+  outside_text (Some fence) reader line = Ok (InText reader (opened fence line))
+  outside_text None reader line = outside (readers.after_line reader line)
 
   -- A line in a doc string, which it closes or not.
   abbrev pub in_text : Bool → P → DocStringValue → LineValue → State P
-  in_text true place text line = At (places.after_text place (whole_text text.content))
-  in_text false place text line = InText place (longer text line)
+  in_text true reader text line = Outside (readers.after_text reader (whole_text text.content))
+  in_text false reader text line = InText reader (longer text line)
 
   -- A line.
   unfoldable pub step : State P → LineValue → Result (State P) ReadFault
-  step (At place) line = at_place (opening (places.takes_text place) (class line)) place line
-  step (InText place text) line = Ok (in_text (closes text.fence line) place text line)
+  step (Outside reader) line = outside_text (opening (readers.takes_text reader) (class line)) reader line
+  step (InText reader text) line = Ok (in_text (closes text.fence line) reader text line)
 
   -- Line after line.
   abbrev pub run : State P → Lines → Result (State P) ReadFault
@@ -106,22 +106,22 @@ module _ {P A : Type 0} (places : Places P A) where
 
   -- At the end of the lines.
   unfoldable pub finish : State P → Result A ReadFault
-  finish (At place) = places.answer place
-  finish (InText place text) = Err (UnclosedText text.line)
+  finish (Outside reader) = readers.answer reader
+  finish (InText reader text) = Err (UnclosedText text.line)
 
   -- What all lines say.
   unfoldable pub reading : Lines → Result A ReadFault
-  reading lines = run (At places.first) lines >>= finish
+  reading lines = run (Outside readers.first) lines >>= finish
 
   -- A line needs memory in a state.
   abbrev pub NeedsIn : State P → LineValue → Type 0
-  NeedsIn (At place) line = places.needs place line
-  NeedsIn (InText place text) line = Unit {0}
+  NeedsIn (Outside reader) line = readers.needs reader line
+  NeedsIn (InText reader text) line = Unit {0}
 
   -- The end of the lines needs memory in a state.
   abbrev pub NeedsAtEnd : State P → Type 0
-  NeedsAtEnd (At place) = places.needs_at_end place
-  NeedsAtEnd (InText place text) = ⊥
+  NeedsAtEnd (Outside reader) = readers.needs_at_end reader
+  NeedsAtEnd (InText reader text) = ⊥
 
   -- From a state, some line that is reached needs memory, or the end does.
   abbrev pub NeedSome : State P → Lines → Type 0
@@ -129,7 +129,7 @@ module _ {P A : Type 0} (places : Places P A) where
 
   -- A fault of the lines is that of their reading; for refused memory, some line or the end needs memory.
   abbrev pub FailsBy : ReadFault → Lines → Type 0
-  FailsBy Memory lines = NeedSome (At places.first) lines
+  FailsBy Memory lines = NeedSome (Outside readers.first) lines
   FailsBy fault lines = reading lines ≡ Err fault
 
   -- A fault of the bytes is one of their text, or else of the reading of its lines.

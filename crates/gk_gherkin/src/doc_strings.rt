@@ -5,7 +5,7 @@ ghost use Rattle.std.specs.String.{string_bytes};
 ghost use Rattle.gk_gherkin.specs.Lines.{borrowed_value};
 ghost use Rattle.gk_gherkin.specs.Text.{is_blank};
 ghost use Rattle.gk_gherkin.specs.Class as class;
-ghost use Rattle.gk_gherkin.specs.Gives.{Gives};
+ghost use Rattle.gk_gherkin.specs.Results.{Agrees};
 ghost use Rattle.gk_gherkin.specs.Reading as reading;
 ghost use Rattle.gk_gherkin.specs.Reading.Views.{text_value};
 ghost use Rattle.gk_gherkin.specs.DocStrings as spec;
@@ -59,7 +59,7 @@ fn with_content(
     column: u32,
     line: &BorrowedLine<'_>,
 ) -> Result<String, ReadFault>
-    ensures { Gives string_bytes result
+    ensures { Agrees string_bytes result
         (Ok (string_bytes text ++ spec.content_of fence (column - 1) (borrowed_value line.now))) }
 {
     let mut text = text;
@@ -88,7 +88,7 @@ fn with_line(
     line: &BorrowedLine<'_>,
 ) -> Result<String, ReadFault>
     ensures { let next = spec.content_of fence (column - 1) (borrowed_value line.now) in
-        Gives string_bytes result
+        Agrees string_bytes result
         (Ok (reading.with_line (option_map string_bytes content) next)) }
 {
     match content {
@@ -133,7 +133,7 @@ impl DocString {
 
     /// Adds a line.
     pub fn add(&mut self, alloc: Global, line: &BorrowedLine<'_>) -> Result<(), ReadFault>
-        ensures { Gives (λ _. text_value self.new) result
+        ensures { Agrees (λ _. text_value self.new) result
             (Ok (reading.longer (text_value self.old) (borrowed_value line.now))) }
     {
         let before = mem::replace(&mut self.content, None);

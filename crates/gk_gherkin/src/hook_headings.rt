@@ -23,7 +23,7 @@ pub enum HooksClass {
 /// What a hook's heading says: its kind, and the tag that it is for, where its kind has one. (behave's
 /// documentation: environment file functions)
 #[derive(Clone, Copy)]
-pub struct Heading<'a> {
+pub struct HookHeading<'a> {
     pub kind: HookKind,
     pub tag: Option<&'a str>,
 }
@@ -102,19 +102,19 @@ fn tag_between<'a>(word: &str, text: &'a str) -> Option<&'a str>
 
 /// The heading that a line is, or none where it is any other text.
 #[tactic(auto, unfolding(crate::specs::HookHeadings::hook_heading))]
-pub fn hook_heading<'a>(line: &BorrowedLine<'a>) -> Option<Heading<'a>>
+pub fn hook_heading<'a>(line: &BorrowedLine<'a>) -> Option<HookHeading<'a>>
     ensures { option_map spec.heading_value result ≡ spec.hook_heading (borrowed_value line.now) }
 {
     let text = trim(line.text);
     if let Some(kind) = plain_kind(text) {
-        Some(Heading { kind, tag: None })
+        Some(HookHeading { kind, tag: None })
     } else if let Some(tag) = tag_between("before_tag", text) {
-        Some(Heading {
+        Some(HookHeading {
             kind: HookKind::BeforeTag,
             tag: Some(tag),
         })
     } else if let Some(tag) = tag_between("after_tag", text) {
-        Some(Heading {
+        Some(HookHeading {
             kind: HookKind::AfterTag,
             tag: Some(tag),
         })

@@ -1,4 +1,4 @@
-//! Where the hooks of a file stand, by their tags.
+//! An index of the hooks of a file, by their tags.
 ghost use Rattle.std.specs.Prelude.{◌≡◌, ◌++◌, ◌∷◌, [], ℕ, List, Option, true, length};
 ghost use Rattle.std.specs.Prelude.{if◌then◌else◌};
 ghost use Rattle.std.specs.Prelude.{IfOk, OnOk, OnErr, map, option_map, option_copied, bytes_eq};
@@ -12,33 +12,33 @@ use crate::hooks::{Hook, HookKind};
 use std::alloc::{AllocError, Global};
 use std::collections::BTreeMap;
 
-/// The places of hooks in a list, by their tags.
+/// The positions of hooks in a list, counted from 0, by their tags.
 #[derive(Drop)]
 pub struct HookIndex {
-    /// Of those without a tag.
+    /// The positions of hooks without a tag.
     pub untagged: Vec<usize>,
-    /// Of those with a tag, by it.
+    /// The positions of hooks with a tag, by it.
     pub tagged: BTreeMap<String, Vec<usize>>,
 }
 
-// Adds a place under a tag.
+// Adds a position to those of a tag.
 fn add_under(
     tagged: &mut BTreeMap<String, Vec<usize>>,
     tag: String,
-    place: usize,
+    position: usize,
 ) -> Result<(), AllocError>
-    ensures added { OnOk result ((t : List ℕ) → spec.places_under tagged.new t
-        ≡ (if bytes_eq t (string_bytes tag) then spec.places_under tagged.old t ++ place ∷ []
-        else spec.places_under tagged.old t)) }
-    ensures kept { OnErr result ((t : List ℕ) → spec.places_under tagged.new t
-        ≡ spec.places_under tagged.old t) }
+    ensures added { OnOk result ((t : List ℕ) → spec.positions_under tagged.new t
+        ≡ (if bytes_eq t (string_bytes tag) then spec.positions_under tagged.old t ++ position ∷ []
+        else spec.positions_under tagged.old t)) }
+    ensures kept { OnErr result ((t : List ℕ) → spec.positions_under tagged.new t
+        ≡ spec.positions_under tagged.old t) }
 {
-    tagged.entry(tag)?.or_default().push(place)?;
+    tagged.entry(tag)?.or_default().push(position)?;
     Ok(())
 }
 
 impl HookIndex {
-    /// No places. Takes no memory.
+    /// Returns an empty index. Takes no memory.
     pub fn new(alloc: Global) -> HookIndex {
         HookIndex {
             untagged: Vec::new(alloc),
@@ -46,58 +46,59 @@ impl HookIndex {
         }
     }
 
-    /// The places of the hooks for a tag, or of those without one.
+    /// Returns the positions of the hooks for a tag, or of those without one.
     pub fn of(&self, tag: Option<&str>) -> &[usize]
-        ensures { result.now ≡ spec.places_of self.now (option_copied tag.entry) }
+        ensures { result.now ≡ spec.positions_of self.now (option_copied tag.entry) }
     {
         match tag {
             None => self.untagged.as_slice(),
             Some(tag) => match self.tagged.get(tag) {
-                Some(places) => places.as_slice(),
+                Some(positions) => positions.as_slice(),
                 None => &[],
             },
         }
     }
 
-    /// Adds the place of a hook with this tag. A refusal of memory adds nothing.
-    pub fn add(&mut self, tag: &Option<String>, place: usize) -> Result<(), AllocError>
-        ensures kept { (t : Option (List ℕ)) (n : ℕ) → is_among n (spec.places_of self.old t) ≡ true
-            → is_among n (spec.places_of self.new t) ≡ true }
-        ensures added { OnOk result (is_among place
-            (spec.places_of self.new (option_map string_bytes tag.now)) ≡ true) }
+    /// Adds the position of a hook with this tag. A refusal of memory adds nothing.
+    pub fn add(&mut self, tag: &Option<String>, position: usize) -> Result<(), AllocError>
+        ensures kept { (t : Option (List ℕ)) (n : ℕ) →
+            is_among n (spec.positions_of self.old t) ≡ true
+            → is_among n (spec.positions_of self.new t) ≡ true }
+        ensures added { OnOk result (is_among position
+            (spec.positions_of self.new (option_map string_bytes tag.now)) ≡ true) }
     {
         match tag {
             None => {
-                self.untagged.push(place)?;
+                self.untagged.push(position)?;
                 Ok(())
             }
-            Some(tag) => add_under(&mut self.tagged, tag.clone()?, place),
+            Some(tag) => add_under(&mut self.tagged, tag.clone()?, position),
         }
     }
 }
 
-/// The places of some hooks, each by its tag.
+/// Returns the index of some hooks.
 pub fn index_of(alloc: Global, hooks: &[Hook]) -> Result<HookIndex, AllocError>
     ensures { IfOk result (λ index. AreListed index hooks.now) }
 {
     let mut index = HookIndex::new(alloc);
-    for place in 0..hooks.len() {
-        index.add(&hooks[place].tag, place)?;
+    for position in 0..hooks.len() {
+        index.add(&hooks[position].tag, position)?;
     }
     Ok(index)
 }
 
-// The first of the hooks at these places that is for this kind and this tag; how many hooks there are
+// The first of the hooks at these positions that is for this kind and this tag; how many hooks there are
 // where none is.
-fn first_place(hooks: &[Hook], places: &[usize], kind: HookKind, tag: Option<&str>) -> usize
+fn first_position(hooks: &[Hook], positions: &[usize], kind: HookKind, tag: Option<&str>) -> usize
     ensures { IsFirst (λ hook. is_for (hook_value hook) kind (option_copied tag.entry))
-        hooks.now places.now (length places.now) result }
+        hooks.now positions.now (length positions.now) result }
 {
     let mut first = hooks.len();
-    for k in 0..places.len() {
-        let place = places[k];
-        if place < first && hooks[place].is_for(kind, tag) {
-            first = place;
+    for k in 0..positions.len() {
+        let position = positions[k];
+        if position < first && hooks[position].is_for(kind, tag) {
+            first = position;
         }
     }
     first
@@ -115,6 +116,6 @@ pub fn find_hook<'a>(
     ensures { option_map (λ hook. hook_value hook.now) result
         ≡ hook_for (map hook_value hooks.now) kind (option_copied tag.entry) }
 {
-    let place = first_place(hooks, index.of(tag), kind, tag);
-    hooks.get(place)
+    let position = first_position(hooks, index.of(tag), kind, tag);
+    hooks.get(position)
 }

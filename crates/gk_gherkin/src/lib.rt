@@ -3,35 +3,49 @@
 //! is refused.
 #![tactic(auto)]
 
+// Texts and their lines.
+mod lines;
+pub mod text;
+
+// What one line says.
 mod class;
 mod doc_strings;
-mod feature;
-mod feature_place;
-mod grammar;
-mod hook_headings;
-mod hook_index;
-mod hook_table;
-mod hooks;
-mod hooks_grammar;
-mod hooks_place;
-mod hooks_so_far;
 mod language;
-mod lines;
-mod open_parts;
-mod read_fault;
-mod reading;
 mod rows;
 mod step_types;
 mod tags;
-pub mod text;
+
+// What a file says, or why it can't be read.
+mod feature;
+mod hook_headings;
+mod hooks;
+mod read_fault;
+
+// What the readers of both kinds of file share.
+mod open_parts;
+mod reading;
+
+// The reader of a feature file.
+mod feature_reader;
+
+// The reader of a hooks file.
+mod hook_index;
+mod hooks_reader;
+mod hooks_so_far;
+
+// Hooks looked up, and laws.
+mod hook_table;
+mod laws;
 
 pub use feature::{Background, Block, Examples, Feature, Row, Rule, Scenario, Step, StepType};
-pub use grammar::{
-    fault_is_unique, parts_are_concatenations, read_feature, reading_is_unique, rules_are_counted,
-};
+pub use feature_reader::read_feature;
 pub use hook_table::HookTable;
 pub use hooks::{Hook, HookFile, HookKind};
-pub use hooks_grammar::{hooks_reading_is_unique, read_hooks};
+pub use hooks_reader::read_hooks;
+pub use laws::{
+    fault_is_unique, hooks_reading_is_unique, parts_are_concatenations, reading_is_unique,
+    rules_are_counted,
+};
 pub use lines::{BorrowedLine, Document, LIMIT, Line, Place, borrowed_line, read_lines, text_of};
 pub use read_fault::{ReadFault, Refused};
 pub use text::trim_back;

@@ -4,9 +4,9 @@ ghost use Rattle.std.specs.String.{string_bytes};
 ghost use Rattle.gk_gherkin.specs.Lines.{borrowed_value};
 ghost use Rattle.gk_gherkin.specs.Feature.{texts, block_value, step_value, row_value};
 ghost use Rattle.gk_gherkin.specs.Feature.{examples_value, scenario_value};
-ghost use Rattle.gk_gherkin.specs.Gives.{Gives};
+ghost use Rattle.gk_gherkin.specs.Results.{Agrees};
 ghost use Rattle.gk_gherkin.specs.OpenParts as spec;
-ghost use Rattle.gk_gherkin.specs.OpenParts.Views.{head_value, section_value, body_value};
+ghost use Rattle.gk_gherkin.specs.OpenParts.Views.{head_value, children_value, body_value};
 ghost use Rattle.gk_gherkin.specs.OpenParts.Views.{owner_value, grid_value, outline_value};
 ghost use Rattle.gk_gherkin.specs.OpenParts.Views.{open_value, bodied_value, begun_after};
 ghost use Rattle.gk_gherkin.specs.declared.feature.StepType.TheVariants.{Given};
@@ -29,9 +29,9 @@ pub struct Head {
     pub line: u32,
 }
 
-/// The finished parts after the description of a feature or a rule.
+/// The finished children of a feature or a rule: its background and its scenarios.
 #[derive(Drop)]
-pub struct Section {
+pub struct Children {
     pub background: Option<Background>,
     pub scenarios: Vec<Scenario>,
 }
@@ -39,8 +39,8 @@ pub struct Section {
 /// In a description, or after steps, of which the last is open.
 #[derive(Drop)]
 pub enum Body {
-    Describing,
-    Stepped { steps: Vec<Step>, step: Step },
+    NoSteps,
+    Steps { steps: Vec<Step>, step: Step },
 }
 
 /// Whose steps these are: a background's, or a scenario's, with what is finished before it.
@@ -50,7 +50,7 @@ pub enum Owner {
         line: u32,
     },
     OfScenario {
-        section: Section,
+        children: Children,
         keyword: String,
         head: Head,
     },
@@ -66,7 +66,7 @@ pub enum Grid {
 /// A scenario, with what is finished before it.
 #[derive(Drop)]
 pub struct Outline {
-    pub section: Section,
+    pub children: Children,
     pub scenario: Scenario,
 }
 
@@ -74,20 +74,20 @@ pub struct Outline {
 /// before them.
 #[derive(Drop)]
 pub enum Open {
-    Headed,
-    Bodied {
+    InDescription,
+    InBody {
         owner: Owner,
         body: Body,
     },
-    Exampled {
-        section: Section,
+    InExamples {
+        children: Children,
         scenario: Scenario,
         head: Head,
         grid: Grid,
     },
 }
 
-/// A value in the place of another, which is dropped.
+/// Replaces a value, which is dropped.
 pub fn put<T: Drop>(slot: &mut T, next: T)
     ensures { slot.new ≡ next }
 {
@@ -107,7 +107,7 @@ pub fn head_from(
     tags: Vec<String>,
     line: &BorrowedLine<'_>,
 ) -> Result<Head, ReadFault>
-    ensures { Gives head_value result
+    ensures { Agrees head_value result
         (Ok (spec.head_from (texts tags.items) (borrowed_value line.now))) }
 {
     let name = String::from_str(alloc, heading_name(line))?;
@@ -119,7 +119,7 @@ pub fn head_from(
 }
 
 fn step_from(alloc: Global, before: StepType, line: &BorrowedLine<'_>) -> Result<Step, ReadFault>
-    ensures { Gives step_value result (Ok (spec.step_from before (borrowed_value line.now))) }
+    ensures { Agrees step_value result (Ok (spec.step_from before (borrowed_value line.now))) }
 {
     let (keyword, text) = step_parts(line);
     let step_type = type_after(before, keyword);
@@ -135,11 +135,11 @@ fn step_from(alloc: Global, before: StepType, line: &BorrowedLine<'_>) -> Result
 }
 
 pub fn steps_of(alloc: Global, body: Body) -> Result<Vec<Step>, ReadFault>
-    ensures { Gives (λ v. map step_value v.items) result (Ok (spec.steps_of (body_value body))) }
+    ensures { Agrees (λ v. map step_value v.items) result (Ok (spec.steps_of (body_value body))) }
 {
     match body {
-        Body::Describing => Ok(Vec::new(alloc)),
-        Body::Stepped { steps, step } => {
+        Body::NoSteps => Ok(Vec::new(alloc)),
+        Body::Steps { steps, step } => {
             let mut steps = steps;
             steps.push(step)?;
             Ok(steps)
@@ -147,13 +147,13 @@ pub fn steps_of(alloc: Global, body: Body) -> Result<Vec<Step>, ReadFault>
     }
 }
 
-fn with_scenario(section: Section, scenario: Scenario) -> Result<Section, ReadFault>
-    ensures { Gives section_value result
-        (Ok (spec.with_scenario (section_value section) (scenario_value scenario))) }
+fn with_scenario(children: Children, scenario: Scenario) -> Result<Children, ReadFault>
+    ensures { Agrees children_value result
+        (Ok (spec.with_scenario (children_value children) (scenario_value scenario))) }
 {
-    let mut section = section;
-    section.scenarios.push(scenario)?;
-    Ok(section)
+    let mut children = children;
+    children.scenarios.push(scenario)?;
+    Ok(children)
 }
 
 fn scenario_of(alloc: Global, keyword: String, head: Head, steps: Vec<Step>) -> Scenario
@@ -170,20 +170,20 @@ fn scenario_of(alloc: Global, keyword: String, head: Head, steps: Vec<Step>) -> 
     }
 }
 
-fn owner_section(alloc: Global, owner: Owner, steps: Vec<Step>) -> Result<Section, ReadFault>
-    ensures { Gives section_value result
-        (Ok (spec.owner_section (owner_value owner) (map step_value steps.items))) }
+fn owner_children(alloc: Global, owner: Owner, steps: Vec<Step>) -> Result<Children, ReadFault>
+    ensures { Agrees children_value result
+        (Ok (spec.owner_children (owner_value owner) (map step_value steps.items))) }
 {
     match owner {
-        Owner::OfBackground { line } => Ok(Section {
+        Owner::OfBackground { line } => Ok(Children {
             background: Some(Background { line, steps }),
             scenarios: Vec::new(alloc),
         }),
         Owner::OfScenario {
-            section,
+            children,
             keyword,
             head,
-        } => with_scenario(section, scenario_of(alloc, keyword, head, steps)),
+        } => with_scenario(children, scenario_of(alloc, keyword, head, steps)),
     }
 }
 
@@ -209,7 +209,7 @@ fn examples_of(alloc: Global, head: Head, grid: Grid) -> Examples
 }
 
 fn with_examples(scenario: Scenario, examples: Examples) -> Result<Scenario, ReadFault>
-    ensures { Gives scenario_value result
+    ensures { Agrees scenario_value result
         (Ok (spec.with_examples (scenario_value scenario) (examples_value examples))) }
 {
     let mut scenario = scenario;
@@ -218,63 +218,63 @@ fn with_examples(scenario: Scenario, examples: Examples) -> Result<Scenario, Rea
 }
 
 pub fn outline_of(alloc: Global, part: Open) -> Result<Option<Outline>, ReadFault>
-    ensures { Gives (λ o. option_map outline_value o) result
+    ensures { Agrees (λ o. option_map outline_value o) result
         (Ok (spec.outline_of (open_value part))) }
 {
     match part {
-        Open::Headed => Ok(None),
-        Open::Bodied { owner, body } => match owner {
+        Open::InDescription => Ok(None),
+        Open::InBody { owner, body } => match owner {
             Owner::OfBackground { .. } => Ok(None),
             Owner::OfScenario {
-                section,
+                children,
                 keyword,
                 head,
             } => {
                 let steps = steps_of(alloc, body)?;
                 let scenario = scenario_of(alloc, keyword, head, steps);
-                Ok(Some(Outline { section, scenario }))
+                Ok(Some(Outline { children, scenario }))
             }
         },
-        Open::Exampled {
-            section,
+        Open::InExamples {
+            children,
             scenario,
             head,
             grid,
         } => {
             let scenario = with_examples(scenario, examples_of(alloc, head, grid))?;
-            Ok(Some(Outline { section, scenario }))
+            Ok(Some(Outline { children, scenario }))
         }
     }
 }
 
-pub fn section_of(alloc: Global, part: Open) -> Result<Section, ReadFault>
-    ensures { Gives section_value result (Ok (spec.section_of (open_value part))) }
+pub fn children_of(alloc: Global, part: Open) -> Result<Children, ReadFault>
+    ensures { Agrees children_value result (Ok (spec.children_of (open_value part))) }
 {
     match part {
-        Open::Headed => Ok(Section {
+        Open::InDescription => Ok(Children {
             background: None,
             scenarios: Vec::new(alloc),
         }),
-        Open::Bodied { owner, body } => owner_section(alloc, owner, steps_of(alloc, body)?),
-        Open::Exampled {
-            section,
+        Open::InBody { owner, body } => owner_children(alloc, owner, steps_of(alloc, body)?),
+        Open::InExamples {
+            children,
             scenario,
             head,
             grid,
         } => {
             let scenario = with_examples(scenario, examples_of(alloc, head, grid))?;
-            with_scenario(section, scenario)
+            with_scenario(children, scenario)
         }
     }
 }
 
 // What follows the heading of a background or a scenario: no step yet.
 fn bodied(owner: Owner) -> Open
-    ensures { open_value result ≡ spec.Bodied (owner_value owner) spec.Describing }
+    ensures { open_value result ≡ spec.InBody (owner_value owner) spec.NoSteps }
 {
-    Open::Bodied {
+    Open::InBody {
         owner,
-        body: Body::Describing,
+        body: Body::NoSteps,
     }
 }
 
@@ -286,13 +286,13 @@ fn first_scenario(
     keyword: String,
     head: Head,
 ) -> Result<(), ReadFault>
-    ensures { let section = spec.section_of (open_value part.old) in
-        Gives (λ _. open_value part.new) result
-        (Ok (spec.begun_scenario section (string_bytes keyword) (head_value head))) }
+    ensures { let children = spec.children_of (open_value part.old) in
+        Agrees (λ _. open_value part.new) result
+        (Ok (spec.begun_scenario children (string_bytes keyword) (head_value head))) }
 {
-    let section = section_of(alloc, mem::replace(part, Open::Headed))?;
+    let children = children_of(alloc, mem::replace(part, Open::InDescription))?;
     let owner = Owner::OfScenario {
-        section,
+        children,
         keyword,
         head,
     };
@@ -308,21 +308,21 @@ fn scenario_after_steps(
     keyword: String,
     head: Head,
 ) -> Result<(), ReadFault>
-    ensures { Gives (λ _. bodied_value owner.new body.new) result
+    ensures { Agrees (λ _. bodied_value owner.new body.new) result
         (begun_after owner.old body.old (string_bytes keyword) (head_value head)) }
 {
-    let steps = steps_of(alloc, mem::replace(body, Body::Describing))?;
+    let steps = steps_of(alloc, mem::replace(body, Body::NoSteps))?;
     match owner {
         Owner::OfBackground { line } => {
             let background = Some(Background { line: *line, steps });
-            let section = Section {
+            let children = Children {
                 background,
                 scenarios: Vec::new(alloc),
             };
             put(
                 owner,
                 Owner::OfScenario {
-                    section,
+                    children,
                     keyword,
                     head,
                 },
@@ -330,13 +330,13 @@ fn scenario_after_steps(
             Ok(())
         }
         Owner::OfScenario {
-            section,
+            children,
             keyword: before,
             head: head_before,
         } => {
             let keyword = mem::replace(before, keyword);
             let head = mem::replace(head_before, head);
-            section
+            children
                 .scenarios
                 .push(scenario_of(alloc, keyword, head, steps))?;
             Ok(())
@@ -350,14 +350,14 @@ pub fn scenario_heading(
     tags: Vec<String>,
     line: &BorrowedLine<'_>,
 ) -> Result<(), ReadFault>
-    ensures { let section = spec.section_of (open_value part.old) in
-        Gives (λ _. open_value part.new) result
-        (Ok (spec.scenario_from section (texts tags.items) (borrowed_value line.now))) }
+    ensures { let children = spec.children_of (open_value part.old) in
+        Agrees (λ _. open_value part.new) result
+        (Ok (spec.scenario_from children (texts tags.items) (borrowed_value line.now))) }
 {
     let keyword = String::from_str(alloc, heading_keyword(line))?;
     let head = head_from(alloc, tags, line)?;
     match part {
-        Open::Bodied { owner, body } => scenario_after_steps(alloc, owner, body, keyword, head),
+        Open::InBody { owner, body } => scenario_after_steps(alloc, owner, body, keyword, head),
         _ => first_scenario(alloc, part, keyword, head),
     }
 }
@@ -368,7 +368,7 @@ fn on_row(
     width: Option<usize>,
     line: &BorrowedLine<'_>,
 ) -> Result<Vec<String>, ReadFault>
-    ensures { Gives (λ v. texts v.items) result (spec.on_row width (borrowed_value line.now)) }
+    ensures { Agrees (λ v. texts v.items) result (spec.on_row width (borrowed_value line.now)) }
 {
     match cells_of(alloc, width.unwrap_or(0), line)? {
         Some(cells) => match width {
@@ -400,7 +400,7 @@ fn width_of(rows: &Vec<Vec<String>>) -> Option<usize>
 
 #[tactic(auto, unfolding(crate::specs::OpenParts::on_block))]
 fn on_block(alloc: Global, block: &mut Block, line: &BorrowedLine<'_>) -> Result<(), ReadFault>
-    ensures { Gives (λ _. block_value block.new) result
+    ensures { Agrees (λ _. block_value block.new) result
         (spec.on_block (block_value block.old) (borrowed_value line.now)) }
 {
     match block {
@@ -423,7 +423,7 @@ fn on_block(alloc: Global, block: &mut Block, line: &BorrowedLine<'_>) -> Result
 
 // The header of examples.
 fn header_row(alloc: Global, grid: &mut Grid, line: &BorrowedLine<'_>) -> Result<(), ReadFault>
-    ensures { Gives (λ _. grid_value grid.new) result (spec.header_row (borrowed_value line.now)) }
+    ensures { Agrees (λ _. grid_value grid.new) result (spec.header_row (borrowed_value line.now)) }
 {
     let header = on_row(alloc, None, line)?;
     let rows = Vec::new(alloc);
@@ -439,7 +439,7 @@ fn row_under(
     line: &BorrowedLine<'_>,
 ) -> Result<(), ReadFault>
     ensures { let header = texts header.now in
-        Gives (λ _. spec.Rows header (map row_value rows.new.items)) result
+        Agrees (λ _. spec.Rows header (map row_value rows.new.items)) result
         (spec.row_under header (map row_value rows.old.items) (borrowed_value line.now)) }
 {
     let cells = on_row(alloc, Some(header.len()), line)?;
@@ -455,7 +455,7 @@ fn on_grid(
     line: &BorrowedLine<'_>,
     class: Class,
 ) -> Result<(), ReadFault>
-    ensures { Gives (λ _. grid_value grid.new) result
+    ensures { Agrees (λ _. grid_value grid.new) result
         (spec.on_grid (grid_value grid.old) (borrowed_value line.now) class) }
 {
     match grid {
@@ -473,12 +473,12 @@ fn on_grid(
 
 // The first step of a body.
 fn first_step(alloc: Global, body: &mut Body, line: &BorrowedLine<'_>) -> Result<(), ReadFault>
-    ensures { Gives (λ _. body_value body.new) result
-        (Ok (spec.Stepped [] (spec.step_from Given (borrowed_value line.now)))) }
+    ensures { Agrees (λ _. body_value body.new) result
+        (Ok (spec.Steps [] (spec.step_from Given (borrowed_value line.now)))) }
 {
     let step = step_from(alloc, StepType::Given, line)?;
     let steps = Vec::new(alloc);
-    put(body, Body::Stepped { steps, step });
+    put(body, Body::Steps { steps, step });
     Ok(())
 }
 
@@ -490,8 +490,8 @@ fn next_step(
     line: &BorrowedLine<'_>,
 ) -> Result<(), ReadFault>
     ensures { let before = step_value step.old in
-        Gives (λ _. spec.Stepped (map step_value steps.new.items) (step_value step.new)) result
-        (Ok (spec.Stepped (map step_value steps.old.items ++ before ∷ [])
+        Agrees (λ _. spec.Steps (map step_value steps.new.items) (step_value step.new)) result
+        (Ok (spec.Steps (map step_value steps.old.items ++ before ∷ [])
         (spec.step_from before.step_type (borrowed_value line.now)))) }
 {
     let next = step_from(alloc, step.step_type, line)?;
@@ -506,16 +506,16 @@ pub fn on_body(
     line: &BorrowedLine<'_>,
     class: Class,
 ) -> Result<(), ReadFault>
-    ensures { Gives (λ _. body_value body.new) result
+    ensures { Agrees (λ _. body_value body.new) result
         (spec.on_body (body_value body.old) (borrowed_value line.now) class) }
 {
     match body {
-        Body::Describing => match class {
+        Body::NoSteps => match class {
             Class::StepLine => first_step(alloc, body, line),
             Class::RowLine | Class::FenceLine(_) | Class::Other => Ok(()),
             _ => Err(unexpected(line)),
         },
-        Body::Stepped { steps, step } => match class {
+        Body::Steps { steps, step } => match class {
             Class::StepLine => next_step(alloc, steps, step, line),
             Class::RowLine => on_block(alloc, &mut step.block, line),
             _ => Err(unexpected(line)),
@@ -525,7 +525,7 @@ pub fn on_body(
 
 fn background_heading(part: &mut Open, line: &BorrowedLine<'_>)
     ensures { open_value part.new
-        ≡ spec.Bodied (spec.OfBackground line.now.place.line) spec.Describing }
+        ≡ spec.InBody (spec.OfBackground line.now.place.line) spec.NoSteps }
 {
     let owner = Owner::OfBackground {
         line: line.place.line,
@@ -541,10 +541,10 @@ pub fn on_open(
     class: Class,
 ) -> Result<(), ReadFault>
     ensures { let said = borrowed_value line.now in
-        Gives (λ _. open_value part.new) result (spec.on_open (open_value part.old) said class) }
+        Agrees (λ _. open_value part.new) result (spec.on_open (open_value part.old) said class) }
 {
     match part {
-        Open::Headed => match class {
+        Open::InDescription => match class {
             Class::BackgroundHeading => {
                 background_heading(part, line);
                 Ok(())
@@ -552,8 +552,8 @@ pub fn on_open(
             Class::StepLine | Class::RowLine | Class::FenceLine(_) | Class::Other => Ok(()),
             _ => Err(unexpected(line)),
         },
-        Open::Bodied { body, .. } => on_body(alloc, body, line, class),
-        Open::Exampled { grid, .. } => on_grid(alloc, grid, line, class),
+        Open::InBody { body, .. } => on_body(alloc, body, line, class),
+        Open::InExamples { grid, .. } => on_grid(alloc, grid, line, class),
     }
 }
 
@@ -562,8 +562,8 @@ pub fn body_takes_text(body: &Body) -> bool
     ensures { result ≡ spec.body_takes_text (body_value body.now) }
 {
     match body {
-        Body::Describing => false,
-        Body::Stepped { step, .. } => matches!(step.block, Block::Empty),
+        Body::NoSteps => false,
+        Body::Steps { step, .. } => matches!(step.block, Block::Empty),
     }
 }
 
@@ -571,7 +571,7 @@ pub fn body_takes_text(body: &Body) -> bool
 pub fn put_text(body: &mut Body, text: String)
     ensures { body_value body.new ≡ spec.body_with_text (body_value body.old) (string_bytes text) }
 {
-    if let Body::Stepped { step, .. } = body {
+    if let Body::Steps { step, .. } = body {
         put(&mut step.block, Block::Text(text));
     }
 }
@@ -581,7 +581,7 @@ pub fn open_takes_text(part: &Open) -> bool
     ensures { result ≡ spec.open_takes_text (open_value part.now) }
 {
     match part {
-        Open::Bodied { body, .. } => body_takes_text(body),
+        Open::InBody { body, .. } => body_takes_text(body),
         _ => false,
     }
 }
@@ -590,7 +590,7 @@ pub fn open_takes_text(part: &Open) -> bool
 pub fn put_text_in(part: &mut Open, text: String)
     ensures { open_value part.new ≡ spec.open_with_text (open_value part.old) (string_bytes text) }
 {
-    if let Open::Bodied { body, .. } = part {
+    if let Open::InBody { body, .. } = part {
         put_text(body, text);
     }
 }

@@ -32,14 +32,14 @@ pub enum ReadFault {
     TagsAtEnd { line: u32 },
     /// A comment above the feature that names another language than English.
     Language { line: u32 },
-    /// A row that doesn't stand between two bars.
-    BadRow { line: u32 },
-    /// A hook line that is no heading of a hook, or one that stood before.
-    BadHook { line: u32 },
     /// More bytes than `LIMIT`, whatever they spell.
     TooLong,
     /// A growth of memory was refused.
     Memory,
+    /// A hook line that is no heading of a hook, or one that stood before.
+    BadHook { line: u32 },
+    /// A row that doesn't stand between two bars.
+    BadRow { line: u32 },
 }
 
 impl ReadFault {
@@ -55,10 +55,10 @@ impl ReadFault {
             ReadFault::UnclosedText { line } => Some(*line),
             ReadFault::TagsAtEnd { line } => Some(*line),
             ReadFault::Language { line } => Some(*line),
-            ReadFault::BadRow { line } => Some(*line),
-            ReadFault::BadHook { line } => Some(*line),
             ReadFault::TooLong => None,
             ReadFault::Memory => None,
+            ReadFault::BadHook { line } => Some(*line),
+            ReadFault::BadRow { line } => Some(*line),
         }
     }
 }
@@ -92,10 +92,10 @@ impl fmt::Display for ReadFault {
             ReadFault::UnclosedText { .. } => "doc string without end",
             ReadFault::TagsAtEnd { .. } => "tags before nothing",
             ReadFault::Language { .. } => "language not known",
-            ReadFault::BadRow { .. } => "row without closing bar",
-            ReadFault::BadHook { .. } => "bad hook heading",
             ReadFault::TooLong => "longer than 16777216 bytes",
             ReadFault::Memory => "out of memory",
+            ReadFault::BadHook { .. } => "bad hook heading",
+            ReadFault::BadRow { .. } => "row without closing bar",
         };
         f.write_str(text)
     }

@@ -4,7 +4,7 @@ ghost use Rattle.std.specs.Str.Lines.{lines};
 ghost use Rattle.std.specs.String.{string_bytes};
 ghost use Rattle.gk_gherkin.specs.Lines.{LineValue, borrowed_value, numbered_from, lines_of, IsText};
 ghost use Rattle.gk_gherkin.specs.Class as words;
-ghost use Rattle.gk_gherkin.specs.Gives.{Gives};
+ghost use Rattle.gk_gherkin.specs.Results.{Agrees};
 ghost use Rattle.gk_gherkin.specs.Reading as spec;
 ghost use Rattle.gk_gherkin.specs.Reading.Views.{state_value, EndsText};
 ghost use Rattle.gk_gherkin.specs.declared.read_fault.ReadFault.TheVariants.{Memory};
@@ -16,12 +16,12 @@ use crate::read_fault::ReadFault;
 use std::alloc::Global;
 use std::mem;
 
-/// What was read of a file so far, outside of doc strings.
-pub trait FilePlace: Drop {
+/// A reader of a file: what was read so far, outside of doc strings.
+pub trait FileReader: Drop {
     /// What the file says.
     type Answer;
 
-    /// What contracts see of a place.
+    /// What contracts see of a reader.
     ghost Value: { Type 0 };
 
     /// What contracts see of an answer.
@@ -31,19 +31,19 @@ pub trait FilePlace: Drop {
 
     ghost answer_value: { Self.Answer → AnswerValue };
 
-    ghost places: { spec.Places Value AnswerValue };
+    ghost readers: { spec.Readers Value AnswerValue };
 
-    /// The place before the first line.
+    /// Returns the reader before the first line.
     fn first() -> Self
-        ensures { value result ≡ places.first };
+        ensures { value result ≡ readers.first };
 
     /// Whether a doc string may stand under the last step.
     fn takes_text(&self) -> bool
-        ensures { result ≡ places.takes_text (value self.now) };
+        ensures { result ≡ readers.takes_text (value self.now) };
 
     /// Puts a doc string under the last step.
     fn put_text(&mut self, text: String)
-        ensures { value self.new ≡ places.after_text (value self.old) (string_bytes text) };
+        ensures { value self.new ≡ readers.after_text (value self.old) (string_bytes text) };
 
     /// Takes a line of this class that is no part of a doc string.
     fn take(
@@ -53,24 +53,24 @@ pub trait FilePlace: Drop {
         class: Class,
     ) -> Result<(), ReadFault>
         requires { class ≡ words.class (borrowed_value line.now) }
-        ensures says { Gives (λ _. value self.new) result
-            (places.after_line (value self.old) (borrowed_value line.now)) }
+        ensures says { Agrees (λ _. value self.new) result
+            (readers.after_line (value self.old) (borrowed_value line.now)) }
         ensures memory { IfErr result (λ e. e ≡ Memory →
-            places.needs (value self.old) (borrowed_value line.now)) };
+            readers.needs (value self.old) (borrowed_value line.now)) };
 
     /// What was read, where the lines end.
     fn answer(self, alloc: Global) -> Result<Self::Answer, ReadFault>
-        ensures says { Gives answer_value result (places.answer (value self)) }
-        ensures memory { IfErr result (λ e. e ≡ Memory → places.needs_at_end (value self)) };
+        ensures says { Agrees answer_value result (readers.answer (value self)) }
+        ensures memory { IfErr result (λ e. e ≡ Memory → readers.needs_at_end (value self)) };
 }
 
 // The fence of a line of this class, where it opens a doc string.
-fn opening<P: FilePlace>(place: &P, class: Class) -> Option<Fence>
-    ensures { result ≡ spec.opening (P.places.takes_text (P.value place.now)) class }
+fn opening<P: FileReader>(reader: &P, class: Class) -> Option<Fence>
+    ensures { result ≡ spec.opening (P.readers.takes_text (P.value reader.now)) class }
 {
     match class {
         Class::FenceLine(fence) => {
-            if place.takes_text() {
+            if reader.takes_text() {
                 Some(fence)
             } else {
                 None
@@ -80,58 +80,58 @@ fn opening<P: FilePlace>(place: &P, class: Class) -> Option<Fence>
     }
 }
 
-// A line at a place, which may open a doc string there.
+// Takes a line outside of doc strings, which may open one.
 #[tactic(auto, unfolding(crate::specs::Reading::step))]
-fn at_place<P: FilePlace>(
+fn outside_text<P: FileReader>(
     alloc: Global,
-    place: &mut P,
+    reader: &mut P,
     text: &mut Option<DocString>,
     line: &BorrowedLine<'_>,
 ) -> Result<(), ReadFault>
     requires { text.old ≡ None }
-    ensures says { Gives (λ _. state_value (P.value place.new) text.new) result
-        (spec.step P.places (spec.At (P.value place.old)) (borrowed_value line.now)) }
+    ensures says { Agrees (λ _. state_value (P.value reader.new) text.new) result
+        (spec.step P.readers (spec.Outside (P.value reader.old)) (borrowed_value line.now)) }
     ensures memory { IfErr result (λ e. e ≡ Memory →
-        P.places.needs (P.value place.old) (borrowed_value line.now)) }
+        P.readers.needs (P.value reader.old) (borrowed_value line.now)) }
 {
     let class = class_of_line(line);
-    match opening(place, class) {
+    match opening(reader, class) {
         Some(fence) => {
             *text = Some(DocString::opened(fence, line));
             Ok(())
         }
-        None => place.take(alloc, line, class),
+        None => reader.take(alloc, line, class),
     }
 }
 
 // The end of a doc string.
-fn end_text<P: FilePlace>(alloc: Global, place: &mut P, text: &mut Option<DocString>)
-    ensures { EndsText P.places (P.value place.old) text.old (P.value place.new) text.new }
+fn end_text<P: FileReader>(alloc: Global, reader: &mut P, text: &mut Option<DocString>)
+    ensures { EndsText P.readers (P.value reader.old) text.old (P.value reader.new) text.new }
 {
     if let Some(it) = mem::replace(text, None) {
-        place.put_text(it.into_text(alloc));
+        reader.put_text(it.into_text(alloc));
     }
 }
 
 // The state after a line, in place of the state before it.
 #[tactic(auto, unfolding(crate::specs::Reading::step))]
-fn next_line<P: FilePlace>(
+fn next_line<P: FileReader>(
     alloc: Global,
-    place: &mut P,
+    reader: &mut P,
     text: &mut Option<DocString>,
     line: &BorrowedLine<'_>,
 ) -> Result<(), ReadFault>
-    ensures says { let old = state_value (P.value place.old) text.old in
-        Gives (λ _. state_value (P.value place.new) text.new) result
-        (spec.step P.places old (borrowed_value line.now)) }
-    ensures memory { let old = state_value (P.value place.old) text.old in
-        IfErr result (λ e. e ≡ Memory → spec.NeedsIn P.places old (borrowed_value line.now)) }
+    ensures says { let old = state_value (P.value reader.old) text.old in
+        Agrees (λ _. state_value (P.value reader.new) text.new) result
+        (spec.step P.readers old (borrowed_value line.now)) }
+    ensures memory { let old = state_value (P.value reader.old) text.old in
+        IfErr result (λ e. e ≡ Memory → spec.NeedsIn P.readers old (borrowed_value line.now)) }
 {
     match text {
-        None => at_place(alloc, place, text, line),
+        None => outside_text(alloc, reader, text, line),
         Some(it) => {
             if it.is_closed_by(line) {
-                end_text(alloc, place, text);
+                end_text(alloc, reader, text);
                 Ok(())
             } else {
                 it.add(alloc, line)
@@ -141,27 +141,27 @@ fn next_line<P: FilePlace>(
 }
 
 // The state after the lines of a text, in place of the state before them.
-fn run<P: FilePlace>(
+fn run<P: FileReader>(
     alloc: Global,
-    place: &mut P,
+    reader: &mut P,
     doc_string: &mut Option<DocString>,
     text: &str,
 ) -> Result<(), ReadFault>
     requires { length text.now ≤ LIMIT }
-    ensures says { Gives (λ _. state_value (P.value place.new) doc_string.new) result
-        (spec.run P.places (state_value (P.value place.old) doc_string.old)
+    ensures says { Agrees (λ _. state_value (P.value reader.new) doc_string.new) result
+        (spec.run P.readers (state_value (P.value reader.old) doc_string.old)
         (numbered_from 1 (lines text.now))) }
     ensures memory { IfErr result (λ e. e ≡ Memory →
-        spec.NeedSome P.places (state_value (P.value place.old) doc_string.old)
+        spec.NeedSome P.readers (state_value (P.value reader.old) doc_string.old)
         (numbered_from 1 (lines text.now))) }
     ensures end { IfOk result (λ _.
-        spec.NeedsAtEnd P.places (state_value (P.value place.new) doc_string.new) →
-        spec.NeedSome P.places (state_value (P.value place.old) doc_string.old)
+        spec.NeedsAtEnd P.readers (state_value (P.value reader.new) doc_string.new) →
+        spec.NeedSome P.readers (state_value (P.value reader.old) doc_string.old)
         (numbered_from 1 (lines text.now))) }
 {
     let mut number: u32 = 1;
     for part in text.lines() {
-        next_line(alloc, place, doc_string, &borrowed_line(number, part))?;
+        next_line(alloc, reader, doc_string, &borrowed_line(number, part))?;
         number += 1;
     }
     Ok(())
@@ -169,41 +169,41 @@ fn run<P: FilePlace>(
 
 // What was read, where the lines end.
 #[tactic(auto, unfolding(crate::specs::Reading::finish))]
-fn finish<P: FilePlace>(
+fn finish<P: FileReader>(
     alloc: Global,
-    place: P,
+    reader: P,
     doc_string: Option<DocString>,
 ) -> Result<P::Answer, ReadFault>
-    ensures says { Gives P.answer_value result
-        (spec.finish P.places (state_value (P.value place) doc_string)) }
+    ensures says { Agrees P.answer_value result
+        (spec.finish P.readers (state_value (P.value reader) doc_string)) }
     ensures memory { IfErr result (λ e. e ≡ Memory →
-        spec.NeedsAtEnd P.places (state_value (P.value place) doc_string)) }
+        spec.NeedsAtEnd P.readers (state_value (P.value reader) doc_string)) }
 {
     match doc_string {
-        None => place.answer(alloc),
+        None => reader.answer(alloc),
         Some(text) => Err(ReadFault::UnclosedText { line: text.line }),
     }
 }
 
 #[tactic(auto, unfolding(crate::specs::Reading::reading))]
-fn read_text<P: FilePlace>(alloc: Global, text: &str) -> Result<P::Answer, ReadFault>
+fn read_text<P: FileReader>(alloc: Global, text: &str) -> Result<P::Answer, ReadFault>
     requires { length text.now ≤ LIMIT }
-    ensures says { Gives P.answer_value result
-        (spec.reading P.places (numbered_from 1 (lines text.now))) }
+    ensures says { Agrees P.answer_value result
+        (spec.reading P.readers (numbered_from 1 (lines text.now))) }
     ensures memory { IfErr result (λ e. e ≡ Memory →
-        spec.NeedSome P.places (spec.At P.places.first) (numbered_from 1 (lines text.now))) }
+        spec.NeedSome P.readers (spec.Outside P.readers.first) (numbered_from 1 (lines text.now))) }
 {
-    let mut place = P::first();
+    let mut reader = P::first();
     let mut doc_string = None;
-    run(alloc, &mut place, &mut doc_string, text)?;
-    finish(alloc, place, doc_string)
+    run(alloc, &mut reader, &mut doc_string, text)?;
+    finish(alloc, reader, doc_string)
 }
 
 /// What the bytes of a file say, line by line, or the first fault.
-pub fn read<P: FilePlace>(alloc: Global, bytes: &[u8]) -> Result<P::Answer, ReadFault>
+pub fn read<P: FileReader>(alloc: Global, bytes: &[u8]) -> Result<P::Answer, ReadFault>
     ensures says { IfOk result (λ a.
-        IsText bytes.now × (spec.reading P.places (lines_of bytes.now) ≡ Ok (P.answer_value a))) }
-    ensures fault { IfErr result (λ e. spec.FailsAs P.places e bytes.now) }
+        IsText bytes.now × (spec.reading P.readers (lines_of bytes.now) ≡ Ok (P.answer_value a))) }
+    ensures fault { IfErr result (λ e. spec.FailsAs P.readers e bytes.now) }
 {
     let text = text_of(bytes)?;
     read_text::<P>(alloc, text)

@@ -3,7 +3,7 @@ ghost use Rattle.std.specs.Prelude.{Ok, ◌≡◌, ◌≤◌, ◌<◌, ◌++◌,
 ghost use Rattle.std.specs.String.{string_bytes};
 ghost use Rattle.gk_gherkin.specs.Lines.{borrowed_value};
 ghost use Rattle.gk_gherkin.specs.Feature.{found_texts};
-ghost use Rattle.gk_gherkin.specs.Gives.{Gives};
+ghost use Rattle.gk_gherkin.specs.Results.{Agrees};
 ghost use Rattle.gk_gherkin.specs.Rows as spec;
 
 use crate::lines::BorrowedLine;
@@ -48,7 +48,7 @@ fn escape(after: &str) -> (&str, &str)
 }
 
 fn unescaped(alloc: Global, part: &str) -> Result<String, ReadFault>
-    ensures { Gives string_bytes result (Ok (spec.unescaped part.now)) }
+    ensures { Agrees string_bytes result (Ok (spec.unescaped part.now)) }
 {
     let mut cell = String::with_capacity(alloc, part.len())?;
     let mut rest = part;
@@ -70,7 +70,7 @@ fn unescaped(alloc: Global, part: &str) -> Result<String, ReadFault>
 
 // Room is made for as many cells as the row is to have.
 fn cells_in(alloc: Global, width: usize, text: &str) -> Result<Option<Vec<String>>, ReadFault>
-    ensures { Gives found_texts result (Ok (spec.cells_of_parts (spec.parts_of text.now))) }
+    ensures { Agrees found_texts result (Ok (spec.cells_of_parts (spec.parts_of text.now))) }
 {
     let mut cells = Vec::with_capacity(alloc, width)?;
     let mut rest = text;
@@ -96,7 +96,7 @@ pub fn cells_of(
     width: usize,
     line: &BorrowedLine<'_>,
 ) -> Result<Option<Vec<String>>, ReadFault>
-    ensures { Gives found_texts result (Ok (spec.cells_of (borrowed_value line.now))) }
+    ensures { Agrees found_texts result (Ok (spec.cells_of (borrowed_value line.now))) }
 {
     match trim(line.text).strip_prefix('|') {
         Some(text) => cells_in(alloc, width, text),

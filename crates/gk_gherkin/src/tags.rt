@@ -2,7 +2,7 @@
 ghost use Rattle.std.specs.Prelude.{Ok, IfOk, IfErr, ◌≡◌, ◌++◌, ◌∷◌, []};
 ghost use Rattle.gk_gherkin.specs.Lines.{borrowed_value};
 ghost use Rattle.gk_gherkin.specs.Feature.{found_texts, texts};
-ghost use Rattle.gk_gherkin.specs.Gives.{Gives};
+ghost use Rattle.gk_gherkin.specs.Results.{Agrees};
 ghost use Rattle.gk_gherkin.specs.ReadFault.{BeginsWithTag};
 ghost use Rattle.gk_gherkin.specs.Tags as spec;
 ghost use Rattle.gk_gherkin.specs.declared.read_fault.ReadFault.TheVariants.{Memory};
@@ -31,7 +31,7 @@ fn push_tag(alloc: Global, tags: &mut Vec<String>, word: &str) -> Result<(), Rea
 
 /// The tags of a tag line, each with its `@`; none where a word before any comment is no tag.
 pub fn tags_of(alloc: Global, line: &BorrowedLine<'_>) -> Result<Option<Vec<String>>, ReadFault>
-    ensures says { Gives found_texts result (Ok (spec.tags_of (borrowed_value line.now))) }
+    ensures says { Agrees found_texts result (Ok (spec.tags_of (borrowed_value line.now))) }
     ensures memory { IfErr result (λ e. BeginsWithTag (borrowed_value line.now)) }
 {
     let mut tags = Vec::new(alloc);

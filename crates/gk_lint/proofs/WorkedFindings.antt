@@ -9,13 +9,13 @@ use Rattle.gk_gherkin.specs.Feature.{Empty, StepValue, ExamplesValue, ScenarioVa
 use Rattle.gk_gherkin.specs.Lines.{Lines, line_at}
 use Rattle.gk_lint.specs.declared.findings.FindingKind.TheVariants.{CrAlone, FileWithoutFeature, FeatureWithoutScenarios, ScenarioWithoutSteps, OutlineWithoutRows, LikeKeyword, StepOutside}
 use Rattle.gk_lint.specs.declared.keywords.Keyword.TheVariants as keywords
-use Rattle.gk_lint.specs.declared.standing.Standing.TheVariants.{Elsewhere}
+use Rattle.gk_lint.specs.declared.line_context.LineContext.TheVariants.{Elsewhere}
 use Rattle.gk_lint.specs.Findings.{at_line}
 use Rattle.gk_lint.specs.Likeness.{is_other_blank, letter, same_letters, common_len, differ_at_first, is_one_off, is_exchanged, spelt_heading, spelt_step, begun_like, like}
-use Rattle.gk_lint.specs.Standing.{after}
+use Rattle.gk_lint.specs.LineContext.{after}
 use Rattle.gk_lint.specs.Misspelt.{misspelt, misspelt_at}
 use Rattle.gk_lint.specs.LineEnds.{cr_alone}
-use Rattle.gk_lint.specs.Vanishing.{of_scenario, of_feature, vanishing}
+use Rattle.gk_lint.specs.MissingParts.{of_scenario, of_feature, missing_parts}
 
 -- Two misspelt lines; the same words in a doc string are content.
 with_text : Lines
@@ -93,13 +93,13 @@ with_a_row = refl
 feature : List ScenarioValue → FeatureValue
 feature scenarios = record { name = codes "F"; line = 1; tags = []; background = None; scenarios = []; rules = record { name = codes "R"; line = 2; tags = []; background = None; scenarios = scenarios } ∷ [] }
 
-no_scenarios : vanishing (Some (feature [])) ≡ at_line 1 FeatureWithoutScenarios ∷ []
+no_scenarios : missing_parts (Some (feature [])) ≡ at_line 1 FeatureWithoutScenarios ∷ []
 unfolding of_feature of_scenario feature
 no_scenarios = refl
 
-scenario_in_rule : vanishing (Some (feature (plain [] ∷ []))) ≡ at_line 3 ScenarioWithoutSteps ∷ []
+scenario_in_rule : missing_parts (Some (feature (plain [] ∷ []))) ≡ at_line 3 ScenarioWithoutSteps ∷ []
 unfolding of_feature of_scenario feature plain
 scenario_in_rule = refl
 
-no_feature : vanishing None ≡ at_line 1 FileWithoutFeature ∷ []
+no_feature : missing_parts None ≡ at_line 1 FileWithoutFeature ∷ []
 no_feature = refl

@@ -84,7 +84,7 @@ in_plain : runs_in (scenario []) step ≡ step ∷ []
 unfolding scenario
 in_plain = refl
 
--- The second of two entries isn't used. Blank lines and comments have no place.
+-- The second of two entries isn't used. Blank lines and comments have no position.
 library : Lines
 library = line_at 1 (codes "# a comment") ∷ line_at 2 (codes "step a => pass") ∷ line_at 3 (codes "") ∷ line_at 4 (codes "step b => pass") ∷ []
 

@@ -4,16 +4,16 @@ use Rattle.gk_gherkin.specs.Lines.{Lines, lines_of}
 use Rattle.gk_gherkin.specs.Feature.{FeatureValue}
 use Rattle.gk_gherkin.specs.Grammar.{Reads}
 use Rattle.gk_lint.specs.declared.findings.Finding.{Finding}
-use Rattle.gk_lint.specs.declared.standing.Standing.TheVariants.{Elsewhere}
+use Rattle.gk_lint.specs.declared.line_context.LineContext.TheVariants.{Elsewhere}
 use Rattle.gk_lint.specs.Findings.{AreInOrder}
 use Rattle.gk_lint.specs.LineEnds.{cr_alone}
-use Rattle.gk_lint.specs.Vanishing.{vanishing}
+use Rattle.gk_lint.specs.MissingParts.{missing_parts}
 use Rattle.gk_lint.specs.ScenarioNames.{same_names}
 use Rattle.gk_lint.specs.Misspelt.{misspelt}
 
 -- What is found of a file that has this feature, or none, and these lines: that they end with CR alone, what vanishes of the feature, scenarios with the name of one before, and the misspelt lines.
 abbrev pub file_findings : Option FeatureValue → Lines → List Finding
-file_findings feature lines = cr_alone lines ++ (vanishing feature ++ (same_names feature ++ misspelt Elsewhere lines))
+file_findings feature lines = cr_alone lines ++ (missing_parts feature ++ (same_names feature ++ misspelt Elsewhere lines))
 
 -- Findings that are all those of a file of these bytes, in the order of their lines.
 pub record AreOfFile (bytes : List ℕ) (findings : List Finding) : Type 0 where

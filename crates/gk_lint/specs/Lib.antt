@@ -3,9 +3,9 @@ pub mod Keywords
 pub mod Likeness
 pub mod StepFaults
 pub mod Findings
-pub mod Standing
+pub mod LineContext
 pub mod Misspelt
-pub mod Vanishing
+pub mod MissingParts
 pub mod TextSets
 pub mod ScenarioNames
 pub mod LineEnds

@@ -19,14 +19,14 @@ entry_lines lines = flat_map entry_line lines
 abbrev pub is_among : List ℕ → ℕ → Bool
 is_among numbers n = list_any (λ other. other == n) numbers
 
--- What is found of an entry, by its place in the library and its line: that it isn't used.
+-- What is found of an entry, by its position in the library and its line: that it isn't used.
 abbrev pub unused_entry : (ℕ → Bool) → ℕ × ℕ → List Finding
 unused_entry is_used entry = found_if (not (is_used entry.0)) entry.1 UnusedEntry
 
--- What is found of the entries at these lines, of which the first has this place.
+-- What is found of the entries at these lines, of which the first has this position.
 abbrev pub unused_from : ℕ → (ℕ → Bool) → List ℕ → List Finding
-unused_from place is_used lines = flat_map (unused_entry is_used) (enumerate_from place lines)
+unused_from position is_used lines = flat_map (unused_entry is_used) (enumerate_from position lines)
 
--- What is found of a library file, given the places of the entries that are used: each of its other entries, at its line.
+-- What is found of a library file, given the positions of the entries that are used: each of its other entries, at its line.
 abbrev pub unused_entries : List ℕ → Lines → List Finding
 unused_entries used lines = unused_from 0 (is_among used) (entry_lines lines)

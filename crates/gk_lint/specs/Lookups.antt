@@ -19,7 +19,7 @@ cleanup_text library f = unwrap_or (text_field library f (codes "step")) []
 abbrev pub has_text : LibraryValue → FoundValue → Bool
 has_text library f = is_some (text_field library f (codes "text"))
 
--- What is wrong with the place of an action: that it always fails there.
+-- What is wrong with the site of an action: that it always fails there.
 abbrev pub site_faults : Action → StepSite → List StepFault
 site_faults action site = fault_if (not (may_stand action site)) NotAllowed
 
@@ -42,29 +42,29 @@ found_faults library site (Some f) block = site_faults (action_of library f) sit
 unfoldable pub faults_of : LibraryValue → StepSite → StepValue → List StepFault
 faults_of library site step = found_faults library site (found library step.step_type step.text) step.block
 
--- The place of the entry that was found.
-abbrev pub place_of : Option FoundValue → List ℕ
-place_of None = []
-place_of (Some f) = f.entry ∷ []
+-- The position of the entry that was found.
+abbrev pub position_of : Option FoundValue → List ℕ
+position_of None = []
+position_of (Some f) = f.entry ∷ []
 
--- The place of the entry that a cleanup finds, if the action registers one.
-abbrev pub cleanup_places : Action → LibraryValue → FoundValue → List ℕ
-cleanup_places actions.AtCleanup library f = place_of (found_any library (cleanup_text library f))
-cleanup_places action library f = []
+-- The position of the entry that a cleanup finds, if the action registers one.
+abbrev pub cleanup_positions : Action → LibraryValue → FoundValue → List ℕ
+cleanup_positions actions.AtCleanup library f = position_of (found_any library (cleanup_text library f))
+cleanup_positions action library f = []
 
--- The place of the entry that was found, and that of the cleanup's.
-abbrev pub found_places : LibraryValue → Option FoundValue → List ℕ
-found_places library None = []
-found_places library (Some f) = f.entry ∷ cleanup_places (action_of library f) library f
+-- The position of the entry that was found, and that of the cleanup's.
+abbrev pub found_positions : LibraryValue → Option FoundValue → List ℕ
+found_positions library None = []
+found_positions library (Some f) = f.entry ∷ cleanup_positions (action_of library f) library f
 
--- The places of the entries that a step finds as it is run: its own, and that of the cleanup that it registers.
-unfoldable pub places_of : LibraryValue → StepValue → List ℕ
-places_of library step = found_places library (found library step.step_type step.text)
+-- The positions of the entries that a step finds as it is run: its own, and that of the cleanup that it registers.
+unfoldable pub positions_of : LibraryValue → StepValue → List ℕ
+positions_of library step = found_positions library (found library step.step_type step.text)
 
 -- What is wrong with steps as they are run at a site, one after the other.
 abbrev pub faults_in : LibraryValue → StepSite → List StepValue → List StepFault
 faults_in library site steps = flat_map (faults_of library site) steps
 
--- The places of the entries that steps find as they are run, one after the other.
-abbrev pub places_in : LibraryValue → List StepValue → List ℕ
-places_in library steps = flat_map (places_of library) steps
+-- The positions of the entries that steps find as they are run, one after the other.
+abbrev pub positions_in : LibraryValue → List StepValue → List ℕ
+positions_in library steps = flat_map (positions_of library) steps

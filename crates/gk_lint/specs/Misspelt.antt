@@ -6,14 +6,14 @@ use Rattle.gk_lint.specs.declared.keywords.Keyword.{Keyword}
 use Rattle.gk_lint.specs.declared.keywords.Keyword.TheVariants.{Given, When, Then}
 use Rattle.gk_lint.specs.declared.findings.Finding.{Finding}
 use Rattle.gk_lint.specs.declared.findings.FindingKind.TheVariants.{LikeKeyword, StepOutside}
-use Rattle.gk_lint.specs.declared.standing.LineKind.{LineKind}
-use Rattle.gk_lint.specs.declared.standing.LineKind.TheVariants.{Description}
-use Rattle.gk_lint.specs.declared.standing.LineKind.TheVariants as kinds
-use Rattle.gk_lint.specs.declared.standing.Standing.{Standing}
-use Rattle.gk_lint.specs.declared.standing.Standing.TheVariants.{Elsewhere, InText}
+use Rattle.gk_lint.specs.declared.line_context.LineKind.{LineKind}
+use Rattle.gk_lint.specs.declared.line_context.LineKind.TheVariants.{Description}
+use Rattle.gk_lint.specs.declared.line_context.LineKind.TheVariants as kinds
+use Rattle.gk_lint.specs.declared.line_context.LineContext.{LineContext}
+use Rattle.gk_lint.specs.declared.line_context.LineContext.TheVariants.{Elsewhere, InText}
 use Rattle.gk_lint.specs.Findings.{at_line, found_if}
 use Rattle.gk_lint.specs.Likeness.{like}
-use Rattle.gk_lint.specs.Standing.{begins_with_one_of, line_kind, after}
+use Rattle.gk_lint.specs.LineContext.{begins_with_one_of, line_kind, after}
 
 -- What is found at a line that begins like a keyword, or like none.
 abbrev pub likened : LineValue → Option Keyword → List Finding
@@ -25,22 +25,22 @@ abbrev pub opening_words : List Keyword
 opening_words = Given ∷ When ∷ Then ∷ []
 
 -- What is found at the line of a step that stands here: that it has one of these keywords, where no step can stand.
-abbrev pub of_step : Standing → LineValue → List Finding
+abbrev pub of_step : LineContext → LineValue → List Finding
 of_step Elsewhere line = found_if (begins_with_one_of opening_words (trim line.text)) line.line StepOutside
-of_step standing line = []
+of_step context line = []
 
 -- What is found at a line of this kind that stands here: a description that begins like a keyword, or a step outside of a scenario.
-abbrev pub of_kind : Standing → LineValue → LineKind → List Finding
-of_kind standing line Description = likened line (like (trim line.text))
-of_kind standing line kinds.Step = of_step standing line
-of_kind standing line kind = []
+abbrev pub of_kind : LineContext → LineValue → LineKind → List Finding
+of_kind context line Description = likened line (like (trim line.text))
+of_kind context line kinds.Step = of_step context line
+of_kind context line kind = []
 
 -- What is found at a line that stands here: a doc string may hold anything.
-unfoldable pub misspelt_at : Standing → LineValue → List Finding
+unfoldable pub misspelt_at : LineContext → LineValue → List Finding
 misspelt_at (InText fence) line = []
-misspelt_at standing line = of_kind standing line (line_kind line)
+misspelt_at context line = of_kind context line (line_kind line)
 
 -- What is found at lines, of which the first stands here.
-abbrev pub misspelt : Standing → Lines → List Finding
-misspelt standing [] = []
-misspelt standing (line ∷ lines) = misspelt_at standing line ++ misspelt (after standing line) lines
+abbrev pub misspelt : LineContext → Lines → List Finding
+misspelt context [] = []
+misspelt context (line ∷ lines) = misspelt_at context line ++ misspelt (after context line) lines

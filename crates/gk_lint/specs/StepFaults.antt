@@ -20,19 +20,19 @@ abbrev pub all_faults : List StepFault
 all_faults = Undefined ∷ CleanupWithoutStep ∷ NotAllowed ∷ NoText ∷ NoTable ∷ BadTable ∷ IgnoredText ∷ IgnoredTable ∷ []
 
 -- Where a fault stands among the faults.
-abbrev pub place_of_fault : StepFault → ℕ
-place_of_fault Undefined = 0
-place_of_fault CleanupWithoutStep = 1
-place_of_fault NotAllowed = 2
-place_of_fault NoText = 3
-place_of_fault NoTable = 4
-place_of_fault BadTable = 5
-place_of_fault IgnoredText = 6
-place_of_fault IgnoredTable = 7
+abbrev pub number_of_fault : StepFault → ℕ
+number_of_fault Undefined = 0
+number_of_fault CleanupWithoutStep = 1
+number_of_fault NotAllowed = 2
+number_of_fault NoText = 3
+number_of_fault NoTable = 4
+number_of_fault BadTable = 5
+number_of_fault IgnoredText = 6
+number_of_fault IgnoredTable = 7
 
 -- Whether two faults are the same.
 abbrev pub is_same_fault : StepFault → StepFault → Bool
-is_same_fault a b = place_of_fault a == place_of_fault b
+is_same_fault a b = number_of_fault a == number_of_fault b
 
 -- Whether a fault is among some faults.
 abbrev pub has_fault : List StepFault → StepFault → Bool

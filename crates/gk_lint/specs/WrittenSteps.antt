@@ -15,7 +15,7 @@ use Rattle.gk_lint.specs.declared.step_sites.StepSite.{StepSite}
 use Rattle.gk_lint.specs.declared.step_sites.StepSite.TheVariants as sites
 use Rattle.gk_lint.specs.StepSites.{site_of_hook}
 use Rattle.gk_lint.specs.Findings.{named_once}
-use Rattle.gk_lint.specs.Lookups.{faults_in, places_in}
+use Rattle.gk_lint.specs.Lookups.{faults_in, positions_in}
 
 -- A step as it is written, at its line, where it is carried out, and the steps that it is run as.
 pub record WrittenStep : Type 0 where
@@ -91,6 +91,6 @@ at_step library written = named_once all_faults written.line (faults_in library 
 abbrev pub found_in : LibraryValue → List WrittenStep → List Finding
 found_in library written = flat_map (at_step library) written
 
--- The places of the entries that written steps find, one after the other.
+-- The positions of the entries that written steps find, one after the other.
 abbrev pub used_in : LibraryValue → List WrittenStep → List ℕ
-used_in library written = flat_map (λ (w : WrittenStep). places_in library w.runs) written
+used_in library written = flat_map (λ (w : WrittenStep). positions_in library w.runs) written

@@ -11,9 +11,9 @@ ghost use Rattle.gk_lint.specs.FeatureFile.{AreOfFile};
 
 use crate::findings::{Finding, in_order};
 use crate::line_ends::add_cr_alone;
+use crate::missing_parts::add_missing_parts;
 use crate::misspelt::add_misspelt;
 use crate::scenario_names::add_same_names;
-use crate::vanishing::add_vanishing;
 use gk_gherkin::{Feature, LIMIT, ReadFault, read_feature, text_of};
 use std::alloc::{AllocError, Global};
 
@@ -33,7 +33,7 @@ pub fn lint_feature(
 {
     let mut findings = Vec::new(alloc);
     add_cr_alone(&mut findings, text)?;
-    add_vanishing(&mut findings, feature)?;
+    add_missing_parts(&mut findings, feature)?;
     add_same_names(&mut findings, alloc, feature)?;
     add_misspelt(&mut findings, alloc, text)?;
     in_order(findings)

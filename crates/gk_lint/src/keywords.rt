@@ -1,5 +1,5 @@
 //! The keywords that a misspelt line may have meant.
-ghost use Rattle.std.specs.Prelude.{◌≡◌, ◌≤◌, length};
+ghost use Rattle.std.specs.Prelude.{◌≡◌};
 ghost use Rattle.gk_lint.specs.Keywords as spec;
 
 /// A keyword of a heading or of a step. (Cucumber's Gherkin reference: keywords)

@@ -3,22 +3,13 @@ ghost use Rattle.std.specs.Prelude.{◌≡◌, ◌≤◌, ◌++◌, ℕ, length,
 ghost use Rattle.std.specs.List.Sorted.{IsNonDecreasing};
 ghost use Rattle.std.specs.Str.Lines.{lines};
 ghost use Rattle.gk_gherkin.specs.Lines.{borrowed_value, numbered_from};
-ghost use Rattle.gk_steps.specs.LibraryFile as files;
 ghost use Rattle.gk_lint.specs.LibraryUse as spec;
 ghost use Rattle.gk_lint.specs.LibraryUse.{is_among};
 
 use crate::findings::{Finding, FindingKind, add_if};
-use gk_gherkin::text::{begins, trim};
 use gk_gherkin::{BorrowedLine, LIMIT, borrowed_line};
+use gk_steps::is_ignored;
 use std::alloc::{AllocError, Global};
-
-// Whether a line of a library file is blank or a comment.
-fn is_ignored(line: &BorrowedLine<'_>) -> bool
-    ensures { result ≡ files.is_ignored (borrowed_value line.now) }
-{
-    let text = trim(line.text);
-    text.is_empty() || begins(text, "#")
-}
 
 // Adds the number of a line at which an entry stands.
 fn add_entry_line(lines: &mut Vec<u32>, line: &BorrowedLine<'_>) -> Result<(), AllocError>
@@ -66,22 +57,22 @@ pub fn has(numbers: &[usize], n: usize) -> bool
     numbers.binary_search(&n).is_ok()
 }
 
-// What is found of the entries at these lines. The places that are used rise.
+// What is found of the entries at these lines. The positions that are used rise.
 fn unused_at(alloc: Global, used: &[usize], lines: &[u32]) -> Result<Vec<Finding>, AllocError>
     requires { IsNonDecreasing used.now }
     ensures { IfOk result (λ found. found.items
         ≡ spec.unused_from 0 (is_among used.now) lines.now) }
 {
     let mut findings = Vec::new(alloc);
-    for (place, line) in lines.iter().enumerate() {
-        let is_unused = !has(used, place);
+    for (position, line) in lines.iter().enumerate() {
+        let is_unused = !has(used, position);
         add_if(&mut findings, is_unused, *line, FindingKind::UnusedEntry)?;
     }
     Ok(findings)
 }
 
 /// What is found of a library file of this text, in the order of lines: each entry that isn't used. `used` has the
-/// places of the entries that steps, hooks and their cleanups find, in any order and as often as they are found, as
+/// positions of the entries that steps, hooks and their cleanups find, in any order and as often as they are found, as
 /// `lint_steps` and `lint_hooks` return them. An error comes only where a growth was refused.
 pub fn lint_library(alloc: Global, text: &str, used: &[usize]) -> Result<Vec<Finding>, AllocError>
     requires { length text.now ≤ LIMIT }

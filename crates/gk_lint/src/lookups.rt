@@ -1,5 +1,5 @@
 //! What is wrong with a step as it is run, and which entries of the library it finds.
-ghost use Rattle.std.specs.Prelude.{◌≡◌, ◌∷◌, [], ◌++◌, OnOk, option_map};
+ghost use Rattle.std.specs.Prelude.{◌≡◌, [], ◌++◌, OnOk};
 ghost use Rattle.gk_gherkin.specs.Feature.{step_value, block_value};
 ghost use Rattle.gk_steps.specs.Finding.{library_value, found_value, found_any, action_of};
 ghost use Rattle.gk_lint.specs.Lookups as spec;
@@ -11,7 +11,7 @@ use gk_gherkin::{Block, Step};
 use gk_steps::{Action, Found, Library};
 use std::alloc::{AllocError, Global};
 
-/// What was found of steps that were looked up: what is wrong with them, and the places in the library of the
+/// What was found of steps that were looked up: what is wrong with them, and the positions in the library of the
 /// entries that they found.
 #[derive(Debug, Drop)]
 pub struct Lookups {
@@ -23,14 +23,14 @@ pub struct Lookups {
 fn cleanup_text<'a>(library: &Library, found: &'a Found) -> &'a str
     ensures { result.now ≡ spec.cleanup_text (library_value library.now) (found_value found.now) }
 {
-    library.text(found, "step").unwrap_or("")
+    library.used_fields(found).step.unwrap_or("")
 }
 
 // Whether what was found has a field `text`.
 fn has_text(library: &Library, found: &Found) -> bool
     ensures { result ≡ spec.has_text (library_value library.now) (found_value found.now) }
 {
-    library.text(found, "text").is_some()
+    library.used_fields(found).text.is_some()
 }
 
 // Adds that an action always fails at a site, where it does.
@@ -69,7 +69,7 @@ impl Lookups {
             OnOk result (self.new.faults.items ≡ self.old.faults.items
             ++ spec.cleanup_faults l (found_any l text.now) (block_value block.now)) }
         ensures used { OnOk result (self.new.used.items ≡ self.old.used.items
-            ++ spec.place_of (found_any (library_value library.now) text.now)) }
+            ++ spec.position_of (found_any (library_value library.now) text.now)) }
     {
         match library.find_any(alloc, text)? {
             Some(found) => {
@@ -99,7 +99,7 @@ impl Lookups {
             ++ spec.action_faults (action_of l f) l f (block_value block.now)) }
         ensures used { let l = library_value library.now in let f = found_value found.now in
             OnOk result (self.new.used.items
-            ≡ self.old.used.items ++ spec.cleanup_places (action_of l f) l f) }
+            ≡ self.old.used.items ++ spec.cleanup_positions (action_of l f) l f) }
     {
         let action = library.action(found);
         match action {
@@ -115,7 +115,7 @@ impl Lookups {
 
     /// Looks a step up as it is run at a site. An error comes only where a growth was refused; some of what was found may
     /// have been added then.
-    #[tactic(auto, unfolding(crate::specs::Lookups::faults_of, crate::specs::Lookups::places_of))]
+    #[tactic(auto, unfolding(crate::specs::Lookups::faults_of, crate::specs::Lookups::positions_of))]
     pub fn add(
         &mut self,
         alloc: Global,
@@ -126,7 +126,7 @@ impl Lookups {
         ensures faults { OnOk result (self.new.faults.items ≡ self.old.faults.items
             ++ spec.faults_of (library_value library.now) site (step_value step.now)) }
         ensures used { OnOk result (self.new.used.items ≡ self.old.used.items
-            ++ spec.places_of (library_value library.now) (step_value step.now)) }
+            ++ spec.positions_of (library_value library.now) (step_value step.now)) }
     {
         match library.find(alloc, step.step_type, step.text.as_str())? {
             Some(found) => {

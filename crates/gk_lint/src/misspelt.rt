@@ -6,13 +6,13 @@ ghost use Rattle.gk_gherkin.specs.Lines.{borrowed_value, numbered_from};
 ghost use Rattle.gk_gherkin.specs.Text.{trim};
 ghost use Rattle.gk_lint.specs.Likeness.{like};
 ghost use Rattle.gk_lint.specs.Misspelt as spec;
-ghost use Rattle.gk_lint.specs.Standing.{line_kind};
-ghost use Rattle.gk_lint.specs.declared.standing.Standing.TheVariants.{Elsewhere};
+ghost use Rattle.gk_lint.specs.LineContext.{line_kind};
+ghost use Rattle.gk_lint.specs.declared.line_context.LineContext.TheVariants.{Elsewhere};
 
 use crate::findings::{Finding, FindingKind, add_if};
 use crate::keywords::Keyword;
 use crate::likeness::like;
-use crate::standing::{LineKind, Standing, after, begins_with_one_of, line_kind};
+use crate::line_context::{LineContext, LineKind, after, begins_with_one_of, line_kind};
 use gk_gherkin::text::trim;
 use gk_gherkin::{BorrowedLine, LIMIT, borrowed_line};
 use std::alloc::{AllocError, Global};
@@ -41,14 +41,14 @@ fn add_like(
 // Adds what is found at the line of a step that stands here.
 fn add_step(
     findings: &mut Vec<Finding>,
-    standing: Standing,
+    context: LineContext,
     line: &BorrowedLine<'_>,
 ) -> Result<(), AllocError>
     ensures { OnOk result (findings.new.items ≡ findings.old.items
-        ++ spec.of_step standing (borrowed_value line.now)) }
+        ++ spec.of_step context (borrowed_value line.now)) }
 {
-    match standing {
-        Standing::Elsewhere => {
+    match context {
+        LineContext::Elsewhere => {
             let is_meant = begins_with_one_of(trim(line.text), &OPENING_WORDS);
             add_if(
                 findings,
@@ -65,16 +65,16 @@ fn add_step(
 fn add_of_kind(
     findings: &mut Vec<Finding>,
     alloc: Global,
-    standing: Standing,
+    context: LineContext,
     line: &BorrowedLine<'_>,
 ) -> Result<(), AllocError>
     ensures { OnOk result (findings.new.items ≡ findings.old.items
-        ++ spec.of_kind standing (borrowed_value line.now)
+        ++ spec.of_kind context (borrowed_value line.now)
         (line_kind (borrowed_value line.now))) }
 {
     match line_kind(line) {
         LineKind::Description => add_like(findings, alloc, line),
-        LineKind::Step => add_step(findings, standing, line),
+        LineKind::Step => add_step(findings, context, line),
         _ => Ok(()),
     }
 }
@@ -84,15 +84,15 @@ fn add_of_kind(
 fn add_at(
     findings: &mut Vec<Finding>,
     alloc: Global,
-    standing: Standing,
+    context: LineContext,
     line: &BorrowedLine<'_>,
 ) -> Result<(), AllocError>
     ensures { OnOk result (findings.new.items ≡ findings.old.items
-        ++ spec.misspelt_at standing (borrowed_value line.now)) }
+        ++ spec.misspelt_at context (borrowed_value line.now)) }
 {
-    match standing {
-        Standing::InText(_) => Ok(()),
-        _ => add_of_kind(findings, alloc, standing, line),
+    match context {
+        LineContext::InText(_) => Ok(()),
+        _ => add_of_kind(findings, alloc, context, line),
     }
 }
 
@@ -108,11 +108,11 @@ pub fn add_misspelt(
         ++ spec.misspelt Elsewhere (numbered_from 1 (lines text.now))) }
 {
     let mut number: u32 = 1;
-    let mut standing = Standing::Elsewhere;
+    let mut context = LineContext::Elsewhere;
     for part in text.lines() {
         let line = borrowed_line(number, part);
-        add_at(findings, alloc, standing, &line)?;
-        standing = after(standing, &line);
+        add_at(findings, alloc, context, &line)?;
+        context = after(context, &line);
         number += 1;
     }
     Ok(())

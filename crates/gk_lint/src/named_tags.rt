@@ -1,5 +1,5 @@
 //! Tags that rules name and that stand nowhere.
-ghost use Rattle.std.specs.Prelude.{◌≡◌, ◌++◌, map, OnOk, IfOk};
+ghost use Rattle.std.specs.Prelude.{◌≡◌, map, IfOk};
 ghost use Rattle.gk_gherkin.specs.Feature.{feature_value};
 ghost use Rattle.gk_select.specs.TagRules.{tag_rule_value};
 ghost use Rattle.gk_lint.specs.NamedTags as spec;

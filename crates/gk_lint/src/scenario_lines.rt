@@ -7,8 +7,8 @@ ghost use Rattle.gk_lint.specs.ScenarioLines as spec;
 
 use crate::library_use::{has, rising};
 use crate::scenario_names::scenarios_of;
-use crate::vanishing::is_outline;
 use gk_gherkin::{Examples, Feature, Row, Scenario};
+use gk_select::is_outline;
 use std::alloc::{AllocError, Global};
 
 fn push_rows(lines: &mut Vec<usize>, rows: &[Row]) -> Result<(), AllocError>

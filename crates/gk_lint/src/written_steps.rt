@@ -1,7 +1,7 @@
 //! What is found of the steps of a feature and of a hooks file.
 ghost use Rattle.std.specs.Prelude.{◌≡◌, [], ◌++◌, map, option_map, OnOk, IfOk};
 ghost use Rattle.std.specs.List.{AllByRecursion};
-ghost use Rattle.gk_gherkin.specs.Feature.{step_value, row_value, examples_value, background_value};
+ghost use Rattle.gk_gherkin.specs.Feature.{step_value, examples_value, background_value};
 ghost use Rattle.gk_gherkin.specs.Feature.{scenario_value, rule_value, feature_value};
 ghost use Rattle.gk_gherkin.specs.Hooks.{hook_value, hooks_value};
 ghost use Rattle.gk_select.specs.Outline.{AllFit};
@@ -9,22 +9,21 @@ ghost use Rattle.gk_select.specs.Expansion.{RowsFit, IsExpandable};
 ghost use Rattle.gk_steps.specs.Finding.{library_value};
 ghost use Rattle.gk_lint.specs.Findings.{AreInOrder, named_once};
 ghost use Rattle.gk_lint.specs.StepFaults.{all_faults};
-ghost use Rattle.gk_lint.specs.Lookups.{faults_in, places_in};
+ghost use Rattle.gk_lint.specs.Lookups.{faults_in, positions_in};
 ghost use Rattle.gk_lint.specs.declared.step_sites.StepSite.TheVariants as sites;
 ghost use Rattle.gk_lint.specs.WrittenSteps as spec;
-ghost use Rattle.gk_lint.specs.WrittenSteps.{found_in, used_in, LooksUpWhatIsRun};
+ghost use Rattle.gk_lint.specs.WrittenSteps.{found_in, used_in};
 
 use crate::findings::{Finding, add_once, in_order};
 use crate::lookups::Lookups;
 use crate::step_faults::ALL_FAULTS;
 use crate::step_sites::{StepSite, site_of_hook};
-use crate::vanishing::is_outline;
 use gk_gherkin::{Background, Examples, Feature, Hook, HookFile, Rule, Scenario, Step};
-use gk_select::fill_step;
+use gk_select::{fill_step, is_outline};
 use gk_steps::Library;
 use std::alloc::{AllocError, Global};
 
-/// What is found of steps, and the place in the library of each entry that a step or its cleanup finds, as often as
+/// What is found of steps, and the position in the library of each entry that a step or its cleanup finds, as often as
 /// it is found.
 #[derive(Debug, Drop)]
 pub struct StepFindings {
@@ -47,7 +46,7 @@ fn look_up_rows(
         (spec.in_rows (step_value step.now) e.header e.rows)) }
     ensures used { let e = examples_value part.now in
         OnOk result (lookups.new.used.items ≡ lookups.old.used.items
-        ++ places_in (library_value library.now)
+        ++ positions_in (library_value library.now)
         (spec.in_rows (step_value step.now) e.header e.rows)) }
 {
     for row in &part.rows {
@@ -70,7 +69,7 @@ fn look_up_examples(
         ++ faults_in (library_value library.now) sites.Scenario
         (spec.in_examples (step_value step.now) (map examples_value parts.now))) }
     ensures used { OnOk result (lookups.new.used.items ≡ lookups.old.used.items
-        ++ places_in (library_value library.now)
+        ++ positions_in (library_value library.now)
         (spec.in_examples (step_value step.now) (map examples_value parts.now))) }
 {
     for part in parts {
@@ -92,7 +91,7 @@ fn look_up_runs(
         ++ faults_in (library_value library.now) sites.Scenario
         (spec.runs_in (scenario_value scenario.now) (step_value step.now))) }
     ensures used { OnOk result (lookups.new.used.items ≡ lookups.old.used.items
-        ++ places_in (library_value library.now)
+        ++ positions_in (library_value library.now)
         (spec.runs_in (scenario_value scenario.now) (step_value step.now))) }
 {
     if is_outline(scenario) {
@@ -127,7 +126,7 @@ fn add_scenario_step(
         ++ spec.at_step (library_value library.now)
         (spec.in_scenario (scenario_value scenario.now) (step_value step.now))) }
     ensures used { OnOk result (found.new.used.items ≡ found.old.used.items
-        ++ places_in (library_value library.now)
+        ++ positions_in (library_value library.now)
         (spec.runs_in (scenario_value scenario.now) (step_value step.now))) }
 {
     let mut lookups = Lookups::new(alloc);
@@ -185,7 +184,7 @@ fn add_plain_step(
         ++ spec.at_step (library_value library.now)
         (spec.as_written site (step_value step.now))) }
     ensures used { OnOk result (found.new.used.items ≡ found.old.used.items
-        ++ places_in (library_value library.now)
+        ++ positions_in (library_value library.now)
         (spec.as_written site (step_value step.now)).runs) }
 {
     let mut lookups = Lookups::new(alloc);
@@ -355,7 +354,7 @@ pub fn lint_steps(
     ensures found { IfOk result (λ r. AreInOrder
         (found_in (library_value library.now) (spec.of_feature (feature_value feature.now)))
         r.findings.items) }
-    // So are the places of all entries that the steps find.
+    // So are the positions of all entries that the steps find.
     ensures used { IfOk result (λ r. r.used.items
         ≡ used_in (library_value library.now) (spec.of_feature (feature_value feature.now))) }
 {
@@ -375,7 +374,7 @@ pub fn lint_hooks(
     ensures found { IfOk result (λ r. AreInOrder
         (found_in (library_value library.now) (spec.of_hooks (hooks_value hooks.now)))
         r.findings.items) }
-    // So are the places of all entries that the steps find.
+    // So are the positions of all entries that the steps find.
     ensures used { IfOk result (λ r. r.used.items
         ≡ used_in (library_value library.now) (spec.of_hooks (hooks_value hooks.now))) }
 {
@@ -383,9 +382,3 @@ pub fn lint_hooks(
     add_hooks(&mut found, alloc, library, &hooks.hooks)?;
     ordered(found)
 }
-
-/// The steps that `lint_steps` looks up are those of the feature's cases, as `expand` returns them, and of its
-/// Backgrounds: each step of a case is looked up, and no other but those of a Background that no case has.
-pub fn what_is_run_is_looked_up()
-    ensures { LooksUpWhatIsRun }
-{}

@@ -12,7 +12,7 @@ use Rattle.gk_world.specs.State.{State, nothing, with_text, see}
 use Rattle.gk_world.specs.Refusals.{is_too_long}
 use Rattle.gk_run.specs.declared.results.Reason.TheVariants as reasons
 use Rattle.gk_steps.specs.Decimal.{number_of}
-use Rattle.gk_run.specs.Acting.{carried_out, files_of, given, Given, passes, fails, table, with_file, without_file, with_env, without_env, with_own, without_own, unless}
+use Rattle.gk_run.specs.Acting.{files_of, arguments_of, ArgumentsValue, passes, fails, table, with_file, without_file, with_env, without_env, with_own, without_own, unless}
 
 -- a file, a variable, a value of an outer layer, and one of the innermost
 abbrev start : State
@@ -24,19 +24,19 @@ start = record {
 }
 
 -- an action with a name and a text
-abbrev named : List ℕ → Option (List ℕ) → Given
+abbrev named : List ℕ → Option (List ℕ) → ArgumentsValue
 named name text = record { name = name; to = []; step = []; number = pos 0; text = text; block = Empty }
 
 -- an action with two names
-abbrev renaming : List ℕ → List ℕ → Given
+abbrev renaming : List ℕ → List ℕ → ArgumentsValue
 renaming name to = record { name = name; to = to; step = []; number = pos 0; text = None; block = Empty }
 
 -- an action with a name and a number
-abbrev counting : List ℕ → ℤ → Given
+abbrev counting : List ℕ → ℤ → ArgumentsValue
 counting name n = record { name = name; to = []; step = []; number = n; text = None; block = Empty }
 
 -- an action with a block
-abbrev under : BlockValue → Given
+abbrev under : BlockValue → ArgumentsValue
 under block = record { name = []; to = []; step = []; number = pos 0; text = None; block = block }
 
 -- a row of two cells
@@ -346,15 +346,14 @@ found_field = record { entry = 0; fields = TextField (codes "field") ∷ [] }
 abbrev found_none : FoundValue
 found_none = record { entry = 0; fields = [] }
 
-field_before_doc_string : (given with_field found_field (Text (codes "doc"))).text ≡ Some (codes "field")
+field_before_doc_string : (arguments_of with_field found_field (Text (codes "doc"))).text ≡ Some (codes "field")
 field_before_doc_string = refl
 
-doc_string_alone : (given without_field found_none (Text (codes "doc"))).text ≡ Some (codes "doc")
+doc_string_alone : (arguments_of without_field found_none (Text (codes "doc"))).text ≡ Some (codes "doc")
 doc_string_alone = refl
 
-table_is_no_text : (given without_field found_none (Table ((codes "doc" ∷ []) ∷ []))).text ≡ None
+table_is_no_text : (arguments_of without_field found_none (Table ((codes "doc" ∷ []) ∷ []))).text ≡ None
 table_is_no_text = refl
 
-no_text : carried_out without_field found_none Empty start ≡ fails start reasons.NoText
-unfolding carried_out
+no_text : table actions.FileIs (arguments_of without_field found_none Empty) start ≡ fails start reasons.NoText
 no_text = refl

@@ -20,7 +20,6 @@ use Rattle.gk_world.specs.Sandbox.{SandboxValue, Becomes}
 use Rattle.gk_run.specs.declared.results.Outcome.{Outcome}
 use Rattle.gk_run.specs.declared.results.Outcome.TheVariants as outcomes
 use Rattle.gk_run.specs.declared.acting.Site.{Site}
-use Rattle.gk_run.specs.declared.acting.Site.TheVariants as sites
 use Rattle.gk_run.specs.declared.results.Reason.{Reason}
 use Rattle.gk_run.specs.declared.results.Reason.TheVariants as reasons
 use Rattle.gk_steps.specs.Decimal.{is_number, is_numeral, number_of, is_i64}
@@ -30,7 +29,7 @@ use Rattle.std.specs.Option.{option_or}
 use Rattle.gk_steps.specs.declared.used_fields.UsedFields.{UsedFields}
 use Rattle.gk_steps.specs.Finding.{found_any, HasUsedFields, LibraryValue, FoundValue, action_of}
 use Rattle.gk_gherkin.specs.Feature.{BlockValue, texts}
-use Rattle.gk_run.specs.Acting.{IsActedWith, WritesFirst, WritesFile, row_file, first_file, rows_files, files_of, Given, given, given_by, doc_string, table, carried_out, act, at_site, done_of, without_cleanups, registers, registers_at, may_register, skips, CleanupValue, HasRegistered, changes_nothing, write_row, write_rows, have_two_cells, Done, add_number, is_pass, is_fail, is_refused, and_then, set_own, passes, fails, unless, unless_for, with_T, absent, differs, outcome_of, IsExactly, IsDone, IsActed, IsText, HasText, IsNumber, lacks, not_number, differs_from, with_file, without_file, with_env, without_env, with_own, without_own}
+use Rattle.gk_run.specs.Acting.{IsActedWith, WritesFirst, WritesFile, row_file, first_file, rows_files, ArgumentsValue, arguments_of, arguments_by_uses, doc_string, table, act, at_site, without_cleanups, registers, registers_at, may_register, skips, CleanupValue, HasRegistered, write_row, write_rows, have_two_cells, Done, add_number, is_pass, is_fail, is_refused, and_then, set_own, passes, fails, unless, unless_for, with_T, absent, differs, outcome_of, IsExactly, IsDone, IsActed, IsText, HasText, IsNumber, lacks, not_number, differs_from, with_file, without_file, with_env, without_env, with_own, without_own}
 
 not_so : (b : Bool) (P : Type 0) → (b ≡ true → P) → (P → ⊥) → b ≡ false
 not_so true P so never = absurd (never (so refl))
@@ -381,135 +380,40 @@ number_fits text m e =
     let v = signed_digits_value 10 text in
     number_fits_in (is_number text) v m (λ yes. fits_so v (second_of (is_numeral (without_leading_sign text)) (is_i64 v) yes)) e
 
--- the row of a step's action
-act_row : (library : LibraryValue) (f : FoundValue) (block : BlockValue) (s : State) (action : Action) (g : Given) → action ≡ action_of library f → g ≡ given library f block → table action g s ≡ carried_out library f block s
-unfolding carried_out
-act_row library f block s action g e h = ap (λ a. table a g s) e ∙ ap (λ g. table (action_of library f) g s) h
-
-pub act_done : (library : LibraryValue) (f : FoundValue) (block : BlockValue) (old new : SandboxValue) (action : Action) (g : Given) (o : Outcome) → action ≡ action_of library f → g ≡ given library f block
-    → IsActedWith (files_of action g (state_of old.now)) (table action g (state_of old.now)) old o new → IsDone (carried_out library f block (state_of old.now)) o (state_of new.now)
-act_done library f block old new action g o e h k =
-    let P : Done → Type 0 = λ d. IsDone d o (state_of new.now) in subst P (act_row library f block (state_of old.now) action g e h) k.carried_out
-
-pub act_kept : (library : LibraryValue) (f : FoundValue) (block : BlockValue) (old new : SandboxValue) (action : Action) (g : Given) (o : Outcome) → action ≡ action_of library f → g ≡ given library f block
-    → IsActedWith (files_of action g (state_of old.now)) (table action g (state_of old.now)) old o new
-    → o ≡ outcomes.Memory → WritesFirst (files_of (action_of library f) (given library f block) (state_of old.now)) old new
-act_kept library f block old new action g o e h k m =
-    subst (λ (a : Action). WritesFirst (files_of a (given library f block) (state_of old.now)) old new) e
-    (subst (λ (x : Given). WritesFirst (files_of action x (state_of old.now)) old new) h (k.kept m))
-
-pub act_exact : (library : LibraryValue) (f : FoundValue) (block : BlockValue) (old new : SandboxValue) (action : Action) (g : Given) (o : Outcome) → action ≡ action_of library f → g ≡ given library f block
-    → (changes_nothing action ≡ true → IsExactly (table action g (state_of old.now)) o (state_of new.now)) → changes_nothing (action_of library f) ≡ true → IsExactly (carried_out library f block (state_of old.now)) o (state_of new.now)
-act_exact library f block old new action g o e h k same =
-    let P : Done → Type 0 = λ d. IsExactly d o (state_of new.now) in subst P (act_row library f block (state_of old.now) action g e h) (k (ap (λ a. changes_nothing a) e ∙ same))
-
 -- ---- where an action is carried out
 
--- at a cleanup, each action does what its row says
-cleanup_row : (action : Action) (library : LibraryValue) (g : Given) (s : State) → table action g s ≡ done_of (at_site action sites.Cleanup library g s)
-cleanup_row actions.WriteFile library g s = refl
-cleanup_row actions.AppendFile library g s = refl
-cleanup_row actions.RemoveFile library g s = refl
-cleanup_row actions.RenameFile library g s = refl
-cleanup_row actions.WriteFiles library g s = refl
-cleanup_row actions.FileExists library g s = refl
-cleanup_row actions.FileAbsent library g s = refl
-cleanup_row actions.FileIs library g s = refl
-cleanup_row actions.FileContains library g s = refl
-cleanup_row actions.SetEnv library g s = refl
-cleanup_row actions.RemoveEnv library g s = refl
-cleanup_row actions.EnvIs library g s = refl
-cleanup_row actions.EnvAbsent library g s = refl
-cleanup_row actions.SetValue library g s = refl
-cleanup_row actions.DeleteValue library g s = refl
-cleanup_row actions.ValueIs library g s = refl
-cleanup_row actions.ValueAbsent library g s = refl
-cleanup_row actions.SetNumber library g s = refl
-cleanup_row actions.AddNumber library g s = refl
-cleanup_row actions.NumberIs library g s = refl
-cleanup_row actions.AtCleanup library g s = refl
-cleanup_row actions.SkipScenario library g s = refl
-cleanup_row actions.Pass library g s = refl
-cleanup_row actions.Fail library g s = refl
-
-pub cleaned_done : (library : LibraryValue) (f : FoundValue) (block : BlockValue) (s : State) → carried_out library f block s ≡ done_of (act library sites.Cleanup f block s)
-unfolding carried_out act
-cleaned_done library f block s = cleanup_row (action_of library f) library (given library f block) s
-
--- what the action of a found step does at a site, by that action
-pub act_is : (library : LibraryValue) (site : Site) (f : FoundValue) (block : BlockValue) (s : State) (action : Action) → action ≡ action_of library f → act library site f block s ≡ at_site action site library (given library f block) s
-unfolding act
-act_is library site f block s action e = ap (λ a. at_site a site library (given library f block) s) (sym e)
-
--- an action other than at_cleanup and skip_scenario
-abbrev pub is_row : Action → Bool
-is_row actions.AtCleanup = false
-is_row actions.SkipScenario = false
-is_row _ = true
-
-pub row_at : (action : Action) (site : Site) (library : LibraryValue) (g : Given) (s : State) → is_row action ≡ true → at_site action site library g s ≡ without_cleanups (table action g s)
-row_at actions.WriteFile site library g s h = refl
-row_at actions.AppendFile site library g s h = refl
-row_at actions.RemoveFile site library g s h = refl
-row_at actions.RenameFile site library g s h = refl
-row_at actions.WriteFiles site library g s h = refl
-row_at actions.FileExists site library g s h = refl
-row_at actions.FileAbsent site library g s h = refl
-row_at actions.FileIs site library g s h = refl
-row_at actions.FileContains site library g s h = refl
-row_at actions.SetEnv site library g s h = refl
-row_at actions.RemoveEnv site library g s h = refl
-row_at actions.EnvIs site library g s h = refl
-row_at actions.EnvAbsent site library g s h = refl
-row_at actions.SetValue site library g s h = refl
-row_at actions.DeleteValue site library g s h = refl
-row_at actions.ValueIs site library g s h = refl
-row_at actions.ValueAbsent site library g s h = refl
-row_at actions.SetNumber site library g s h = refl
-row_at actions.AddNumber site library g s h = refl
-row_at actions.NumberIs site library g s h = refl
-row_at actions.AtCleanup site library g s h = let no : ⊥ = cc in absurd no
-row_at actions.SkipScenario site library g s h = let no : ⊥ = cc in absurd no
-row_at actions.Pass site library g s h = refl
-row_at actions.Fail site library g s h = refl
-
-pub act_row_is : (library : LibraryValue) (site : Site) (f : FoundValue) (block : BlockValue) (s : State) → is_row (action_of library f) ≡ true → act library site f block s ≡ without_cleanups (carried_out library f block s)
-unfolding carried_out act
-act_row_is library site f block s h = row_at (action_of library f) site library (given library f block) s h
+-- an action other than at_cleanup and skip_scenario does what its row says
+pub row_at : (action : Action) (site : Site) (library : LibraryValue) (g : ArgumentsValue) (s : State) → (action ≡ actions.AtCleanup → ⊥) → (action ≡ actions.SkipScenario → ⊥) → at_site action site library g s ≡ without_cleanups (table action g s)
+row_at actions.WriteFile site library g s n m = refl
+row_at actions.AppendFile site library g s n m = refl
+row_at actions.RemoveFile site library g s n m = refl
+row_at actions.RenameFile site library g s n m = refl
+row_at actions.WriteFiles site library g s n m = refl
+row_at actions.FileExists site library g s n m = refl
+row_at actions.FileAbsent site library g s n m = refl
+row_at actions.FileIs site library g s n m = refl
+row_at actions.FileContains site library g s n m = refl
+row_at actions.SetEnv site library g s n m = refl
+row_at actions.RemoveEnv site library g s n m = refl
+row_at actions.EnvIs site library g s n m = refl
+row_at actions.EnvAbsent site library g s n m = refl
+row_at actions.SetValue site library g s n m = refl
+row_at actions.DeleteValue site library g s n m = refl
+row_at actions.ValueIs site library g s n m = refl
+row_at actions.ValueAbsent site library g s n m = refl
+row_at actions.SetNumber site library g s n m = refl
+row_at actions.AddNumber site library g s n m = refl
+row_at actions.NumberIs site library g s n m = refl
+row_at actions.AtCleanup site library g s n m = absurd (n refl)
+row_at actions.SkipScenario site library g s n m = absurd (m refl)
+row_at actions.Pass site library g s n m = refl
+row_at actions.Fail site library g s n m = refl
 
 -- a cleanup that is registered where that is allowed
-pub registered_at : (site : Site) (library : LibraryValue) (g h : Given) (s : State) → may_register site ≡ true → g ≡ h → registers s g.block (found_any library g.step) ≡ registers_at site s library h
+pub registered_at : (site : Site) (library : LibraryValue) (g h : ArgumentsValue) (s : State) → may_register site ≡ true → g ≡ h → registers s g.block (found_any library g.step) ≡ registers_at site s library h
 registered_at site library g h s may e =
     ap (λ x. registers s x.block (found_any library x.step)) e ∙ ap (λ b. cond b (registers s h.block (found_any library h.step)) (without_cleanups (fails s reasons.NotHere))) (sym may)
 
--- any other action is one
-pub row_by : (action : Action) → (action ≡ actions.AtCleanup → ⊥) → (action ≡ actions.SkipScenario → ⊥) → is_row action ≡ true
-row_by actions.WriteFile p q = refl
-row_by actions.AppendFile p q = refl
-row_by actions.RemoveFile p q = refl
-row_by actions.RenameFile p q = refl
-row_by actions.WriteFiles p q = refl
-row_by actions.FileExists p q = refl
-row_by actions.FileAbsent p q = refl
-row_by actions.FileIs p q = refl
-row_by actions.FileContains p q = refl
-row_by actions.SetEnv p q = refl
-row_by actions.RemoveEnv p q = refl
-row_by actions.EnvIs p q = refl
-row_by actions.EnvAbsent p q = refl
-row_by actions.SetValue p q = refl
-row_by actions.DeleteValue p q = refl
-row_by actions.ValueIs p q = refl
-row_by actions.ValueAbsent p q = refl
-row_by actions.SetNumber p q = refl
-row_by actions.AddNumber p q = refl
-row_by actions.NumberIs p q = refl
-row_by actions.AtCleanup p q = absurd (p refl)
-row_by actions.SkipScenario p q = absurd (q refl)
-row_by actions.Pass p q = refl
-row_by actions.Fail p q = refl
-
--- an action that registers nothing
 pub none_registered : (done : Done) (cleanups : List CleanupValue) (o : Outcome) → HasRegistered (without_cleanups done) cleanups o cleanups
 none_registered done cleanups outcomes.Memory = refl
 none_registered done cleanups outcomes.Passed = sym (append-nil cleanups)
@@ -522,16 +426,16 @@ skip_exact true s o h = (h, refl)
 skip_exact false s o h = (h, refl)
 
 -- what the used fields of what was found give
-pub used_given : (library : LibraryValue) (f : FoundValue) (u : UsedFields) (block : BlockValue) → HasUsedFields library f u → given_by u block ≡ given library f block
+pub used_given : (library : LibraryValue) (f : FoundValue) (u : UsedFields) (block : BlockValue) → HasUsedFields library f u → arguments_by_uses u block ≡ arguments_of library f block
 used_given library f u block h =
-    let g : Given = given_by u block in
+    let g : ArgumentsValue = arguments_by_uses u block in
     ap (λ (x : Option (List ℕ)). record g { name = unwrap_or x [] }) h.name
-    ∙ ap (λ (x : Option (List ℕ)). record (given library f block) { to = unwrap_or x []; step = g.step; number = g.number; text = g.text }) h.to
-    ∙ ap (λ (x : Option (List ℕ)). record (given library f block) { step = unwrap_or x []; number = g.number; text = g.text }) h.step
-    ∙ ap (λ (x : Option ℤ). record (given library f block) { number = unwrap_or x (pos 0); text = g.text }) h.number
-    ∙ ap (λ (x : Option (List ℕ)). record (given library f block) { text = option_or x (doc_string block) }) h.text
+    ∙ ap (λ (x : Option (List ℕ)). record (arguments_of library f block) { to = unwrap_or x []; step = g.step; number = g.number; text = g.text }) h.to
+    ∙ ap (λ (x : Option (List ℕ)). record (arguments_of library f block) { step = unwrap_or x []; number = g.number; text = g.text }) h.step
+    ∙ ap (λ (x : Option ℤ). record (arguments_of library f block) { number = unwrap_or x (pos 0); text = g.text }) h.number
+    ∙ ap (λ (x : Option (List ℕ)). record (arguments_of library f block) { text = option_or x (doc_string block) }) h.text
 
 -- the action of a found step as it is called
-pub called_is : (library : LibraryValue) (site : Site) (f : FoundValue) (block : BlockValue) (s : State) (action : Action) (g : Given) → action ≡ action_of library f → g ≡ given library f block → at_site action site library g s ≡ act library site f block s
+pub called_is : (library : LibraryValue) (site : Site) (f : FoundValue) (block : BlockValue) (s : State) (action : Action) (g : ArgumentsValue) → action ≡ action_of library f → g ≡ arguments_of library f block → at_site action site library g s ≡ act library site f block s
 unfolding act
 called_is library site f block s action g e h = ap (λ a. at_site a site library g s) e ∙ ap (λ x. at_site (action_of library f) site library x s) h

@@ -12,14 +12,14 @@ use Rattle.gk_run.specs.declared.results.Mark.TheVariants.{Skipped, Untested}
 use Rattle.gk_run.specs.declared.results.Status.{Status}
 use Rattle.gk_run.specs.declared.results.Status.TheVariants as statuses
 use Rattle.gk_run.specs.Run.{Run}
-use Rattle.gk_run.specs.Running.{alone, reached_row, unrun_row, unreached_row, unselected_row, same_marks}
+use Rattle.gk_run.specs.Running.{AreEventsTold, alone, reached_row, unrun_row, unreached_row, unselected_row, same_marks}
 use Rattle.gk_run.specs.Walk.{row_of_step, rows_of_steps}
 use Rattle.gk_run.specs.Chosen.{MemberValue, has_selected, member_of, members_of}
 use Rattle.std.specs.List.{FoldsTo}
-use Rattle.gk_run.specs.Cases.{all_stay_open, case_of, cases_of, stays_open}
+use Rattle.gk_run.specs.Cases.{all_stay_open, case_events, case_of, cases_of, stays_open}
 use Rattle.gk_run.specs.Events.{Event}
 use Rattle.gk_run.specs.FeatureContracts.{AreCases, IsMember, RunsCases, TakesMember, members_in}
-use Rattle.gk_run.specs.Watching.{AreEventsTold, Ended, Told, case_events, cases_told, happens, has_ended, of_case, tells}
+use Rattle.gk_run.specs.Observer.{Ended, IsRan, Told, happens, has_ended, of_case, tells}
 use Rattle.gk_run.proofs.EventLemmas.{heard_both}
 use Rattle.gk_run.proofs.ToldLemmas.{heard_told}
 use Rattle.gk_run.specs.Grouping.{falls_from, members_of_rank}
@@ -157,32 +157,32 @@ of_ok Q (Err e) h f = h
 -- however what is left is cut and told, the whole has cuts with these rows before the others, and was told so
 abbrev pub GoesCases : {S : Type 0} → (S → Told → S → Type 0) → Run → State → Bool → List MemberValue → List CaseRow → Bool → List MemberValue → S → S → Type 0
 GoesCases {S} told run first first_open all rows is_open left begin here =
-    (section : State) → (first_open ≡ true → first ≡ section) → (cuts : List Cut) (last : S) → FoldsTo told here (cases_told run section is_open cuts left) last →
-    (whole : List Cut) × (rows ++ cases_of run section is_open cuts left ≡ cases_of run section first_open whole all) × FoldsTo told begin (cases_told run section first_open whole all) last
+    (section : State) → (first_open ≡ true → first ≡ section) → (cuts : List Cut) (more : List CaseRow) (last : S) → IsRan told (cases_of run section is_open cuts left) more here last →
+    (whole : List Cut) × IsRan told (cases_of run section first_open whole all) (rows ++ more) begin last
 
 pub cases_on : {S : Type 0} (hears : S → Event → S → Type 0) (ends : S → Ended → S → Type 0) (run : Run) (first now : State) (first_open : Bool) (all : List MemberValue) (rows : List CaseRow) (row : CaseRow) (is_open next : Bool) (m : MemberValue) (left : List MemberValue) (begin here ran after : S) →
     now ≡ first → (is_open ≡ true → first_open ≡ true) → IsMember hears run now is_open m row here ran → ends ran (of_case row) after → next ≡ (is_open && stays_open run row.status) →
     GoesCases (tells hears ends) run first first_open all rows is_open (m ∷ left) begin here → GoesCases (tells hears ends) run first first_open all (rows ++ row ∷ []) next left begin after
-cases_on hears ends run first now first_open all rows row is_open next m left begin here ran after same earlier one ended nexts goes section opens cuts last rest =
+cases_on hears ends run first now first_open all rows row is_open next m left begin here ran after same earlier one ended nexts goes section opens cuts more last rest =
+    let told_by = tells hears ends in
     let this = one section (λ o. same ∙ opens (earlier o)) in
     let events = case_events run section is_open this.0 m in
     let of_row = case_of run section is_open this.0 m in
     let stays : next ≡ (is_open && stays_open run of_row.status) = nexts ∙ ap (λ (x : CaseRow). is_open && stays_open run x.status) this.1 in
-    let later : FoldsTo (tells hears ends) after (cases_told run section (is_open && stays_open run of_row.status) cuts left) last = subst (λ (b : Bool). FoldsTo (tells hears ends) after (cases_told run section b cuts left) last) stays rest in
+    let others = cases_of run section (is_open && stays_open run of_row.status) cuts left in
+    let later : IsRan told_by others more after last = subst (λ (b : Bool). IsRan told_by (cases_of run section b cuts left) more after last) stays rest in
     let ends_so : ends ran (of_case of_row) after = subst (λ (x : CaseRow). ends ran (of_case x) after) this.1 ended in
-    let whole = goes section opens (this.0 ∷ cuts) last
-    (heard_both (tells hears ends) here (map happens events) ran (has_ended (of_case of_row) ∷ cases_told run section (is_open && stays_open run of_row.status) cuts left) last (heard_told hears ends here events ran this.2) (after, ends_so, later)) in (
-      whole.0,
-      append_assoc rows (row ∷ []) (cases_of run section next cuts left)
-          ∙ ap (λ b. rows ++ row ∷ cases_of run section b cuts left) nexts
-          ∙ ap (λ (x : CaseRow). rows ++ x ∷ cases_of run section (is_open && stays_open run x.status) cuts left) this.1
-          ∙ whole.1,
-      whole.2,
-    )
+    let whole = goes section opens (this.0 ∷ cuts) (row ∷ more) last (record {
+      is = ap (λ x. x ∷ more) this.1 ∙ ap (λ xs. of_row ∷ xs) later.is;
+      heard = heard_both told_by here (map happens events) ran (has_ended (of_case of_row) ∷ others.told) last (heard_told hears ends here events ran this.2) (after, ends_so, later.heard);
+    }) in
+    (whole.0, subst (λ xs. IsRan told_by (cases_of run section first_open whole.0 all) xs begin last) (sym (append_assoc rows (row ∷ []) more)) whole.1)
 
 pub cases_last : {S : Type 0} (told : S → Told → S → Type 0) (run : Run) (first : State) (first_open : Bool) (all : List MemberValue) (rows : List CaseRow) (is_open : Bool) (left : List MemberValue) (begin here : S) → left ≡ [] →
     GoesCases told run first first_open all rows is_open left begin here → AreCases told run first first_open all rows begin here
-cases_last told run first first_open all rows is_open [] begin here none goes section opens = let whole = goes section opens [] here refl in (whole.0, sym (append-nil rows) ∙ whole.1, whole.2)
+cases_last told run first first_open all rows is_open [] begin here none goes section opens =
+    let whole = goes section opens [] [] here (record { is = refl; heard = refl }) in
+    (whole.0, subst (λ xs. IsRan told (cases_of run section first_open whole.0 all) xs begin here) (append-nil rows) whole.1)
 cases_last told run first first_open all rows is_open (m ∷ left) begin here none goes section opens = let no : ⊥ = cc in absurd no
 
 -- ---- the cases of a rank
@@ -213,7 +213,7 @@ goes_first hears ends run first is_open old begin =
     record {
       rows = [];
       told = sym (append-nil (map case_row old.results.items));
-      goes = subst (λ (b : Bool). GoesCases (tells hears ends) run first is_open all [] b all begin begin) (sym (and_true is_open)) (λ section opens cuts last h. (cuts, refl, h));
+      goes = subst (λ (b : Bool). GoesCases (tells hears ends) run first is_open all [] b all begin begin) (sym (and_true is_open)) (λ section opens cuts more last h. (cuts, h));
       stay = refl;
       rank = refl;
       others = λ other lt. refl;

@@ -9,7 +9,7 @@ use Rattle.gk_run.specs.declared.results.Outcome.{Outcome}
 use Rattle.gk_run.specs.declared.results.Outcome.TheVariants as outcomes
 use Rattle.gk_run.specs.declared.section.Level.{Level}
 use Rattle.gk_run.specs.Acting.{CleanupValue, Done, IsDone}
-use Rattle.gk_run.specs.Closing.{clean_each, cleanup_done}
+use Rattle.gk_run.specs.SectionEnd.{clean_each, cleanup_done}
 use Rattle.gk_run.specs.Ending.{ending_of, is_memory_ending, worse}
 use Rattle.gk_run.specs.Events.{Event, Stand, of_cleanup, outcomes_of}
 use Rattle.gk_run.specs.WalkContracts.{Goes, Happens}

@@ -6,7 +6,7 @@ use Rattle.gk_world.specs.State.{State}
 use Rattle.gk_run.specs.declared.ending.Ending.TheVariants as endings
 use Rattle.gk_run.specs.Ending.{ended_of, is_bad_mark, is_memory_mark, is_skip_mark, worse}
 use Rattle.gk_run.specs.Events.{Event, Stand, after_event, cut_at, ended_in, event_marks, left_by, mark_of, of_cleanup, of_step, outcomes_of, refused}
-use Rattle.gk_run.specs.Section.{is_place}
+use Rattle.gk_run.specs.Section.{has_event}
 use Rattle.gk_run.proofs.EndingLemmas.{ended_append, or_true, worse_memory}
 
 pub marks_append : (xs ys : List Event) → event_marks (xs ++ ys) ≡ event_marks xs ++ event_marks ys
@@ -43,7 +43,7 @@ abbrev pub count : List Event → ℕ
 count [] = zero
 count (x ∷ xs) = suc (count xs)
 
-pub place_there : (front : List Event) (event : Event) (rest : List Event) → is_place (count front) (front ++ event ∷ rest) ≡ true
+pub place_there : (front : List Event) (event : Event) (rest : List Event) → has_event (count front) (front ++ event ∷ rest) ≡ true
 place_there [] event rest = refl
 place_there (x ∷ front) event rest = place_there front event rest
 
@@ -56,12 +56,12 @@ refused_is_memory : (s : State) (event : Event) → list_any is_memory_mark (eve
 refused_is_memory s (of_step place step mark registered left) = refl
 refused_is_memory s (of_cleanup level cleanup outcome left) = refl
 
-pub cut_is_memory : (events : List Event) (n : ℕ) (s : State) → is_place n events ≡ true → list_any is_memory_mark (event_marks (cut_at n s events)) ≡ true
+pub cut_is_memory : (events : List Event) (n : ℕ) (s : State) → has_event n events ≡ true → list_any is_memory_mark (event_marks (cut_at n s events)) ≡ true
 cut_is_memory [] n s h = absurd (true≢false (sym h))
 cut_is_memory (x ∷ xs) zero s h = refused_is_memory s x
 cut_is_memory (x ∷ xs) (suc n) s h = ap (λ b. is_memory_mark (mark_of x) || b) (cut_is_memory xs n s h) ∙ or_true (is_memory_mark (mark_of x))
 
-pub cut_ends : (events : List Event) (n : ℕ) (s : State) → is_place n events ≡ true → ended_in (cut_at n s events) ≡ endings.Memory
+pub cut_ends : (events : List Event) (n : ℕ) (s : State) → has_event n events ≡ true → ended_in (cut_at n s events) ≡ endings.Memory
 cut_ends events n s h =
     let marks = event_marks (cut_at n s events) in
     ap (λ b. cond b endings.Memory (cond (list_any is_bad_mark marks) endings.Failed (cond (list_any is_skip_mark marks) endings.Skipped endings.Passed))) (cut_is_memory events n s h)

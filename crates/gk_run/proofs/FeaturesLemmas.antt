@@ -11,7 +11,7 @@ use Rattle.std.specs.List.{FoldsTo}
 use Rattle.gk_run.specs.Cases.{all_stay_open, case_statuses, cases_of}
 use Rattle.gk_run.specs.Events.{Event}
 use Rattle.gk_run.specs.FeatureContracts.{IsFeatureEnd, IsInside, RunsCases, RunsFeature, RunsRules, members_in}
-use Rattle.gk_run.specs.Watching.{Ended, Told, cases_told, inside_told, rules_told, section_told, tells}
+use Rattle.gk_run.specs.Observer.{Ended, IsRan, Ran, Told, happens, tells}
 use Rattle.gk_run.proofs.EventLemmas.{heard_both}
 use Rattle.gk_run.specs.Chosen.{ChosenValue, HeadValue, MemberValue, has_selected}
 use Rattle.gk_run.specs.Features.{FeatureCuts, FeaturesWithoutRulesHaveTheirCases, feature_row_of, feature_verdict, inside_by, inside_of, rule_statuses}
@@ -37,23 +37,23 @@ inside_is hears ends run now then is_open all_stay opens heads old mid new resul
     let own_is : members_of_rank old.rank (members_in old) ≡ own = ap (λ (r : ℕ). members_of_rank r (members_in old)) first in
     let mine = cases.are section open_at in
     let theirs = rules.are section (λ o. same ∙ open_at (and_left is_open all_stay (sym open_is ∙ o))) in
-    let rows_are : cases.rows ≡ cases_of run section is_open mine.0 own = mine.1 ∙ ap (cases_of run section is_open mine.0) own_is in
+    let first_ran = cases_of run section is_open mine.0 own in
+    let mine_are : IsRan told_by first_ran cases.rows begin here = subst (λ (ms : List MemberValue). IsRan told_by (cases_of run section is_open mine.0 ms) cases.rows begin here) own_is mine.1 in
     let groups_are : groups_from (suc mid.rank) heads (members_in mid) ≡ groups =
     ap (λ (r : ℕ). groups_from (suc r) heads (members_in mid)) (cases.left.rank ∙ first) ∙ groups_same 1 heads (members_in mid) (members_in old) (λ other le. cases.left.others other (later_rank old.rank other first le)) in
-    let opens_so : opens ≡ (is_open && all_stay_open run (cases_of run section is_open mine.0 own)) = open_is ∙ ap (λ (b : Bool). is_open && b) (cases.stay ∙ ap (all_stay_open run) rows_are) in
+    let opens_so : opens ≡ (is_open && all_stay_open run first_ran.result) = open_is ∙ ap (λ (b : Bool). is_open && b) (cases.stay ∙ ap (all_stay_open run) mine_are.is) in
     let told : map case_row new.results.items ≡ cases.rows ++ rules.rows =
     rules.told ∙ ap (λ (rs : List CaseRow). rs ++ rules.rows) (cases.told ∙ ap (λ rs. map case_row rs ++ cases.rows) nothing) in
-    let both : List CaseRow → Inside → Inside = λ rs n. record { rules = n.rules; cases = rs ++ n.cases } in
-    let heard_cases : FoldsTo told_by begin (cases_told run section is_open mine.0 own) here = subst (λ (ms : List MemberValue). FoldsTo told_by begin (cases_told run section is_open mine.0 ms) here) own_is mine.2 in
-    let heard_rules = subst (λ (b : Bool). FoldsTo told_by here (rules_told run section b theirs.0 groups) last) opens_so (subst (λ (gs : List Group). FoldsTo told_by here (rules_told run section opens theirs.0 gs) last) groups_are theirs.2) in (
+    let rules_in : Inside = record { rules = map rule_row results; cases = rules.rows } in
+    let next = rules_of run section (is_open && all_stay_open run first_ran.result) theirs.0 groups in
+    let theirs_are : IsRan told_by next rules_in here last = subst (λ (b : Bool). IsRan told_by (rules_of run section b theirs.0 groups) rules_in here last) opens_so (subst (λ (gs : List Group). IsRan told_by (rules_of run section opens theirs.0 gs) rules_in here last) groups_are theirs.1) in
+    let both : List CaseRow → Inside → Inside = λ rs n. record { rules = n.rules; cases = rs ++ n.cases } in (
       mine.0,
       theirs.0,
-      ap (λ (rs : List CaseRow). record { rules = map rule_row results; cases = rs }) told
-          ∙ ap (both cases.rows) theirs.1
-          ∙ ap (λ (gs : List Group). both cases.rows (rules_of run section opens theirs.0 gs)) groups_are
-          ∙ ap (λ (b : Bool). both cases.rows (rules_of run section b theirs.0 groups)) opens_so
-          ∙ ap (λ rs. both rs (rules_of run section (is_open && all_stay_open run (cases_of run section is_open mine.0 own)) theirs.0 groups)) rows_are,
-      heard_both told_by begin (cases_told run section is_open mine.0 own) here (rules_told run section (is_open && all_stay_open run (cases_of run section is_open mine.0 own)) theirs.0 groups) last heard_cases heard_rules,
+      record {
+        is = ap (λ (rs : List CaseRow). record { rules = map rule_row results; cases = rs }) told ∙ ap (λ rs. both rs rules_in) mine_are.is ∙ ap (both first_ran.result) theirs_are.is;
+        heard = heard_both told_by begin first_ran.told here next.told last mine_are.heard theirs_are.heard;
+      },
     )
 
 -- a feature that isn't begun
@@ -62,13 +62,10 @@ pub feature_unbegun : {S : Type 0} (told : S → Told → S → Type 0) (run : R
 feature_unbegun told run now true tags own groups inside first last unbegun is outside opens = let no : ⊥ = cc in absurd no
 feature_unbegun told run now false tags own groups inside first last unbegun is outside opens =
     let section = section_state run levels.Feature tags outside in
-    let known = is section (λ o. let no : ⊥ = cc in absurd no) in (
-      nowhere,
-      known.0,
-      known.1,
-      ap (λ (i : Inside). record { around = statuses.Passed; inside = i }) known.2,
-      subst (λ xs. FoldsTo told first xs last) (sym (append-nil (inside_told run section false known.0 known.1 own groups))) known.3,
-    )
+    let known = is section (λ o. let no : ⊥ = cc in absurd no) in
+    let ran = inside_by run section false known.0 known.1 own groups in
+    let with_inside : Inside → SectionRow Inside = λ i. record { around = statuses.Passed; inside = i } in
+    (nowhere, known.0, known.1, record { is = ap with_inside known.2.is; heard = subst (λ xs. FoldsTo told first xs last) (sym (append-nil ran.told)) known.2.heard })
 
 -- the row of a feature, from what it came to
 pub feature_is : {S : Type 0} (hears : S → Event → S → Type 0) (ends : S → Ended → S → Type 0) (run : Run) (now : State) (is_open is_begun : Bool) (f : ChosenValue) (status : Status) (end : SectionRow Inside) (first last : S) → is_begun ≡ (is_open && has_selected f.members) →
@@ -77,13 +74,10 @@ pub feature_is : {S : Type 0} (hears : S → Event → S → Type 0) (ends : S �
 feature_is hears ends run now is_open is_begun f status end first last begins verdict comes outside opens =
     let known = comes outside (λ b. opens (and_left is_open (has_selected f.members) (sym begins ∙ b))) in
     let row : Status → FeatureRow = λ s. record { source = f.source; name = f.name; line = f.line; status = s; around = end.around; rules = end.inside.rules; cases = end.inside.cases } in
-    let inside : State → Bool → Inside = λ section is_ready. inside_by run section is_ready known.1 known.2 (own_members f) (rule_groups f) in
-    let heard : State → Bool → List Told = λ section is_ready. inside_told run section is_ready known.1 known.2 (own_members f) (rule_groups f) in
-    let by_end : SectionRow Inside → FeatureRow = λ e. feature_row_of f e.around e.inside in (
-      record { own = known.0; cases = known.1; rules = known.2 },
-      ap row verdict ∙ ap by_end (known.3 ∙ ap (λ (b : Bool). section_of run levels.Feature f.tags outside b known.0 inside) begins),
-      subst (λ (b : Bool). FoldsTo (tells hears ends) first (section_told run levels.Feature f.tags outside b known.0 heard) last) begins known.4,
-    )
+    let inside : State → Bool → Ran Inside = λ section is_ready. inside_by run section is_ready known.1 known.2 (own_members f) (rule_groups f) in
+    let by_end : SectionRow Inside → FeatureRow = λ e. feature_row_of f e.around e.inside in
+    let here = subst (λ (b : Bool). IsRan (tells hears ends) (section_of run levels.Feature f.tags outside b known.0 inside) end first last) begins known.3 in
+    (record { own = known.0; cases = known.1; rules = known.2 }, record { is = ap row verdict ∙ ap by_end here.is; heard = here.heard })
 
 -- ---- a feature without rules
 
@@ -94,15 +88,20 @@ own_are_all f none falls =
     ∙ groups_all f falls
 
 inside_without_rules : (run : Run) (section : State) (is_open : Bool) (cuts : FeatureCuts) (f : ChosenValue) → f.rules ≡ [] → CasesFallIntoRules f →
-    inside_of run cuts f section is_open ≡ record { rules = []; cases = cases_of run section is_open cuts.cases f.members }
+    inside_of run cuts f section is_open ≡ (let ran = cases_of run section is_open cuts.cases f.members in record { result = record { rules = []; cases = ran.result }; told = ran.told })
 inside_without_rules run section is_open cuts f none falls =
-    let alone : List CaseRow → Inside = λ rows. record { rules = []; cases = rows } in
+    let alone : Ran (List CaseRow) → Ran Inside = λ ran. record { result = record { rules = []; cases = ran.result }; told = ran.told } in
+    let own = cases_of run section is_open cuts.cases (own_members f) in
+    let with_rows : List CaseRow → Ran Inside = λ rows. record { result = record { rules = []; cases = rows }; told = own.told ++ [] } in
+    let with_told : List Told → Ran Inside = λ told. record { result = record { rules = []; cases = own.result }; told = told } in
     ap (λ (heads : List HeadValue). inside_by run section is_open cuts.cases cuts.rules (own_members f) (groups_from 1 heads f.members)) none
-    ∙ ap alone (append-nil (cases_of run section is_open cuts.cases (own_members f)))
+    ∙ ap with_rows (append-nil own.result)
+    ∙ ap with_told (append-nil own.told)
     ∙ ap (λ (ms : List MemberValue). alone (cases_of run section is_open cuts.cases ms)) (own_are_all f none falls)
 
 pub without_rules : FeaturesWithoutRulesHaveTheirCases
 without_rules run outside is_open cuts f none falls =
     let is_begun = is_open && has_selected f.members in
     let events = happened_in run levels.Feature f.tags outside is_begun cuts.own in
-    ap (feature_row_of f (around_of events)) (inside_without_rules run (section_state run levels.Feature f.tags outside) (is_begun && before_passed events) cuts f none falls)
+    let whole : Ran Inside → Ran FeatureRow = λ i. record { result = feature_row_of f (around_of events) i.result; told = map happens events.before ++ (i.told ++ map happens (events.after ++ events.cleanups)) } in
+    ap whole (inside_without_rules run (section_state run levels.Feature f.tags outside) (is_begun && before_passed events) cuts f none falls)

@@ -5,8 +5,8 @@ use Rattle.std.proofs.lemmas.List.{append-nil}
 use Rattle.gk_run.specs.declared.ending.Ending.{Ending}
 use Rattle.gk_run.specs.declared.ending.Ending.TheVariants as endings
 use Rattle.gk_run.specs.Ending.{is_memory_ending, worse}
-use Rattle.gk_run.specs.Events.{Event, Stand, ended_in, left_by, refused}
-use Rattle.gk_run.specs.WalkContracts.{Goes, IsCutOff, SoFar}
+use Rattle.gk_run.specs.Events.{Event, IsCutOff, SoFar, Stand, ended_in, left_by, refused}
+use Rattle.gk_run.specs.WalkContracts.{Goes}
 use Rattle.gk_run.proofs.EndingLemmas.{memory_of, worse_assoc, worse_passed}
 use Rattle.gk_run.proofs.EventLemmas.{ended_both, heard_both, left_both}
 

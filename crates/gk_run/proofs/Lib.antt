@@ -6,6 +6,7 @@ pub mod EndingLemmas
 pub mod EventLemmas
 pub mod GoesLemmas
 pub mod WalkLemmas
+pub mod WordsLemmas
 pub mod CleanLemmas
 pub mod SectionLemmas
 pub mod ToldLemmas
@@ -18,3 +19,4 @@ pub mod DryRunLemmas
 pub mod JudgedLemmas
 pub mod OpenRunLemmas
 pub mod OneList
+pub mod JudgedWordsLemmas

@@ -20,11 +20,12 @@ use Rattle.gk_run.specs.Events.{cut_at, ended_in, event_marks}
 use Rattle.gk_run.specs.Cases.{all_stay_open, case_of, cases_of, first_or, later, stays_open}
 use Rattle.gk_run.specs.Features.{FeatureCuts, feature_of, feature_row_of, features_of, inside_by, inside_of, uncut_feature}
 use Rattle.gk_run.specs.Grouping.{Group, own_members, rule_groups}
+use Rattle.gk_run.specs.Observer.{Ran, result_of}
 use Rattle.gk_run.specs.OpenSection.{SectionRow, happened_in, section_events, section_of, section_state}
 use Rattle.gk_run.specs.Rules.{Inside, RuleCuts, rule_of, rule_stays_open, rules_of, uncut_rule}
 use Rattle.gk_run.specs.Judged.{Cuts, OneList, dry_results, has_memory, is_memory_case, is_memory_feature, is_memory_rule, results_from, uncut}
 use Rattle.gk_run.specs.Results.{CaseRow, FeatureRow, RuleRow, Results, is_memory}
-use Rattle.gk_run.specs.Section.{Cut, Events, around_events, around_of, before_passed, happened, in_after, in_before, in_cleanups, in_order, in_steps, is_place, nowhere}
+use Rattle.gk_run.specs.Section.{Cut, Events, around_events, around_of, before_passed, happened, in_after, in_before, in_cleanups, in_order, in_steps, has_event, nowhere}
 use Rattle.gk_run.proofs.EventLemmas.{cut_ends, cut_is_memory, first_refused, later_refused}
 
 or_left : (a b : Bool) → (a || b) ≡ false → a ≡ false
@@ -47,15 +48,15 @@ uncut_by true now e f h free = absurd (free (h refl))
 case_uncut : (cut : Cut) (e : Events) → (ended_in (in_order (happened cut e)) ≡ endings.Memory → ⊥) → happened cut e ≡ e
 case_uncut nowhere e free = refl
 case_uncut (in_before n s) e free =
-    uncut_by (is_place n e.before) (record { before = cut_at n s e.before; steps = []; after = []; cleanups = [] }) e (λ x. ended_in (in_order x)) (λ h. first_refused (cut_at n s e.before) [] (cut_ends e.before n s h)) free
+    uncut_by (has_event n e.before) (record { before = cut_at n s e.before; steps = []; after = []; cleanups = [] }) e (λ x. ended_in (in_order x)) (λ h. first_refused (cut_at n s e.before) [] (cut_ends e.before n s h)) free
 case_uncut (in_steps n s) e free =
-    uncut_by (is_place n e.steps) (record e { steps = cut_at n s e.steps; after = []; cleanups = [] }) e (λ x. ended_in (in_order x))
+    uncut_by (has_event n e.steps) (record e { steps = cut_at n s e.steps; after = []; cleanups = [] }) e (λ x. ended_in (in_order x))
     (λ h. later_refused e.before (cut_at n s e.steps ++ []) (first_refused (cut_at n s e.steps) [] (cut_ends e.steps n s h))) free
 case_uncut (in_after n s) e free =
-    uncut_by (is_place n e.after) (record e { after = cut_at n s e.after; cleanups = [] }) e (λ x. ended_in (in_order x))
+    uncut_by (has_event n e.after) (record e { after = cut_at n s e.after; cleanups = [] }) e (λ x. ended_in (in_order x))
     (λ h. later_refused e.before (e.steps ++ (cut_at n s e.after ++ [])) (later_refused e.steps (cut_at n s e.after ++ []) (first_refused (cut_at n s e.after) [] (cut_ends e.after n s h)))) free
 case_uncut (in_cleanups n s) e free =
-    uncut_by (is_place n e.cleanups) (record e { cleanups = cut_at n s e.cleanups }) e (λ x. ended_in (in_order x))
+    uncut_by (has_event n e.cleanups) (record e { cleanups = cut_at n s e.cleanups }) e (λ x. ended_in (in_order x))
     (λ h. let tail = cut_at n s e.cleanups in later_refused e.before (e.steps ++ (e.after ++ tail)) (later_refused e.steps (e.after ++ tail) (later_refused e.after tail (cut_ends e.cleanups n s h)))) free
 
 section_uncut : (run : Run) (level : Level) (tags : List (List ℕ)) (outside : State) (cut : Cut) →
@@ -63,15 +64,15 @@ section_uncut : (run : Run) (level : Level) (tags : List (List ℕ)) (outside : 
 section_uncut run level tags outside nowhere free = refl
 section_uncut run level tags outside (in_before n s) free =
     let e = section_events run level tags outside in
-    uncut_by (is_place n e.before) (record { before = cut_at n s e.before; steps = []; after = []; cleanups = [] }) e (λ x. ended_in (around_events x)) (λ h. first_refused (cut_at n s e.before) [] (cut_ends e.before n s h)) free
+    uncut_by (has_event n e.before) (record { before = cut_at n s e.before; steps = []; after = []; cleanups = [] }) e (λ x. ended_in (around_events x)) (λ h. first_refused (cut_at n s e.before) [] (cut_ends e.before n s h)) free
 section_uncut run level tags outside (in_steps n s) free = refl
 section_uncut run level tags outside (in_after n s) free =
     let e = section_events run level tags outside in
-    uncut_by (is_place n e.after) (record e { after = cut_at n s e.after; cleanups = [] }) e (λ x. ended_in (around_events x))
+    uncut_by (has_event n e.after) (record e { after = cut_at n s e.after; cleanups = [] }) e (λ x. ended_in (around_events x))
     (λ h. later_refused e.before (cut_at n s e.after ++ []) (first_refused (cut_at n s e.after) [] (cut_ends e.after n s h))) free
 section_uncut run level tags outside (in_cleanups n s) free =
     let e = section_events run level tags outside in
-    uncut_by (is_place n e.cleanups) (record e { cleanups = cut_at n s e.cleanups }) e (λ x. ended_in (around_events x))
+    uncut_by (has_event n e.cleanups) (record e { cleanups = cut_at n s e.cleanups }) e (λ x. ended_in (around_events x))
     (λ h. let tail = cut_at n s e.cleanups in later_refused e.before (e.after ++ tail) (later_refused e.after tail (cut_ends e.cleanups n s h))) free
 
 not_verdict : (e : Ending) → is_memory (verdict_status e) ≡ false → e ≡ endings.Memory → ⊥
@@ -98,13 +99,13 @@ case_kept run section is_open cut m h =
     (choice_kept is_open (reached_row run section cut c) (reached_row run section nowhere c) (unreached_row c) (unreached_row c) (reached_kept run section cut c) (λ _. refl)) (λ _. refl) h
 
 cases_kept : (run : Run) (section : State) (is_open : Bool) (cuts : List Cut) (ms : List MemberValue) →
-    list_any is_memory_case (cases_of run section is_open cuts ms) ≡ false → cases_of run section is_open cuts ms ≡ cases_of run section is_open [] ms
+    list_any is_memory_case (result_of (cases_of run section is_open cuts ms)) ≡ false → result_of (cases_of run section is_open cuts ms) ≡ result_of (cases_of run section is_open [] ms)
 cases_kept run section is_open cuts [] h = refl
 cases_kept run section is_open cuts (m ∷ ms) h =
     let row = case_of run section is_open (first_or nowhere cuts) m in
-    let rest = cases_of run section (is_open && stays_open run row.status) (later cuts) ms in
+    let rest = result_of (cases_of run section (is_open && stays_open run row.status) (later cuts) ms) in
     ap (λ rows. row ∷ rows) (cases_kept run section (is_open && stays_open run row.status) (later cuts) ms (or_right (is_memory_case row) (list_any is_memory_case rest) h))
-    ∙ ap (λ (r : CaseRow). r ∷ cases_of run section (is_open && stays_open run r.status) [] ms)
+    ∙ ap (λ (r : CaseRow). r ∷ result_of (cases_of run section (is_open && stays_open run r.status) [] ms))
     (case_kept run section is_open (first_or nowhere cuts) m (or_left (is_memory_case row) (list_any is_memory_case rest) h))
 
 -- ---- features, the run
@@ -117,15 +118,15 @@ happened_kept run level tags outside true cut h =
     section_uncut run level tags outside cut (not_around (ended_in (around_events (happened cut es))) h)
 
 -- what a section comes to in which no memory was refused
-section_kept : {A : Type 0} (run : Run) (level : Level) (tags : List (List ℕ)) (outside : State) (is_begun : Bool) (cut : Cut) (inside uncut_inside : State → Bool → A) →
-    (let end = section_of run level tags outside is_begun cut inside in is_memory end.around ≡ false) →
-    (let events = happened_in run level tags outside is_begun cut in let section = section_state run level tags outside in inside section (is_begun && before_passed events) ≡ uncut_inside section (is_begun && before_passed events)) →
-    section_of run level tags outside is_begun cut inside ≡ section_of run level tags outside is_begun nowhere uncut_inside
+section_kept : {A : Type 0} (run : Run) (level : Level) (tags : List (List ℕ)) (outside : State) (is_begun : Bool) (cut : Cut) (inside uncut_inside : State → Bool → Ran A) →
+    (let end = result_of (section_of run level tags outside is_begun cut inside) in is_memory end.around ≡ false) →
+    (let events = happened_in run level tags outside is_begun cut in let section = section_state run level tags outside in result_of (inside section (is_begun && before_passed events)) ≡ result_of (uncut_inside section (is_begun && before_passed events))) →
+    result_of (section_of run level tags outside is_begun cut inside) ≡ result_of (section_of run level tags outside is_begun nowhere uncut_inside)
 section_kept {A} run level tags outside is_begun cut inside uncut_inside h same =
     let section = section_state run level tags outside in
     let events = happened_in run level tags outside is_begun cut in
     let with_inside : A → SectionRow A = λ x. record { around = around_of events; inside = x } in
-    let whole : Events → SectionRow A = λ es. record { around = around_of es; inside = uncut_inside section (is_begun && before_passed es) } in
+    let whole : Events → SectionRow A = λ es. record { around = around_of es; inside = result_of (uncut_inside section (is_begun && before_passed es)) } in
     ap with_inside same ∙ ap whole (happened_kept run level tags outside is_begun cut h)
 
 append_left : (xs ys : List CaseRow) → list_any is_memory_case (xs ++ ys) ≡ false → list_any is_memory_case xs ≡ false
@@ -138,8 +139,8 @@ append_right (x ∷ xs) ys h = append_right xs ys (or_right (is_memory_case x) (
 
 -- a rule
 rule_kept : (run : Run) (outside : State) (is_open : Bool) (cuts : RuleCuts) (g : Group) →
-    (let end = rule_of run outside is_open cuts g in is_memory end.around ≡ false) → (let end = rule_of run outside is_open cuts g in list_any is_memory_case end.inside ≡ false) →
-    rule_of run outside is_open cuts g ≡ rule_of run outside is_open uncut_rule g
+    (let end = result_of (rule_of run outside is_open cuts g) in is_memory end.around ≡ false) → (let end = result_of (rule_of run outside is_open cuts g) in list_any is_memory_case end.inside ≡ false) →
+    result_of (rule_of run outside is_open cuts g) ≡ result_of (rule_of run outside is_open uncut_rule g)
 rule_kept run outside is_open cuts g around cases =
     let is_begun = is_open && has_selected g.members in
     let is_ready = is_begun && before_passed (happened_in run levels.Rule g.head.tags outside is_begun cuts.own) in
@@ -147,38 +148,38 @@ rule_kept run outside is_open cuts g around cases =
     (cases_kept run (section_state run levels.Rule g.head.tags outside) is_ready cuts.cases g.members cases)
 
 rules_kept : (run : Run) (outside : State) (is_open : Bool) (cuts : List RuleCuts) (gs : List Group) →
-    (let inside = rules_of run outside is_open cuts gs in list_any is_memory_rule inside.rules ≡ false) → (let inside = rules_of run outside is_open cuts gs in list_any is_memory_case inside.cases ≡ false) →
-    rules_of run outside is_open cuts gs ≡ rules_of run outside is_open [] gs
+    (let inside = result_of (rules_of run outside is_open cuts gs) in list_any is_memory_rule inside.rules ≡ false) → (let inside = result_of (rules_of run outside is_open cuts gs) in list_any is_memory_case inside.cases ≡ false) →
+    result_of (rules_of run outside is_open cuts gs) ≡ result_of (rules_of run outside is_open [] gs)
 rules_kept run outside is_open cuts [] h k = refl
 rules_kept run outside is_open cuts (g ∷ gs) h k =
-    let end = rule_of run outside is_open (first_or uncut_rule cuts) g in
+    let end = result_of (rule_of run outside is_open (first_or uncut_rule cuts) g) in
     let opens : SectionRow (List CaseRow) → Bool = λ e. is_open && rule_stays_open run e in
-    let next = rules_of run outside (opens end) (later cuts) gs in
+    let next = result_of (rules_of run outside (opens end) (later cuts) gs) in
     let row : SectionRow (List CaseRow) → RuleRow = λ e. record { line = g.head.line; around = e.around } in
     let both : SectionRow (List CaseRow) → Inside → Inside = λ e n. record { rules = row e ∷ n.rules; cases = e.inside ++ n.cases } in
     ap (both end) (rules_kept run outside (opens end) (later cuts) gs (or_right (is_memory end.around) (list_any is_memory_rule next.rules) h) (append_right end.inside next.cases k))
-    ∙ ap (λ e. both e (rules_of run outside (opens e) [] gs))
+    ∙ ap (λ e. both e (result_of (rules_of run outside (opens e) [] gs)))
     (rule_kept run outside is_open (first_or uncut_rule cuts) g (or_left (is_memory end.around) (list_any is_memory_rule next.rules) h) (append_left end.inside next.cases k))
 
 inside_kept : (run : Run) (section : State) (is_open : Bool) (cuts : List Cut) (rule_cuts : List RuleCuts) (own : List MemberValue) (gs : List Group) →
-    (let inside = inside_by run section is_open cuts rule_cuts own gs in list_any is_memory_rule inside.rules ≡ false) → (let inside = inside_by run section is_open cuts rule_cuts own gs in list_any is_memory_case inside.cases ≡ false) →
-    inside_by run section is_open cuts rule_cuts own gs ≡ inside_by run section is_open [] [] own gs
+    (let inside = result_of (inside_by run section is_open cuts rule_cuts own gs) in list_any is_memory_rule inside.rules ≡ false) → (let inside = result_of (inside_by run section is_open cuts rule_cuts own gs) in list_any is_memory_case inside.cases ≡ false) →
+    result_of (inside_by run section is_open cuts rule_cuts own gs) ≡ result_of (inside_by run section is_open [] [] own gs)
 inside_kept run section is_open cuts rule_cuts own gs h k =
-    let rows = cases_of run section is_open cuts own in
+    let rows = result_of (cases_of run section is_open cuts own) in
     let opens : List CaseRow → Bool = λ rs. is_open && all_stay_open run rs in
-    let next = rules_of run section (opens rows) rule_cuts gs in
+    let next = result_of (rules_of run section (opens rows) rule_cuts gs) in
     let both : List CaseRow → Inside → Inside = λ rs n. record { rules = n.rules; cases = rs ++ n.cases } in
     ap (both rows) (rules_kept run section (opens rows) rule_cuts gs h (append_right rows next.cases k))
-    ∙ ap (λ rs. both rs (rules_of run section (opens rs) [] gs)) (cases_kept run section is_open cuts own (append_left rows next.cases k))
+    ∙ ap (λ rs. both rs (result_of (rules_of run section (opens rs) [] gs))) (cases_kept run section is_open cuts own (append_left rows next.cases k))
 
 feature_kept : (run : Run) (outside : State) (is_open : Bool) (cuts : FeatureCuts) (f : ChosenValue) →
-    is_memory_feature (feature_of run outside is_open cuts f) ≡ false → feature_of run outside is_open cuts f ≡ feature_of run outside is_open uncut_feature f
+    is_memory_feature (result_of (feature_of run outside is_open cuts f)) ≡ false → result_of (feature_of run outside is_open cuts f) ≡ result_of (feature_of run outside is_open uncut_feature f)
 feature_kept run outside is_open cuts f h =
     let is_begun = is_open && has_selected f.members in
     let section = section_state run levels.Feature f.tags outside in
     let events = happened_in run levels.Feature f.tags outside is_begun cuts.own in
     let is_ready = is_begun && before_passed events in
-    let inside = inside_by run section is_ready cuts.cases cuts.rules (own_members f) (rule_groups f) in
+    let inside = result_of (inside_by run section is_ready cuts.cases cuts.rules (own_members f) (rule_groups f)) in
     let row : SectionRow Inside → FeatureRow = λ end. feature_row_of f end.around end.inside in
     let others = or_right (is_memory (around_of events)) (list_any is_memory_rule inside.rules || list_any is_memory_case inside.cases) h in
     ap row (section_kept run levels.Feature f.tags outside is_begun cuts.own (inside_of run cuts f) (inside_of run uncut_feature f)
@@ -187,14 +188,14 @@ feature_kept run outside is_open cuts f h =
     (or_left (list_any is_memory_rule inside.rules) (list_any is_memory_case inside.cases) others) (or_right (list_any is_memory_rule inside.rules) (list_any is_memory_case inside.cases) others)))
 
 features_kept : (run : Run) (outside : State) (is_open : Bool) (cuts : List FeatureCuts) (fs : List ChosenValue) →
-    list_any is_memory_feature (features_of run outside is_open cuts fs) ≡ false → features_of run outside is_open cuts fs ≡ features_of run outside is_open [] fs
+    list_any is_memory_feature (result_of (features_of run outside is_open cuts fs)) ≡ false → result_of (features_of run outside is_open cuts fs) ≡ result_of (features_of run outside is_open [] fs)
 features_kept run outside is_open cuts [] h = refl
 features_kept run outside is_open cuts (f ∷ fs) h =
-    let row = feature_of run outside is_open (first_or uncut_feature cuts) f in
+    let row = result_of (feature_of run outside is_open (first_or uncut_feature cuts) f) in
     let next : FeatureRow → Bool = λ r. is_open && stays_open run r.status in
-    let rest = features_of run outside (next row) (later cuts) fs in
+    let rest = result_of (features_of run outside (next row) (later cuts) fs) in
     ap (λ rows. row ∷ rows) (features_kept run outside (next row) (later cuts) fs (or_right (is_memory_feature row) (list_any is_memory_feature rest) h))
-    ∙ ap (λ r. r ∷ features_of run outside (next r) [] fs)
+    ∙ ap (λ r. r ∷ result_of (features_of run outside (next r) [] fs))
     (feature_kept run outside is_open (first_or uncut_feature cuts) f (or_left (is_memory_feature row) (list_any is_memory_feature rest) h))
 
 run_kept : (run : Run) (start : State) (cuts : Cuts) (fs : List ChosenValue) → has_memory (results_from run start cuts fs) ≡ false → results_from run start cuts fs ≡ results_from run start uncut fs
@@ -202,16 +203,16 @@ run_kept run start cuts fs h =
     let section = section_state run levels.Run [] start in
     let es = section_events run levels.Run [] start in
     let events = happened cuts.own es in
-    let features = features_of run section (before_passed events) cuts.features fs in
+    let features = result_of (features_of run section (before_passed events) cuts.features fs) in
     let with_features : List FeatureRow → Results = λ rows. record { features = rows; around = around_of events } in
-    let whole : Events → Results = λ x. record { features = features_of run section (before_passed x) [] fs; around = around_of x } in
+    let whole : Events → Results = λ x. record { features = result_of (features_of run section (before_passed x) [] fs); around = around_of x } in
     ap with_features (features_kept run section (before_passed events) cuts.features fs (or_right (is_memory (around_of events)) (list_any is_memory_feature features) h))
     ∙ ap whole (section_uncut run levels.Run [] start cuts.own (not_around (ended_in (around_events events)) (or_left (is_memory (around_of events)) (list_any is_memory_feature features) h)))
 
 -- ---- a dry run
 
 -- a cut in steps is none unless one of them is memory
-steps_uncut : (b : Bool) (n : ℕ) (s : State) (e : Events) → is_place n e.steps ≡ b → (let now : Events = cond b (record e { steps = cut_at n s e.steps; after = []; cleanups = [] }) e in list_any is_memory_mark (event_marks now.steps) ≡ false) →
+steps_uncut : (b : Bool) (n : ℕ) (s : State) (e : Events) → has_event n e.steps ≡ b → (let now : Events = cond b (record e { steps = cut_at n s e.steps; after = []; cleanups = [] }) e in list_any is_memory_mark (event_marks now.steps) ≡ false) →
     cond b (record e { steps = cut_at n s e.steps; after = []; cleanups = [] }) e ≡ e
 steps_uncut false n s e place h = refl
 steps_uncut true n s e place h = absurd (true≢false (sym (cut_is_memory e.steps n s place) ∙ h))
@@ -219,7 +220,7 @@ steps_uncut true n s e place h = absurd (true≢false (sym (cut_is_memory e.step
 dry_uncut : (library : LibraryValue) (cut : Cut) (c : CaseValue) → (let es = dry_events library c in let e = happened cut es in list_any is_memory_mark (event_marks e.steps) ≡ false) → (let es = dry_events library c in happened cut es ≡ es)
 dry_uncut library nowhere c h = refl
 dry_uncut library (in_before n s) c h = refl
-dry_uncut library (in_steps n s) c h = steps_uncut (is_place n (map (dry_step library) c.steps)) n s (dry_events library c) refl h
+dry_uncut library (in_steps n s) c h = steps_uncut (has_event n (map (dry_step library) c.steps)) n s (dry_events library c) refl h
 dry_uncut library (in_after n s) c h = refl
 dry_uncut library (in_cleanups n s) c h = refl
 

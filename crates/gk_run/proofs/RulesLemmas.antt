@@ -11,7 +11,7 @@ use Rattle.std.specs.List.{FoldsTo}
 use Rattle.gk_run.specs.Cases.{cases_of, stays_open, stays_open_by}
 use Rattle.gk_run.specs.Events.{Event}
 use Rattle.gk_run.specs.FeatureContracts.{AreCases, IsRule, IsRuleBegun, RunsRule, RunsRules, members_in}
-use Rattle.gk_run.specs.Watching.{Ended, Told, cases_told, has_ended, of_rule, rule_told, rules_told, section_told, tells}
+use Rattle.gk_run.specs.Observer.{Ended, IsRan, Ran, Told, has_ended, of_rule, tells}
 use Rattle.gk_run.proofs.EventLemmas.{heard_both}
 use Rattle.gk_run.specs.Chosen.{HeadValue, MemberValue, has_selected}
 use Rattle.gk_run.specs.Grouping.{Group, falls_from, groups_from, members_of_rank}
@@ -33,15 +33,12 @@ passed_stays run = never_stops run.stop
 pub rule_begun : {S : Type 0} (told : S → Told → S → Type 0) (run : Run) (now : State) (is_open is_begun : Bool) (tags : List (List ℕ)) (g : Group) (row : SectionRow (List CaseRow)) (first last : S) → is_begun ≡ (is_open && has_selected g.members) → is_begun ≡ true → tags ≡ g.head.tags →
     IsRuleBegun told run now tags g.members row first last → IsRule told run now is_open g row first last
 rule_begun told run now is_open is_begun tags g row first last begins begun same known outside opens =
-    let inside : State → Bool → List CaseRow = λ section is_ready. cases_of run section is_ready known.1 g.members in
-    let heard : State → Bool → List Told = λ section is_ready. cases_told run section is_ready known.1 g.members in
+    let inside : State → Bool → Ran (List CaseRow) = λ section is_ready. cases_of run section is_ready known.1 g.members in
     let here : now ≡ outside = opens (and_left is_open (has_selected g.members) (sym begins ∙ begun)) in (
       record { own = known.0; cases = known.1 },
-      known.2 ∙ ap (λ (ts : List (List ℕ)). section_of run levels.Rule ts now true known.0 inside) same ∙ ap (λ (s : State). section_of run levels.Rule g.head.tags s true known.0 inside) here
-          ∙ ap (λ (b : Bool). section_of run levels.Rule g.head.tags outside b known.0 inside) (sym begun ∙ begins),
-      subst (λ xs. FoldsTo told first xs last)
-          (ap (λ (ts : List (List ℕ)). section_told run levels.Rule ts now true known.0 heard) same ∙ ap (λ (s : State). section_told run levels.Rule g.head.tags s true known.0 heard) here
-          ∙ ap (λ (b : Bool). section_told run levels.Rule g.head.tags outside b known.0 heard) (sym begun ∙ begins)) known.3,
+      subst (λ (r : Ran (SectionRow (List CaseRow))). IsRan told r row first last)
+          (ap (λ (ts : List (List ℕ)). section_of run levels.Rule ts now true known.0 inside) same ∙ ap (λ (s : State). section_of run levels.Rule g.head.tags s true known.0 inside) here
+          ∙ ap (λ (b : Bool). section_of run levels.Rule g.head.tags outside b known.0 inside) (sym begun ∙ begins)) known.2,
     )
 
 -- a rule that isn't begun
@@ -50,13 +47,11 @@ pub rule_unbegun : {S : Type 0} (told : S → Told → S → Type 0) (run : Run)
 rule_unbegun told run now is_open is_begun g rows first last begins unbegun are outside opens =
     let section = section_state run levels.Rule g.head.tags outside in
     let known = are section (λ o. let no : ⊥ = cc in absurd no) in
-    let inside : State → Bool → List CaseRow = λ section is_ready. cases_of run section is_ready known.0 g.members in
-    let heard : State → Bool → List Told = λ section is_ready. cases_told run section is_ready known.0 g.members in
-    let with_rows : List CaseRow → SectionRow (List CaseRow) = λ rs. record { around = statuses.Passed; inside = rs } in (
-      record { own = nowhere; cases = known.0 },
-      ap with_rows known.1 ∙ ap (λ (b : Bool). section_of run levels.Rule g.head.tags outside b nowhere inside) (sym unbegun ∙ begins),
-      subst (λ xs. FoldsTo told first xs last) (sym (append-nil (heard section false)) ∙ ap (λ (b : Bool). section_told run levels.Rule g.head.tags outside b nowhere heard) (sym unbegun ∙ begins)) known.2,
-    )
+    let inside : State → Bool → Ran (List CaseRow) = λ section is_ready. cases_of run section is_ready known.0 g.members in
+    let ran = inside section false in
+    let with_rows : List CaseRow → SectionRow (List CaseRow) = λ rs. record { around = statuses.Passed; inside = rs } in
+    let unran : IsRan told (section_of run levels.Rule g.head.tags outside false nowhere inside) (with_rows rows) first last = record { is = ap with_rows known.1.is; heard = subst (λ xs. FoldsTo told first xs last) (sym (append-nil ran.told)) known.1.heard } in
+    (record { own = nowhere; cases = known.0 }, subst (λ (b : Bool). IsRan told (section_of run levels.Rule g.head.tags outside b nowhere inside) (with_rows rows) first last) (sym unbegun ∙ begins) unran)
 
 -- the results of some rules, and then those of others
 abbrev pub joined : Inside → Inside → Inside
@@ -68,10 +63,8 @@ pub record GoesRules {S : Type 0} (hears : S → Event → S → Type 0) (ends :
   pub told : map case_row now.results.items ≡ map case_row old.results.items ++ rows
   pub falls : falls_from (suc now.rank) now.waiting.items ≡ true
   pub earlier : is_open ≡ true → first_open ≡ true
-  pub goes : (outside : State) → (first_open ≡ true → first ≡ outside) → (cuts : List RuleCuts) (last : S) → FoldsTo (tells hears ends) here (rules_told run outside is_open cuts (groups_from (suc now.rank) left (members_in now))) last →
-      (whole : List RuleCuts) × (joined (record { rules = map rule_row results; cases = rows }) (rules_of run outside is_open cuts (groups_from (suc now.rank) left (members_in now)))
-      ≡ rules_of run outside first_open whole (groups_from (suc old.rank) heads (members_in old)))
-      × FoldsTo (tells hears ends) begin (rules_told run outside first_open whole (groups_from (suc old.rank) heads (members_in old))) last
+  pub goes : (outside : State) → (first_open ≡ true → first ≡ outside) → (cuts : List RuleCuts) (more : Inside) (last : S) → IsRan (tells hears ends) (rules_of run outside is_open cuts (groups_from (suc now.rank) left (members_in now))) more here last →
+      (whole : List RuleCuts) × IsRan (tells hears ends) (rules_of run outside first_open whole (groups_from (suc old.rank) heads (members_in old))) (joined (record { rules = map rule_row results; cases = rows }) more) begin last
 
 pub rules_first : {S : Type 0} (hears : S → Event → S → Type 0) (ends : S → Ended → S → Type 0) (run : Run) (first : State) (first_open : Bool) (heads : List HeadValue) (old : Cases) (begin : S) → falls_from (suc old.rank) old.waiting.items ≡ true →
     GoesRules hears ends run first first_open heads old old first_open [] heads begin begin
@@ -80,7 +73,7 @@ rules_first hears ends run first first_open heads old begin falls = record {
   told = sym (append-nil (map case_row old.results.items));
   falls = falls;
   earlier = λ o. o;
-  goes = λ outside opens cuts last h. (cuts, refl, h);
+  goes = λ outside opens cuts more last h. (cuts, h);
 }
 
 pub regroup : (rules : List RuleRow) (rows : List CaseRow) (rule : RuleRow) (more : List CaseRow) (n : Inside) → joined (record { rules = rules ++ rule ∷ []; cases = rows ++ more }) n ≡ joined (record { rules = rules; cases = rows }) (record { rules = rule ∷ n.rules; cases = more ++ n.cases })
@@ -118,28 +111,26 @@ rules_on hears ends run first now_state first_open heads old now taken next is_o
       told = told;
       falls = subst (λ (n : ℕ). falls_from (suc n) next.waiting.items ≡ true) (sym ran.left.rank) ran.left.falls;
       earlier = λ o. so_far.earlier (and_left is_open end.stays_open (sym opens_is ∙ o));
-      goes = λ outside open_at cuts last rest.
+      goes = λ outside open_at cuts more last rest.
           let one = is outside (λ o. same ∙ open_at (so_far.earlier o)) in
           let these = groups_from (suc r) left (members_in now) in
-          let of_end = rule_of run outside is_open one.0 g in
-          let later : FoldsTo told_by after (rules_told run outside (is_open && rule_stays_open run of_end) cuts these) last =
-          subst (λ (b : Bool). FoldsTo told_by after (rules_told run outside b cuts these) last) (opens_so ∙ ap (λ (e : SectionRow (List CaseRow)). is_open && rule_stays_open run e) one.1)
-          (subst (λ (gs : List Group). FoldsTo told_by after (rules_told run outside opens cuts gs) last) groups rest) in
-          let ends_so : ends there (of_rule (record { line = head.line; around = of_end.around })) after =
-          subst (λ (e : SectionRow (List CaseRow)). ends there (of_rule (record { line = head.line; around = e.around })) after) one.1 (subst (λ (x : RuleRow). ends there (of_rule x) after) result_is ended) in
-          let whole = so_far.goes outside open_at (one.0 ∷ cuts) last
-          (heard_both told_by here (rule_told run outside is_open one.0 g) there (has_ended (of_rule (record { line = head.line; around = of_end.around })) ∷ rules_told run outside (is_open && rule_stays_open run of_end) cuts these) last one.2 (after, ends_so, later)) in
-          let those : Bool → Inside = λ b. rules_of run outside b cuts these in
-          let behind : SectionRow (List CaseRow) → Inside = λ e. joined (record { rules = map rule_row results; cases = rows }) (record { rules = record { line = head.line; around = e.around } ∷ (let n = those (is_open && rule_stays_open run e) in n.rules); cases = e.inside ++ (let n = those (is_open && rule_stays_open run e) in n.cases) }) in (
-            whole.0,
-            ap (λ (gs : List Group). joined (record { rules = map rule_row pushed; cases = rows ++ ran.rows }) (rules_of run outside opens cuts gs)) groups
-                ∙ ap (λ (b : Bool). joined (record { rules = map rule_row pushed; cases = rows ++ ran.rows }) (those b)) opens_so
-                ∙ ap (λ (rs : List RuleRow). joined (record { rules = rs; cases = rows ++ ran.rows }) (those (is_open && rule_stays_open run row))) (ap (map rule_row) pushed_is ∙ map_push rule_row results result ∙ ap (λ (x : RuleRow). map rule_row results ++ x ∷ []) result_is)
-                ∙ regroup (map rule_row results) rows (record { line = head.line; around = end.around }) ran.rows (those (is_open && rule_stays_open run row))
-                ∙ ap behind one.1
-                ∙ whole.1,
-            whole.2,
-          );
+          let of_ran = rule_of run outside is_open one.0 g in
+          let others = rules_of run outside (is_open && rule_stays_open run of_ran.result) cuts these in
+          let later : IsRan told_by others more after last =
+          subst (λ (b : Bool). IsRan told_by (rules_of run outside b cuts these) more after last) (opens_so ∙ ap (λ (e : SectionRow (List CaseRow)). is_open && rule_stays_open run e) one.1.is)
+          (subst (λ (gs : List Group). IsRan told_by (rules_of run outside opens cuts gs) more after last) groups rest) in
+          let row_by : SectionRow (List CaseRow) → RuleRow = λ e. record { line = head.line; around = e.around } in
+          let behind : SectionRow (List CaseRow) → Inside → Inside = λ e i. record { rules = row_by e ∷ i.rules; cases = e.inside ++ i.cases } in
+          let ends_so : ends there (of_rule (row_by of_ran.result)) after =
+          subst (λ (e : SectionRow (List CaseRow)). ends there (of_rule (row_by e)) after) one.1.is (subst (λ (x : RuleRow). ends there (of_rule x) after) result_is ended) in
+          let whole = so_far.goes outside open_at (one.0 ∷ cuts) (behind row more) last (record {
+            is = ap (behind row) later.is ∙ ap (λ e. behind e others.result) one.1.is;
+            heard = heard_both told_by here of_ran.told there (has_ended (of_rule (row_by of_ran.result)) ∷ others.told) last one.1.heard (after, ends_so, later.heard);
+          }) in
+          let joins : joined (record { rules = map rule_row pushed; cases = rows ++ ran.rows }) more ≡ joined (record { rules = map rule_row results; cases = rows }) (behind row more) =
+          ap (λ (rs : List RuleRow). joined (record { rules = rs; cases = rows ++ ran.rows }) more) (ap (map rule_row) pushed_is ∙ map_push rule_row results result ∙ ap (λ (x : RuleRow). map rule_row results ++ x ∷ []) result_is)
+          ∙ regroup (map rule_row results) rows (row_by row) ran.rows more in
+          (whole.0, subst (λ (i : Inside). IsRan told_by (rules_of run outside first_open whole.0 (groups_from (suc old.rank) heads (members_in old))) i begin last) (sym joins) whole.1);
     }
 
 pub joined_nil : (i : Inside) → joined i (record { rules = []; cases = [] }) ≡ i
@@ -151,6 +142,6 @@ rules_last hears ends run first first_open heads old now is_open results begin h
   rows = so_far.rows;
   told = so_far.told;
   are = λ outside opens.
-      let whole = so_far.goes outside opens [] here refl in
-      (whole.0, sym (joined_nil (record { rules = map rule_row results; cases = so_far.rows })) ∙ whole.1, whole.2);
+      let whole = so_far.goes outside opens [] (record { rules = []; cases = [] }) here (record { is = refl; heard = refl }) in
+      (whole.0, subst (λ (i : Inside). IsRan (tells hears ends) (rules_of run outside first_open whole.0 (groups_from (suc old.rank) heads (members_in old))) i begin here) (joined_nil (record { rules = map rule_row results; cases = so_far.rows })) whole.1);
 }

@@ -7,25 +7,23 @@ use Rattle.gk_world.specs.Sandbox.{SandboxValue}
 use Rattle.gk_world.specs.State.{State, state_of}
 use Rattle.gk_run.specs.declared.ending.Ending.{Ending}
 use Rattle.gk_run.specs.declared.ending.Ending.TheVariants as endings
-use Rattle.gk_run.specs.declared.open_section.OpenSection.{OpenSection}
 use Rattle.gk_run.specs.declared.results.Outcome.{Outcome}
 use Rattle.gk_run.specs.declared.results.Status.{Status}
 use Rattle.gk_run.specs.declared.section.Level.{Level}
 use Rattle.gk_run.specs.declared.section.Level.TheVariants as levels
-use Rattle.gk_run.specs.Cleanups.{cleanups_value}
-use Rattle.gk_run.specs.Closing.{cleaned}
+use Rattle.gk_run.specs.Acting.{CleanupValue}
+use Rattle.gk_run.specs.SectionEnd.{cleaned}
 use Rattle.gk_run.specs.Ending.{around_status, has_passed, is_memory_ending, verdict_status, worse}
-use Rattle.gk_run.specs.Events.{Event, Stand, cut_at, ended_in, event_marks, left_by, outcomes_of}
-use Rattle.gk_run.specs.OpenSection.{SectionRow, section_events, section_of, section_state}
+use Rattle.gk_run.specs.Events.{Event, IsCutOff, SoFar, Stand, cut_at, ended_in, event_marks, left_by, outcomes_of, stand_of}
+use Rattle.gk_run.specs.OpenSection.{IsBegun, IsSectionEnd, section_events, section_state}
 use Rattle.gk_run.specs.Results.{CaseRow, StepRow}
 use Rattle.gk_run.specs.Run.{Run}
-use Rattle.gk_run.specs.Running.{alone, row_of_case, verdict_of}
-use Rattle.gk_run.specs.Section.{Cut, Events, around_of, before_passed, happened, in_after, in_before, in_cleanups, in_order, in_steps, is_place, nowhere}
-use Rattle.gk_run.specs.SectionContracts.{EndsAround, IsBegun, IsSectionEnd}
+use Rattle.gk_run.specs.Running.{AreEventsTold, alone, row_of_case, verdict_of}
+use Rattle.gk_run.specs.Section.{Cut, Events, around_of, before_passed, happened, in_after, in_before, in_cleanups, in_order, in_steps, has_event, nowhere}
+use Rattle.gk_run.specs.SectionContracts.{EndsAround}
 use Rattle.gk_run.specs.SectionHooks.{after_lists, begun, entered, walk_each}
 use Rattle.gk_run.specs.Walk.{rows_of_steps, steps_from}
-use Rattle.gk_run.specs.WalkContracts.{Happens, IsClosing, IsCutOff, SoFar, stand_of}
-use Rattle.gk_run.specs.Watching.{AreEventsTold}
+use Rattle.gk_run.specs.WalkContracts.{Happens, IsClosing}
 use Rattle.gk_run.proofs.EndingLemmas.{passed_unrefused, worse_assoc}
 use Rattle.gk_run.proofs.EventLemmas.{count, cut_there, ended_both, heard_both, place_there}
 use Rattle.gk_run.proofs.GoesLemmas.{all_told, stays_refused}
@@ -33,8 +31,8 @@ use Rattle.gk_run.proofs.WalkLemmas.{at}
 
 -- ---- four parts and their cut
 
-cut_place : (all told : List Event) (c : IsCutOff all told) → is_place (count c.front) all ≡ true
-cut_place all told c = ap (is_place (count c.front)) c.whole ∙ place_there c.front c.event c.rest
+cut_place : (all told : List Event) (c : IsCutOff all told) → has_event (count c.front) all ≡ true
+cut_place all told c = ap (has_event (count c.front)) c.whole ∙ place_there c.front c.event c.rest
 
 cut_told : (all told : List Event) (c : IsCutOff all told) → told ≡ cut_at (count c.front) c.left all
 cut_told all told c = c.cut ∙ cut_there c.left c.front c.event c.rest ∙ ap (cut_at (count c.front) c.left) (sym c.whole)
@@ -58,22 +56,22 @@ pub parts_cut : (all : Events) (xs ys zs ws : List Event) (b1 b2 b3 b4 : Bool) �
     SoFar false b1 all.before [] xs → SoFar b1 b2 all.steps [] ys → SoFar b2 b3 all.after [] zs → SoFar b3 b4 all.cleanups [] ws → IsCut all (parts xs ys zs ws)
 parts_cut all xs ys zs ws true true true true k l m p q r s = (
   in_before (count p.front) p.left,
-  parts_are xs (cut_at (count p.front) p.left all.before) ys [] zs [] ws [] (cut_told all.before xs p) q r s ∙ cut_is (is_place (count p.front) all.before) (parts (cut_at (count p.front) p.left all.before) [] [] []) all (cut_place all.before xs p),
+  parts_are xs (cut_at (count p.front) p.left all.before) ys [] zs [] ws [] (cut_told all.before xs p) q r s ∙ cut_is (has_event (count p.front) all.before) (parts (cut_at (count p.front) p.left all.before) [] [] []) all (cut_place all.before xs p),
 )
 parts_cut all xs ys zs ws false true true true k l m p q r s = (
   in_steps (count q.front) q.left,
   parts_are xs all.before ys (cut_at (count q.front) q.left all.steps) zs [] ws [] (all_told false all.before xs refl p) (cut_told all.steps ys q) r s
-      ∙ cut_is (is_place (count q.front) all.steps) (parts all.before (cut_at (count q.front) q.left all.steps) [] []) all (cut_place all.steps ys q),
+      ∙ cut_is (has_event (count q.front) all.steps) (parts all.before (cut_at (count q.front) q.left all.steps) [] []) all (cut_place all.steps ys q),
 )
 parts_cut all xs ys zs ws false false true true k l m p q r s = (
   in_after (count r.front) r.left,
   parts_are xs all.before ys all.steps zs (cut_at (count r.front) r.left all.after) ws [] (all_told false all.before xs refl p) (all_told false all.steps ys refl q) (cut_told all.after zs r) s
-      ∙ cut_is (is_place (count r.front) all.after) (parts all.before all.steps (cut_at (count r.front) r.left all.after) []) all (cut_place all.after zs r),
+      ∙ cut_is (has_event (count r.front) all.after) (parts all.before all.steps (cut_at (count r.front) r.left all.after) []) all (cut_place all.after zs r),
 )
 parts_cut all xs ys zs ws false false false true k l m p q r s = (
   in_cleanups (count s.front) s.left,
   parts_are xs all.before ys all.steps zs all.after ws (cut_at (count s.front) s.left all.cleanups) (all_told false all.before xs refl p) (all_told false all.steps ys refl q) (all_told false all.after zs refl r) (cut_told all.cleanups ws s)
-      ∙ cut_is (is_place (count s.front) all.cleanups) (parts all.before all.steps all.after (cut_at (count s.front) s.left all.cleanups)) all (cut_place all.cleanups ws s),
+      ∙ cut_is (has_event (count s.front) all.cleanups) (parts all.before all.steps all.after (cut_at (count s.front) s.left all.cleanups)) all (cut_place all.cleanups ws s),
 )
 parts_cut all xs ys zs ws false false false false k l m p q r s = (
   nowhere,
@@ -160,10 +158,9 @@ no_steps : (b : Bool) → SoFar b b [] [] []
 no_steps true = refl
 no_steps false = refl
 
-pub section_ends : {S : Type 0} (hears : S → Event → S → Type 0) (run : Run) (level : Level) (tags : List (List ℕ)) (opened : OpenSection) (now : SandboxValue) (l : Ending) (reported : List Outcome) (first last : S) →
-    IsClosing hears run.library level (after_lists run.hooks level tags) opened.before (stand_of now opened.cleanups) l reported first last → EndsAround hears run level tags opened now (around_status (worse opened.before l)) first last
-section_ends hears run level tags opened now l reported first last closing outside xs begins =
-    let b = opened.before in
+pub section_ends : {S : Type 0} (hears : S → Event → S → Type 0) (run : Run) (level : Level) (tags : List (List ℕ)) (b : Ending) (now : Stand) (l : Ending) (reported : List Outcome) (first last : S) →
+    IsClosing hears run.library level (after_lists run.hooks level tags) b now l reported first last → EndsAround hears run level tags b now (around_status (worse b l)) first last
+section_ends hears run level tags b now l reported first last closing outside xs begins =
     let es = section_events run level tags outside in
     let lists = after_lists run.hooks level tags in
     let after = closing.after in
@@ -172,11 +169,11 @@ section_ends hears run level tags opened now l reported first last closing outsi
     let ma = is_memory_ending closing.between in
     let k2 : mb ≡ true → ma ≡ true = stays_refused b (ended_in after.told) closing.between after.ends in
     let k3 : ma ≡ true → is_memory_ending closing.end ≡ true = stays_refused closing.between (ended_in cleanups.told) closing.end cleanups.ends in
-    let opens : mb ≡ false → stand_of now opened.cleanups ≡ left_by (entered outside) es.before = λ n. left_whole mb es.before xs (entered outside) (stand_of now opened.cleanups) n begins.so_far begins.stands in
-    let after_is : SoFar mb ma es.after [] after.told = of_other mb ma (walk_each run.library level (stand_of now opened.cleanups) lists) es.after after.told (λ n. ap (λ x. walk_each run.library level x lists) (opens n)) after.so_far in
+    let opens : mb ≡ false → now ≡ left_by (entered outside) es.before = λ n. left_whole mb es.before xs (entered outside) now n begins.so_far begins.stands in
+    let after_is : SoFar mb ma es.after [] after.told = of_other mb ma (walk_each run.library level now lists) es.after after.told (λ n. ap (λ x. walk_each run.library level x lists) (opens n)) after.so_far in
     let lasts : ma ≡ false → closing.mid ≡ left_by (left_by (entered outside) es.before) es.after = λ n.
     let m = earlier mb ma k2 n in
-    left_whole ma es.after after.told (stand_of now opened.cleanups) closing.mid n (subst (λ x. SoFar x ma es.after [] after.told) m after_is) after.stands ∙ ap (λ x. left_by x es.after) (opens m) in
+    left_whole ma es.after after.told now closing.mid n (subst (λ x. SoFar x ma es.after [] after.told) m after_is) after.stands ∙ ap (λ x. left_by x es.after) (opens m) in
     let cleanups_are : SoFar ma (is_memory_ending closing.end) es.cleanups [] cleanups.told =
     of_other ma (is_memory_ending closing.end) (cleaned run.library level closing.mid) es.cleanups cleanups.told (λ n. ap (cleaned run.library level) (lasts n)) cleanups.so_far in
     let told = parts xs [] after.told cleanups.told in
@@ -189,34 +186,26 @@ section_ends hears run level tags opened now l reported first last closing outsi
     )
 
 -- a section whose before list passed whole has its state
-pub passed_state : (run : Run) (level : Level) (tags : List (List ℕ)) (outside : State) (first : List Event) (section : OpenSection) (now : SandboxValue) → IsBegun run level tags outside first section now → has_passed section.before ≡ true →
-    state_of now.now ≡ section_state run level tags outside
-passed_state run level tags outside first section now begins p =
-    ap (λ (x : Stand). x.state) (left_whole (is_memory_ending section.before) (begun run.library run.hooks level tags outside) first (entered outside) (stand_of now section.cleanups) (passed_unrefused section.before p) begins.so_far begins.stands)
+pub passed_state : (run : Run) (level : Level) (tags : List (List ℕ)) (outside : State) (first : List Event) (ended : Ending) (now : Stand) → IsBegun run level tags outside first ended now → has_passed ended ≡ true →
+    now.state ≡ section_state run level tags outside
+passed_state run level tags outside first ended now begins p =
+    ap (λ (x : Stand). x.state) (left_whole (is_memory_ending ended) (begun run.library run.hooks level tags outside) first (entered outside) now (passed_unrefused ended p) begins.so_far begins.stands)
 
--- a section that was begun is so still where the sandbox has the same contents
-pub begun_still : (run : Run) (level : Level) (tags : List (List ℕ)) (outside : State) (first : List Event) (section : OpenSection) (old new : SandboxValue) → new.now ≡ old.now → IsBegun run level tags outside first section old → IsBegun run level tags outside first section new
-begun_still run level tags outside first section old new same begins =
-    record { so_far = begins.so_far; ends = begins.ends; stands = ap (λ x. at (state_of x) (cleanups_value section.cleanups)) same ∙ begins.stands }
+-- a section that was begun is so still if the sandbox has the same contents
+pub begun_still : (run : Run) (level : Level) (tags : List (List ℕ)) (outside : State) (first : List Event) (ended : Ending) (cleanups : List CleanupValue) (old new : SandboxValue) → new.now ≡ old.now →
+    IsBegun run level tags outside first ended (stand_of old cleanups) → IsBegun run level tags outside first ended (stand_of new cleanups)
+begun_still run level tags outside first ended cleanups old new same begins =
+    record { so_far = begins.so_far; ends = begins.ends; stands = ap (λ x. at (state_of x) cleanups) same ∙ begins.stands }
 
 -- whether it passed whole is that of the cut
-pub ready : (run : Run) (level : Level) (tags : List (List ℕ)) (outside : State) (around : Status) (first last : List Event) (section : OpenSection) → section.before ≡ ended_in first → (end : IsSectionEnd run level tags outside around first last) →
-    has_passed section.before ≡ before_passed (happened end.cut (section_events run level tags outside))
-ready run level tags outside around first last section ends end = ap has_passed ends ∙ ap (λ es. has_passed (ended_in es)) end.opening
-
--- what a section comes to that was begun, from how it ended and from what is inside of it
-pub section_is : {A : Type 0} (run : Run) (level : Level) (tags : List (List ℕ)) (outside : State) (passed : Bool) (around : Status) (first last : List Event) (x : A) (inside : State → Bool → A) → (end : IsSectionEnd run level tags outside around first last) →
-    passed ≡ before_passed (happened end.cut (section_events run level tags outside)) → x ≡ inside (section_state run level tags outside) passed → record { around = around; inside = x } ≡ section_of run level tags outside true end.cut inside
-section_is {A} run level tags outside passed around first last x inside end passes known =
-    let events = happened end.cut (section_events run level tags outside) in
-    let with_around : Status → SectionRow A = λ a. record { around = a; inside = x } in
-    let with_inside : A → SectionRow A = λ i. record { around = around_of events; inside = i } in
-    ap with_around end.hooks ∙ ap with_inside (known ∙ ap (inside (section_state run level tags outside)) passes)
+pub ready : (run : Run) (level : Level) (tags : List (List ℕ)) (outside : State) (around : Status) (first last : List Event) (ended : Ending) → ended ≡ ended_in first → (end : IsSectionEnd run level tags outside around first last) →
+    has_passed ended ≡ before_passed (happened end.cut (section_events run level tags outside))
+ready run level tags outside around first last ended ends end = ap has_passed ends ∙ ap (λ es. has_passed (ended_in es)) end.opening
 
 -- a cut of a section that leaves it open, or doesn't, as its before list ended
 pub opened_cut : (es : Events) (first : List Event) (b : Bool) → SoFar false b es.before [] first → (cut : Cut) × (first ≡ (let e = happened cut es in e.before))
 opened_cut es first true h =
     let n = count h.front in
     let now = parts (cut_at n h.left es.before) [] [] [] in
-    (in_before n h.left, cut_told es.before first h ∙ ap (λ (x : Events). x.before) (cut_is (is_place n es.before) now es (cut_place es.before first h)))
+    (in_before n h.left, cut_told es.before first h ∙ ap (λ (x : Events). x.before) (cut_is (has_event n es.before) now es (cut_place es.before first h)))
 opened_cut es first false h = (nowhere, all_told false es.before first refl h)

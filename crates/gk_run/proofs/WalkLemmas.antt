@@ -21,15 +21,15 @@ use Rattle.gk_run.specs.declared.results.Mark.TheVariants.{Acted, Skipped, Undef
 use Rattle.gk_run.specs.declared.results.Outcome.{Outcome}
 use Rattle.gk_run.specs.declared.results.Outcome.TheVariants as outcomes
 use Rattle.gk_run.specs.declared.section.Level.{Level}
-use Rattle.gk_run.specs.declared.section.Place.{Place}
-use Rattle.gk_run.specs.Acting.{Acted as ActedValue, CleanupValue, Given, given, given_by, act, at_site, done_of, files_of, IsDone, HasRegistered, WritesFirst}
+use Rattle.gk_run.specs.declared.section.Stage.{Stage}
+use Rattle.gk_run.specs.Acting.{Acted as ActedValue, CleanupValue, ArgumentsValue, arguments_of, arguments_by_uses, act, at_site, done_of, files_of, IsDone, HasRegistered, WritesFirst}
 use Rattle.gk_run.specs.Ending.{ending_of, has_passed, is_memory_ending, is_memory_mark, worse}
-use Rattle.gk_run.specs.Events.{Event, Stand, ended_in, event_marks, left_by, of_step}
+use Rattle.gk_run.specs.Events.{Event, SoFar, Stand, ended_in, event_marks, left_by, of_step}
 use Rattle.gk_run.specs.Results.{StepRow}
 use Rattle.gk_run.specs.Section.{after_of, site_of, steps_of_case}
 use Rattle.gk_run.specs.SectionHooks.{hook_steps, walk_each}
 use Rattle.gk_run.specs.Walk.{Stepped, event_of, looked_up, one_step, row_of_step, rows_of_steps, stepped, steps_from, unrun_step, walk}
-use Rattle.gk_run.specs.WalkContracts.{Goes, Happens, IsLookedUp, IsNext, IsStepRun, SoFar, step_files, told_next}
+use Rattle.gk_run.specs.WalkContracts.{Goes, Happens, IsLookedUp, IsNext, IsStepRun, step_files, told_next}
 use Rattle.gk_run.proofs.ActingLemmas.{called_is, used_given}
 use Rattle.gk_run.proofs.EventLemmas.{marks_append}
 use Rattle.gk_run.proofs.GoesLemmas.{all_told, begin, behind, chain, unrefused, with_rest}
@@ -57,7 +57,7 @@ OneEvent hears before event m start now ended first last = (g : Happens hears be
 told_exactly : (m : Mark) (event told : Event) → is_memory_ending (ending_of m) ≡ false → event ≡ told → SoFar false (is_memory_ending (ending_of m)) (event ∷ []) [] (told ∷ [])
 told_exactly m event told n is = subst (λ b. SoFar false b (event ∷ []) [] (told ∷ [])) (sym n) (ap (λ x. x ∷ []) is)
 
-exact_goes : {S : Type 0} (hears : S → Event → S → Type 0) (place : Place) (step : StepValue) (this : Stepped) (s new : State) (cs left : List CleanupValue) (m : Mark) (first last : S) → is_memory_ending (ending_of m) ≡ false →
+exact_goes : {S : Type 0} (hears : S → Event → S → Type 0) (place : Stage) (step : StepValue) (this : Stepped) (s new : State) (cs left : List CleanupValue) (m : Mark) (first last : S) → is_memory_ending (ending_of m) ≡ false →
     (m ≡ this.mark) × (new ≡ this.state) × (left ≡ cs ++ this.registered) → FoldsTo hears first (of_step place step m this.registered new ∷ []) last → OneEvent hears endings.Passed (event_of place step this) m (at s cs) (at new left) (ending_of m) first last
 exact_goes hears place step this s new cs left m first last n t h = (
   record {
@@ -71,7 +71,7 @@ exact_goes hears place step this s new cs left m first last n t h = (
 )
 
 -- a step was carried out
-pub step_goes : {S : Type 0} (hears : S → Event → S → Type 0) (place : Place) (step : StepValue) (this : Stepped) (s new : State) (cs left : List CleanupValue) (m : Mark) (first last : S) → IsStepRun this cs m new left →
+pub step_goes : {S : Type 0} (hears : S → Event → S → Type 0) (place : Stage) (step : StepValue) (this : Stepped) (s new : State) (cs left : List CleanupValue) (m : Mark) (first last : S) → IsStepRun this cs m new left →
     ((registered : List CleanupValue) → FoldsTo hears first (of_step place step m registered new ∷ []) last) → OneEvent hears endings.Passed (event_of place step this) m (at s cs) (at new left) (ending_of m) first last
 step_goes hears place step this s new cs left (Acted outcomes.Memory) first last t h = (
   record {
@@ -93,7 +93,7 @@ step_goes hears place step this s new cs left Untested first last t h = exact_go
 -- ---- a walk
 
 -- one step more of a walk
-pub walk_on : {S : Type 0} (hears : S → Event → S → Type 0) (library : LibraryValue) (place : Place) (step : StepValue) (steps : List StepValue) (s new : State) (cs left : List CleanupValue) (m : Mark) (all : List Event) (start : Stand) (first here last : S) →
+pub walk_on : {S : Type 0} (hears : S → Event → S → Type 0) (library : LibraryValue) (place : Stage) (step : StepValue) (steps : List StepValue) (s new : State) (cs left : List CleanupValue) (m : Mark) (all : List Event) (start : Stand) (first here last : S) →
     Goes hears endings.Passed all (walk library place s (step ∷ steps)) start (at s cs) endings.Passed first here → IsStepRun (one_step library (site_of place) s step) cs m new left →
     ((registered : List CleanupValue) → FoldsTo hears here (of_step place step m registered new ∷ []) last) → Goes hears endings.Passed all (cond (has_passed (ending_of m)) (walk library place new steps) []) start (at new left) (ending_of m) first last
 walk_on hears library place step steps s new cs left m all start first here last g t h =
@@ -103,7 +103,7 @@ walk_on hears library place step steps s new cs left m all start first here last
     (λ n. let known = exact_step this cs m new left n t in sym (ap (λ x. rest x new) known.0 ∙ ap (rest this.mark) known.1))
 
 -- a walk whose first step becomes this, through one list and then another
-after_step : (place : Place) (step : StepValue) (registered : List CleanupValue) (s new : State) (cs : List CleanupValue) (m : Mark) (later : Stand → List Event) (xs both : List Event) →
+after_step : (place : Stage) (step : StepValue) (registered : List CleanupValue) (s new : State) (cs : List CleanupValue) (m : Mark) (later : Stand → List Event) (xs both : List Event) →
     both ≡ xs ++ cond (has_passed (ended_in xs)) (later (left_by (at new (cs ++ registered)) xs)) [] →
     of_step place step m registered new ∷ cond (has_passed (ending_of m)) both [] ≡
     (let w = of_step place step m registered new ∷ cond (has_passed (ending_of m)) xs [] in w ++ cond (has_passed (ended_in w)) (later (left_by (at s cs) w)) [])
@@ -116,7 +116,7 @@ after_step place step registered s new cs (Acted outcomes.Skip) later xs both h 
 after_step place step registered s new cs (Acted outcomes.Memory) later xs both h = refl
 
 -- a walk through one list, and then through another where it passed
-walk_append : (library : LibraryValue) (place : Place) (s : State) (cs : List CleanupValue) (xs ys : List StepValue) →
+walk_append : (library : LibraryValue) (place : Stage) (s : State) (cs : List CleanupValue) (xs ys : List StepValue) →
     walk library place s (xs ++ ys) ≡ (let w = walk library place s xs in w ++ cond (has_passed (ended_in w)) (let left = left_by (at s cs) w in walk library place left.state ys) [])
 walk_append library place s cs [] ys = refl
 walk_append library place s cs (x ∷ xs) ys =
@@ -124,7 +124,7 @@ walk_append library place s cs (x ∷ xs) ys =
     after_step place x this.registered s this.state cs this.mark (λ left. walk library place left.state ys) (walk library place this.state xs) (walk library place this.state (xs ++ ys)) (walk_append library place this.state (cs ++ this.registered) xs ys)
 
 -- one list more of a list that is walked as one
-pub list_on : {S : Type 0} (hears : S → Event → S → Type 0) (library : LibraryValue) (place : Place) (xs ys : List StepValue) (s : State) (cs : List CleanupValue) (now : Stand) (e : Ending) (all : List Event) (start : Stand) (first here last : S) →
+pub list_on : {S : Type 0} (hears : S → Event → S → Type 0) (library : LibraryValue) (place : Stage) (xs ys : List StepValue) (s : State) (cs : List CleanupValue) (now : Stand) (e : Ending) (all : List Event) (start : Stand) (first here last : S) →
     Goes hears endings.Passed all (walk library place s (xs ++ ys)) start (at s cs) endings.Passed first here → Happens hears endings.Passed (walk library place s xs) (at s cs) now e here last →
     Goes hears endings.Passed all (cond (has_passed e) (walk library place now.state ys) []) start now e first last
 list_on hears library place xs ys s cs now e all start first here last g h =
@@ -356,8 +356,8 @@ acted_step acted cleanups new_cleanups outcomes.Skip new done registered = (ap (
 acted_step acted cleanups new_cleanups (outcomes.Failed why) new done registered = (ap (λ o. Acted o) done.0, done.1, registered)
 
 -- a step of which the action and what its fields took were found
-pub used_step : (library : LibraryValue) (site : Site) (s new : State) (cleanups new_cleanups : List CleanupValue) (step : StepValue) (x : Option FoundValue) (u : FoundUse) (g : Given) (o : Outcome)
-    → IsUseOf library x (Some u) → g ≡ given_by u.fields step.block
+pub used_step : (library : LibraryValue) (site : Site) (s new : State) (cleanups new_cleanups : List CleanupValue) (step : StepValue) (x : Option FoundValue) (u : FoundUse) (g : ArgumentsValue) (o : Outcome)
+    → IsUseOf library x (Some u) → g ≡ arguments_by_uses u.fields step.block
     → IsDone (done_of (at_site u.action site library g s)) o new → HasRegistered (at_site u.action site library g s) cleanups o new_cleanups
     → IsStepRun (stepped library site s step x) cleanups (Acted o) new new_cleanups
 used_step library site s new cleanups new_cleanups step None u g o looked h done registered = absurd looked
@@ -368,13 +368,13 @@ used_step library site s new cleanups new_cleanups step (Some f) u g o looked h 
     (subst (λ (a : ActedValue). HasRegistered a cleanups o new_cleanups) is registered)
 
 -- what such a step wrote where memory was refused in its action
-pub used_kept : (library : LibraryValue) (old new : SandboxValue) (step : StepValue) (x : Option FoundValue) (u : FoundUse) (g : Given)
-    → IsUseOf library x (Some u) → g ≡ given_by u.fields step.block
+pub used_kept : (library : LibraryValue) (old new : SandboxValue) (step : StepValue) (x : Option FoundValue) (u : FoundUse) (g : ArgumentsValue)
+    → IsUseOf library x (Some u) → g ≡ arguments_by_uses u.fields step.block
     → WritesFirst (files_of u.action g (state_of old.now)) old new → WritesFirst (step_files library (state_of old.now) step x) old new
 used_kept library old new step None u g looked h kept = absurd looked
 used_kept library old new step (Some f) u g looked h kept =
-    subst (λ (a : Action). WritesFirst (files_of a (given library f step.block) (state_of old.now)) old new) looked.action
-    (subst (λ (y : Given). WritesFirst (files_of u.action y (state_of old.now)) old new) (h ∙ used_given library f u.fields step.block looked.fields) kept)
+    subst (λ (a : Action). WritesFirst (files_of a (arguments_of library f step.block) (state_of old.now)) old new) looked.action
+    (subst (λ (y : ArgumentsValue). WritesFirst (files_of u.action y (state_of old.now)) old new) (h ∙ used_given library f u.fields step.block looked.fields) kept)
 
 only_skipped : (b : Bool) → is_memory_mark (cond b Skipped Undefined) ≡ false
 only_skipped true = refl

@@ -20,7 +20,6 @@ use Rattle.gk_world.specs.State.{State, with_text, without, see, state_of}
 use Rattle.gk_world.specs.Refusals.{first_true, is_bad_name, is_too_long, joined}
 use Rattle.gk_world.specs.Sandbox.{SandboxValue, PutsFile, KeepsLayers}
 use Rattle.gk_run.specs.declared.acting.Arguments.{Arguments}
-use Rattle.gk_run.specs.declared.acting.Call.{Call}
 use Rattle.gk_run.specs.declared.acting.Site.{Site}
 use Rattle.gk_run.specs.declared.acting.Site.TheVariants as sites
 use Rattle.gk_run.specs.declared.results.Reason.{Reason}
@@ -35,7 +34,7 @@ pub record Done : Type 0 where
   pub part_passed : Bool
 
 -- What an action is called with: the fields that it uses, T, the text that it works with, and the step's block.
-pub record Given : Type 0 where
+pub record ArgumentsValue : Type 0 where
   pub name : List ℕ
   pub to : List ℕ
   pub step : List ℕ
@@ -50,8 +49,8 @@ doc_string Empty = None
 doc_string (Table rows) = None
 
 -- The arguments of a step. T is the field `text` where the pattern has it, else the step's doc string, else there is none.
-abbrev pub given : LibraryValue → FoundValue → BlockValue → Given
-given library found block = record {
+abbrev pub arguments_of : LibraryValue → FoundValue → BlockValue → ArgumentsValue
+arguments_of library found block = record {
   name = unwrap_or (text_field library found (codes "name")) [];
   to = unwrap_or (text_field library found (codes "to")) [];
   step = unwrap_or (text_field library found (codes "step")) [];
@@ -237,7 +236,7 @@ abbrev pub add_number : State → List ℕ → Option (List ℕ) → ℤ → Don
 add_number s name held n = let sum = sum_held held n in unless s (bad_name name ∷ absent held ∷ not_number held ∷ out_of_range sum ∷ []) (with_own s name (signed_decimal sum))
 
 -- The table of the actions, row by row, but for what at_cleanup and skip_scenario do where they are allowed: T where the action works with it, the reasons for which it fails, in their order, and the state that it else leaves.
-abbrev pub table : Action → Given → State → Done
+abbrev pub table : Action → ArgumentsValue → State → Done
 table actions.WriteFile g s = with_T s g.text (λ text. write_file s g.name text)
 table actions.AppendFile g s = with_T s g.text (λ text. unless s (bad_name g.name ∷ absent (s.files g.name) ∷ too_long (joined s.files g.name text) ∷ []) (with_file s g.name (joined s.files g.name text)))
 table actions.RemoveFile g s = remove_file s g.name
@@ -262,10 +261,6 @@ table actions.AtCleanup g s = fails s reasons.NotHere
 table actions.SkipScenario g s = fails s reasons.NotHere
 table actions.Pass g s = passes s
 table actions.Fail g s = fails s reasons.Asked
-
--- What the row of a step's action leaves. A failed action keeps the changes that it made before.
-unfoldable pub carried_out : LibraryValue → FoundValue → BlockValue → State → Done
-carried_out library found block s = table (action_of library found) (given library found block) s
 
 -- A registered cleanup: what its text found, and the block of the step that registered it. (behave's documentation: cleanups)
 pub record CleanupValue : Type 0 where
@@ -309,18 +304,18 @@ registers s block None = without_cleanups (record (fails s reasons.NoStep) { par
 registers s block (Some f) = record { done = passes s; registered = record { found = f; block = block } ∷ [] }
 
 -- A text is looked up and registered where that is allowed.
-abbrev pub registers_at : Site → State → LibraryValue → Given → Acted
+abbrev pub registers_at : Site → State → LibraryValue → ArgumentsValue → Acted
 registers_at site s library g = cond (may_register site) (registers s g.block (found_any library g.step)) (without_cleanups (fails s reasons.NotHere))
 
 -- What an action does at a site: at_cleanup looks the field `step` up among the entries of type `step`, skip_scenario skips; where it isn't allowed it fails, as its row of the table says; the others are their rows.
-abbrev pub at_site : Action → Site → LibraryValue → Given → State → Acted
+abbrev pub at_site : Action → Site → LibraryValue → ArgumentsValue → State → Acted
 at_site actions.AtCleanup site library g s = registers_at site s library g
 at_site actions.SkipScenario site library g s = without_cleanups (cond (may_skip site) (skips s) (fails s reasons.NotHere))
 at_site action site library g s = without_cleanups (table action g s)
 
 -- What the action of a found step leaves and registers.
 unfoldable pub act : LibraryValue → Site → FoundValue → BlockValue → State → Acted
-act library site found block s = at_site (action_of library found) site library (given library found block) s
+act library site found block s = at_site (action_of library found) site library (arguments_of library found block) s
 
 -- The actions that change nothing, the checks, `skip_scenario`, `pass` and `fail`: their rows leave the state as it is. They take no memory.
 abbrev pub changes_nothing : Action → Bool
@@ -366,19 +361,16 @@ HasRegistered acted before outcomes.Memory after = after ≡ before
 HasRegistered acted before outcome after = after ≡ before ++ acted.registered
 
 -- An action that changes nothing was carried out: memory is not an outcome of it.
-abbrev pub IsExact : Library → Found → Done → Outcome → State → Type 0
-IsExact library found done outcome new = changes_nothing (action_of (library_value library) (found_value found)) ≡ true → IsExactly done outcome new
+abbrev pub IsExact : Action → Done → Outcome → State → Type 0
+IsExact action done outcome new = changes_nothing action ≡ true → IsExactly done outcome new
 
 -- Where no entry of type `step` matches a text, memory is refused only where the text has the ends of such an entry.
 abbrev pub NeedsCandidate : LibraryValue → List ℕ → Outcome → Type 0
 NeedsCandidate library text outcome = found_any library text ≡ None → outcome ≡ outcomes.Memory → HasCandidate library None text
 
--- Where no entry of type `step` matches the step that at_cleanup registers, memory is refused only where that step has the ends of such an entry.
-abbrev pub CleanupNeedsCandidate : Library → Found → Block → Outcome → Type 0
-CleanupNeedsCandidate library found block outcome =
-    let l = library_value library in
-    let g = given l (found_value found) (block_value block) in
-    action_of l (found_value found) ≡ actions.AtCleanup → NeedsCandidate l g.step outcome
+-- If no entry of type `step` matches the step that at_cleanup registers, memory is refused only if that step has the ends of such an entry.
+abbrev pub CleanupNeedsCandidate : LibraryValue → Action → ArgumentsValue → Outcome → Type 0
+CleanupNeedsCandidate library action g outcome = action ≡ actions.AtCleanup → NeedsCandidate library g.step outcome
 
 -- A row of a table of files: a name and a text.
 abbrev pub row_file : List (List ℕ) → List ℕ × List ℕ
@@ -404,7 +396,7 @@ abbrev pub renamed_files : State → List ℕ → List ℕ → List (List ℕ ×
 renamed_files s name to = cond (bytes_eq name to) [] ((to, unwrap_or (s.files name) []) ∷ [])
 
 -- The files that an action of more than one change writes, in order. An action of one change has none.
-abbrev pub files_of : Action → Given → State → List (List ℕ × List ℕ)
+abbrev pub files_of : Action → ArgumentsValue → State → List (List ℕ × List ℕ)
 files_of actions.RenameFile g s = renamed_files s g.name g.to
 files_of actions.WriteFiles g s = table_files s g.block
 files_of _ g s = []
@@ -414,18 +406,23 @@ abbrev pub WritesFirst : List (List ℕ × List ℕ) → SandboxValue → Sandbo
 WritesFirst [] old new = new ≡ old
 WritesFirst (file ∷ files) old new = (new ≡ old) ⊎ ((mid : SandboxValue) × PutsFile old file.0 file.1 mid × WritesFirst files mid new)
 
--- Where memory was refused, some first changes of an action were made and no others; an action of one change has changed nothing.
-abbrev pub KeepsAtMemory : Library → Found → Block → SandboxValue → Outcome → SandboxValue → Type 0
-KeepsAtMemory library found block old outcome new =
-    let l = library_value library in
-    let f = found_value found in
-    outcome ≡ outcomes.Memory → WritesFirst (files_of (action_of l f) (given l f (block_value block)) (state_of old.now)) old new
+-- If memory was refused, some first changes of an action were made and no others; an action of one change has changed nothing.
+abbrev pub KeepsAtMemory : Action → ArgumentsValue → SandboxValue → Outcome → SandboxValue → Type 0
+KeepsAtMemory action g old outcome new = outcome ≡ outcomes.Memory → WritesFirst (files_of action g (state_of old.now)) old new
+
+-- The action of a found step, as the program holds the library and what was found.
+abbrev pub action_in : Library → Found → Action
+action_in library found = action_of (library_value library) (found_value found)
+
+-- The arguments of a found step, as the program holds the library, what was found and the block.
+abbrev pub arguments_in : Library → Found → Block → ArgumentsValue
+arguments_in library found block = arguments_of (library_value library) (found_value found) (block_value block)
 
 -- Proof machinery, from here on: what the code's calls do.
 
 -- What an `Arguments` says.
-abbrev pub given_value : Arguments → Given
-given_value a = record { name = a.name.now; to = a.to.now; step = a.step.now; number = a.number; text = option_copied a.text; block = block_value a.block.now }
+abbrev pub arguments_value : Arguments → ArgumentsValue
+arguments_value a = record { name = a.name.now; to = a.to.now; step = a.step.now; number = a.number; text = option_copied a.text; block = block_value a.block.now }
 
 -- The outcome of skip_scenario at a site.
 abbrev pub skip_outcome : Site → Outcome
@@ -462,19 +459,15 @@ put_files s to text = first_file (write_file s to text) (to, text) []
 abbrev pub WritesFile : List ℕ × List ℕ → SandboxValue → Outcome → SandboxValue → Type 0
 WritesFile file old outcome new = outcome ≡ outcomes.Passed → PutsFile old file.0 file.1 new
 
--- What the row of an action leaves, as the program holds the library, what was found and the block.
-abbrev pub carried_out_of : Library → Found → Block → State → Done
-carried_out_of library found block s = carried_out (library_value library) (found_value found) (block_value block) s
-
 -- An action was carried out as its row of the table says, or memory was refused in it.
 abbrev pub Performs : Action → Arguments → SandboxValue → Outcome → SandboxValue → Type 0
 Performs action arguments old outcome new =
-    let g = given_value arguments in
+    let g = arguments_value arguments in
     IsActedWith (files_of action g (state_of old.now)) (table action g (state_of old.now)) old outcome new
 
 -- An action that changes nothing was carried out as its row of the table says.
 abbrev pub Checks : Action → Arguments → SandboxValue → Outcome → Type 0
-Checks action arguments now outcome = IsExactly (table action (given_value arguments) (state_of now.now)) outcome (state_of now.now)
+Checks action arguments now outcome = IsExactly (table action (arguments_value arguments) (state_of now.now)) outcome (state_of now.now)
 
 -- An action that changes nothing has this outcome at every state.
 abbrev pub IsOutcome : (State → Done) → Outcome → Type 0
@@ -501,8 +494,8 @@ abbrev pub IsNumber : Option (List ℕ) → ℤ → Outcome → Type 0
 IsNumber held n = IsOutcome (λ s. unless s (absent held ∷ not_number held ∷ differs_from held n ∷ []) s)
 
 -- What is given by the fields of what was found, and a block.
-abbrev pub given_by : UsedFields → BlockValue → Given
-given_by used block = record {
+abbrev pub arguments_by_uses : UsedFields → BlockValue → ArgumentsValue
+arguments_by_uses used block = record {
   name = unwrap_or (lent_text used.name) [];
   to = unwrap_or (lent_text used.to) [];
   step = unwrap_or (lent_text used.step) [];
@@ -511,18 +504,6 @@ given_by used block = record {
   block = block;
 }
 
--- What an action leaves and registers as it is called.
-abbrev pub called : Library → Call → State → Acted
-called library call s = at_site call.action call.site (library_value library) (given_value call.arguments) s
-
--- An action that changes nothing, as it is called, has exactly the outcome of its plain state.
-abbrev pub IsCallExact : Library → Call → State → Outcome → State → Type 0
-IsCallExact library call s outcome new = changes_nothing call.action ≡ true → IsExactly (done_of (called library call s)) outcome new
-
--- Memory is refused in an action that registers a cleanup, as it is called, only where an entry may match.
-abbrev pub CallNeedsCandidate : Library → Call → Outcome → Type 0
-CallNeedsCandidate library call outcome = call.action ≡ actions.AtCleanup → NeedsCandidate (library_value library) call.arguments.step.now outcome
-
--- Where memory is refused in an action, as it is called, what it wrote is a first part of the files that it writes.
-abbrev pub CallKeepsAtMemory : Call → SandboxValue → Outcome → SandboxValue → Type 0
-CallKeepsAtMemory call old outcome new = outcome ≡ outcomes.Memory → WritesFirst (files_of call.action (given_value call.arguments) (state_of old.now)) old new
+-- What an action leaves and registers at a site with these arguments.
+abbrev pub called : Library → Site → Action → Arguments → State → Acted
+called library site action arguments s = at_site action site (library_value library) (arguments_value arguments) s

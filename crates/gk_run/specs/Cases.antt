@@ -1,13 +1,15 @@
 -- The results of cases in their section.
 use Rattle.std.specs.List.{list_all}
-use Rattle.std.specs.Prelude.{Bool, cond, List, [], ◌∷◌, map, ◌&&◌, not, ◌||◌}
+use Rattle.std.specs.Prelude.{Bool, cond, List, [], ◌∷◌, ◌++◌, map, ◌&&◌, not, ◌||◌}
 use Rattle.gk_world.specs.State.{State}
 use Rattle.gk_run.specs.declared.results.Status.{Status}
 use Rattle.gk_run.specs.Chosen.{MemberValue}
+use Rattle.gk_run.specs.Events.{Event}
+use Rattle.gk_run.specs.Observer.{Ran, happens, has_ended, of_case}
 use Rattle.gk_run.specs.Results.{CaseRow, is_failed, is_memory}
 use Rattle.gk_run.specs.Run.{Run}
-use Rattle.gk_run.specs.Running.{reached_row, unselected_row, unreached_row}
-use Rattle.gk_run.specs.Section.{Cut, nowhere}
+use Rattle.gk_run.specs.Running.{alone, reached_row, unselected_row, unreached_row}
+use Rattle.gk_run.specs.Section.{Cut, happened, in_order, nowhere}
 
 -- The first of a list, or another where there is none.
 abbrev pub first_or : {A : Type 0} → A → List A → A
@@ -39,12 +41,18 @@ all_stay_open run rows = list_all (λ (row : CaseRow). stays_open run row.status
 abbrev pub case_of : Run → State → Bool → Cut → MemberValue → CaseRow
 case_of run section is_open cut m = cond m.selected (cond is_open (reached_row run section cut m.scenario) (unreached_row m.scenario)) (unselected_row m.scenario)
 
--- The results of a section's cases in order. Each starts from the section's state: the others leave nothing in it. A selected one is reached where the section is open so far. (behave's documentation: context layers)
-abbrev pub cases_of : Run → State → Bool → List Cut → List MemberValue → List CaseRow
-cases_of run section is_open cuts [] = []
+-- The events of a case: these cut at one if it is reached, otherwise none.
+abbrev pub case_events : Run → State → Bool → Cut → MemberValue → List Event
+case_events run section is_open cut m = cond (m.selected && is_open) (in_order (happened cut (alone run section m.scenario))) []
+
+-- A section's cases in order: the result of each, and its events and then its end are told. Each starts from the section's state: the others leave nothing in it. A selected one is reached if the section is open so far. (behave's documentation: context layers)
+abbrev pub cases_of : Run → State → Bool → List Cut → List MemberValue → Ran (List CaseRow)
+cases_of run section is_open cuts [] = record { result = []; told = [] }
 cases_of run section is_open cuts (m ∷ ms) =
-    let row = case_of run section is_open (first_or nowhere cuts) m in
-    row ∷ cases_of run section (is_open && stays_open run row.status) (later cuts) ms
+    let cut = first_or nowhere cuts in
+    let row = case_of run section is_open cut m in
+    let next = cases_of run section (is_open && stays_open run row.status) (later cuts) ms in
+    record { result = row ∷ next.result; told = map happens (case_events run section is_open cut m) ++ has_ended (of_case row) ∷ next.told }
 
 -- The verdicts of cases.
 abbrev pub case_statuses : List CaseRow → List Status

@@ -1,15 +1,9 @@
 -- Registered cleanups, without where they lie in memory.
-use Rattle.std.specs.Prelude.{List, map}
 use Rattle.gk_gherkin.specs.Feature.{block_value}
 use Rattle.gk_steps.specs.Finding.{found_value}
 use Rattle.gk_run.specs.declared.cleanups.Cleanup.{Cleanup}
-use Rattle.gk_run.specs.declared.cleanups.Cleanups.{Cleanups}
 use Rattle.gk_run.specs.Acting.{CleanupValue}
 
 -- What a `Cleanup` says.
 abbrev pub cleanup_value : Cleanup → CleanupValue
 cleanup_value c = record { found = found_value c.found; block = block_value c.block }
-
--- What a `Cleanups` says, in the order of registration. (behave's documentation: cleanups)
-abbrev pub cleanups_value : Cleanups → List CleanupValue
-cleanups_value cs = map cleanup_value cs.list.items

@@ -8,7 +8,7 @@ use Rattle.gk_run.specs.declared.results.Mark.TheVariants.{Untested}
 use Rattle.gk_run.specs.DryRun.{dry_step}
 use Rattle.gk_run.specs.Events.{cut_at, event_marks}
 use Rattle.gk_run.specs.Results.{StepRow}
-use Rattle.gk_run.specs.Section.{is_place}
+use Rattle.gk_run.specs.Section.{has_event}
 use Rattle.gk_run.specs.Walk.{rows_of_steps}
 use Rattle.gk_run.specs.WalkContracts.{IsLookedUp}
 
@@ -21,5 +21,5 @@ IsDryStep library false step mark = IsLookedUp library Untested step mark
 abbrev pub AreDrySteps : LibraryValue → Bool → List StepValue → List StepRow → Bool → Type 0
 AreDrySteps library true steps rows refused = (rows ≡ rows_of_steps steps []) × (refused ≡ true)
 AreDrySteps library false steps rows true =
-    (n : ℕ) × (is_place n (map (dry_step library) steps) ≡ true) × (rows ≡ rows_of_steps steps (event_marks (cut_at n (state_of nothing_yet) (map (dry_step library) steps))))
+    (n : ℕ) × (has_event n (map (dry_step library) steps) ≡ true) × (rows ≡ rows_of_steps steps (event_marks (cut_at n (state_of nothing_yet) (map (dry_step library) steps))))
 AreDrySteps library false steps rows false = rows ≡ rows_of_steps steps (event_marks (map (dry_step library) steps))

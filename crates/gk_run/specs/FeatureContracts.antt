@@ -3,31 +3,32 @@ use Rattle.std.specs.List.{FoldsTo}
 use Rattle.std.specs.Prelude.{suc, length, Option, Some, None, Bool, true, String, List, ◌∷◌, ◌++◌, map, ◌≡◌, ◌<◌, ℕ}
 use Rattle.std.specs.declared.alloc.Global.{Global}
 use Rattle.gk_gherkin.specs.Feature.{texts}
+use Rattle.gk_select.specs.declared.case.Case.{Case}
 use Rattle.gk_select.specs.RuleOrder as order
 use Rattle.gk_world.specs.Sandbox.{SandboxValue}
 use Rattle.gk_world.specs.State.{State, state_of}
 use Rattle.gk_run.specs.declared.cases.Cases.{Cases}
 use Rattle.gk_run.specs.declared.cases.Member.{Member}
+use Rattle.gk_run.specs.declared.cases.Content.{Content}
 use Rattle.gk_run.specs.declared.features.FeatureEnd.{FeatureEnd}
-use Rattle.gk_run.specs.declared.features.Inside as declared
-use Rattle.gk_run.specs.declared.reserved.ReservedCases.{ReservedCases}
-use Rattle.gk_run.specs.declared.reserved.ReservedFeature.{ReservedFeature}
+use Rattle.gk_run.specs.declared.features.InsideResults.{InsideResults}
 use Rattle.gk_run.specs.declared.results.CaseResult.{CaseResult}
+use Rattle.gk_run.specs.declared.results.Reserved.{Reserved}
 use Rattle.gk_run.specs.declared.results.RuleResult.{RuleResult}
 use Rattle.gk_run.specs.declared.rules.RuleEnd.{RuleEnd}
 use Rattle.gk_run.specs.declared.run.Run as shared
 use Rattle.gk_run.specs.declared.section.Level.TheVariants as levels
-use Rattle.gk_run.specs.Cases.{all_stay_open, case_of, cases_of}
+use Rattle.gk_run.specs.Cases.{all_stay_open, case_events, case_of, cases_of}
 use Rattle.gk_run.specs.Chosen.{ChosenValue, HeadValue, MemberValue, head_value, member_of, members_of}
 use Rattle.gk_run.specs.Events.{Event}
-use Rattle.gk_run.specs.Features.{inside_by}
+use Rattle.gk_run.specs.Features.{IsFeatureTold, inside_by}
 use Rattle.gk_run.specs.Grouping.{Group, falls_from, groups_from, members_of_rank}
 use Rattle.gk_run.specs.OpenSection.{SectionRow, section_of}
 use Rattle.gk_run.specs.Results.{CaseRow, FeatureRow, case_row, rule_row}
 use Rattle.gk_run.specs.Rules.{Inside, RuleCuts, rule_of, rule_stays_open, rules_of}
 use Rattle.gk_run.specs.Run.{Run, run_value}
 use Rattle.gk_run.specs.Section.{Cut}
-use Rattle.gk_run.specs.Watching.{Ended, IsFeatureTold, Told, case_events, cases_told, inside_told, rule_told, rules_told, section_told, tells}
+use Rattle.gk_run.specs.Observer.{Ended, IsRan, Told, tells}
 
 -- ---- cases
 
@@ -43,17 +44,17 @@ RunsMember hears run old is_open m first last r = IsMember hears (run_value run)
 -- The rows of cases, and what was told of them, are those of some cuts, from the section's state where they are reached.
 abbrev pub AreCases : {S : Type 0} → (S → Told → S → Type 0) → Run → State → Bool → List MemberValue → List CaseRow → S → S → Type 0
 AreCases told run now is_open members rows first last =
-    (section : State) → (is_open ≡ true → now ≡ section) → (cuts : List Cut) × (rows ≡ cases_of run section is_open cuts members) × FoldsTo told first (cases_told run section is_open cuts members) last
+    (section : State) → (is_open ≡ true → now ≡ section) → (cuts : List Cut) × IsRan told (cases_of run section is_open cuts members) rows first last
 
 -- The cases that are still to come, each with whether it is selected.
 abbrev pub members_in : Cases → List MemberValue
 members_in cases = members_of cases.waiting.items cases.selected.items
 
--- The same cases, of which none is taken yet.
-pub record BeginsWith (reserved : ReservedCases) (cases : Cases) : Type 0 where
+-- The same cases and choice, of which none is taken yet.
+pub record BeginsWith (reserved : Reserved Case CaseResult) (choice : List Bool) (cases : Cases) : Type 0 where
   pub rank : cases.rank ≡ 0
-  pub waiting : cases.waiting.items ≡ reserved.cases.items
-  pub selected : cases.selected.items ≡ reserved.selected.items
+  pub waiting : cases.waiting.items ≡ reserved.list.items
+  pub selected : cases.selected.items ≡ choice
   pub results : cases.results ≡ reserved.results
 
 -- The next case of the rank was taken, or there is none.
@@ -81,12 +82,12 @@ pub record RunsCases {S : Type 0} (hears : S → Event → S → Type 0) (ends :
 -- What a rule comes to, and what was told of it, are those of some cuts, from its feature's state where the feature is open.
 abbrev pub IsRule : {S : Type 0} → (S → Told → S → Type 0) → Run → State → Bool → Group → SectionRow (List CaseRow) → S → S → Type 0
 IsRule told run now is_open g end first last =
-    (outside : State) → (is_open ≡ true → now ≡ outside) → (cuts : RuleCuts) × (end ≡ rule_of run outside is_open cuts g) × FoldsTo told first (rule_told run outside is_open cuts g) last
+    (outside : State) → (is_open ≡ true → now ≡ outside) → (cuts : RuleCuts) × IsRan told (rule_of run outside is_open cuts g) end first last
 
 -- What rules come to, and what was told of them, are those of some cuts, from their feature's state where the feature is open.
 abbrev pub AreRules : {S : Type 0} → (S → Told → S → Type 0) → Run → State → Bool → List Group → Inside → S → S → Type 0
 AreRules told run now is_open groups inside first last =
-    (outside : State) → (is_open ≡ true → now ≡ outside) → (cuts : List RuleCuts) × (inside ≡ rules_of run outside is_open cuts groups) × FoldsTo told first (rules_told run outside is_open cuts groups) last
+    (outside : State) → (is_open ≡ true → now ≡ outside) → (cuts : List RuleCuts) × IsRan told (rules_of run outside is_open cuts groups) inside first last
 
 -- The next cases, those of one rank, were run as those of a rule; whether what comes after it is still reached.
 pub record EndsRule (run : Run) (IsEnd : List MemberValue → SectionRow (List CaseRow) → Type 0) (old new : Cases) (end : RuleEnd) : Type 0 where
@@ -99,8 +100,7 @@ pub record EndsRule (run : Run) (IsEnd : List MemberValue → SectionRow (List C
 -- What a section comes to that was begun, and what was told of it, are those of some cuts.
 abbrev pub IsRuleBegun : {S : Type 0} → (S → Told → S → Type 0) → Run → State → List (List ℕ) → List MemberValue → SectionRow (List CaseRow) → S → S → Type 0
 IsRuleBegun told run now tags members row first last =
-    (cut : Cut) × (cuts : List Cut) × (row ≡ section_of run levels.Rule tags now true cut (λ section is_ready. cases_of run section is_ready cuts members))
-    × FoldsTo told first (section_told run levels.Rule tags now true cut (λ section is_ready. cases_told run section is_ready cuts members)) last
+    (cut : Cut) × (cuts : List Cut) × IsRan told (section_of run levels.Rule tags now true cut (λ section is_ready. cases_of run section is_ready cuts members)) row first last
 
 -- A rule was run in a layer of its own, from its feature's state.
 abbrev pub BeginsRule : {S : Type 0} → (S → Event → S → Type 0) → (S → Ended → S → Type 0) → shared.Run → State → List (String Global) → Cases → Cases → S → S → RuleEnd → Type 0
@@ -123,29 +123,27 @@ pub record RunsRules {S : Type 0} (hears : S → Event → S → Type 0) (ends :
 -- What is inside of a section, and what was told of it, are those of some cuts, from the section's state where it is open.
 abbrev pub IsInside : {S : Type 0} → (S → Told → S → Type 0) → Run → State → Bool → List MemberValue → List Group → Inside → S → S → Type 0
 IsInside told run now is_open own groups inside first last =
-    (section : State) → (is_open ≡ true → now ≡ section) → (cuts : List Cut) × (rule_cuts : List RuleCuts) × (inside ≡ inside_by run section is_open cuts rule_cuts own groups)
-    × FoldsTo told first (inside_told run section is_open cuts rule_cuts own groups) last
+    (section : State) → (is_open ≡ true → now ≡ section) → (cuts : List Cut) × (rule_cuts : List RuleCuts) × IsRan told (inside_by run section is_open cuts rule_cuts own groups) inside first last
 
 -- What a feature comes to, and what was told of it, are those of some cuts, from the run's state where it is begun.
 abbrev pub IsFeatureEnd : {S : Type 0} → (S → Told → S → Type 0) → Run → State → Bool → List (List ℕ) → List MemberValue → List Group → SectionRow Inside → S → S → Type 0
 IsFeatureEnd told run now is_begun tags own groups end first last =
     (outside : State) → (is_begun ≡ true → now ≡ outside) → (cut : Cut) × (cuts : List Cut) × (rule_cuts : List RuleCuts)
-    × (end ≡ section_of run levels.Feature tags outside is_begun cut (λ section is_open. inside_by run section is_open cuts rule_cuts own groups))
-    × FoldsTo told first (section_told run levels.Feature tags outside is_begun cut (λ section is_open. inside_told run section is_open cuts rule_cuts own groups)) last
+    × IsRan told (section_of run levels.Feature tags outside is_begun cut (λ section is_open. inside_by run section is_open cuts rule_cuts own groups)) end first last
 
 -- What the code says of the inside of a feature.
-abbrev pub inside_value : declared.Inside → Inside
+abbrev pub inside_value : InsideResults → Inside
 inside_value i = record { rules = map rule_row i.rules.items; cases = map case_row i.cases.items }
 
 -- What was run inside of a feature.
-abbrev pub RunsInside : {S : Type 0} → (S → Event → S → Type 0) → (S → Ended → S → Type 0) → shared.Run → State → Bool → ReservedFeature → S → S → declared.Inside → Type 0
+abbrev pub RunsInside : {S : Type 0} → (S → Event → S → Type 0) → (S → Ended → S → Type 0) → shared.Run → State → Bool → Content → S → S → InsideResults → Type 0
 RunsInside hears ends run now is_open content first last inside =
-    IsInside (tells hears ends) (run_value run) now is_open (members_of_rank 0 (members_in content.cases)) (groups_from 1 (map head_value content.rules.heads.items) (members_in content.cases)) (inside_value inside) first last
+    IsInside (tells hears ends) (run_value run) now is_open (members_of_rank 0 (members_in content.cases)) (groups_from 1 (map head_value content.rules.list.items) (members_in content.cases)) (inside_value inside) first last
 
 -- A feature ran, or wasn't begun, and ended like this.
-abbrev pub EndsFeature : {S : Type 0} → (S → Event → S → Type 0) → (S → Ended → S → Type 0) → shared.Run → State → Bool → List (String Global) → ReservedFeature → S → S → FeatureEnd → Type 0
+abbrev pub EndsFeature : {S : Type 0} → (S → Event → S → Type 0) → (S → Ended → S → Type 0) → shared.Run → State → Bool → List (String Global) → Content → S → S → FeatureEnd → Type 0
 EndsFeature hears ends run now is_begun tags content first last end =
-    IsFeatureEnd (tells hears ends) (run_value run) now is_begun (texts tags) (members_of_rank 0 (members_in content.cases)) (groups_from 1 (map head_value content.rules.heads.items) (members_in content.cases)) (record { around = end.around; inside = inside_value end.inside }) first last
+    IsFeatureEnd (tells hears ends) (run_value run) now is_begun (texts tags) (members_of_rank 0 (members_in content.cases)) (groups_from 1 (map head_value content.rules.list.items) (members_in content.cases)) (record { around = end.around; inside = inside_value end.inside }) first last
 
 -- The result of a feature, and what was told of it, are those of some cuts, from the run's state where the run is open.
 abbrev pub RunsFeature : {S : Type 0} → (S → Event → S → Type 0) → (S → Ended → S → Type 0) → Run → State → Bool → ChosenValue → S → S → FeatureRow → Type 0

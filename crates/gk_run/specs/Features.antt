@@ -8,6 +8,8 @@ use Rattle.gk_run.specs.declared.section.Level.TheVariants as levels
 use Rattle.gk_run.specs.Cases.{all_stay_open, case_statuses, cases_of, first_or, later, stays_open}
 use Rattle.gk_run.specs.Chosen.{HeadValue, MemberValue, ChosenValue, has_selected}
 use Rattle.gk_run.specs.Grouping.{CasesFallIntoRules, Group, own_members, rule_groups}
+use Rattle.gk_run.specs.Events.{Event}
+use Rattle.gk_run.specs.Observer.{Ended, IsRan, Ran, result_of, tells}
 use Rattle.gk_run.specs.OpenSection.{section_of}
 use Rattle.gk_run.specs.Results.{CaseRow, RuleRow, FeatureRow, is_passed, is_failed, is_untested, is_memory}
 use Rattle.gk_run.specs.Rules.{Inside, RuleCuts, rules_of}
@@ -41,39 +43,44 @@ feature_verdict around rules cases =
 abbrev pub feature_row_of : ChosenValue → Status → Inside → FeatureRow
 feature_row_of f around inside = record { source = f.source; name = f.name; line = f.line; status = feature_verdict around (rule_statuses inside.rules) (case_statuses inside.cases); around = around; rules = inside.rules; cases = inside.cases }
 
--- What is inside of a section: some cases, and then rules, which are begun where it is open so far.
-abbrev pub inside_by : Run → State → Bool → List Cut → List RuleCuts → List MemberValue → List Group → Inside
+-- What is inside of a section: some cases, and then rules, which are begun if it is open so far.
+abbrev pub inside_by : Run → State → Bool → List Cut → List RuleCuts → List MemberValue → List Group → Ran Inside
 inside_by run section is_open cuts rule_cuts own groups =
-    let rows = cases_of run section is_open cuts own in
-    let next = rules_of run section (is_open && all_stay_open run rows) rule_cuts groups in
-    record { rules = next.rules; cases = rows ++ next.cases }
+    let first = cases_of run section is_open cuts own in
+    let next = rules_of run section (is_open && all_stay_open run first.result) rule_cuts groups in
+    record { result = record { rules = next.result.rules; cases = first.result ++ next.result.cases }; told = first.told ++ next.told }
 
 -- What is inside of a feature: its own cases, and then its rules. (Cucumber's Gherkin reference: rule)
-abbrev pub inside_of : Run → FeatureCuts → ChosenValue → State → Bool → Inside
+abbrev pub inside_of : Run → FeatureCuts → ChosenValue → State → Bool → Ran Inside
 inside_of run cuts f section is_open = inside_by run section is_open cuts.cases cuts.rules (own_members f) (rule_groups f)
 
 -- The result of a feature in the run's state. It is begun where the run is open so far and it has a selected case; what is inside of it is reached where it was begun and its before list passed whole. (behave's documentation: environment file functions)
-abbrev pub feature_of : Run → State → Bool → FeatureCuts → ChosenValue → FeatureRow
+abbrev pub feature_of : Run → State → Bool → FeatureCuts → ChosenValue → Ran FeatureRow
 feature_of run outside is_open cuts f =
-    let end = section_of run levels.Feature f.tags outside (is_open && has_selected f.members) cuts.own (inside_of run cuts f) in
-    feature_row_of f end.around end.inside
+    let ran = section_of run levels.Feature f.tags outside (is_open && has_selected f.members) cuts.own (inside_of run cuts f) in
+    record { result = feature_row_of f ran.result.around ran.result.inside; told = ran.told }
 
--- The results of features in order; one is begun where the run is open so far.
-abbrev pub features_of : Run → State → Bool → List FeatureCuts → List ChosenValue → List FeatureRow
-features_of run outside is_open cuts [] = []
+-- Features in order: the result of each, and what happens in it is told. One is begun if the run is open so far.
+abbrev pub features_of : Run → State → Bool → List FeatureCuts → List ChosenValue → Ran (List FeatureRow)
+features_of run outside is_open cuts [] = record { result = []; told = [] }
 features_of run outside is_open cuts (f ∷ fs) =
-    let row = feature_of run outside is_open (first_or uncut_feature cuts) f in
-    row ∷ features_of run outside (is_open && stays_open run row.status) (later cuts) fs
+    let ran = feature_of run outside is_open (first_or uncut_feature cuts) f in
+    let next = features_of run outside (is_open && stays_open run ran.result.status) (later cuts) fs in
+    record { result = ran.result ∷ next.result; told = ran.told ++ next.told }
 
 -- A feature's row is that of some cuts, from the run's state where the run is open.
 abbrev pub IsFeatureResult : Run → State → Bool → ChosenValue → FeatureRow → Type 0
-IsFeatureResult run now is_open f row = (outside : State) → (is_open ≡ true → now ≡ outside) → (cuts : FeatureCuts) × (row ≡ feature_of run outside is_open cuts f)
+IsFeatureResult run now is_open f row = (outside : State) → (is_open ≡ true → now ≡ outside) → (cuts : FeatureCuts) × (row ≡ result_of (feature_of run outside is_open cuts f))
+
+-- An observer was told a feature with this result: what happens in it, for some cuts.
+abbrev pub IsFeatureTold : {S : Type 0} → (S → Event → S → Type 0) → (S → Ended → S → Type 0) → Run → State → Bool → ChosenValue → FeatureRow → S → S → Type 0
+IsFeatureTold hears ends run outside is_open f row old new = (cuts : FeatureCuts) × IsRan (tells hears ends) (feature_of run outside is_open cuts f) row old new
 
 -- The result of a feature as it is without rules: its cases run one after another from its own state.
-abbrev pub feature_without_rules : Run → State → Bool → FeatureCuts → ChosenValue → FeatureRow
+abbrev pub feature_without_rules : Run → State → Bool → FeatureCuts → ChosenValue → Ran FeatureRow
 feature_without_rules run outside is_open cuts f =
-    let end = section_of run levels.Feature f.tags outside (is_open && has_selected f.members) cuts.own (λ section is_ready. cases_of run section is_ready cuts.cases f.members) in
-    feature_row_of f end.around (record { rules = []; cases = end.inside })
+    let ran = section_of run levels.Feature f.tags outside (is_open && has_selected f.members) cuts.own (λ section is_ready. cases_of run section is_ready cuts.cases f.members) in
+    record { result = feature_row_of f ran.result.around (record { rules = []; cases = ran.result.inside }); told = ran.told }
 
 -- A feature without rules has the results that its cases have one after another, each from the feature's state.
 abbrev pub FeaturesWithoutRulesHaveTheirCases : Type 0
@@ -87,4 +94,4 @@ pub record StandsInFileOrder (f : ChosenValue) (row : FeatureRow) : Type 0 where
 
 -- Where the cases of a feature fall into its rules, its results stand in file order, whatever is begun and wherever they are cut.
 abbrev pub ResultsStandInFileOrder : Type 0
-ResultsStandInFileOrder = (run : Run) (outside : State) (is_open : Bool) (cuts : FeatureCuts) (f : ChosenValue) → CasesFallIntoRules f → StandsInFileOrder f (feature_of run outside is_open cuts f)
+ResultsStandInFileOrder = (run : Run) (outside : State) (is_open : Bool) (cuts : FeatureCuts) (f : ChosenValue) → CasesFallIntoRules f → StandsInFileOrder f (result_of (feature_of run outside is_open cuts f))

@@ -24,8 +24,8 @@ uncut = record { own = nowhere; features = [] }
 -- The results of a run that starts from a plain state. No feature is begun unless the before_all hook passed whole.
 abbrev pub results_from : Run → State → Cuts → List ChosenValue → Results
 results_from run start cuts features =
-    let end = section_of run levels.Run [] start true cuts.own (λ section is_open. features_of run section is_open cuts.features features) in
-    record { features = end.inside; around = end.around }
+    let ran = section_of run levels.Run [] start true cuts.own (λ section is_open. features_of run section is_open cuts.features features) in
+    record { features = ran.result.inside; around = ran.result.around }
 
 -- The results of a dry run: those of its features. No hook and no cleanup runs, so whether the run stops at a failure has no effect. (behave's documentation: `--dry-run`)
 abbrev pub dry_results : Run → Cuts → List ChosenValue → Results

@@ -4,11 +4,13 @@ pub mod Acting
 pub mod Cleanups
 pub mod Ending
 pub mod Events
+pub mod Observer
 pub mod Section
 pub mod Run
 pub mod Walk
+pub mod WalkInWords
 pub mod SectionHooks
-pub mod Closing
+pub mod SectionEnd
 pub mod OpenSection
 pub mod Running
 pub mod Chosen
@@ -18,10 +20,9 @@ pub mod Rules
 pub mod Features
 pub mod DryRun
 pub mod Judged
+pub mod JudgedInWords
 pub mod OpenRun
-pub mod Watching
 -- Proof machinery: what contracts of private functions cite.
-pub mod Reserved
 pub mod WalkContracts
 pub mod SectionContracts
 pub mod FeatureContracts

@@ -1,54 +1,78 @@
 -- A run that was begun and isn't finished.
 use Rattle.std.specs.List.{FoldsTo}
-use Rattle.std.specs.Prelude.{◌≡◌, [], ◌++◌, true, false, Bool, List}
+use Rattle.std.specs.Prelude.{◌≡◌, ◌&&◌, ◌||◌, [], ◌++◌, not, true, false, Bool, List, ℕ}
 use Rattle.gk_world.specs.State.{State, state_of}
 use Rattle.gk_world.specs.Sandbox.{SandboxValue}
-use Rattle.gk_run.specs.declared.open_run.state.Suite.{Suite}
-use Rattle.gk_run.specs.declared.open_section.OpenSection.{OpenSection}
+use Rattle.gk_run.specs.declared.ending.Ending.{Ending}
 use Rattle.gk_run.specs.declared.results.Status.{Status}
 use Rattle.gk_run.specs.declared.section.Level.TheVariants as levels
+use Rattle.gk_run.specs.Acting.{CleanupValue}
 use Rattle.gk_run.specs.Results.{FeatureRow}
 use Rattle.gk_run.specs.Ending.{has_passed}
-use Rattle.gk_run.specs.Events.{Event}
+use Rattle.gk_run.specs.Events.{Event, stand_of}
+use Rattle.gk_run.specs.Observer.{result_of}
+use Rattle.gk_run.specs.OpenSection.{IsBegun, IsEndTold, IsOpened, IsSectionEnd}
 use Rattle.gk_run.specs.Run.{Run}
 use Rattle.gk_run.specs.Chosen.{ChosenValue}
-use Rattle.gk_run.specs.Features.{FeatureCuts, features_of}
-use Rattle.gk_run.specs.SectionContracts.{IsBegun, IsOpened, IsSectionEnd}
+use Rattle.gk_run.specs.Cases.{is_bad, stays_open_by}
+use Rattle.gk_run.specs.Features.{FeatureCuts, IsFeatureResult, features_of}
 use Rattle.gk_run.specs.Judged.{Judged, BeginsJudged}
 
+-- A run that was begun: its layer, how the before hook of all ended, the cleanups that are registered in it, whether it stops at a failure, and whether a feature so far is failed or memory. (behave's documentation: context layers, environment file functions, `--stop`)
+pub record SuiteValue : Type 0 where
+  pub layer : ℕ
+  pub before : Ending
+  pub cleanups : List CleanupValue
+  pub stop : Bool
+  pub has_failed : Bool
+
+-- Further features are begun: the before hook of all passed whole, and the run hasn't stopped. (behave's documentation: environment file functions, `--stop`)
+abbrev pub opens_features : SuiteValue → Bool
+opens_features suite = has_passed suite.before && not (suite.stop && suite.has_failed)
+
 -- A run that isn't dry was begun in a layer of its own, and its before list walked through. (behave's documentation: context layers, environment file functions)
-pub record IsStarted (run : Run) (old new : SandboxValue) (suite : Suite) : Type 0 where
+pub record IsStarted (run : Run) (old new : SandboxValue) (suite : SuiteValue) : Type 0 where
   pub runs : run.dry_run ≡ false
-  pub opened : IsOpened run levels.Run [] old new suite.section
-  pub passed : suite.is_open ≡ has_passed suite.section.before
+  pub opened : IsOpened run levels.Run [] old new suite.layer suite.before suite.cleanups
   pub stops : suite.stop ≡ run.stop
   pub unfailed : suite.has_failed ≡ false
+  pub opens : opens_features suite ≡ has_passed suite.before
 
 -- A run was begun so, and an observer was told the events of the before hook of all.
-abbrev pub IsStartTold : {S : Type 0} → (S → Event → S → Type 0) → Run → SandboxValue → SandboxValue → Suite → S → S → Type 0
+abbrev pub IsStartTold : {S : Type 0} → (S → Event → S → Type 0) → Run → SandboxValue → SandboxValue → SuiteValue → S → S → Type 0
 IsStartTold hears run old new suite first last = (started : IsStarted run old new suite) × FoldsTo hears first started.opened.first last
 
+-- All of an open run is as it was, except whether a feature has failed.
+abbrev pub IsKept : SuiteValue → SuiteValue → Type 0
+IsKept old new = new ≡ record old { has_failed = new.has_failed }
+
+-- A feature of an open run was run: its result is that of some cuts, from the run's state if the run is open, and the run has failed if it had before or the feature is failed or memory. Unless the run stops at this, it is as open as before.
+pub record IsNextRun (run : Run) (now : State) (f : ChosenValue) (row : FeatureRow) (old new : SuiteValue) : Type 0 where
+  pub result : IsFeatureResult run now (opens_features old) f row
+  pub failed : new.has_failed ≡ (old.has_failed || is_bad row.status)
+  pub opens : opens_features new ≡ (opens_features old && stays_open_by old.stop row.status)
+
 -- A run that was begun was finished, and its hooks and cleanups ended so.
-abbrev pub IsFinished : Run → OpenSection → SandboxValue → Status → Type 0
-IsFinished run section now around =
-    (outside : State) (first : List Event) → IsBegun run levels.Run [] outside first section now → (last : List Event) × IsSectionEnd run levels.Run [] outside around first last
+abbrev pub IsFinished : Run → SuiteValue → SandboxValue → Status → Type 0
+IsFinished run suite now around =
+    (outside : State) (first : List Event) → IsBegun run levels.Run [] outside first suite.before (stand_of now suite.cleanups) → (last : List Event) × IsSectionEnd run levels.Run [] outside around first last
 
--- All of an open run is as it was, but whether a feature failed, and whether further features are begun.
-pub record IsKept (old new : Suite) : Type 0 where
-  pub section : new.section ≡ old.section
-  pub stops : new.stop ≡ old.stop
+-- A run was finished so, and an observer was told its end.
+abbrev pub IsFinishTold : {S : Type 0} → (S → Event → S → Type 0) → Run → SuiteValue → SandboxValue → Status → S → S → Type 0
+IsFinishTold hears run suite now around begin end =
+    (outside : State) (first : List Event) → IsBegun run levels.Run [] outside first suite.before (stand_of now suite.cleanups) → IsEndTold hears run levels.Run [] outside around first begin end
 
--- The rows of features are those of some cuts, from the run's state where they are begun.
+-- The rows of features are those of some cuts, from the run's state if they are begun.
 abbrev pub AreFeatures : Run → State → Bool → List ChosenValue → List FeatureRow → Type 0
-AreFeatures run now is_open features rows = (outside : State) → (is_open ≡ true → now ≡ outside) → (cuts : List FeatureCuts) × (rows ≡ features_of run outside is_open cuts features)
+AreFeatures run now opens features rows = (outside : State) → (opens ≡ true → now ≡ outside) → (cuts : List FeatureCuts) × (rows ≡ result_of (features_of run outside opens cuts features))
 
 -- A run that was begun, whose features were run, and that was finished has judged results.
 abbrev pub FinishedRunsAreJudged : Type 0
-FinishedRunsAreJudged = (run : Run) (old new : SandboxValue) (suite : Suite) (features : List ChosenValue) (rows : List FeatureRow) (around : Status) →
-    (started : IsStarted run old new suite) → AreFeatures run (state_of new.now) suite.is_open features rows → (last : List Event) → IsSectionEnd run levels.Run [] (state_of old.now) around started.opened.first last →
+FinishedRunsAreJudged = (run : Run) (old new : SandboxValue) (suite : SuiteValue) (features : List ChosenValue) (rows : List FeatureRow) (around : Status) →
+    (started : IsStarted run old new suite) → AreFeatures run (state_of new.now) (opens_features suite) features rows → (last : List Event) → IsSectionEnd run levels.Run [] (state_of old.now) around started.opened.first last →
     Judged run old.now features (record { features = rows; around = around })
 
 -- A run that was begun, of which some features were run, and that isn't finished has results that begin judged results, whatever features come after them.
 abbrev pub UnfinishedRunsAreJudged : Type 0
-UnfinishedRunsAreJudged = (run : Run) (old new : SandboxValue) (suite : Suite) (features others : List ChosenValue) (rows : List FeatureRow) →
-    IsStarted run old new suite → AreFeatures run (state_of new.now) suite.is_open features rows → BeginsJudged run old.now (features ++ others) rows
+UnfinishedRunsAreJudged = (run : Run) (old new : SandboxValue) (suite : SuiteValue) (features others : List ChosenValue) (rows : List FeatureRow) →
+    IsStarted run old new suite → AreFeatures run (state_of new.now) (opens_features suite) features rows → BeginsJudged run old.now (features ++ others) rows

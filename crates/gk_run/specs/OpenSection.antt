@@ -1,11 +1,16 @@
 -- The way that a section goes: the run, a feature, a rule and a scenario go the same.
-use Rattle.std.specs.Prelude.{Bool, cond, ◌&&◌, List, [], ℕ}
-use Rattle.gk_world.specs.State.{State}
+use Rattle.std.specs.List.{FoldsTo}
+use Rattle.std.specs.Prelude.{Bool, false, cond, ◌&&◌, List, [], ◌∷◌, ◌++◌, length, map, ℕ, ◌≡◌}
+use Rattle.gk_world.specs.Sandbox.{SandboxValue, depth}
+use Rattle.gk_world.specs.State.{State, state_of}
 use Rattle.gk_run.specs.declared.ending.Ending.{Ending}
 use Rattle.gk_run.specs.declared.results.Status.{Status}
 use Rattle.gk_run.specs.declared.section.Level.{Level}
-use Rattle.gk_run.specs.Closing.{closing}
-use Rattle.gk_run.specs.Events.{Event, ended_in, left_by}
+use Rattle.gk_run.specs.Acting.{CleanupValue}
+use Rattle.gk_run.specs.SectionEnd.{closing}
+use Rattle.gk_run.specs.Ending.{is_memory_ending}
+use Rattle.gk_run.specs.Events.{Event, SoFar, Stand, ended_in, left_by, stand_of}
+use Rattle.gk_run.specs.Observer.{Ran, happens}
 use Rattle.gk_run.specs.Run.{Run}
 use Rattle.gk_run.specs.Section.{Events, Cut, happened, around_of, before_passed}
 use Rattle.gk_run.specs.SectionHooks.{begun, entered}
@@ -40,8 +45,41 @@ pub record SectionRow (A : Type 0) : Type 0 where
   pub around : Status
   pub inside : A
 
--- What a section comes to that is begun, or isn't, with what is inside of it from its state; that is reached where the section was begun and its before list passed whole. (behave's documentation: environment file functions)
-abbrev pub section_of : {A : Type 0} → Run → Level → List (List ℕ) → State → Bool → Cut → (State → Bool → A) → SectionRow A
+-- A section that is begun, or isn't, with what runs inside of it from its state; that is reached if the section was begun and its before list passed whole. The events of its before list are told before what is inside of it, the others after it. (behave's documentation: environment file functions)
+abbrev pub section_of : {A : Type 0} → Run → Level → List (List ℕ) → State → Bool → Cut → (State → Bool → Ran A) → Ran (SectionRow A)
 section_of run level tags outside is_begun cut inside =
     let events = happened_in run level tags outside is_begun cut in
-    record { around = around_of events; inside = inside (section_state run level tags outside) (is_begun && before_passed events) }
+    let ran = inside (section_state run level tags outside) (is_begun && before_passed events) in
+    record {
+      result = record { around = around_of events; inside = ran.result };
+      told = map happens events.before ++ (ran.told ++ map happens (events.after ++ events.cleanups));
+    }
+
+-- These events of a section's before list happened: all of them, or those up to the one in which memory was refused.
+abbrev pub IsOpening : Run → Level → List (List ℕ) → State → List Event → Type 0
+IsOpening run level tags outside first = SoFar false (is_memory_ending (ended_in first)) (begun run.library run.hooks level tags outside) [] first
+
+-- A section was begun from the state outside: these events of its before list happened, the list ended like this, and the section stands here.
+pub record IsBegun (run : Run) (level : Level) (tags : List (List ℕ)) (outside : State) (first : List Event) (ended : Ending) (now : Stand) : Type 0 where
+  pub so_far : SoFar false (is_memory_ending ended) (begun run.library run.hooks level tags outside) [] first
+  pub ends : ended ≡ ended_in first
+  pub stands : now ≡ left_by (entered outside) first
+
+-- A section was begun in a layer of its own, which has this number: its before list ended like this, and these cleanups are registered in it. (behave's documentation: context layers)
+pub record IsOpened (run : Run) (level : Level) (tags : List (List ℕ)) (old new : SandboxValue) (number : ℕ) (ended : Ending) (cleanups : List CleanupValue) : Type 0 where
+  pub first : List Event
+  pub begins : IsBegun run level tags (state_of old.now) first ended (stand_of new cleanups)
+  pub layer : number ≡ depth new
+  pub saved : new.saved ≡ old.now ∷ old.saved
+  pub marks : new.marks ≡ length old.entries ∷ old.marks
+
+-- How a section's hooks and cleanups ended, with these events before and after what is inside of it, is that of some cut.
+pub record IsSectionEnd (run : Run) (level : Level) (tags : List (List ℕ)) (outside : State) (around : Status) (first last : List Event) : Type 0 where
+  pub cut : Cut
+  pub hooks : around ≡ around_of (happened cut (section_events run level tags outside))
+  pub opening : first ≡ (let e = happened cut (section_events run level tags outside) in e.before)
+  pub closing : last ≡ (let e = happened cut (section_events run level tags outside) in e.after ++ e.cleanups)
+
+-- The end of a section was told, whose hooks and cleanups ended so and of whose before list these events happened: all of the section's events after what is inside of it, cut as the before list is.
+abbrev pub IsEndTold : {S : Type 0} → (S → Event → S → Type 0) → Run → Level → List (List ℕ) → State → Status → List Event → S → S → Type 0
+IsEndTold hears run level tags outside around first begin end = (last : List Event) × FoldsTo hears begin last end × IsSectionEnd run level tags outside around first last

@@ -5,6 +5,7 @@ use Rattle.gk_run.specs.declared.section.Level.TheVariants as levels
 use Rattle.gk_run.specs.Cases.{all_stay_open, cases_of, first_or, later, stays_open}
 use Rattle.gk_run.specs.Chosen.{has_selected}
 use Rattle.gk_run.specs.Grouping.{Group}
+use Rattle.gk_run.specs.Observer.{Ran, has_ended, of_rule}
 use Rattle.gk_run.specs.OpenSection.{SectionRow, section_of}
 use Rattle.gk_run.specs.Results.{CaseRow, RuleRow}
 use Rattle.gk_run.specs.Run.{Run}
@@ -20,7 +21,7 @@ abbrev pub uncut_rule : RuleCuts
 uncut_rule = record { own = nowhere; cases = [] }
 
 -- What a rule comes to in its feature's state. It is begun where the feature is open so far and it has a selected case; its cases are reached where it was begun and its before list passed whole. (behave's documentation: environment file functions)
-abbrev pub rule_of : Run → State → Bool → RuleCuts → Group → SectionRow (List CaseRow)
+abbrev pub rule_of : Run → State → Bool → RuleCuts → Group → Ran (SectionRow (List CaseRow))
 rule_of run outside is_open cuts g =
     section_of run levels.Rule g.head.tags outside (is_open && has_selected g.members) cuts.own (λ section is_ready. cases_of run section is_ready cuts.cases g.members)
 
@@ -33,10 +34,15 @@ pub record Inside : Type 0 where
   pub rules : List RuleRow
   pub cases : List CaseRow
 
--- What rules come to in order; one is begun where the feature is open so far.
-abbrev pub rules_of : Run → State → Bool → List RuleCuts → List Group → Inside
-rules_of run outside is_open cuts [] = record { rules = []; cases = [] }
+-- Rules in order: what each comes to, and what happens in it and then its end are told. One is begun if the feature is open so far.
+abbrev pub rules_of : Run → State → Bool → List RuleCuts → List Group → Ran Inside
+rules_of run outside is_open cuts [] = record { result = record { rules = []; cases = [] }; told = [] }
 rules_of run outside is_open cuts (g ∷ gs) =
-    let end = rule_of run outside is_open (first_or uncut_rule cuts) g in
+    let ran = rule_of run outside is_open (first_or uncut_rule cuts) g in
+    let end = ran.result in
+    let row : RuleRow = record { line = g.head.line; around = end.around } in
     let next = rules_of run outside (is_open && rule_stays_open run end) (later cuts) gs in
-    record { rules = record { line = g.head.line; around = end.around } ∷ next.rules; cases = end.inside ++ next.cases }
+    record {
+      result = record { rules = row ∷ next.result.rules; cases = end.inside ++ next.result.cases };
+      told = ran.told ++ has_ended (of_rule row) ∷ next.told;
+    }

@@ -1,7 +1,7 @@
 -- Running a case: what plain maps give it alone from its section's state.
-use Rattle.std.specs.Prelude.{List, [], map, ◌≡◌, length}
+use Rattle.std.specs.List.{FoldsTo}
+use Rattle.std.specs.Prelude.{List, [], map, ◌≡◌}
 use Rattle.gk_select.specs.Case.{CaseValue}
-use Rattle.gk_world.specs.Sandbox.{SandboxValue}
 use Rattle.gk_world.specs.State.{State}
 use Rattle.gk_run.specs.declared.results.Mark.{Mark}
 use Rattle.gk_run.specs.declared.results.Mark.TheVariants.{Skipped}
@@ -9,7 +9,8 @@ use Rattle.gk_run.specs.declared.results.Status.{Status}
 use Rattle.gk_run.specs.declared.results.Status.TheVariants as statuses
 use Rattle.gk_run.specs.declared.section.Level.TheVariants as levels
 use Rattle.gk_run.specs.Ending.{verdict_status}
-use Rattle.gk_run.specs.Events.{ended_in, event_marks, outcomes_of}
+use Rattle.gk_run.specs.Events.{Event, ended_in, event_marks, outcomes_of}
+use Rattle.gk_run.specs.Observer.{Ended, of_case}
 use Rattle.gk_run.specs.Results.{CaseRow}
 use Rattle.gk_run.specs.Run.{Run}
 use Rattle.gk_run.specs.Section.{Events, Cut, around_of, happened, in_order}
@@ -52,9 +53,12 @@ unreached_row c = unrun_row c statuses.Untested []
 abbrev pub IsReached : Run → State → CaseValue → CaseRow → Type 0
 IsReached run section c row = (cut : Cut) × (row ≡ reached_row run section cut c)
 
--- Files, variables, values and layers are as they were, and as many changes are recorded.
-pub record IsSame (old new : SandboxValue) : Type 0 where
-  pub contents : new.now ≡ old.now
-  pub saved : new.saved ≡ old.saved
-  pub marks : new.marks ≡ old.marks
-  pub recorded : length new.entries ≡ length old.entries
+-- An observer was told the events of a case with this result: those of the case alone, or these cut at one, in order. The result is that of the same cut.
+pub record AreEventsTold {S : Type 0} (hears : S → Event → S → Type 0) (run : Run) (section : State) (c : CaseValue) (row : CaseRow) (old new : S) : Type 0 where
+  pub cut : Cut
+  pub is : row ≡ reached_row run section cut c
+  pub told : FoldsTo hears old (in_order (happened cut (alone run section c))) new
+
+-- An observer was told a case with this result: its events, and then that it has ended.
+abbrev pub IsCaseTold : {S : Type 0} → (S → Event → S → Type 0) → (S → Ended → S → Type 0) → Run → State → CaseValue → CaseRow → S → S → Type 0
+IsCaseTold {S} hears ends run section c row old new = (ran : S) × AreEventsTold hears run section c row old ran × ends ran (of_case row) new

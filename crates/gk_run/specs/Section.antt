@@ -8,7 +8,7 @@ use Rattle.gk_run.specs.declared.section.Level.{Level}
 use Rattle.gk_run.specs.declared.section.Level.TheVariants as levels
 use Rattle.gk_run.specs.declared.section.Part.{Part}
 use Rattle.gk_run.specs.declared.section.Part.TheVariants as parts
-use Rattle.gk_run.specs.declared.section.Place.{Place}
+use Rattle.gk_run.specs.declared.section.Stage.{Stage}
 use Rattle.gk_run.specs.Ending.{has_passed, around_status}
 use Rattle.gk_run.specs.Events.{Event, cut_at, ended_in}
 
@@ -25,20 +25,20 @@ site_in level parts.Before = before_site level
 site_in level parts.Steps = sites.Step
 site_in level parts.After = sites.Hook
 
--- Where the steps at a place are carried out.
-abbrev pub site_of : Place → Site
-site_of place = site_in place.level place.part
+-- Where the steps at a stage are carried out.
+abbrev pub site_of : Stage → Site
+site_of stage = site_in stage.level stage.part
 
 -- Where the steps of a section's before list stand.
-abbrev pub before_of : Level → Place
+abbrev pub before_of : Level → Stage
 before_of level = record { level = level; part = parts.Before }
 
 -- Where the steps of a case stand.
-abbrev pub steps_of_case : Place
+abbrev pub steps_of_case : Stage
 steps_of_case = record { level = levels.Scenario; part = parts.Steps }
 
 -- Where the steps of after hooks stand.
-abbrev pub after_of : Level → Place
+abbrev pub after_of : Level → Stage
 after_of level = record { level = level; part = parts.After }
 
 -- The events of a section, in four parts, one after another: the steps of its before list; the steps of the scenario, where it is a scenario's; the steps of its after lists; its cleanups.
@@ -61,18 +61,18 @@ pub data Cut : Type 0 where
   in_cleanups : ℕ → State → Cut
 
 -- There is an event of this number.
-abbrev pub is_place : ℕ → List Event → Bool
-is_place n [] = false
-is_place zero (event ∷ events) = true
-is_place (suc n) (event ∷ events) = is_place n events
+abbrev pub has_event : ℕ → List Event → Bool
+has_event n [] = false
+has_event zero (event ∷ events) = true
+has_event (suc n) (event ∷ events) = has_event n events
 
 -- What happens of a section that is cut: the parts before the cut stay, and those after it didn't happen; a cut at an event that there isn't is none.
 abbrev pub happened : Cut → Events → Events
 happened nowhere e = e
-happened (in_before n s) e = cond (is_place n e.before) (record { before = cut_at n s e.before; steps = []; after = []; cleanups = [] }) e
-happened (in_steps n s) e = cond (is_place n e.steps) (record e { steps = cut_at n s e.steps; after = []; cleanups = [] }) e
-happened (in_after n s) e = cond (is_place n e.after) (record e { after = cut_at n s e.after; cleanups = [] }) e
-happened (in_cleanups n s) e = cond (is_place n e.cleanups) (record e { cleanups = cut_at n s e.cleanups }) e
+happened (in_before n s) e = cond (has_event n e.before) (record { before = cut_at n s e.before; steps = []; after = []; cleanups = [] }) e
+happened (in_steps n s) e = cond (has_event n e.steps) (record e { steps = cut_at n s e.steps; after = []; cleanups = [] }) e
+happened (in_after n s) e = cond (has_event n e.after) (record e { after = cut_at n s e.after; cleanups = [] }) e
+happened (in_cleanups n s) e = cond (has_event n e.cleanups) (record e { cleanups = cut_at n s e.cleanups }) e
 
 -- The events of a section's hooks and cleanups.
 abbrev pub around_events : Events → List Event

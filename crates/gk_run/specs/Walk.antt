@@ -9,7 +9,7 @@ use Rattle.gk_run.specs.declared.ending.Ending.{Ending}
 use Rattle.gk_run.specs.declared.ending.Ending.TheVariants as endings
 use Rattle.gk_run.specs.declared.results.Mark.{Mark}
 use Rattle.gk_run.specs.declared.results.Mark.TheVariants.{Acted, Skipped, Untested, Undefined}
-use Rattle.gk_run.specs.declared.section.Place.{Place}
+use Rattle.gk_run.specs.declared.section.Stage.{Stage}
 use Rattle.gk_run.specs.Acting.{CleanupValue, act}
 use Rattle.gk_run.specs.Ending.{ending_of, has_passed, status_of_mark, reason_of_mark}
 use Rattle.gk_run.specs.Events.{Event, of_step}
@@ -31,16 +31,16 @@ stepped library site s step (Some f) = let acted = act library site f step.block
 abbrev pub one_step : LibraryValue → Site → State → StepValue → Stepped
 one_step library site s step = stepped library site s step (found library step.step_type step.text)
 
--- The event of a step at a place of which this comes.
-abbrev pub event_of : Place → StepValue → Stepped → Event
-event_of place step this = of_step place step this.mark this.registered this.state
+-- The event of a step at a stage of which this comes.
+abbrev pub event_of : Stage → StepValue → Stepped → Event
+event_of stage step this = of_step stage step this.mark this.registered this.state
 
--- The walk through a list of steps at a place, from a state: the first step that isn't found or doesn't pass ends it, with what that step changed. (behave's documentation: a failed step ends its scenario)
-abbrev pub walk : LibraryValue → Place → State → List StepValue → List Event
-walk library place s [] = []
-walk library place s (step ∷ steps) =
-    let this = one_step library (site_of place) s step in
-    event_of place step this ∷ cond (has_passed (ending_of this.mark)) (walk library place this.state steps) []
+-- The walk through a list of steps at a stage, from a state: the first step that isn't found or doesn't pass ends it, with what that step changed. (behave's documentation: a failed step ends its scenario)
+abbrev pub walk : LibraryValue → Stage → State → List StepValue → List Event
+walk library stage s [] = []
+walk library stage s (step ∷ steps) =
+    let this = one_step library (site_of stage) s step in
+    event_of stage step this ∷ cond (has_passed (ending_of this.mark)) (walk library stage this.state steps) []
 
 -- A step that is only looked up: this becomes of it where the library matches it, and it is undefined where it doesn't.
 abbrev pub looked_up : LibraryValue → Mark → StepValue → Mark

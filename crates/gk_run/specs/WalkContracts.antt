@@ -1,6 +1,6 @@
 -- Proof machinery: what contracts of the private functions cite that walk through a section.
 use Rattle.std.specs.List.{FoldsTo}
-use Rattle.std.specs.Prelude.{Bool, true, false, List, [], ◌∷◌, ◌++◌, map, ◌≡◌, ◌⊎◌, Option, Some, None, ℕ}
+use Rattle.std.specs.Prelude.{List, [], ◌∷◌, ◌++◌, map, ◌≡◌, ◌⊎◌, Option, Some, None, ℕ}
 use Rattle.gk_gherkin.specs.Feature.{StepValue, step_value, texts}
 use Rattle.gk_gherkin.specs.Hooks.{hooks_value}
 use Rattle.gk_gherkin.specs.declared.feature.Step.{Step}
@@ -10,46 +10,29 @@ use Rattle.gk_world.specs.State.{State, state_of}
 use Rattle.gk_run.specs.declared.acting.Site.{Site}
 use Rattle.gk_run.specs.declared.acting.Site.TheVariants as sites
 use Rattle.gk_run.specs.declared.cleanups.Cleanup.{Cleanup}
-use Rattle.gk_run.specs.declared.cleanups.Cleanups.{Cleanups}
-use Rattle.gk_run.specs.declared.closing.Closed.{Closed}
+use Rattle.gk_run.specs.declared.section_end.Closed.{Closed}
 use Rattle.gk_run.specs.declared.ending.Ending.{Ending}
 use Rattle.gk_run.specs.declared.ending.Ending.TheVariants as endings
-use Rattle.gk_run.specs.declared.reserved.ReservedSteps.{ReservedSteps}
+use Rattle.gk_run.specs.declared.results.Reserved.{Reserved}
+use Rattle.gk_run.specs.declared.results.StepResult.{StepResult}
 use Rattle.gk_run.specs.declared.results.Mark.{Mark}
 use Rattle.gk_run.specs.declared.results.Mark.TheVariants.{Acted, Skipped, Untested}
 use Rattle.gk_run.specs.declared.results.Outcome.{Outcome}
 use Rattle.gk_run.specs.declared.results.Outcome.TheVariants as outcomes
 use Rattle.gk_run.specs.declared.run.Run as shared
 use Rattle.gk_run.specs.declared.section.Level.{Level}
-use Rattle.gk_run.specs.declared.section.Place.{Place}
+use Rattle.gk_run.specs.declared.section.Stage.{Stage}
 use Rattle.gk_run.specs.declared.section.Section.{Section}
 use Rattle.gk_run.specs.declared.walk.StepsEnd.{StepsEnd}
-use Rattle.gk_run.specs.Acting.{CleanupValue, given, files_of, IsDone, WritesFirst}
-use Rattle.gk_run.specs.Cleanups.{cleanup_value, cleanups_value}
-use Rattle.gk_run.specs.Closing.{cleaned, cleanup_done}
+use Rattle.gk_run.specs.Acting.{CleanupValue, arguments_of, files_of, IsDone, WritesFirst}
+use Rattle.gk_run.specs.Cleanups.{cleanup_value}
+use Rattle.gk_run.specs.SectionEnd.{cleaned, cleanup_done}
 use Rattle.gk_run.specs.Ending.{is_memory_ending, worse}
-use Rattle.gk_run.specs.Events.{Event, of_step, Stand, ended_in, event_marks, left_by, outcomes_of, refused}
+use Rattle.gk_run.specs.Events.{Event, SoFar, of_step, Stand, ended_in, event_marks, left_by, outcomes_of, stand_of}
 use Rattle.gk_run.specs.Results.{step_row}
 use Rattle.gk_run.specs.Section.{steps_of_case, before_of}
 use Rattle.gk_run.specs.SectionHooks.{after_lists, before_list, tag_lists, walk_each}
 use Rattle.gk_run.specs.Walk.{Stepped, looked_up, one_step, rows_of_steps, steps_from, walk}
-
--- ---- what was told of events
-
--- Of all events those up to one were told, in which memory was refused.
-pub record IsCutOff (all told : List Event) : Type 0 where
-  pub front : List Event
-  pub event : Event
-  pub rest : List Event
-  pub left : State
-  pub whole : all ≡ front ++ (event ∷ rest)
-  pub cut : told ≡ front ++ (refused left event ∷ [])
-
--- What was told of all events, these aside, by whether memory was refused before them, and whether it is refused now: nothing; those up to the one in which it was refused; each that isn't left.
-abbrev pub SoFar : Bool → Bool → List Event → List Event → List Event → Type 0
-SoFar true now all rest told = told ≡ []
-SoFar false true all rest told = IsCutOff all told
-SoFar false false all rest told = all ≡ told ++ rest
 
 -- Events happened and were told, with these left, in a section that had ended so before them: how it ended now, and where it stands.
 pub record Goes {S : Type 0} (hears : S → Event → S → Type 0) (before : Ending) (all rest : List Event) (start now : Stand) (ended : Ending) (first last : S) : Type 0 where
@@ -62,10 +45,6 @@ pub record Goes {S : Type 0} (hears : S → Event → S → Type 0) (before : En
 -- All of these events happened, or those up to the one in which memory was refused.
 abbrev pub Happens : {S : Type 0} → (S → Event → S → Type 0) → Ending → List Event → Stand → Stand → Ending → S → S → Type 0
 Happens hears before all start now ended first last = Goes hears before all [] start now ended first last
-
--- Where a section stands.
-abbrev pub stand_of : SandboxValue → Cleanups → Stand
-stand_of sandbox cleanups = record { state = state_of sandbox.now; cleanups = cleanups_value cleanups }
 
 -- ---- steps
 
@@ -86,9 +65,9 @@ IsNext library endings.Skipped s cleanups step mark new new_cleanups = (mark ≡
 IsNext library endings.Memory s cleanups step mark new new_cleanups = (mark ≡ Untested) × (new ≡ s) × (new_cleanups ≡ cleanups)
 
 -- A step was carried out at a site.
-abbrev pub RunsStep : shared.Run → Site → Step → SandboxValue → Cleanups → Mark → SandboxValue → Cleanups → Type 0
+abbrev pub RunsStep : shared.Run → Site → Step → SandboxValue → List CleanupValue → Mark → SandboxValue → List CleanupValue → Type 0
 RunsStep run site step old cleanups mark new new_cleanups =
-    IsStepRun (one_step (library_value run.library.now) site (state_of old.now) (step_value step)) (cleanups_value cleanups) mark (state_of new.now) (cleanups_value new_cleanups)
+    IsStepRun (one_step (library_value run.library.now) site (state_of old.now) (step_value step)) cleanups mark (state_of new.now) new_cleanups
 
 -- Where no entry matches a step, memory is refused in it only where its text has the ends of an entry.
 abbrev pub StepNeedsCandidate : shared.Run → Step → Mark → Type 0
@@ -100,7 +79,7 @@ StepNeedsCandidate run step mark =
 -- The files that a step writes, in order, where its action has more than one change. A step that isn't found has none.
 abbrev pub step_files : LibraryValue → State → StepValue → Option FoundValue → List (List ℕ × List ℕ)
 step_files library s step None = []
-step_files library s step (Some f) = files_of (action_of library f) (given library f step.block) s
+step_files library s step (Some f) = files_of (action_of library f) (arguments_of library f step.block) s
 
 -- Where memory was refused in a step, some first changes of its action were made and no others.
 abbrev pub StepKeepsAtMemory : shared.Run → Step → SandboxValue → Mark → SandboxValue → Type 0
@@ -109,15 +88,15 @@ StepKeepsAtMemory run step old mark new =
     let this = step_value step in
     mark ≡ Acted outcomes.Memory → WritesFirst (step_files library (state_of old.now) this (found library this.step_type this.text)) old new
 
--- The steps of a hook were walked through at a place.
-abbrev pub WalksHook : {S : Type 0} → (S → Event → S → Type 0) → shared.Run → Place → List Step → SandboxValue → Cleanups → Ending → SandboxValue → Cleanups → S → S → Type 0
-WalksHook hears run place steps old cleanups ended new new_cleanups first last =
-    Happens hears endings.Passed (walk (library_value run.library.now) place (state_of old.now) (map step_value steps)) (stand_of old cleanups) (stand_of new new_cleanups) ended first last
+-- The steps of a hook were walked through at a stage.
+abbrev pub WalksHook : {S : Type 0} → (S → Event → S → Type 0) → shared.Run → Stage → List Step → SandboxValue → List CleanupValue → Ending → SandboxValue → List CleanupValue → S → S → Type 0
+WalksHook hears run stage steps old cleanups ended new new_cleanups first last =
+    Happens hears endings.Passed (walk (library_value run.library.now) stage (state_of old.now) (map step_value steps)) (stand_of old cleanups) (stand_of new new_cleanups) ended first last
 
 -- The next step was taken, of a case that had ended so far like this.
-abbrev pub TakesNext : shared.Run → Ending → Step → SandboxValue → Cleanups → Mark → SandboxValue → Cleanups → Type 0
+abbrev pub TakesNext : shared.Run → Ending → Step → SandboxValue → List CleanupValue → Mark → SandboxValue → List CleanupValue → Type 0
 TakesNext run ending step old cleanups mark new new_cleanups =
-    IsNext (library_value run.library.now) ending (state_of old.now) (cleanups_value cleanups) (step_value step) mark (state_of new.now) (cleanups_value new_cleanups)
+    IsNext (library_value run.library.now) ending (state_of old.now) cleanups (step_value step) mark (state_of new.now) new_cleanups
 
 -- What is told of a step of a case that stood so before it: nothing where memory was refused before.
 abbrev pub told_next : Ending → Event → List Event
@@ -131,29 +110,29 @@ abbrev pub TellsNext : {S : Type 0} → (S → Event → S → Type 0) → Endin
 TellsNext hears stood step mark now first last = (registered : List CleanupValue) → FoldsTo hears first (told_next stood (of_step steps_of_case (step_value step) mark registered (state_of now.now))) last
 
 -- The steps of a case whose before list ended so were run, and their results are those of what was told.
-pub record RunsSteps {S : Type 0} (hears : S → Event → S → Type 0) (run : shared.Run) (before : Ending) (steps : ReservedSteps) (old : SandboxValue) (cleanups : Cleanups) (end : StepsEnd) (new : SandboxValue) (new_cleanups : Cleanups) (first last : S) : Type 0 where
-  pub goes : Happens hears before (steps_from (library_value run.library.now) before (state_of old.now) (map step_value steps.steps.items)) (stand_of old cleanups) (stand_of new new_cleanups) end.ending first last
-  pub rows : map step_row end.results.items ≡ rows_of_steps (map step_value steps.steps.items) (event_marks goes.told)
+pub record RunsSteps {S : Type 0} (hears : S → Event → S → Type 0) (run : shared.Run) (before : Ending) (steps : Reserved Step StepResult) (old : SandboxValue) (cleanups : List CleanupValue) (end : StepsEnd) (new : SandboxValue) (new_cleanups : List CleanupValue) (first last : S) : Type 0 where
+  pub goes : Happens hears before (steps_from (library_value run.library.now) before (state_of old.now) (map step_value steps.list.items)) (stand_of old cleanups) (stand_of new new_cleanups) end.ending first last
+  pub rows : map step_row end.results.items ≡ rows_of_steps (map step_value steps.list.items) (event_marks goes.told)
 
 -- ---- hooks
 
 -- A section's before list was walked through.
-abbrev pub WalksBefore : {S : Type 0} → (S → Event → S → Type 0) → shared.Run → Section → SandboxValue → Cleanups → Ending → SandboxValue → Cleanups → S → S → Type 0
+abbrev pub WalksBefore : {S : Type 0} → (S → Event → S → Type 0) → shared.Run → Section → SandboxValue → List CleanupValue → Ending → SandboxValue → List CleanupValue → S → S → Type 0
 WalksBefore hears run section old cleanups ended new new_cleanups first last =
     Happens hears endings.Passed (walk (library_value run.library.now) (before_of section.level) (state_of old.now) (before_list (hooks_value run.hooks.now.file.now) section.level (texts section.tags.now))) (stand_of old cleanups) (stand_of new new_cleanups) ended first last
 
 -- Each of these after lists was walked through by itself.
-abbrev pub WalksEach : {S : Type 0} → (S → Event → S → Type 0) → shared.Run → Level → List (List StepValue) → SandboxValue → Cleanups → Ending → SandboxValue → Cleanups → S → S → Type 0
+abbrev pub WalksEach : {S : Type 0} → (S → Event → S → Type 0) → shared.Run → Level → List (List StepValue) → SandboxValue → List CleanupValue → Ending → SandboxValue → List CleanupValue → S → S → Type 0
 WalksEach hears run level lists old cleanups ended new new_cleanups first last =
     Happens hears endings.Passed (walk_each (library_value run.library.now) level (stand_of old cleanups) lists) (stand_of old cleanups) (stand_of new new_cleanups) ended first last
 
 -- Each after_tag hook of a section's tags was walked through by itself.
-abbrev pub WalksTags : {S : Type 0} → (S → Event → S → Type 0) → shared.Run → Section → SandboxValue → Cleanups → Ending → SandboxValue → Cleanups → S → S → Type 0
+abbrev pub WalksTags : {S : Type 0} → (S → Event → S → Type 0) → shared.Run → Section → SandboxValue → List CleanupValue → Ending → SandboxValue → List CleanupValue → S → S → Type 0
 WalksTags hears run section old cleanups ended new new_cleanups first last =
     WalksEach hears run section.level (tag_lists (hooks_value run.hooks.now.file.now) (texts section.tags.now)) old cleanups ended new new_cleanups first last
 
 -- Each of a section's after lists was walked through by itself.
-abbrev pub WalksAfter : {S : Type 0} → (S → Event → S → Type 0) → shared.Run → Section → SandboxValue → Cleanups → Ending → SandboxValue → Cleanups → S → S → Type 0
+abbrev pub WalksAfter : {S : Type 0} → (S → Event → S → Type 0) → shared.Run → Section → SandboxValue → List CleanupValue → Ending → SandboxValue → List CleanupValue → S → S → Type 0
 WalksAfter hears run section old cleanups ended new new_cleanups first last =
     WalksEach hears run section.level (after_lists (hooks_value run.hooks.now.file.now) section.level (texts section.tags.now)) old cleanups ended new new_cleanups first last
 
@@ -164,13 +143,9 @@ abbrev pub CleansOne : shared.Run → Cleanup → SandboxValue → Outcome → S
 CleansOne run cleanup old outcome new =
     IsDone (cleanup_done (library_value run.library.now) (cleanup_value cleanup) (state_of old.now)) outcome (state_of new.now)
 
--- Where a section stands whose cleanups are these.
-abbrev pub at_cleanups : SandboxValue → List CleanupValue → Stand
-at_cleanups sandbox cleanups = record { state = state_of sandbox.now; cleanups = cleanups }
-
 -- Cleanups were run, the last first, and their outcomes are those of what was told.
 pub record Cleans {S : Type 0} (hears : S → Event → S → Type 0) (run : shared.Run) (level : Level) (registered : List CleanupValue) (old : SandboxValue) (closed : Closed) (new : SandboxValue) (first last : S) : Type 0 where
-  pub goes : Happens hears endings.Passed (cleaned (library_value run.library.now) level (at_cleanups old registered)) (at_cleanups old registered) (at_cleanups new registered) closed.ending first last
+  pub goes : Happens hears endings.Passed (cleaned (library_value run.library.now) level (stand_of old registered)) (stand_of old registered) (stand_of new registered) closed.ending first last
   pub outcomes : closed.outcomes.items ≡ outcomes_of goes.told
 
 -- The after lists of a section and then its cleanups happened, in a section that had ended so before them: how these ended, and the outcomes of the cleanups.
@@ -186,6 +161,6 @@ pub record IsClosing {S : Type 0} (hears : S → Event → S → Type 0) (librar
   pub outcomes : reported ≡ outcomes_of cleanups.told
 
 -- A section that had ended so before was closed; after refused memory nothing more happened in it.
-abbrev pub Closes : {S : Type 0} → (S → Event → S → Type 0) → Ending → shared.Run → Section → Cleanups → SandboxValue → Closed → S → S → Type 0
+abbrev pub Closes : {S : Type 0} → (S → Event → S → Type 0) → Ending → shared.Run → Section → List CleanupValue → SandboxValue → Closed → S → S → Type 0
 Closes hears before run section registered old closed first last =
     IsClosing hears (library_value run.library.now) section.level (after_lists (hooks_value run.hooks.now.file.now) section.level (texts section.tags.now)) before (stand_of old registered) closed.ending closed.outcomes.items first last

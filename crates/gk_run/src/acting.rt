@@ -4,9 +4,8 @@ ghost use Rattle.gk_gherkin.specs.Feature.{block_value};
 ghost use Rattle.gk_steps.specs.Finding.{library_value, found_value, found_any};
 ghost use Rattle.gk_world.specs.State.{State, state_of};
 ghost use Rattle.gk_world.specs.Sandbox.{depth, KeepsLayers};
-ghost use Rattle.gk_run.specs.Cleanups.{cleanups_value};
 ghost use Rattle.gk_run.specs.Acting as words;
-ghost use Rattle.gk_run.specs.Acting.{given, given_by, given_value, table, carried_out_of, registers, act_of, called, Performs, changes_nothing, may_skip, may_register, IsDone, IsExactly, IsExact, IsCallExact, HasRegistered, KeepsAtMemory, CallKeepsAtMemory, IsHeld, IsNotHeld, IsText, HasText, NeedsCandidate, CallNeedsCandidate, CleanupNeedsCandidate};
+ghost use Rattle.gk_run.specs.Acting.{arguments_of, arguments_by_uses, arguments_in, arguments_value, table, registers, act_of, action_in, called, Performs, may_skip, may_register, IsDone, IsExact, HasRegistered, KeepsAtMemory, IsHeld, IsNotHeld, IsText, HasText, NeedsCandidate, CleanupNeedsCandidate};
 
 mod file_actions;
 mod number_actions;
@@ -139,7 +138,7 @@ fn doc_string(block: &Block) -> Option<&str>
 // What an action works with, of what the fields took and the step's block.
 #[inline(always)]
 pub(crate) fn arguments_by<'a>(used: UsedFields<'a>, block: &'a Block) -> Arguments<'a>
-    ensures { given_value result ≡ given_by used.entry (block_value block.now) }
+    ensures { arguments_value result ≡ arguments_by_uses used.entry (block_value block.now) }
 {
     Arguments {
         name: used.name.unwrap_or(""),
@@ -154,8 +153,8 @@ pub(crate) fn arguments_by<'a>(used: UsedFields<'a>, block: &'a Block) -> Argume
 // What a step's action works with.
 #[inline(always)]
 fn arguments_of<'a>(library: &Library, found: &'a Found, block: &'a Block) -> Arguments<'a>
-    ensures { given_value result
-        ≡ given (library_value library.now) (found_value found.now) (block_value block.now) }
+    ensures { arguments_value result
+        ≡ arguments_of (library_value library.now) (found_value found.now) (block_value block.now) }
 {
     arguments_by(library.used_fields(found), block)
 }
@@ -170,8 +169,8 @@ fn perform(
 ) -> Outcome
     requires { 0 < depth sandbox.old }
     ensures acted { Performs action arguments.now sandbox.old result sandbox.new }
-    ensures exact { changes_nothing action ≡ true →
-        IsExactly (table action (given_value arguments.now) (state_of sandbox.old.now))
+    ensures exact { IsExact action
+        (table action (arguments_value arguments.now) (state_of sandbox.old.now))
         result (state_of sandbox.new.now) }
 {
     match action {
@@ -200,30 +199,6 @@ fn perform(
         Action::Pass => Outcome::Passed,
         Action::Fail => Outcome::Failed(Reason::Asked),
     }
-}
-
-// Carries out what the row of a found step's action says.
-#[inline(always)]
-pub(crate) fn carry_out(
-    alloc: Global,
-    sandbox: &mut Sandbox,
-    library: &Library,
-    found: &Found,
-    block: &Block,
-) -> Outcome
-    requires in_layer { 0 < depth sandbox.old }
-    ensures done { IsDone
-        (carried_out_of library.now found.now block.now (state_of sandbox.old.now))
-        result (state_of sandbox.new.now) }
-    ensures exact { IsExact library.now found.now
-        (carried_out_of library.now found.now block.now (state_of sandbox.old.now))
-        result (state_of sandbox.new.now) }
-    ensures kept { KeepsAtMemory library.now found.now block.now
-        sandbox.old result sandbox.new }
-    ensures layers { KeepsLayers sandbox.old sandbox.new }
-{
-    let arguments = arguments_of(library, found, block);
-    perform(alloc, sandbox, library.action(found), &arguments)
 }
 
 fn may_skip(site: Site) -> bool
@@ -262,7 +237,7 @@ fn register(
         result s }
     ensures registered { (s : State) → HasRegistered
         (registers s (block_value block.now) (found_any (library_value library.now) text.now))
-        (cleanups_value cleanups.old) result (cleanups_value cleanups.new) }
+        cleanups.old result cleanups.new }
     ensures memory { NeedsCandidate (library_value library.now) text.now result }
 {
     match library.find_any(alloc, text) {
@@ -284,10 +259,10 @@ fn at_cleanup(
     arguments: &Arguments<'_>,
 ) -> Outcome
     ensures done { (s : State) → IsDone (words.done_of (words.registers_at
-        site s (library_value library.now) (given_value arguments.now))) result s }
+        site s (library_value library.now) (arguments_value arguments.now))) result s }
     ensures registered { (s : State) → HasRegistered (words.registers_at
-        site s (library_value library.now) (given_value arguments.now))
-        (cleanups_value cleanups.old) result (cleanups_value cleanups.new) }
+        site s (library_value library.now) (arguments_value arguments.now))
+        cleanups.old result cleanups.new }
     ensures memory { NeedsCandidate (library_value library.now) arguments.now.step.now result }
 {
     if !may_register(site) {
@@ -296,38 +271,37 @@ fn at_cleanup(
     register(alloc, cleanups, library, arguments.step, arguments.block)
 }
 
-/// An action as it is called: where, which one, and with what.
-#[derive(Clone, Copy)]
-pub struct Call<'a> {
-    pub site: Site,
-    pub action: Action,
-    pub arguments: Arguments<'a>,
-}
-
-/// Carries out an action, as `act` does.
+/// Carries out an action at a site, as `act` does.
 #[inline(always)]
 pub(crate) fn act_by(
     alloc: Global,
     sandbox: &mut Sandbox,
     cleanups: &mut Cleanups,
     library: &Library,
-    call: &Call<'_>,
+    site: Site,
+    action: Action,
+    arguments: &Arguments<'_>,
 ) -> Outcome
     requires in_layer { 0 < depth sandbox.old }
-    ensures done { IsDone (words.done_of (called library.now call.now (state_of sandbox.old.now)))
+    ensures done { IsDone (words.done_of
+        (called library.now site action arguments.now (state_of sandbox.old.now)))
         result (state_of sandbox.new.now) }
-    ensures exact { IsCallExact library.now call.now (state_of sandbox.old.now)
+    ensures exact { IsExact action (words.done_of
+        (called library.now site action arguments.now (state_of sandbox.old.now)))
         result (state_of sandbox.new.now) }
-    ensures registered { HasRegistered (called library.now call.now (state_of sandbox.old.now))
-        (cleanups_value cleanups.old) result (cleanups_value cleanups.new) }
-    ensures memory { CallNeedsCandidate library.now call.now result }
-    ensures kept { CallKeepsAtMemory call.now sandbox.old result sandbox.new }
+    ensures registered { HasRegistered
+        (called library.now site action arguments.now (state_of sandbox.old.now))
+        cleanups.old result cleanups.new }
+    ensures memory { CleanupNeedsCandidate (library_value library.now) action
+        (arguments_value arguments.now) result }
+    ensures kept { KeepsAtMemory action (arguments_value arguments.now)
+        sandbox.old result sandbox.new }
     ensures layers { KeepsLayers sandbox.old sandbox.new }
 {
-    match call.action {
-        Action::AtCleanup => at_cleanup(alloc, cleanups, library, call.site, &call.arguments),
-        Action::SkipScenario => skip(call.site),
-        _ => perform(alloc, sandbox, call.action, &call.arguments),
+    match action {
+        Action::AtCleanup => at_cleanup(alloc, cleanups, library, site, arguments),
+        Action::SkipScenario => skip(site),
+        _ => perform(alloc, sandbox, action, arguments),
     }
 }
 
@@ -354,21 +328,19 @@ pub fn act(
     ensures done { IsDone (words.done_of
         (act_of library.now site found.now block.now (state_of sandbox.old.now)))
         result (state_of sandbox.new.now) }
-    ensures exact { IsExact library.now found.now (words.done_of
+    ensures exact { IsExact (action_in library.now found.now) (words.done_of
         (act_of library.now site found.now block.now (state_of sandbox.old.now)))
         result (state_of sandbox.new.now) }
     ensures registered { HasRegistered
         (act_of library.now site found.now block.now (state_of sandbox.old.now))
-        (cleanups_value cleanups.old) result (cleanups_value cleanups.new) }
-    ensures memory { CleanupNeedsCandidate library.now found.now block.now result }
-    ensures kept { KeepsAtMemory library.now found.now block.now
-        sandbox.old result sandbox.new }
+        cleanups.old result cleanups.new }
+    ensures memory { CleanupNeedsCandidate (library_value library.now)
+        (action_in library.now found.now) (arguments_in library.now found.now block.now) result }
+    ensures kept { KeepsAtMemory (action_in library.now found.now)
+        (arguments_in library.now found.now block.now) sandbox.old result sandbox.new }
     ensures layers { KeepsLayers sandbox.old sandbox.new }
 {
-    let call = Call {
-        site,
-        action: library.action(found),
-        arguments: arguments_of(library, found, block),
-    };
-    act_by(alloc, sandbox, cleanups, library, &call)
+    let arguments = arguments_of(library, found, block);
+    let action = library.action(found);
+    act_by(alloc, sandbox, cleanups, library, site, action, &arguments)
 }

@@ -1,13 +1,14 @@
 //! The cases of a feature, taken one after another.
-ghost use Rattle.std.specs.Prelude.{◌≡◌, true, ◌+◌, ◌≤◌, length, vec_capacity};
+ghost use Rattle.std.specs.Prelude.{◌≡◌, true, [], ◌+◌, ◌≤◌, length, vec_capacity};
 ghost use Rattle.gk_run.specs.Grouping.{falls_from};
 
-mod taking;
+mod section_cases;
 
-use crate::results::CaseResult;
+use crate::chosen::RuleHead;
+use crate::results::{CaseResult, Reserved, RuleResult};
 use gk_select::Case;
+pub use section_cases::{both, either, is_bad, run_cases, stays_open};
 use std::collections::VecDeque;
-pub use taking::{both, either, is_bad, run_cases, stays_open};
 
 /// A case, and whether it is selected.
 #[derive(Drop)]
@@ -28,4 +29,13 @@ pub struct Cases {
     ghost paired: { length selected.items ≡ length waiting.items },
     ghost room: { length results.items + length waiting.items ≤ vec_capacity results },
     ghost falls: { falls_from rank waiting.items ≡ true },
+}
+
+/// What is inside of a feature and isn't run yet: its rules and its cases.
+#[derive(Drop)]
+pub struct Content {
+    pub rules: Reserved<RuleHead, RuleResult>,
+    pub cases: Cases,
+    ghost first: { cases.rank ≡ 0 },
+    ghost empty: { cases.results.items ≡ [] },
 }

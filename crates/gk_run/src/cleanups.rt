@@ -1,11 +1,13 @@
 //! Cleanups that steps register.
-ghost use Rattle.std.specs.Prelude.{◌≡◌, ◌≤◌, [], length, vec_capacity};
-
-mod registering;
+ghost use Rattle.std.specs.Prelude.{◌≡◌, [], ◌∷◌, ◌++◌, IfOk, OnOk, OnErr};
+ghost use Rattle.gk_gherkin.specs.Feature.{block_value};
+ghost use Rattle.gk_steps.specs.Finding.{found_value};
 
 use crate::results::Outcome;
 use gk_gherkin::Block;
 use gk_steps::Found;
+use std::alloc::{AllocError, Global};
+use std::marker::Model;
 
 /// A registered cleanup: what its text found, and the block of the step that registered it.
 /// (behave's documentation: cleanups)
@@ -22,6 +24,62 @@ pub struct Cleanups {
     pub(crate) list: Vec<Cleanup>,
     // Empty, with room for the outcome of each.
     pub(crate) outcomes: Vec<Outcome>,
-    ghost empty: { outcomes.items ≡ [] },
-    ghost room: { length list.items ≤ vec_capacity outcomes },
+}
+
+impl Model for Cleanups {
+    ghost use Rattle.std.specs.Prelude.{List, map, ◌≡◌, ◌≤◌, [], length, vec_capacity};
+    ghost use Rattle.gk_run.specs.Acting.{CleanupValue};
+    ghost use Rattle.gk_run.specs.Cleanups.{cleanup_value};
+
+    ghost Value = { List CleanupValue };
+
+    ghost view = { λ c. map cleanup_value c.list.items };
+
+    ghost invariant = { λ c. (c.outcomes.items ≡ [])
+        × (length c.list.items ≤ vec_capacity c.outcomes) };
+}
+
+// A copy of a block.
+fn copy_block(block: &Block) -> Result<Block, AllocError>
+    ensures { IfOk result (λ b. block_value b ≡ block_value block.now) }
+{
+    match block {
+        Block::Empty => Ok(Block::Empty),
+        Block::Text(text) => Ok(Block::Text(text.clone()?)),
+        Block::Table(rows) => Ok(Block::Table(rows.clone()?)),
+    }
+}
+
+impl Cleanups {
+    /// No cleanups. Takes no memory.
+    pub fn new(alloc: Global) -> Cleanups
+        ensures { result ≡ [] }
+    {
+        Cleanups {
+            list: Vec::new(alloc),
+            outcomes: Vec::new(alloc),
+        }
+    }
+
+    /// Registers a cleanup as the last, with a copy of the block, and reserves the place of its
+    /// outcome. A refusal changes nothing. (behave's documentation: cleanups)
+    pub(crate) fn add(&mut self, found: Found, block: &Block) -> Result<(), AllocError>
+        ensures ok { OnOk result (self.new ≡ self.old
+            ++ record { found = found_value found; block = block_value block.now } ∷ []) }
+        ensures err { OnErr result (self.new ≡ self.old) }
+    {
+        self.outcomes.reserve(self.list.len() + 1)?;
+        self.list.reserve(1)?;
+        let block = copy_block(block)?;
+        self.list.push_reserved(Cleanup { found, block });
+        Ok(())
+    }
+
+    /// No outcome, for when none of the cleanups runs.
+    pub(crate) fn none(self) -> Vec<Outcome>
+        ensures { result.items ≡ [] }
+    {
+        let Cleanups { list: _, outcomes } = self;
+        outcomes
+    }
 }

@@ -6,20 +6,18 @@ ghost use Rattle.gk_steps.specs.Finding.{library_value};
 ghost use Rattle.gk_run.specs.declared.results.Status.TheVariants as statuses;
 ghost use Rattle.gk_run.specs.Results.{step_row, case_row, rule_row, feature_row};
 ghost use Rattle.gk_run.specs.Section.{Cut};
-ghost use Rattle.gk_run.specs.Chosen.{head_value, member_of, chosen_value, IsPaired};
+ghost use Rattle.gk_run.specs.Chosen.{head_value, member_of, members_of, chosen_value, IsPaired};
 ghost use Rattle.gk_run.specs.Features.{FeatureCuts};
 ghost use Rattle.gk_run.specs.DryRun.{dry_row, dry_case_of, dry_cases_of, dry_rules_of, dry_feature_of};
 ghost use Rattle.gk_run.specs.DryRunContracts.{IsDryStep, AreDrySteps};
-ghost use Rattle.gk_run.specs.Reserved.{members_in};
 
 use crate::cases::either;
-use crate::chosen::Chosen;
+use crate::chosen::{Chosen, RuleHead};
 use crate::ending::is_memory_mark;
 use crate::features::feature_status;
-use crate::reserved::{
-    ReservedCases, ReservedRules, ReservedSteps, reserve_cases, reserve_rules, reserve_steps,
+use crate::results::{
+    CaseResult, FeatureResult, Mark, NoRoom, Reserved, RuleResult, Status, StepResult, reserve,
 };
-use crate::results::{CaseResult, FeatureResult, Mark, NoRoom, RuleResult, Status, StepResult};
 use crate::running::unrun_case;
 use crate::walk::{look_up, row_of};
 use gk_gherkin::Step;
@@ -45,13 +43,13 @@ struct DrySteps {
 }
 
 // Looks the steps of a case up.
-fn dry_steps(alloc: Global, library: &Library, steps: ReservedSteps) -> DrySteps
-    ensures { AreDrySteps (library_value library.now) false (map step_value steps.steps.items)
+fn dry_steps(alloc: Global, library: &Library, steps: Reserved<Step, StepResult>) -> DrySteps
+    ensures { AreDrySteps (library_value library.now) false (map step_value steps.list.items)
         (map step_row result.results.items) result.is_refused }
 {
-    let ReservedSteps { steps, mut results } = steps;
+    let Reserved { list, mut results } = steps;
     let mut is_refused = false;
-    for step in steps {
+    for step in list {
         let mark = dry_step(alloc, library, is_refused, &step);
         is_refused = either(is_refused, is_memory_mark(mark));
         results.push_reserved(row_of(step, mark));
@@ -85,7 +83,7 @@ fn dry_case(alloc: Global, library: &Library, case: Case) -> Result<CaseResult, 
         rule: _,
         tags: _,
     } = case;
-    let looked = dry_steps(alloc, library, reserve_steps(alloc, steps)?);
+    let looked = dry_steps(alloc, library, reserve(alloc, steps)?);
     Ok(CaseResult {
         keyword,
         name,
@@ -117,28 +115,26 @@ fn dry_member(
 fn dry_cases(
     alloc: Global,
     library: &Library,
-    cases: ReservedCases,
+    cases: Reserved<Case, CaseResult>,
+    selected: Vec<bool>,
 ) -> Result<Vec<CaseResult>, NoRoom>
     ensures { IfOk result (λ rs. (cuts : List Cut) × (map case_row rs.items
-        ≡ dry_cases_of (library_value library.now) cuts (members_in cases))) }
+        ≡ dry_cases_of (library_value library.now) cuts
+        (members_of cases.list.items selected.items))) }
 {
-    let ReservedCases {
-        cases,
-        selected,
-        mut results,
-    } = cases;
-    for (case, selected) in cases.into_iter().zip(selected) {
+    let Reserved { list, mut results } = cases;
+    for (case, selected) in list.into_iter().zip(selected) {
         results.push_reserved(dry_member(alloc, library, case, selected)?);
     }
     Ok(results)
 }
 
 // The results of rules, none of which is begun.
-fn dry_rules(rules: ReservedRules) -> Vec<RuleResult>
-    ensures { map rule_row result.items ≡ dry_rules_of (map head_value rules.heads.items) }
+fn dry_rules(rules: Reserved<RuleHead, RuleResult>) -> Vec<RuleResult>
+    ensures { map rule_row result.items ≡ dry_rules_of (map head_value rules.list.items) }
 {
-    let ReservedRules { heads, mut results } = rules;
-    for head in heads {
+    let Reserved { list, mut results } = rules;
+    for head in list {
         results.push_reserved(RuleResult {
             line: head.line,
             around: Status::Passed,
@@ -170,9 +166,8 @@ pub fn dry_feature(
         cases,
         selected,
     } = chosen;
-    let rules = dry_rules(reserve_rules(alloc, rules)?);
-    let reserved = reserve_cases(alloc, cases, selected)?;
-    let cases = dry_cases(alloc, library, reserved)?;
+    let rules = dry_rules(reserve(alloc, rules)?);
+    let cases = dry_cases(alloc, library, reserve(alloc, cases)?, selected)?;
     Ok(FeatureResult {
         source,
         name,

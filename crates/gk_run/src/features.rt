@@ -2,27 +2,25 @@
 ghost use Rattle.std.specs.Prelude.{◌≡◌, ◌<◌, true, suc, map, IfOk};
 ghost use Rattle.std.specs.List.{list_any};
 ghost use Rattle.gk_world.specs.State.{state_of, layers};
-ghost use Rattle.gk_world.specs.Sandbox.{depth};
+ghost use Rattle.gk_world.specs.Sandbox.{depth, IsSame};
 ghost use Rattle.gk_run.specs.Cases.{case_statuses};
 ghost use Rattle.gk_run.specs.Results as rows;
 ghost use Rattle.gk_run.specs.Results.{case_row, rule_row, feature_row};
 ghost use Rattle.gk_run.specs.Run.{run_of, run_value};
 ghost use Rattle.gk_run.specs.Chosen.{chosen_value, IsFormed};
 ghost use Rattle.gk_run.specs.Features as spec;
-ghost use Rattle.gk_run.specs.Features.{FeatureCuts, feature_of, rule_statuses, feature_verdict};
-ghost use Rattle.gk_run.specs.Running.{IsSame};
+ghost use Rattle.gk_run.specs.Features.{IsFeatureResult, rule_statuses, feature_verdict};
 ghost use Rattle.gk_run.specs.FeatureContracts.{EndsFeature, RunsFeature, RunsInside};
 
-use crate::cases::{Cases, both, either, run_cases};
+use crate::cases::{Cases, Content, both, either, run_cases};
 use crate::chosen::Chosen;
 use crate::ending::has_passed;
+use crate::observer::{Observer, Unwatched};
 use crate::open_section::{end_around, leave_section, open_section};
-use crate::reserved::{ReservedFeature, reserve_cases, reserve_rules};
-use crate::results::{CaseResult, FeatureResult, NoRoom, RuleResult, Status};
+use crate::results::{CaseResult, FeatureResult, NoRoom, RuleResult, Status, reserve};
 use crate::rules::run_rules;
 use crate::run::Run;
 use crate::section::{Level, Section};
-use crate::watching::{Observer, Unwatched};
 use gk_gherkin::{HookFile, HookTable};
 use gk_steps::Library;
 use gk_world::Sandbox;
@@ -30,7 +28,7 @@ use std::alloc::Global;
 
 /// What is inside of a feature: the results of its rules and of its cases.
 #[derive(Drop)]
-struct Inside {
+struct InsideResults {
     rules: Vec<RuleResult>,
     cases: Vec<CaseResult>,
 }
@@ -40,19 +38,19 @@ fn run_inside<O: Observer>(
     run: &Run<'_>,
     sandbox: &mut Sandbox,
     is_open: bool,
-    content: ReservedFeature,
+    content: Content,
     observer: &mut O,
-) -> Result<Inside, NoRoom>
+) -> Result<InsideResults, NoRoom>
     requires layer { suc (depth sandbox.old) < layers }
     ensures inside { IfOk result (RunsInside O.hears O.ends run.now
         (state_of sandbox.old.now) is_open content observer.old observer.new) }
     ensures same { IsSame sandbox.old sandbox.new }
 {
-    let ReservedFeature { rules, mut cases } = content;
+    let Content { rules, mut cases } = content;
     let all_stay = run_cases(run, sandbox, is_open, &mut cases, observer)?;
     let is_open = both(is_open, all_stay);
     let rules = run_rules(run, sandbox, is_open, rules, &mut cases, observer)?;
-    Ok(Inside {
+    Ok(InsideResults {
         rules,
         cases: cases.results,
     })
@@ -62,7 +60,7 @@ fn run_inside<O: Observer>(
 #[derive(Drop)]
 struct FeatureEnd {
     around: Status,
-    inside: Inside,
+    inside: InsideResults,
 }
 
 // Runs a feature in a layer of its own.
@@ -70,7 +68,7 @@ fn begin_feature<O: Observer>(
     run: &Run<'_>,
     sandbox: &mut Sandbox,
     tags: &[String],
-    content: ReservedFeature,
+    content: Content,
     observer: &mut O,
 ) -> Result<FeatureEnd, NoRoom>
     requires layer { suc (suc (depth sandbox.old)) < layers }
@@ -101,7 +99,7 @@ fn feature_end<O: Observer>(
     sandbox: &mut Sandbox,
     is_begun: bool,
     tags: &[String],
-    content: ReservedFeature,
+    content: Content,
     observer: &mut O,
 ) -> Result<FeatureEnd, NoRoom>
     requires layer { suc (suc (depth sandbox.old)) < layers }
@@ -206,9 +204,9 @@ pub(crate) fn feature_in<O: Observer>(
         selected,
     } = chosen;
     let is_begun = both(is_open, has_selected(selected.as_slice()));
-    let rules = reserve_rules(run.alloc, rules)?;
-    let cases = Cases::new(reserve_cases(run.alloc, cases, selected)?);
-    let content = ReservedFeature { rules, cases };
+    let rules = reserve(run.alloc, rules)?;
+    let cases = Cases::new(reserve(run.alloc, cases)?, selected);
+    let content = Content { rules, cases };
     let end = feature_end(run, sandbox, is_begun, tags.as_slice(), content, observer)?;
     Ok(FeatureResult {
         source,
@@ -243,9 +241,8 @@ pub fn run_feature(
 ) -> Result<FeatureResult, NoRoom>
     requires layer { suc (suc (depth sandbox.old)) < layers }
     requires formed { IsFormed chosen }
-    ensures row { IfOk result (λ r. (cuts : FeatureCuts) × (feature_row r
-        ≡ feature_of (run_of library.now hooks.now stop)
-        (state_of sandbox.old.now) true cuts (chosen_value chosen))) }
+    ensures row { IfOk result (λ r. IsFeatureResult (run_of library.now hooks.now stop)
+        (state_of sandbox.old.now) true (chosen_value chosen) (feature_row r)) }
     ensures same { IsSame sandbox.old sandbox.new }
 {
     let hooks = HookTable::new(alloc, hooks);

@@ -4,46 +4,61 @@
 //! dry run steps are only looked up.
 #![tactic(auto)]
 
-mod acting;
-mod cases;
-mod chosen;
-mod cleanups;
-mod closing;
-mod dry_run;
-mod ending;
-mod features;
-mod grouping;
-mod judged;
-mod open_run;
-mod open_section;
-mod reserved;
+// Results.
 mod results;
-mod rules;
+
+// What an action does and registers, and how steps end.
+mod acting;
+mod cleanups;
+mod ending;
+
+// A run as it is told, and the stages in it.
+mod observer;
 mod run;
-mod running;
 mod section;
+
+// Steps and hooks, one after another.
 mod section_hooks;
 mod walk;
-mod watching;
+
+// The beginning and the end of a section.
+mod open_section;
+mod section_end;
+
+// A case.
+mod running;
+
+// The cases of a section.
+mod cases;
+mod chosen;
+
+// Rules, and a whole feature.
+mod features;
+mod rules;
+
+// A dry run, a whole run, and laws.
+mod dry_run;
+mod laws;
+mod open_run;
 
 pub use acting::{Site, act};
 pub use cases::is_bad;
 pub use chosen::{Chosen, RuleHead};
 pub use cleanups::Cleanups;
 pub use dry_run::dry_feature;
-pub use ending::{reason_of, status_of};
+pub use ending::{Ending, reason_of, status_of};
 pub use features::run_feature;
-pub use grouping::{
-    features_without_rules_have_their_cases, formed_cases_fall_into_rules, groups_are_all,
-    results_stand_in_file_order,
+pub use laws::{
+    dry_runs_are_judged, features_without_rules_have_their_cases, finished_runs_are_judged,
+    formed_cases_fall_into_rules, groups_are_all, judged_results_are_in_words,
+    results_stand_in_file_order, steps_end_at_the_least_stop, steps_have_their_results,
+    stopped_cases_run_no_step, unfinished_dry_runs_are_judged, unfinished_runs_are_judged,
+    walks_end_at_the_least_stop, without_memory_there_is_one_list,
 };
-pub use judged::{
-    dry_runs_are_judged, unfinished_dry_runs_are_judged, without_memory_there_is_one_list,
-};
-pub use open_run::{Suite, finished_runs_are_judged, unfinished_runs_are_judged};
+pub use observer::{Observer, Unwatched};
+pub use open_run::Suite;
 pub use results::{
     CaseResult, FeatureResult, Mark, NoRoom, Outcome, Reason, RuleResult, Status, StepResult,
 };
 pub use running::{run_case, run_case_watched};
-pub use section::{Level, Part, Place};
-pub use watching::{Observer, Unwatched};
+pub use section::{Level, Part, Stage};

@@ -1,39 +1,69 @@
 //! A run that was begun and isn't finished.
-ghost use Rattle.std.specs.Prelude.{◌≡◌, ◌<◌, ◌&&◌, ◌||◌, Bool, suc, [], IfOk, OnErr};
+ghost use Rattle.std.specs.Prelude.{◌≡◌, ◌<◌, suc, IfOk, OnErr};
 ghost use Rattle.gk_world.specs.State.{state_of, layers};
-ghost use Rattle.gk_world.specs.Sandbox.{depth, Ends};
+ghost use Rattle.gk_world.specs.Sandbox.{depth, Ends, IsSame};
 ghost use Rattle.gk_run.specs.Results.{feature_row};
 ghost use Rattle.gk_run.specs.Run.{run_of};
 ghost use Rattle.gk_run.specs.Chosen.{chosen_value, IsFormed};
-ghost use Rattle.gk_run.specs.Cases.{is_bad, stays_open_by};
-ghost use Rattle.gk_run.specs.Features.{IsFeatureResult};
-ghost use Rattle.gk_run.specs.SectionContracts.{EndsAround};
-ghost use Rattle.gk_run.specs.Running.{IsSame};
-ghost use Rattle.gk_run.specs.Watching.{IsFeatureTold};
-ghost use Rattle.gk_run.specs.OpenRun.{IsStarted, IsStartTold, IsKept, IsFinished, FinishedRunsAreJudged, UnfinishedRunsAreJudged};
+ghost use Rattle.gk_run.specs.Features.{IsFeatureTold};
+ghost use Rattle.gk_run.specs.OpenRun as spec;
+ghost use Rattle.gk_run.specs.OpenRun.{IsStarted, IsStartTold, IsKept, IsNextRun, IsFinished, IsFinishTold};
 
-mod state;
-
-use crate::cases::{both, either, is_bad, stays_open};
+use crate::cases::{both, either, is_bad};
 use crate::chosen::Chosen;
 use crate::ending::has_passed;
 use crate::features::feature_in;
-use crate::open_section::{end_around, open_section};
+use crate::observer::{Observer, Unwatched};
+use crate::open_section::{OpenSection, end_around, open_section};
 use crate::results::{FeatureResult, NoRoom, Status};
 use crate::run::Run;
 use crate::section::{Level, Section};
-use crate::watching::{Observer, Unwatched};
 use gk_gherkin::{HookFile, HookTable};
 use gk_steps::Library;
 use gk_world::Sandbox;
-pub use state::Suite;
 use std::alloc::Global;
+use std::marker::Model;
+
+/// A run that was begun: its layer is open, and its before hook was run. It has to be finished. Inside
+/// its layer there is room for those of a feature, of a rule and of a scenario. (behave's documentation:
+/// context layers, environment file functions)
+pub struct Suite {
+    section: OpenSection,
+    stop: bool,
+    // A feature so far is failed or memory.
+    has_failed: bool,
+}
+
+impl Model for Suite {
+    ghost use Rattle.std.specs.Prelude.{◌<◌, suc};
+    ghost use Rattle.gk_world.specs.State.{layers};
+    ghost use Rattle.gk_run.specs.OpenRun.{SuiteValue};
+
+    ghost Value = { SuiteValue };
+
+    ghost view = { λ s. record {
+      layer = s.section.layer;
+      before = s.section.before;
+      cleanups = s.section.cleanups;
+      stop = s.stop;
+      has_failed = s.has_failed;
+    } };
+
+    ghost invariant = { λ s. suc (suc s.section.layer) < layers };
+}
 
 impl Suite {
+    // Whether further features are begun.
+    fn opens_features(&self) -> bool
+        ensures { result ≡ spec.opens_features self.now }
+    {
+        has_passed(self.section.before) && !(self.stop && self.has_failed)
+    }
+
     /// Begins a run: its layer, and the before hook of all. Takes no memory but what the hook's steps
     /// take. With `stop`, once a scenario, a rule or a feature is failed or memory, later scenarios are
-    /// untested and later rules and features aren't begun; what was begun is ended as always. No feature has failed yet.
-    /// (behave's documentation: context layers, environment file functions, `--stop`)
+    /// untested and later rules and features aren't begun; what was begun is ended as always. No feature
+    /// has failed yet. (behave's documentation: context layers, environment file functions, `--stop`)
     pub fn start(
         alloc: Global,
         sandbox: &mut Sandbox,
@@ -72,18 +102,16 @@ impl Suite {
             tags: &[],
         };
         let section = open_section(&run, sandbox, &section, observer);
-        let is_open = has_passed(section.before);
         Suite {
             section,
             stop,
             has_failed: false,
-            is_open,
         }
     }
 
-    /// Runs a feature of the run, as `run_feature` does, where the before hook of all passed whole and
-    /// the run hasn't stopped; else its selected cases are untested. The sandbox is as it was, whatever
-    /// is returned, and after `NoRoom` the run is still open. (behave's documentation: context layers)
+    /// Runs a feature of the run, as `run_feature` does, if the before hook of all passed whole and the
+    /// run hasn't stopped; otherwise its selected cases are untested. The sandbox is as it was, whatever
+    /// is returned, and after `NoRoom` the run is as it was. (behave's documentation: context layers)
     pub fn feature(
         &mut self,
         alloc: Global,
@@ -92,18 +120,12 @@ impl Suite {
         hooks: &HookFile,
         chosen: Chosen,
     ) -> Result<FeatureResult, NoRoom>
-        requires innermost { self.old.section.layer ≡ depth sandbox.old }
+        requires innermost { self.old.layer ≡ depth sandbox.old }
         requires formed { IsFormed chosen }
-        ensures row { IfOk result (λ r. IsFeatureResult
-            (run_of library.now hooks.now self.old.stop) (state_of sandbox.old.now)
-            self.old.is_open (chosen_value chosen) (feature_row r)) }
-        ensures next { IfOk result (λ r. self.new.is_open
-            ≡ (self.old.is_open && stays_open_by self.old.stop r.status)) }
-        ensures failed { IfOk result (λ r. self.new.has_failed
-            ≡ (self.old.has_failed || is_bad r.status)) }
+        ensures ran { IfOk result (λ r. IsNextRun (run_of library.now hooks.now self.old.stop)
+            (state_of sandbox.old.now) (chosen_value chosen) (feature_row r) self.old self.new) }
         ensures kept { IsKept self.old self.new }
-        ensures err { OnErr result (self.new.is_open ≡ self.old.is_open) }
-        ensures no_room { OnErr result (self.new.has_failed ≡ self.old.has_failed) }
+        ensures no_room { OnErr result (self.new ≡ self.old) }
         ensures same { IsSame sandbox.old sandbox.new }
     {
         self.feature_watched(alloc, sandbox, library, hooks, chosen, &mut Unwatched)
@@ -112,7 +134,7 @@ impl Suite {
     /// Runs a feature of the run as `feature` does, and tells an observer what happens: the events of the
     /// feature's before hooks, then each of its own scenarios, then each rule, and then the events of its
     /// after hooks and its cleanups. A scenario is told by its events and then its result, a rule by its
-    /// hooks, its scenarios and its cleanups and then its result. Where memory is refused in the hooks or
+    /// hooks, its scenarios and its cleanups and then its result. If memory is refused in the hooks or
     /// the cleanups of a scenario, a rule or the feature, these are told up to that event. After `NoRoom`
     /// some of it was told.
     pub fn feature_watched<O: Observer>(
@@ -124,21 +146,16 @@ impl Suite {
         chosen: Chosen,
         observer: &mut O,
     ) -> Result<FeatureResult, NoRoom>
-        requires innermost { self.old.section.layer ≡ depth sandbox.old }
+        requires innermost { self.old.layer ≡ depth sandbox.old }
         requires formed { IsFormed chosen }
-        ensures row { IfOk result (λ r. IsFeatureResult
-            (run_of library.now hooks.now self.old.stop) (state_of sandbox.old.now)
-            self.old.is_open (chosen_value chosen) (feature_row r)) }
+        ensures ran { IfOk result (λ r. IsNextRun (run_of library.now hooks.now self.old.stop)
+            (state_of sandbox.old.now) (chosen_value chosen) (feature_row r) self.old self.new) }
         ensures told { IfOk result (λ r. IsFeatureTold O.hears O.ends
             (run_of library.now hooks.now self.old.stop) (state_of sandbox.old.now)
-            self.old.is_open (chosen_value chosen) (feature_row r) observer.old observer.new) }
-        ensures next { IfOk result (λ r. self.new.is_open
-            ≡ (self.old.is_open && stays_open_by self.old.stop r.status)) }
-        ensures failed { IfOk result (λ r. self.new.has_failed
-            ≡ (self.old.has_failed || is_bad r.status)) }
+            (spec.opens_features self.old) (chosen_value chosen) (feature_row r)
+            observer.old observer.new) }
         ensures kept { IsKept self.old self.new }
-        ensures err { OnErr result (self.new.is_open ≡ self.old.is_open) }
-        ensures no_room { OnErr result (self.new.has_failed ≡ self.old.has_failed) }
+        ensures no_room { OnErr result (self.new ≡ self.old) }
         ensures same { IsSame sandbox.old sandbox.new }
     {
         let hooks = HookTable::new(alloc, hooks);
@@ -148,9 +165,9 @@ impl Suite {
             hooks: &hooks,
             stop: self.stop,
         };
-        let result = feature_in(&run, sandbox, self.is_open, chosen, observer)?;
+        let is_open = self.opens_features();
+        let result = feature_in(&run, sandbox, is_open, chosen, observer)?;
         self.has_failed = either(self.has_failed, is_bad(result.status));
-        self.is_open = both(self.is_open, stays_open(self.stop, result.status));
         Ok(result)
     }
 
@@ -164,16 +181,16 @@ impl Suite {
         library: &Library,
         hooks: &HookFile,
     ) -> Status
-        requires innermost { self.section.layer ≡ depth sandbox.old }
-        ensures around { (stop : Bool) → IsFinished
-            (run_of library.now hooks.now stop) self.section sandbox.old result }
+        requires innermost { self.layer ≡ depth sandbox.old }
+        ensures around { IsFinished (run_of library.now hooks.now self.stop) self
+            sandbox.old result }
         ensures ends { Ends sandbox.old sandbox.new }
     {
         self.finish_watched(alloc, sandbox, library, hooks, &mut Unwatched)
     }
 
     /// Ends the run as `finish` does, and tells an observer the events of the after hook of all and of the
-    /// run's cleanups, or, where memory is refused in one, those up to that one.
+    /// run's cleanups, or, if memory is refused in one, those up to that one.
     pub fn finish_watched<O: Observer>(
         self,
         alloc: Global,
@@ -182,9 +199,8 @@ impl Suite {
         hooks: &HookFile,
         observer: &mut O,
     ) -> Status
-        requires innermost { self.section.layer ≡ depth sandbox.old }
-        ensures told { (stop : Bool) → EndsAround O.hears
-            (run_of library.now hooks.now stop) Level.Run [] self.section
+        requires innermost { self.layer ≡ depth sandbox.old }
+        ensures told { IsFinishTold O.hears (run_of library.now hooks.now self.stop) self
             sandbox.old result observer.old observer.new }
         ensures ends { Ends sandbox.old sandbox.new }
     {
@@ -192,7 +208,6 @@ impl Suite {
             section: opened,
             stop,
             has_failed: _,
-            is_open: _,
         } = self;
         let hooks = HookTable::without_index(hooks);
         let run = Run {
@@ -208,15 +223,3 @@ impl Suite {
         end_around(&run, sandbox, &section, opened, observer)
     }
 }
-
-/// A run that was begun, whose features were run, and that was finished has judged results: the
-/// features' results and what `Suite::finish` returns.
-pub fn finished_runs_are_judged()
-    ensures { FinishedRunsAreJudged }
-{}
-
-/// A run that was begun and isn't finished has results that begin judged results: those of the features
-/// that were run, whatever features come after them.
-pub fn unfinished_runs_are_judged()
-    ensures { UnfinishedRunsAreJudged }
-{}

@@ -1,21 +1,22 @@
 //! The way that a section goes: it is begun and its before list walked through, what is inside of it
 //! runs, and it is closed and ended. The run, a feature, a rule and a scenario go it.
-ghost use Rattle.std.specs.Prelude.{◌≡◌, ◌<◌, Bool};
+ghost use Rattle.std.specs.Prelude.{◌≡◌, ◌<◌};
 ghost use Rattle.gk_gherkin.specs.Feature.{texts};
 ghost use Rattle.gk_world.specs.State.{layers};
 ghost use Rattle.gk_world.specs.Sandbox.{depth, KeepsLayers, Ends};
-ghost use Rattle.gk_run.specs.Run.{run_of};
+ghost use Rattle.gk_run.specs.Events.{stand_of};
+ghost use Rattle.gk_run.specs.Run.{run_value};
 ghost use Rattle.gk_run.specs.SectionContracts.{EndsAround, Opens};
 ghost use Rattle.gk_run.specs.WalkContracts.{Closes};
 
 use crate::cleanups::Cleanups;
-use crate::closing::{Closed, close};
 use crate::ending::{Ending, around_status, is_memory, worse};
+use crate::observer::Observer;
 use crate::results::Status;
 use crate::run::Run;
 use crate::section::Section;
+use crate::section_end::{Closed, close};
 use crate::section_hooks::walk_before;
-use crate::watching::Observer;
 use gk_world::{Layer, Sandbox, layers_enter};
 
 /// A section that was begun. It has to be ended. (behave's documentation: context layers)
@@ -106,9 +107,9 @@ pub fn end_around<O: Observer>(
     observer: &mut O,
 ) -> Status
     requires innermost { opened.layer ≡ depth sandbox.old }
-    ensures around { (stop : Bool) → EndsAround O.hears
-        (run_of run.now.library.now run.now.hooks.now.file.now stop) section.now.level
-        (texts section.now.tags.now) opened sandbox.old result observer.old observer.new }
+    ensures around { EndsAround O.hears (run_value run.now) section.now.level
+        (texts section.now.tags.now) opened.before (stand_of sandbox.old opened.cleanups)
+        result observer.old observer.new }
     ensures ends { Ends sandbox.old sandbox.new }
 {
     let before = opened.before;

@@ -1,4 +1,7 @@
 //! The results of running.
+ghost use Rattle.std.specs.Prelude.{◌≡◌, ◌≤◌, [], length, vec_capacity, IfOk};
+
+use std::alloc::{AllocError, Global};
 
 /// The status of a step, a scenario or a feature, or of the hooks and cleanups of a section. A step has
 /// any of them; a scenario or a feature is never undefined; hooks and cleanups are `Passed`, `Failed` or
@@ -135,4 +138,23 @@ pub struct FeatureResult {
     /// One for each rule, in file order.
     pub rules: Vec<RuleResult>,
     pub cases: Vec<CaseResult>,
+}
+
+/// What is to be run, with room for the result of each.
+#[derive(Drop)]
+pub struct Reserved<T, R> {
+    pub list: Vec<T>,
+    pub results: Vec<R>,
+    ghost empty: { results.items ≡ [] },
+    ghost room: { length list.items ≤ vec_capacity results },
+}
+
+/// Reserves room for the result of each of a list.
+pub fn reserve<T: Drop, R: Drop>(alloc: Global, list: Vec<T>) -> Result<Reserved<T, R>, NoRoom>
+    ensures { IfOk result (λ reserved. reserved.list ≡ list) }
+{
+    match Vec::with_capacity(alloc, list.len()) {
+        Ok(results) => Ok(Reserved { list, results }),
+        Err(AllocError) => Err(NoRoom),
+    }
 }

@@ -1,22 +1,20 @@
 //! Running the rules of a feature.
 ghost use Rattle.std.specs.Prelude.{◌≡◌, true, ◌<◌, suc, map, IfOk};
 ghost use Rattle.gk_world.specs.State.{state_of, layers};
-ghost use Rattle.gk_world.specs.Sandbox.{depth};
+ghost use Rattle.gk_world.specs.Sandbox.{depth, IsSame};
 ghost use Rattle.gk_run.specs.Grouping.{falls_from};
 ghost use Rattle.gk_run.specs.Chosen.{head_value};
 ghost use Rattle.gk_run.specs.FeatureContracts.{BeginsRule, RunsRule, RunsRules};
 ghost use Rattle.gk_run.specs.Run.{run_value};
-ghost use Rattle.gk_run.specs.Running.{IsSame};
 
 use crate::cases::{Cases, both, run_cases, stays_open};
 use crate::chosen::RuleHead;
 use crate::ending::has_passed;
+use crate::observer::Observer;
 use crate::open_section::{end_around, leave_section, open_section};
-use crate::reserved::ReservedRules;
-use crate::results::{NoRoom, RuleResult, Status};
+use crate::results::{NoRoom, Reserved, RuleResult, Status};
 use crate::run::Run;
 use crate::section::{Level, Section};
-use crate::watching::Observer;
 use gk_world::Sandbox;
 
 /// What a rule comes to beside its cases.
@@ -90,7 +88,7 @@ pub fn run_rules<O: Observer>(
     run: &Run<'_>,
     sandbox: &mut Sandbox,
     is_open: bool,
-    rules: ReservedRules,
+    rules: Reserved<RuleHead, RuleResult>,
     cases: &mut Cases,
     observer: &mut O,
 ) -> Result<Vec<RuleResult>, NoRoom>
@@ -98,11 +96,14 @@ pub fn run_rules<O: Observer>(
     requires falls { falls_from (suc cases.old.rank) cases.old.waiting.items ≡ true }
     requires first { cases.old.rank ≡ 0 }
     ensures rules { IfOk result (λ results. RunsRules O.hears O.ends (run_value run.now)
-        (state_of sandbox.old.now) is_open (map head_value rules.heads.items)
+        (state_of sandbox.old.now) is_open (map head_value rules.list.items)
         cases.old cases.new results.items observer.old observer.new) }
     ensures same { IsSame sandbox.old sandbox.new }
 {
-    let ReservedRules { heads, mut results } = rules;
+    let Reserved {
+        list: heads,
+        mut results,
+    } = rules;
     let mut is_open = is_open;
     for head in heads {
         cases.next_rank();

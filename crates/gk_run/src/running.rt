@@ -3,22 +3,20 @@ ghost use Rattle.std.specs.Prelude.{◌≡◌, ◌<◌, map, IfOk, OnErr, false}
 ghost use Rattle.gk_gherkin.specs.Feature.{step_value};
 ghost use Rattle.gk_select.specs.Case.{case_value};
 ghost use Rattle.gk_world.specs.State.{state_of, layers};
-ghost use Rattle.gk_world.specs.Sandbox.{depth};
+ghost use Rattle.gk_world.specs.Sandbox.{depth, IsSame};
 ghost use Rattle.gk_run.specs.Results.{step_row, case_row};
 ghost use Rattle.gk_run.specs.Run.{run_of, run_value};
-ghost use Rattle.gk_run.specs.Running.{unrun_row, IsSame, IsReached, same_marks};
+ghost use Rattle.gk_run.specs.Running.{unrun_row, AreEventsTold, IsCaseTold, IsReached, same_marks};
 ghost use Rattle.gk_run.specs.Walk.{row_of_step};
-ghost use Rattle.gk_run.specs.Watching.{AreEventsTold, IsCaseTold};
 
 use crate::ending::{around_status, verdict_status, worse};
+use crate::observer::{Observer, Unwatched};
 use crate::open_section::{end_section, open_section};
-use crate::reserved::{ReservedSteps, reserve_steps};
-use crate::results::{CaseResult, Mark, NoRoom, Status, StepResult};
+use crate::results::{CaseResult, Mark, NoRoom, Reserved, Status, StepResult, reserve};
 use crate::run::Run;
 use crate::section::{Level, Section};
 use crate::walk::{StepsEnd, row_of, run_steps};
-use crate::watching::{Observer, Unwatched};
-use gk_gherkin::{HookFile, HookTable};
+use gk_gherkin::{HookFile, HookTable, Step};
 use gk_select::Case;
 use gk_steps::Library;
 use gk_world::Sandbox;
@@ -46,7 +44,7 @@ pub(crate) fn case_in<O: Observer>(
         rule: _,
         tags: _,
     } = case;
-    let steps = reserve_steps(run.alloc, steps)?;
+    let steps = reserve(run.alloc, steps)?;
     let section = Section {
         level: Level::Scenario,
         tags: own_tags.as_slice(),
@@ -128,12 +126,12 @@ pub fn run_case_watched<O: Observer>(
 }
 
 // The results of steps that aren't run: each has this mark.
-fn unrun_steps(steps: ReservedSteps, mark: Mark) -> Vec<StepResult>
+fn unrun_steps(steps: Reserved<Step, StepResult>, mark: Mark) -> Vec<StepResult>
     ensures { map step_row result.items
-        ≡ map (λ step. row_of_step step mark) (map step_value steps.steps.items) }
+        ≡ map (λ step. row_of_step step mark) (map step_value steps.list.items) }
 {
-    let ReservedSteps { steps, mut results } = steps;
-    for step in steps {
+    let Reserved { list, mut results } = steps;
+    for step in list {
         results.push_reserved(row_of(step, mark));
     }
     results
@@ -158,7 +156,7 @@ pub fn unrun_case(
         rule: _,
         tags: _,
     } = case;
-    let steps = reserve_steps(alloc, steps)?;
+    let steps = reserve(alloc, steps)?;
     Ok(CaseResult {
         keyword,
         name,

@@ -33,7 +33,7 @@ pub enum Part {
 
 /// Where a step stands in a run: in a part of a section of a level.
 #[derive(Clone, Copy, Debug, PartialEq, Eq)]
-pub struct Place {
+pub struct Stage {
     pub level: Level,
     pub part: Part,
 }
@@ -49,12 +49,12 @@ fn before_site(level: Level) -> Site
     }
 }
 
-/// Where the steps at a place are carried out.
-pub fn site_of(place: Place) -> Site
-    ensures { result ≡ spec.site_of place }
+/// Where the steps at a stage are carried out.
+pub fn site_of(stage: Stage) -> Site
+    ensures { result ≡ spec.site_of stage }
 {
-    match place.part {
-        Part::Before => before_site(place.level),
+    match stage.part {
+        Part::Before => before_site(stage.level),
         Part::Steps => Site::Step,
         Part::After => Site::Hook,
     }

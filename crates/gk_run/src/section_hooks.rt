@@ -8,10 +8,10 @@ ghost use Rattle.gk_run.specs.WalkContracts.{WalksBefore, WalksTags, WalksAfter}
 
 use crate::cleanups::Cleanups;
 use crate::ending::{Ending, has_passed, is_memory, worse};
+use crate::observer::Observer;
 use crate::run::Run;
-use crate::section::{Level, Part, Place, Section};
+use crate::section::{Level, Part, Section, Stage};
 use crate::walk::walk_hook;
-use crate::watching::Observer;
 use gk_gherkin::{HookKind, HookTable, Step};
 use gk_world::Sandbox;
 
@@ -63,19 +63,19 @@ pub fn walk_before<O: Observer>(
         sandbox.new cleanups.new observer.old observer.new }
     ensures layers { KeepsLayers sandbox.old sandbox.new }
 {
-    let place = Place {
+    let stage = Stage {
         level: section.level,
         part: Part::Before,
     };
     for tag in section.tags {
         let steps = hook_steps(run.hooks, HookKind::BeforeTag, Some(tag.as_str()));
-        let ending = walk_hook(run, sandbox, cleanups, place, steps, observer);
+        let ending = walk_hook(run, sandbox, cleanups, stage, steps, observer);
         if !has_passed(ending) {
             return ending;
         }
     }
     let steps = hook_steps(run.hooks, before_kind(section.level), None);
-    walk_hook(run, sandbox, cleanups, place, steps, observer)
+    walk_hook(run, sandbox, cleanups, stage, steps, observer)
 }
 
 // Walks through each after_tag hook by itself.
@@ -91,14 +91,14 @@ fn walk_tags<O: Observer>(
         sandbox.new cleanups.new observer.old observer.new }
     ensures layers { KeepsLayers sandbox.old sandbox.new }
 {
-    let place = Place {
+    let stage = Stage {
         level: section.level,
         part: Part::After,
     };
     let mut ending = Ending::Passed;
     for tag in section.tags {
         let steps = hook_steps(run.hooks, HookKind::AfterTag, Some(tag.as_str()));
-        let this = walk_hook(run, sandbox, cleanups, place, steps, observer);
+        let this = walk_hook(run, sandbox, cleanups, stage, steps, observer);
         if is_memory(this) {
             return this;
         }
@@ -121,11 +121,11 @@ pub fn walk_after<O: Observer>(
     ensures layers { KeepsLayers sandbox.old sandbox.new }
 {
     let steps = hook_steps(run.hooks, after_kind(section.level), None);
-    let place = Place {
+    let stage = Stage {
         level: section.level,
         part: Part::After,
     };
-    let first = walk_hook(run, sandbox, cleanups, place, steps, observer);
+    let first = walk_hook(run, sandbox, cleanups, stage, steps, observer);
     if is_memory(first) {
         return first;
     }

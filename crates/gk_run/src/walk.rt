@@ -7,14 +7,13 @@ ghost use Rattle.gk_run.specs.Results.{step_row};
 ghost use Rattle.gk_run.specs.Walk.{row_of_step};
 ghost use Rattle.gk_run.specs.WalkContracts.{RunsStep, StepNeedsCandidate, StepKeepsAtMemory, WalksHook, IsLookedUp, TakesNext, TellsNext, RunsSteps};
 
-use crate::acting::{Call, Site, act_by, arguments_by};
+use crate::acting::{Site, act_by, arguments_by};
 use crate::cleanups::Cleanups;
 use crate::ending::{Ending, ending_of, has_passed, is_memory, reason_of, status_of, worse};
-use crate::reserved::ReservedSteps;
-use crate::results::{Mark, Outcome, StepResult};
+use crate::observer::Observer;
+use crate::results::{Mark, Outcome, Reserved, StepResult};
 use crate::run::Run;
-use crate::section::{Level, Part, Place, site_of};
-use crate::watching::Observer;
+use crate::section::{Level, Part, Stage, site_of};
 use gk_gherkin::Step;
 use gk_steps::Library;
 use gk_world::Sandbox;
@@ -40,36 +39,40 @@ fn run_step(
         .find_used(run.alloc, step.step_type, step.text.as_str())
     {
         Ok(Some(used)) => {
-            let call = Call {
+            let arguments = arguments_by(used.fields, &step.block);
+            Mark::Acted(act_by(
+                run.alloc,
+                sandbox,
+                cleanups,
+                run.library,
                 site,
-                action: used.action,
-                arguments: arguments_by(used.fields, &step.block),
-            };
-            Mark::Acted(act_by(run.alloc, sandbox, cleanups, run.library, &call))
+                used.action,
+                &arguments,
+            ))
         }
         Ok(None) => Mark::Undefined,
         Err(AllocError) => Mark::Acted(Outcome::Memory),
     }
 }
 
-/// Walks through the steps of a hook that stand at a place.
+/// Walks through the steps of a hook that stand at a stage.
 pub fn walk_hook<O: Observer>(
     run: &Run<'_>,
     sandbox: &mut Sandbox,
     cleanups: &mut Cleanups,
-    place: Place,
+    stage: Stage,
     steps: &[Step],
     observer: &mut O,
 ) -> Ending
     requires in_layer { 0 < depth sandbox.old }
-    ensures walked { WalksHook O.hears run.now place steps.now sandbox.old cleanups.old result
+    ensures walked { WalksHook O.hears run.now stage steps.now sandbox.old cleanups.old result
         sandbox.new cleanups.new observer.old observer.new }
     ensures layers { KeepsLayers sandbox.old sandbox.new }
 {
-    let site = site_of(place);
+    let site = site_of(stage);
     for step in steps {
         let mark = run_step(run, sandbox, cleanups, site, step);
-        observer.step(place, step, mark, sandbox);
+        observer.step(stage, step, mark, sandbox);
         let ending = ending_of(mark);
         if !has_passed(ending) {
             return ending;
@@ -145,11 +148,11 @@ fn tell<O: Observer>(observer: &mut O, stood: Ending, step: &Step, mark: Mark, s
     ensures { TellsNext O.hears stood step.now mark sandbox.now observer.old observer.new }
 {
     if !is_memory(stood) {
-        let place = Place {
+        let stage = Stage {
             level: Level::Scenario,
             part: Part::Steps,
         };
-        observer.step(place, step, mark, sandbox);
+        observer.step(stage, step, mark, sandbox);
     }
 }
 
@@ -159,7 +162,7 @@ pub fn run_steps<O: Observer>(
     sandbox: &mut Sandbox,
     cleanups: &mut Cleanups,
     before: Ending,
-    steps: ReservedSteps,
+    steps: Reserved<Step, StepResult>,
     observer: &mut O,
 ) -> StepsEnd
     requires in_layer { 0 < depth sandbox.old }
@@ -167,9 +170,9 @@ pub fn run_steps<O: Observer>(
         sandbox.new cleanups.new observer.old observer.new }
     ensures layers { KeepsLayers sandbox.old sandbox.new }
 {
-    let ReservedSteps { steps, mut results } = steps;
+    let Reserved { list, mut results } = steps;
     let mut ending = before;
-    for step in steps {
+    for step in list {
         let mark = next_step(run, sandbox, cleanups, &step, ending);
         tell(observer, ending, &step, mark, sandbox);
         ending = worse(ending, ending_of(mark));

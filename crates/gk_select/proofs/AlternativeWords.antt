@@ -9,7 +9,7 @@ use Rattle.std.specs.Str.{bytes_eq}
 use Rattle.gk_gherkin.specs.Text.{begins}
 use Rattle.gk_select.specs.declared.select_fault.SelectFault.{SelectFault}
 use Rattle.gk_select.specs.declared.select_fault.SelectFault.TheVariants.{TooMany, BadTagText, Memory}
-use Rattle.gk_select.specs.SelectFault.{Gives}
+use Rattle.gk_select.specs.SelectFault.{AnswersOrLacksMemory}
 use Rattle.gk_select.specs.Alternatives.{AlternativeValue, alternative_value, alternative_holds, tag_named, alternative, pieces, or_of, alternative_words, words_with}
 use Rattle.gk_select.specs.TagGrammar.{tagged, negated, spelling, factor_spelling}
 use Rattle.gk_select.specs.TagValues.{holds, factor_holds}
@@ -24,7 +24,7 @@ pub plain_alternative : (text : List ℕ) → ((rest : List ℕ) → text ≢ 12
 plain_alternative text n = cond-false (begins text (126 ∷ [])) _ _ (no_tilde text n)
 
 -- A fault is handed on.
-pub handed_on : {X Y V W : Type 0} (v : X → V) (w : Y → W) (f : V → W) (e : SelectFault) (o : Option V) (p : Option W) → p ≡ option_map f o → Gives v (Err e) o → Gives w (Err e) p
+pub handed_on : {X Y V W : Type 0} (v : X → V) (w : Y → W) (f : V → W) (e : SelectFault) (o : Option V) (p : Option W) → p ≡ option_map f o → AnswersOrLacksMemory v (Err e) o → AnswersOrLacksMemory w (Err e) p
 handed_on {W = W} v w f Memory (Some x) p is g = subst (λ (q : Option W). IsSome q) (sym is) refl
 handed_on v w f Memory None p is g = let no : ⊥ = cc g in absurd no
 handed_on v w f BadTagText o p is g = is ∙ ap (option_map f) g
@@ -120,13 +120,13 @@ module _ (text piece : List ℕ) (k : ℕ) (within : k < length (pieces text)) (
   pub piece_needs_memory : (so_far : List (List ℕ)) (words : List WordValue) → so_far ≡ take k (pieces text) → ReadSo so_far words → IsSome (alternative piece) → IsSome (alternative (get_or (pieces text) 0 []))
   piece_needs_memory so_far words taken r some = first_says (pieces text) k so_far r.read piece taken r.says within is some
 
-  pub memory_fails : (e : SelectFault) (so_far : List (List ℕ)) (words : List WordValue) → so_far ≡ take k (pieces text) → ReadSo so_far words → Gives alternative_value (Err e) (alternative piece) → e ≡ Memory
+  pub memory_fails : (e : SelectFault) (so_far : List (List ℕ)) (words : List WordValue) → so_far ≡ take k (pieces text) → ReadSo so_far words → AnswersOrLacksMemory alternative_value (Err e) (alternative piece) → e ≡ Memory
       → IsSome (alternative (get_or (pieces text) 0 []))
   memory_fails Memory so_far words taken r g is_memory = piece_needs_memory so_far words taken r g
   memory_fails BadTagText so_far words taken r g is_memory = let no : ⊥ = cc is_memory in absurd no
   memory_fails TooMany so_far words taken r g is_memory = absurd g
 
-  pub fault_fails : (e : SelectFault) → Gives alternative_value (Err e) (alternative piece) → (e ≡ Memory) ⊎ ((e ≡ BadTagText) × ((alternatives : List AlternativeValue) → map alternative (pieces text) ≡ map Some alternatives → ⊥))
+  pub fault_fails : (e : SelectFault) → AnswersOrLacksMemory alternative_value (Err e) (alternative piece) → (e ≡ Memory) ⊎ ((e ≡ BadTagText) × ((alternatives : List AlternativeValue) → map alternative (pieces text) ≡ map Some alternatives → ⊥))
   fault_fails Memory g = inl refl
   fault_fails BadTagText g = inr (refl, λ alternatives says. nothing_said (pieces text) alternatives k piece within is g says)
   fault_fails TooMany g = absurd g

@@ -10,7 +10,7 @@ use Rattle.gk_select.specs.TagMeasures.{Measure, measure_before, measure_of, dee
 use Rattle.gk_select.specs.declared.tag_words.Word.{Word}
 use Rattle.gk_select.specs.declared.select_fault.SelectFault.{SelectFault}
 use Rattle.gk_select.specs.declared.select_fault.SelectFault.TheVariants.{TooMany, BadTagText, Memory}
-use Rattle.gk_select.specs.SelectFault.{Gives}
+use Rattle.gk_select.specs.SelectFault.{AnswersOrLacksMemory}
 use Rattle.gk_select.proofs.TagMachine.{spelt_by}
 
 abbrev pub capped : ℕ → ℕ
@@ -190,7 +190,7 @@ word_stops ws (suc i) w m some within is h none =
     ∙ ap (option_and_then (λ (m : Measure). measure_before (word_value w) m.factor m.behind m.outer)) h ∙ none
 
 pub before_errs : (ws : List Word) (i : ℕ) (w : Word) (m : Measure) → 0 < i → i ≤ length ws → w ≡ get_or ws (i - 1) w → measure_of (map word_value (drop i ws)) ≡ Some m
-    → (e : SelectFault) → Gives built_value (Err e) (measure_before (word_value w) m.factor m.behind m.outer)
+    → (e : SelectFault) → AnswersOrLacksMemory built_value (Err e) (measure_before (word_value w) m.factor m.behind m.outer)
     → (e ≡ Memory) ⊎ ((e ≡ BadTagText) × ((x : Expression) → spelling x ≡ map word_value ws → depth x ≤ depth_limit → ⊥))
 before_errs ws i w m some within is h Memory g = inl refl
 before_errs ws i w m some within is h BadTagText g = inr (refl, λ x says low. stopped ws (i - 1) (word_stops ws i w m some within is h g) x says)

@@ -5,7 +5,7 @@ use Rattle.gk_select.specs.declared.select_fault.SelectFault.{SelectFault}
 use Rattle.gk_select.specs.declared.select_fault.SelectFault.TheVariants.{TooMany, BadTagText, Memory}
 use Rattle.gk_select.specs.declared.tag_values.TagRule.{TagRule}
 use Rattle.gk_select.specs.Alternatives.{AlternativeValue, alternative, alternative_holds, pieces, or_of, ReadsAlternatives}
-use Rattle.gk_select.specs.SelectFault.{Gives}
+use Rattle.gk_select.specs.SelectFault.{AnswersOrLacksMemory}
 use Rattle.gk_select.specs.TagGrammar.{Expression, spelling, depth, depth_limit}
 use Rattle.gk_select.specs.TagRules.{tag_rule_value, ReadsTags, ReadsOldForm, ReadsNewForm, SpellsNone}
 use Rattle.gk_select.specs.TagTrees.{one_expression}
@@ -27,7 +27,7 @@ one_rule text a b (inr x) (inr y) = one_expression a b (one_words (spelling a) (
 
 pub only_from : (text : List ℕ) (r : Result TagRule SelectFault) → IfOk r (λ (x : TagRule). ReadsTags text (tag_rule_value x))
     → IfErr r (λ (e : SelectFault). (e ≡ Memory) ⊎ ((e ≡ BadTagText) × SpellsNone text))
-    → (rule : Expression) → ReadsTags text rule → Gives tag_rule_value r (Some rule)
+    → (rule : Expression) → ReadsTags text rule → AnswersOrLacksMemory tag_rule_value r (Some rule)
 only_from text (Ok x) found fault rule reads = ap (λ (e : Expression). Some e) (one_rule text rule (tag_rule_value x) reads found)
 only_from text (Err Memory) found fault rule reads = refl
 only_from text (Err BadTagText) found (inl m) rule reads = let no : ⊥ = cc m in absurd no

@@ -1,7 +1,7 @@
 -- The words of a text, one after the other.
 use Rattle.gk_select.specs.declared.select_fault.SelectFault.{SelectFault}
 use Rattle.gk_select.specs.declared.select_fault.SelectFault.TheVariants.{TooMany, BadTagText, Memory}
-use Rattle.gk_select.specs.SelectFault.{Gives}
+use Rattle.gk_select.specs.SelectFault.{AnswersOrLacksMemory}
 use Rattle.std.proofs.Common.{Err, inl, inr, ◌≡◌, ◌⊎◌, ℕ, zero, suc, ◌<◌, ◌≤◌, Bool, true, false, ◌||◌, ◌==◌, if◌then◌else◌, List, [], ◌∷◌, ◌++◌, length, map, take, drop, get_or, Option, Some, None, IsSome, refl, ap, sym, subst, ◌∙◌, arith, append_assoc, append-nil}
 use Rattle.std.proofs.lemmas.Bool.Decides.{nat_tests}
 use Rattle.std.proofs.lemmas.List.{map-append}
@@ -140,7 +140,7 @@ takes_word text read rest bytes again word n blank w t is same said r =
     reads_word text read rest (drop n rest) (take n rest) w r (turned rest bytes again word n blank t ∙ ap (λ (x : Bool). (if x then [] else take n rest ∷ []) ++ words_of_text (drop n rest)) is) (ap word_said (sym same) ∙ said)
 
 pub word_fails : (text : List ℕ) (read : List WordValue) (rest bytes again word : List ℕ) (n : ℕ) (blank : Bool) → Turn rest bytes again word n blank → blank ≡ false → word ≡ take n rest → Reads text read rest
-    → (e : SelectFault) → Gives word_value (Err e) (word_said word) → (e ≡ Memory) ⊎ ((e ≡ BadTagText) × ((words : List WordValue) → AreWords text words → ⊥))
+    → (e : SelectFault) → AnswersOrLacksMemory word_value (Err e) (word_said word) → (e ≡ Memory) ⊎ ((e ≡ BadTagText) × ((words : List WordValue) → AreWords text words → ⊥))
 word_fails text read rest bytes again word n blank t is same r Memory g = inl refl
 word_fails text read rest bytes again word n blank t is same r BadTagText g =
     inr (refl, refuses text read rest (drop n rest) (take n rest) r (turned rest bytes again word n blank t ∙ ap (λ (x : Bool). (if x then [] else take n rest ∷ []) ++ words_of_text (drop n rest)) is) (ap word_said (sym same) ∙ g))
@@ -161,7 +161,7 @@ word_needs_memory text read rest bytes again word n blank t is same r some =
     (subst (λ (w : List ℕ). IsSome (word_said w)) same some)
 
 pub word_lacks_memory : (text : List ℕ) (read : List WordValue) (rest bytes again word : List ℕ) (n : ℕ) (blank : Bool) → Turn rest bytes again word n blank → blank ≡ false → word ≡ take n rest → Reads text read rest
-    → (e : SelectFault) → Gives word_value (Err e) (word_said word) → e ≡ Memory → IsSome (word_said (get_or (words_of_text text) 0 []))
+    → (e : SelectFault) → AnswersOrLacksMemory word_value (Err e) (word_said word) → e ≡ Memory → IsSome (word_said (get_or (words_of_text text) 0 []))
 word_lacks_memory text read rest bytes again word n blank t is same r Memory g is_memory = word_needs_memory text read rest bytes again word n blank t is same r g
 word_lacks_memory text read rest bytes again word n blank t is same r BadTagText g is_memory = let no : ⊥ = cc is_memory in absurd no
 word_lacks_memory text read rest bytes again word n blank t is same r TooMany g is_memory = absurd g

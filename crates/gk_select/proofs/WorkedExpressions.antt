@@ -130,7 +130,7 @@ unopened text ws m n new are is some one = spells_none text new (λ rule r. refu
 no_word_of_one : (text : List ℕ) (read : List WordValue) (others : List (Option WordValue)) → list_any is_of_new_form text ≡ true → map word_said (words_of_text text) ≡ map Some read ++ None ∷ others → SpellsNone text
 no_word_of_one text read others new are = spells_none text new (λ rule r. no_word read (spelling rule) others (sym are ∙ r.says))
 
--- or too many `not` and `(` stand round one place.
+-- or too many `not` and `(` are nested.
 too_deep : (text : List ℕ) (e : Expression) → list_any is_of_new_form text ≡ true → AreWords text (spelling e) → depth_limit < depth e → SpellsNone text
 too_deep text e new are deep =
     spells_none text new (λ rule r.

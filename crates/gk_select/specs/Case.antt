@@ -3,7 +3,7 @@ use Rattle.std.specs.Prelude.{ℕ, List, map, Option, string_bytes}
 use Rattle.gk_gherkin.specs.Feature.{texts, StepValue, step_value}
 use Rattle.gk_select.specs.declared.case.Case.{Case}
 
--- A case: a plain scenario, or an outline filled from one row. Its rule is a place among the rules of the feature, counted from 0; a case of the feature itself has none.
+-- A case: a plain scenario, or an outline filled from one row. Its rule is an index among the rules of the feature, counted from 0; a case of the feature itself has none.
 pub record CaseValue : Type 0 where
   pub name : List ℕ
   pub keyword : List ℕ

@@ -7,7 +7,6 @@ use Rattle.gk_gherkin.specs.declared.feature.Scenario.{Scenario}
 use Rattle.gk_gherkin.specs.declared.feature.Rule.{Rule}
 use Rattle.gk_gherkin.specs.declared.feature.Feature.{Feature}
 use Rattle.gk_gherkin.specs.Feature.{RowValue, ExamplesValue, ScenarioValue, RuleValue, FeatureValue, row_value, examples_value, scenario_value, rule_value, feature_value}
-use Rattle.gk_select.specs.declared.expansion.OutlinePart.{OutlinePart}
 use Rattle.gk_select.specs.declared.inherited.Inherited.{Inherited}
 use Rattle.gk_select.specs.Case.{CaseValue}
 use Rattle.gk_select.specs.Copies.{filled_by}
@@ -51,11 +50,11 @@ examples_cases inherited s e = map (λ (r : ℕ × RowValue). row_case inherited
 abbrev pub scenario_cases : InheritedValue → ScenarioValue → List CaseValue
 scenario_cases inherited s = if is_outline s then flat_map (examples_cases inherited s) (enumerate_from 1 s.examples) else plain_case inherited s ∷ []
 
--- The cases of the rule at a place. (Cucumber's Gherkin reference: rule)
+-- The cases of the rule at an index. (Cucumber's Gherkin reference: rule)
 abbrev pub rule_cases : FeatureValue → ℕ × RuleValue → List CaseValue
 rule_cases f r = flat_map (scenario_cases (inherited_in_rule f r.0 r.1)) r.1.scenarios
 
--- The cases of a feature, in file order: those of its scenarios, and then those of its rules, whose places are counted from 0. (Cucumber's Gherkin reference: feature, rule)
+-- The cases of a feature, in file order: those of its scenarios, and then those of its rules, whose indexes are counted from 0. (Cucumber's Gherkin reference: feature, rule)
 unfoldable pub cases : FeatureValue → List CaseValue
 cases f = flat_map (scenario_cases (inherited_in_feature f)) f.scenarios ++ flat_map (rule_cases f) (enumerate_from 0 f.rules)
 
@@ -100,20 +99,20 @@ abbrev pub case_count : FeatureValue → ℕ
 case_count f = sum_by case_count_of f.scenarios + sum_by (λ (r : RuleValue). sum_by case_count_of r.scenarios) f.rules
 
 -- What the code says of its own values, from here on: the name of a row's case.
-abbrev pub name_of_row : OutlinePart → ℕ → Row → List ℕ
-name_of_row part n row = outline_name (filled_by part.examples.now.header.items row.cells.items (scenario_value part.scenario.now).name) part.number n (examples_value part.examples.now).name
+abbrev pub name_of_row : Scenario → ℕ → Examples → ℕ → Row → List ℕ
+name_of_row s e examples n row = outline_name (filled_by examples.header.items row.cells.items (scenario_value s).name) e n (examples_value examples).name
 
 -- The case of a row.
-abbrev pub case_of_row : Inherited → OutlinePart → ℕ → Row → CaseValue
-case_of_row i part n row = row_case (inherited_value i) (scenario_value part.scenario.now) part.number (examples_value part.examples.now) n (row_value row)
+abbrev pub case_of_row : Inherited → Scenario → ℕ → Examples → ℕ → Row → CaseValue
+case_of_row i s e examples n row = row_case (inherited_value i) (scenario_value s) e (examples_value examples) n (row_value row)
 
 -- The cases of rows, counted from n.
-abbrev pub cases_of_rows : Inherited → OutlinePart → ℕ → List Row → List CaseValue
-cases_of_rows i part n rows = rows_cases (inherited_value i) (scenario_value part.scenario.now) part.number (examples_value part.examples.now) n (map row_value rows)
+abbrev pub cases_of_rows : Inherited → Scenario → ℕ → Examples → ℕ → List Row → List CaseValue
+cases_of_rows i s e examples n rows = rows_cases (inherited_value i) (scenario_value s) e (examples_value examples) n (map row_value rows)
 
--- Each of these rows has as many cells as the part's header.
-abbrev pub FitPart : OutlinePart → List Row → Type 0
-FitPart part rows = AllByRecursion (FitsHeader (examples_value part.examples.now)) (map row_value rows)
+-- Each of these rows has as many cells as the header of the Examples.
+abbrev pub RowsFitHeader : Examples → List Row → Type 0
+RowsFitHeader examples rows = AllByRecursion (FitsHeader (examples_value examples)) (map row_value rows)
 
 -- The cases of parts of Examples, counted from 1.
 abbrev pub cases_of_parts : Inherited → Scenario → List Examples → List CaseValue
@@ -123,6 +122,6 @@ cases_of_parts i s parts = flat_map (examples_cases (inherited_value i) (scenari
 abbrev pub cases_of_scenarios : Inherited → List Scenario → List CaseValue
 cases_of_scenarios i scenarios = flat_map (scenario_cases (inherited_value i)) (map scenario_value scenarios)
 
--- The cases of rules, whose places are counted from n.
+-- The cases of rules, whose indexes are counted from n.
 abbrev pub cases_of_rules : Feature → ℕ → List Rule → List CaseValue
 cases_of_rules f n rules = flat_map (rule_cases (feature_value f)) (enumerate_from n (map rule_value rules))

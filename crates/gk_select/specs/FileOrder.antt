@@ -13,7 +13,7 @@ use Rattle.gk_select.specs.Expansion.{scenario_cases, rule_cases, cases}
 abbrev pub case_lines : List CaseValue → List ℕ
 case_lines cs = map (λ (c : CaseValue). c.line) cs
 
--- The heading's line of the rule at a place, and then the lines of its cases. (Cucumber's Gherkin reference: rule)
+-- The heading's line of the rule at an index, and then the lines of its cases. (Cucumber's Gherkin reference: rule)
 abbrev pub rule_lines : FeatureValue → ℕ × RuleValue → List ℕ
 rule_lines f r = r.1.line ∷ case_lines (rule_cases f r)
 

@@ -3,7 +3,7 @@ use Rattle.std.specs.Prelude.{ℕ, List, [], ◌++◌, map, Option, Some, None}
 use Rattle.gk_gherkin.specs.Feature.{texts, StepValue, BackgroundValue, RuleValue, FeatureValue, step_value}
 use Rattle.gk_select.specs.declared.inherited.Inherited.{Inherited}
 
--- What scenarios have in common: the place of their rule, if they stand in one, and what they inherit, tags and the steps of Backgrounds. (Cucumber's Gherkin reference: rule, background, tag inheritance)
+-- What scenarios have in common: the index of their rule, if they stand in one, and what they inherit, tags and the steps of Backgrounds. (Cucumber's Gherkin reference: rule, background, tag inheritance)
 pub record InheritedValue : Type 0 where
   pub rule : Option ℕ
   pub tags : List (List ℕ)
@@ -22,6 +22,6 @@ background_steps (Some background) = background.steps
 abbrev pub inherited_in_feature : FeatureValue → InheritedValue
 inherited_in_feature f = record { rule = None; tags = f.tags; steps = background_steps f.background }
 
--- What the scenarios of the rule at this place inherit: the tags and the Background of the feature, and then those of the rule. (Cucumber's Gherkin reference: rule, background, tag inheritance)
+-- What the scenarios of the rule at this index inherit: the tags and the Background of the feature, and then those of the rule. (Cucumber's Gherkin reference: rule, background, tag inheritance)
 abbrev pub inherited_in_rule : FeatureValue → ℕ → RuleValue → InheritedValue
-inherited_in_rule f place r = record { rule = Some place; tags = f.tags ++ r.tags; steps = background_steps f.background ++ background_steps r.background }
+inherited_in_rule f index r = record { rule = Some index; tags = f.tags ++ r.tags; steps = background_steps f.background ++ background_steps r.background }

@@ -4,11 +4,11 @@ use Rattle.gk_select.specs.declared.select_fault.SelectFault.{SelectFault}
 use Rattle.gk_select.specs.declared.select_fault.SelectFault.TheVariants.{TooMany, BadTagText, Memory}
 
 -- What is there is answered, or memory runs out over it; what isn't there is a bad text.
-abbrev pub Gives : {X V : Type 0} → (X → V) → Result X SelectFault → Option V → Type 0
-Gives v (Ok x) o = o ≡ Some (v x)
-Gives v (Err BadTagText) o = o ≡ None
-Gives v (Err Memory) o = IsSome o
-Gives v (Err TooMany) o = ⊥
+abbrev pub AnswersOrLacksMemory : {X V : Type 0} → (X → V) → Result X SelectFault → Option V → Type 0
+AnswersOrLacksMemory v (Ok x) o = o ≡ Some (v x)
+AnswersOrLacksMemory v (Err BadTagText) o = o ≡ None
+AnswersOrLacksMemory v (Err Memory) o = IsSome o
+AnswersOrLacksMemory v (Err TooMany) o = ⊥
 
 -- What a fault is called.
 abbrev pub text_of_select_fault : SelectFault → List ℕ

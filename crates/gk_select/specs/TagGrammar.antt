@@ -35,7 +35,7 @@ abbrev mutual
   factor_spelling (negated f) = not_word ∷ factor_spelling f
   factor_spelling (grouped e) = open_word ∷ (spelling e ++ close_word ∷ [])
 
--- How many `not` and `(`, counted together, stand round one place of an expression at most.
+-- How deep `not` and `(`, counted together, are nested in an expression.
 abbrev mutual
   pub depth : Expression → ℕ
   depth (one_term t) = term_depth t
@@ -50,7 +50,7 @@ abbrev mutual
   factor_depth (negated f) = factor_depth f + 1
   factor_depth (grouped e) = depth e + 1
 
--- The most `not` and `(` that may stand round one place.
+-- The most `not` and `(` that may be nested.
 abbrev pub depth_limit : ℕ
 depth_limit = 100
 

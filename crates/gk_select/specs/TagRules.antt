@@ -17,7 +17,7 @@ pub record ReadsOldForm (text : List ℕ) (rule : Expression) : Type 0 where
   pub reads : ReadsAlternatives text (first ∷ others)
   pub is : rule ≡ or_of first others
 
--- A text of the new form: it has a blank or a parenthesis, its words spell the rule, and no more than 100 `not` and `(` stand round one place. (Cucumber's tag expressions)
+-- A text of the new form: it has a blank or a parenthesis, its words spell the rule, and no more than 100 `not` and `(` are nested. (Cucumber's tag expressions)
 pub record ReadsNewForm (text : List ℕ) (rule : Expression) : Type 0 where
   pub new_form : list_any is_of_new_form text ≡ true
   pub says : AreWords text (spelling rule)

@@ -7,7 +7,7 @@ use native.Mathlib.Nat.{ℕ_set}
 use Rattle.gk_select.specs.TagWords.{WordValue, word_value_set, open_word, close_word, not_word, and_word, or_word, tag_word}
 use Rattle.gk_select.specs.TagGrammar.{Expression, one_term, or_terms, Term, one_factor, and_factors, Factor, tagged, negated, grouped, spelling, term_spelling, factor_spelling, SpeltBy}
 
--- What stands behind a place in its group: what is joined to it by `and`, and what comes after the next `or`.
+-- What comes after a factor in its group: what is joined to it by `and`, and what comes after the next `or`.
 pub record Part : Type 0 where
   pub joined : Option Term
   pub later : Option Expression

@@ -3,7 +3,7 @@ ghost use Rattle.std.specs.Prelude.{◌≡◌, ◌⊎◌, ℕ, List, [], ◌∷�
 ghost use Rattle.std.specs.List.{list_any};
 ghost use Rattle.std.specs.String.{string_bytes};
 ghost use Rattle.gk_select.specs.declared.select_fault.SelectFault.TheVariants.{BadTagText, Memory};
-ghost use Rattle.gk_select.specs.SelectFault.{Gives};
+ghost use Rattle.gk_select.specs.SelectFault.{AnswersOrLacksMemory};
 ghost use Rattle.gk_select.specs.Alternatives as spec;
 ghost use Rattle.gk_select.specs.Alternatives.{AlternativeValue, alternative_value, pieces, words_with, or_of};
 ghost use Rattle.gk_select.specs.TagGrammar.{spelling};
@@ -22,7 +22,7 @@ pub struct Alternative {
 }
 
 fn tag_named(alloc: Global, text: &str) -> Result<String, SelectFault>
-    ensures { Gives string_bytes result (spec.tag_named text.now) }
+    ensures { AnswersOrLacksMemory string_bytes result (spec.tag_named text.now) }
 {
     if begins(text, "@") {
         if text.len() < 2 {
@@ -39,7 +39,7 @@ fn tag_named(alloc: Global, text: &str) -> Result<String, SelectFault>
 }
 
 fn read_alternative(alloc: Global, text: &str) -> Result<Alternative, SelectFault>
-    ensures { Gives alternative_value result (spec.alternative text.now) }
+    ensures { AnswersOrLacksMemory alternative_value result (spec.alternative text.now) }
 {
     match text.strip_prefix('~') {
         Some(name) => Ok(Alternative {

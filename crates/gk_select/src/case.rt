@@ -11,7 +11,7 @@ pub struct Case {
     pub keyword: String,
     /// The line of the scenario's heading, or of the row, counted from 1.
     pub line: u32,
-    /// The place of the case's Rule among the Rules of the file, counted from 0; none for a case of the
+    /// The index of the case's Rule among the Rules of the file, counted from 0; none for a case of the
     /// feature itself.
     pub rule: Option<u32>,
     /// The tags of the feature, the rule, the scenario and the Examples, in that order, each with its `@`.

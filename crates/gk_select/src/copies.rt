@@ -19,6 +19,15 @@ pub fn push_texts(alloc: Global, into: &mut Vec<String>, from: &[String]) -> Res
     Ok(())
 }
 
+/// Returns copies of texts. An error comes only where a growth was refused.
+pub fn copied_texts(alloc: Global, from: &[String]) -> Result<Vec<String>, AllocError>
+    ensures { IfOk result (λ copies. texts copies.items ≡ texts from.now) }
+{
+    let mut copies = Vec::new(alloc);
+    push_texts(alloc, &mut copies, from)?;
+    Ok(copies)
+}
+
 fn fill_texts(
     alloc: Global,
     from: &[String],

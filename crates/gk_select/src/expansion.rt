@@ -1,43 +1,32 @@
 //! The cases of a feature.
-ghost use Rattle.std.specs.Prelude.{◌≡◌, ◌<◌, ◌^◌, ◌++◌, length, map, nat_lt, MatchBool, IfOk, IfErr, Some, Err, List, ℕ};
+ghost use Rattle.std.specs.Prelude.{◌≡◌, ◌<◌, ◌^◌, ◌++◌, length, map, nat_lt, MatchBool, IfOk, IfErr, Err};
 ghost use Rattle.std.specs.List.{AllByRecursion};
-ghost use Rattle.gk_gherkin.specs.Lines.{lines_of, IsText};
-ghost use Rattle.gk_gherkin.specs.Grammar.{Reads};
 ghost use Rattle.std.specs.String.{string_bytes};
-ghost use Rattle.gk_gherkin.specs.Feature.{FeatureValue, texts, step_value, row_value, examples_value, scenario_value, rule_value, feature_value};
+ghost use Rattle.gk_gherkin.specs.Feature.{texts, step_value, row_value, examples_value, scenario_value, rule_value, feature_value};
 ghost use Rattle.gk_select.specs.Case.{case_value};
 ghost use Rattle.gk_select.specs.Copies.{Appends, filled_by};
 ghost use Rattle.gk_select.specs.Filling.{filled_step};
 ghost use Rattle.gk_select.specs.Expansion as spec;
 ghost use Rattle.gk_select.specs.Expansion.{cases, step_count, step_limit, HasTooManySteps, IsExpandable, RowsFit};
-ghost use Rattle.gk_select.specs.Expansion.{HasNoOutline, plain_cases, case_count};
-ghost use Rattle.gk_select.specs.Expansion.{name_of_row, case_of_row, cases_of_rows, FitPart};
+ghost use Rattle.gk_select.specs.Expansion.{name_of_row, case_of_row, cases_of_rows, RowsFitHeader};
 ghost use Rattle.gk_select.specs.Expansion.{cases_of_parts, cases_of_scenarios, cases_of_rules};
 ghost use Rattle.gk_select.specs.Inherited.{inherited_value};
 ghost use Rattle.gk_select.specs.Outline.{FitsHeader, AllFit};
 ghost use Rattle.gk_select.specs.declared.select_fault.SelectFault.TheVariants.{TooMany, Memory};
 
 use crate::case::Case;
-use crate::copies::{push_filled_steps, push_steps, push_texts};
+use crate::copies::{copied_texts, push_filled_steps, push_steps, push_texts};
 use crate::counting::has_room;
 use crate::filling::fill;
 use crate::inherited::{
-    Inherited, after_inherited_steps, inherited_in_feature, inherited_in_rule,
-    push_inherited_steps, push_inherited_tags,
+    Inherited, after_inherited_steps, after_inherited_tags, inherited_in_feature,
+    inherited_in_rule, push_inherited_steps,
 };
 use crate::outline::{case_name, is_outline};
 use crate::select_fault::SelectFault;
-use gk_gherkin::{Examples, Feature, Row, Rule, Scenario, Step, rules_are_counted};
+use gk_gherkin::{Examples, Feature, Row, Rule, Scenario, Step};
 use std::alloc::{AllocError, Global};
 use std::mem::replace;
-
-// An outline with one part of its Examples, and the number of that part, counted from 1.
-#[derive(Clone, Copy)]
-struct OutlinePart<'a> {
-    scenario: &'a Scenario,
-    number: usize,
-    examples: &'a Examples,
-}
 
 fn plain_case(
     alloc: Global,
@@ -55,15 +44,12 @@ fn plain_case(
         steps,
         examples: _,
     } = scenario;
-    let mut tags = Vec::new(alloc);
-    push_inherited_tags(alloc, &mut tags, inherited)?;
-    push_texts(alloc, &mut tags, &own_tags)?;
     Ok(Case {
         name,
         keyword,
         line,
         rule: inherited.rule,
-        tags,
+        tags: after_inherited_tags(alloc, inherited, &own_tags)?,
         own_tags,
         steps: after_inherited_steps(alloc, inherited, steps)?,
     })
@@ -72,41 +58,24 @@ fn plain_case(
 // The name of a row's case: the scenario's, filled in, with the numbers of the examples and the row.
 fn row_name(
     alloc: Global,
-    part: &OutlinePart<'_>,
+    scenario: &Scenario,
+    examples_number: usize,
+    examples: &Examples,
     row_number: usize,
     row: &Row,
 ) -> Result<String, AllocError>
-    requires { FitsHeader (examples_value part.now.examples.now) (row_value row.now) }
-    ensures { IfOk result (λ name. string_bytes name ≡ name_of_row part.now row_number row.now) }
+    requires { FitsHeader (examples_value examples.now) (row_value row.now) }
+    ensures { IfOk result (λ name. string_bytes name
+        ≡ name_of_row scenario.now examples_number examples.now row_number row.now) }
 {
-    let examples = part.examples;
-    let name = fill(
-        alloc,
-        part.scenario.name.as_str(),
-        &examples.header,
-        &row.cells,
-    )?;
+    let name = fill(alloc, scenario.name.as_str(), &examples.header, &row.cells)?;
     case_name(
         alloc,
         name.as_str(),
-        part.number,
+        examples_number,
         row_number,
         examples.name.as_str(),
     )
-}
-
-// Pushes copies of the tags of a row's scenario and of its examples.
-fn push_row_tags(
-    alloc: Global,
-    tags: &mut Vec<String>,
-    scenario: &Scenario,
-    examples: &Examples,
-) -> Result<(), AllocError>
-    ensures { Appends string_bytes result tags.old.items tags.new.items
-        ((scenario_value scenario.now).tags ++ (examples_value examples.now).tags) }
-{
-    push_texts(alloc, tags, &scenario.tags)?;
-    push_texts(alloc, tags, &examples.tags)
 }
 
 // A row's own tags: those of its scenario and of its examples.
@@ -118,24 +87,8 @@ fn own_row_tags(
     ensures { IfOk result (λ tags. texts tags.items ≡
         (scenario_value scenario.now).tags ++ (examples_value examples.now).tags) }
 {
-    let mut tags = Vec::new(alloc);
-    push_row_tags(alloc, &mut tags, scenario, examples)?;
-    Ok(tags)
-}
-
-// A row's tags: those that it inherits, and its own.
-fn row_tags(
-    alloc: Global,
-    inherited: &Inherited<'_>,
-    scenario: &Scenario,
-    examples: &Examples,
-) -> Result<Vec<String>, AllocError>
-    ensures { IfOk result (λ tags. texts tags.items ≡ (inherited_value inherited.now).tags
-        ++ (scenario_value scenario.now).tags ++ (examples_value examples.now).tags) }
-{
-    let mut tags = Vec::new(alloc);
-    push_inherited_tags(alloc, &mut tags, inherited)?;
-    push_row_tags(alloc, &mut tags, scenario, examples)?;
+    let mut tags = copied_texts(alloc, &scenario.tags)?;
+    push_texts(alloc, &mut tags, &examples.tags)?;
     Ok(tags)
 }
 
@@ -161,23 +114,24 @@ fn row_steps(
 fn row_case(
     alloc: Global,
     inherited: &Inherited<'_>,
-    part: &OutlinePart<'_>,
+    scenario: &Scenario,
+    examples_number: usize,
+    examples: &Examples,
     row_number: usize,
     row: &Row,
 ) -> Result<Case, AllocError>
-    requires { FitsHeader (examples_value part.now.examples.now) (row_value row.now) }
-    ensures { IfOk result (λ c.
-        case_value c ≡ case_of_row inherited.now part.now row_number row.now) }
+    requires { FitsHeader (examples_value examples.now) (row_value row.now) }
+    ensures { IfOk result (λ c. case_value c ≡
+        case_of_row inherited.now scenario.now examples_number examples.now row_number row.now) }
 {
-    let scenario = part.scenario;
-    let examples = part.examples;
+    let own_tags = own_row_tags(alloc, scenario, examples)?;
     Ok(Case {
-        name: row_name(alloc, part, row_number, row)?,
+        name: row_name(alloc, scenario, examples_number, examples, row_number, row)?,
         keyword: String::from_str(alloc, scenario.keyword.as_str())?,
         line: row.line,
         rule: inherited.rule,
-        tags: row_tags(alloc, inherited, scenario, examples)?,
-        own_tags: own_row_tags(alloc, scenario, examples)?,
+        tags: after_inherited_tags(alloc, inherited, &own_tags)?,
+        own_tags,
         steps: row_steps(alloc, inherited, scenario, &examples.header, &row.cells)?,
     })
 }
@@ -186,15 +140,25 @@ fn push_row_cases(
     alloc: Global,
     cases: &mut Vec<Case>,
     inherited: &Inherited<'_>,
-    part: &OutlinePart<'_>,
+    scenario: &Scenario,
+    examples_number: usize,
+    examples: &Examples,
     rows: &[Row],
 ) -> Result<(), AllocError>
-    requires { FitPart part.now rows.now }
+    requires { RowsFitHeader examples.now rows.now }
     ensures { Appends case_value result cases.old.items cases.new.items
-        (cases_of_rows inherited.now part.now 1 rows.now) }
+        (cases_of_rows inherited.now scenario.now examples_number examples.now 1 rows.now) }
 {
     for (i, row) in rows.iter().enumerate() {
-        cases.push(row_case(alloc, inherited, part, i + 1, row)?)?;
+        cases.push(row_case(
+            alloc,
+            inherited,
+            scenario,
+            examples_number,
+            examples,
+            i + 1,
+            row,
+        )?)?;
     }
     Ok(())
 }
@@ -211,12 +175,15 @@ fn push_outline_cases(
         (cases_of_parts inherited.now scenario.now parts.now) }
 {
     for (i, examples) in parts.iter().enumerate() {
-        let part = OutlinePart {
+        push_row_cases(
+            alloc,
+            cases,
+            inherited,
             scenario,
-            number: i + 1,
+            i + 1,
             examples,
-        };
-        push_row_cases(alloc, cases, inherited, &part, &examples.rows)?;
+            &examples.rows,
+        )?;
     }
     Ok(())
 }
@@ -259,16 +226,16 @@ fn push_rule_cases(
     alloc: Global,
     cases: &mut Vec<Case>,
     feature: &Feature,
-    place: u32,
+    index: u32,
     rule: Rule,
 ) -> Result<(), AllocError>
     requires { RowsFit (map scenario_value rule.scenarios.items) }
     ensures { Appends case_value result cases.old.items cases.new.items
-        (spec.rule_cases (feature_value feature.now) (place, rule_value rule)) }
+        (spec.rule_cases (feature_value feature.now) (index, rule_value rule)) }
 {
     let mut rule = rule;
     let scenarios = replace(&mut rule.scenarios, Vec::new(alloc));
-    let inherited = inherited_in_rule(feature, place, &rule);
+    let inherited = inherited_in_rule(feature, index, &rule);
     push_scenarios_cases(alloc, cases, &inherited, scenarios)
 }
 
@@ -283,10 +250,10 @@ fn push_rules_cases(
     ensures { Appends case_value result cases.old.items cases.new.items
         (cases_of_rules feature.now 0 rules.items) }
 {
-    let mut place: u32 = 0;
+    let mut index: u32 = 0;
     for rule in rules {
-        push_rule_cases(alloc, cases, feature, place, rule)?;
-        place += 1;
+        push_rule_cases(alloc, cases, feature, index, rule)?;
+        index += 1;
     }
     Ok(())
 }
@@ -316,11 +283,7 @@ fn copied_case(
     ensures { IfOk result (λ c. case_value c ≡
         spec.plain_case (inherited_value inherited.now) (scenario_value scenario.now)) }
 {
-    let mut own_tags = Vec::new(alloc);
-    push_texts(alloc, &mut own_tags, &scenario.tags)?;
-    let mut tags = Vec::new(alloc);
-    push_inherited_tags(alloc, &mut tags, inherited)?;
-    push_texts(alloc, &mut tags, &scenario.tags)?;
+    let own_tags = copied_texts(alloc, &scenario.tags)?;
     let mut steps = Vec::new(alloc);
     push_inherited_steps(alloc, &mut steps, inherited)?;
     push_steps(alloc, &mut steps, &scenario.steps)?;
@@ -329,7 +292,7 @@ fn copied_case(
         keyword: String::from_str(alloc, scenario.keyword.as_str())?,
         line: scenario.line,
         rule: inherited.rule,
-        tags,
+        tags: after_inherited_tags(alloc, inherited, &own_tags)?,
         own_tags,
         steps,
     })
@@ -377,8 +340,8 @@ fn copied_cases(alloc: Global, feature: &Feature) -> Result<Vec<Case>, AllocErro
     let mut cases = Vec::new(alloc);
     let inherited = inherited_in_feature(feature);
     push_copied_scenarios(alloc, &mut cases, &inherited, &feature.scenarios)?;
-    for (place, rule) in feature.rules.iter().enumerate() {
-        let inherited = inherited_in_rule(feature, place as u32, rule);
+    for (index, rule) in feature.rules.iter().enumerate() {
+        let inherited = inherited_in_rule(feature, index as u32, rule);
         push_copied_scenarios(alloc, &mut cases, &inherited, &rule.scenarios)?;
     }
     Ok(cases)
@@ -427,25 +390,3 @@ pub fn into_cases(alloc: Global, feature: Feature) -> Result<Vec<Case>, SelectFa
     }
     Ok(moved_cases(alloc, feature)?)
 }
-
-/// Features that `read_feature` answers meet the condition of `expand` and `into_cases`: in what the grammar reads each
-/// row of Examples has as many cells as its header, and each rule has a line of its own. (Cucumber's Gherkin reference:
-/// examples, rule)
-pub fn read_features_are_expandable()
-    ensures { (bytes : List ℕ) (f : FeatureValue) → IsText bytes → Reads (lines_of bytes) (Some f)
-        → IsExpandable f }
-{
-    rules_are_counted();
-}
-
-/// Where no scenario is an outline, the cases are the scenarios, each with the tags and steps that it
-/// inherits before its own. (Cucumber's Gherkin reference: example, background, tag inheritance)
-pub fn plain_scenarios_are_cases()
-    ensures { (f : FeatureValue) → HasNoOutline f → cases f ≡ plain_cases f }
-{}
-
-/// An outline has as many cases as its tables have rows under their headers, and any other scenario one.
-/// (Cucumber's Gherkin reference: scenario outline)
-pub fn rows_are_cases()
-    ensures { (f : FeatureValue) → length (cases f) ≡ case_count f }
-{}

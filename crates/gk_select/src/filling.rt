@@ -1,9 +1,9 @@
 //! An outline's texts, filled from a row.
-ghost use Rattle.std.specs.Prelude.{◌≡◌, ◌++◌, ℕ, List, length, option_map, IfOk};
+ghost use Rattle.std.specs.Prelude.{◌≡◌, ◌++◌, length, option_map, IfOk};
 ghost use Rattle.std.specs.String.{string_bytes};
 ghost use Rattle.gk_gherkin.specs.Feature.{texts};
 ghost use Rattle.gk_select.specs.Filling as spec;
-ghost use Rattle.gk_select.specs.Filling.{filled, FillsByCut};
+ghost use Rattle.gk_select.specs.Filling.{filled};
 
 use std::alloc::{AllocError, Global};
 
@@ -70,9 +70,3 @@ pub fn fill(
     filled.push_str(rest)?;
     Ok(filled)
 }
-
-/// Each text has one cut for a header row, and the filled text is that of its parts. (Cucumber's
-/// Gherkin reference: scenario outline)
-pub fn texts_have_one_cut()
-    ensures { (headers cells : List (List ℕ)) (text : List ℕ) → FillsByCut headers cells text }
-{}

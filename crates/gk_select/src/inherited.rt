@@ -1,16 +1,15 @@
 //! What the scenarios of a feature or of a rule have in common.
 ghost use Rattle.std.specs.Prelude.{◌≡◌, ◌++◌, map, option_map, IfOk};
-ghost use Rattle.std.specs.String.{string_bytes};
-ghost use Rattle.gk_gherkin.specs.Feature.{background_value, step_value, feature_value, rule_value};
+ghost use Rattle.gk_gherkin.specs.Feature.{texts, background_value, step_value, feature_value, rule_value};
 ghost use Rattle.gk_select.specs.Copies.{Appends};
 ghost use Rattle.gk_select.specs.Inherited as spec;
 ghost use Rattle.gk_select.specs.Inherited.{background_steps, inherited_value};
 
-use crate::copies::{push_steps, push_texts};
+use crate::copies::{copied_texts, push_steps, push_texts};
 use gk_gherkin::{Background, Feature, Rule, Step};
 use std::alloc::{AllocError, Global};
 
-/// The place of the rule that scenarios stand in, if there is one, and the tags and steps of Backgrounds that
+/// The index of the rule that scenarios stand in, if there is one, and the tags and steps of Backgrounds that
 /// they inherit: those of the feature, and then those of the rule.
 #[derive(Clone, Copy, Debug)]
 pub struct Inherited<'a> {
@@ -44,13 +43,13 @@ pub fn inherited_in_feature<'a>(feature: &'a Feature) -> Inherited<'a>
     }
 }
 
-/// What the scenarios of the rule at this place inherit.
-pub fn inherited_in_rule<'a>(feature: &'a Feature, place: u32, rule: &'a Rule) -> Inherited<'a>
+/// What the scenarios of the rule at this index inherit.
+pub fn inherited_in_rule<'a>(feature: &'a Feature, index: u32, rule: &'a Rule) -> Inherited<'a>
     ensures { inherited_value result ≡
-        spec.inherited_in_rule (feature_value feature.now) place (rule_value rule.now) }
+        spec.inherited_in_rule (feature_value feature.now) index (rule_value rule.now) }
 {
     Inherited {
-        rule: Some(place),
+        rule: Some(index),
         feature_tags: &feature.tags,
         rule_tags: &rule.tags,
         feature_steps: steps_of(&feature.background),
@@ -90,15 +89,17 @@ pub fn after_inherited_steps(
     Ok(steps)
 }
 
-/// Pushes copies of the inherited tags.
-pub fn push_inherited_tags(
+/// Returns copies of the inherited tags and of a case's own.
+pub fn after_inherited_tags(
     alloc: Global,
-    tags: &mut Vec<String>,
     inherited: &Inherited<'_>,
-) -> Result<(), AllocError>
-    ensures { Appends string_bytes result tags.old.items tags.new.items
-        (inherited_value inherited.now).tags }
+    own: &[String],
+) -> Result<Vec<String>, AllocError>
+    ensures { IfOk result (λ tags. texts tags.items ≡
+        (inherited_value inherited.now).tags ++ texts own.now) }
 {
-    push_texts(alloc, tags, inherited.feature_tags)?;
-    push_texts(alloc, tags, inherited.rule_tags)
+    let mut tags = copied_texts(alloc, inherited.feature_tags)?;
+    push_texts(alloc, &mut tags, inherited.rule_tags)?;
+    push_texts(alloc, &mut tags, own)?;
+    Ok(tags)
 }

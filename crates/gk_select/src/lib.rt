@@ -2,33 +2,48 @@
 //! text comes in; the cases in file order, or a rule of tags, go out.
 #![tactic(auto)]
 
-mod alternatives;
+// A case.
 mod case;
-mod choice;
+
+// What a case has: filled texts, copied and inherited tags and steps, a name.
 mod copies;
-mod counting;
-mod expansion;
-mod file_order;
 mod filling;
 mod inherited;
 mod outline;
-mod rule_order;
-mod select_fault;
-mod tag_grammar;
-mod tag_rules;
-mod tag_values;
+
+// The cases of a feature.
+mod counting;
+mod expansion;
+
+// The words of a text of tags.
 mod tag_words;
+
+// Expressions, and the sets of tags that they hold of.
+mod tag_grammar;
+mod tag_values;
+
+// Alternatives, and texts of either form.
+mod alternatives;
+mod tag_rules;
+
+// The choice of cases.
+mod choice;
+
+// Faults and laws.
+mod laws;
+mod select_fault;
 
 pub use case::Case;
 pub use choice::Choice;
-pub use copies::fill_step;
+pub use copies::{copied_texts, fill_step};
 pub use counting::STEP_LIMIT;
-pub use expansion::{
-    expand, into_cases, plain_scenarios_are_cases, read_features_are_expandable, rows_are_cases,
+pub use expansion::{expand, into_cases};
+pub use laws::{
+    alternatives_are_rules, cases_are_in_file_order, cases_fall_into_rules,
+    plain_scenarios_are_cases, read_features_are_expandable, rows_are_cases, texts_have_one_cut,
+    texts_have_one_rule,
 };
-pub use file_order::cases_are_in_file_order;
-pub use filling::texts_have_one_cut;
-pub use rule_order::cases_fall_into_rules;
+pub use outline::is_outline;
 pub use select_fault::SelectFault;
-pub use tag_rules::{alternatives_are_rules, read_tags, texts_have_one_rule};
+pub use tag_rules::read_tags;
 pub use tag_values::TagRule;

@@ -8,7 +8,8 @@ ghost use Rattle.gk_select.specs.Outline.{outline_name};
 use gk_gherkin::{Scenario, trim_back};
 use std::alloc::{AllocError, Global};
 
-/// Whether a scenario is an outline: by its keyword, or as it has Examples.
+/// Returns whether a scenario is an outline: by its keyword, or because it has Examples. (Cucumber's
+/// Gherkin reference: scenario outline)
 pub fn is_outline(scenario: &Scenario) -> bool
     ensures { result ≡ spec.is_outline (scenario_value scenario.now) }
 {

@@ -1,7 +1,7 @@
 //! Whether words spell an expression.
 ghost use Rattle.std.specs.Prelude.{◌≡◌, ◌⊎◌, ◌<◌, ◌≤◌, ℕ, Err, length, map, max, IfOk, IfErr};
 ghost use Rattle.gk_select.specs.declared.select_fault.SelectFault.TheVariants.{BadTagText, Memory};
-ghost use Rattle.gk_select.specs.SelectFault.{Gives};
+ghost use Rattle.gk_select.specs.SelectFault.{AnswersOrLacksMemory};
 ghost use Rattle.gk_select.specs.TagGrammar.{Expression, depth, depth_limit, spelling};
 ghost use Rattle.gk_select.specs.TagMeasures as spec;
 ghost use Rattle.gk_select.specs.TagMeasures.{built_value, measure_before};
@@ -11,7 +11,7 @@ use crate::select_fault::SelectFault;
 use crate::tag_words::Word;
 use std::alloc::Global;
 
-// The most `not` and `(` that may stand round one place.
+// The most `not` and `(` that may be nested.
 const DEPTH_LIMIT: usize = 100;
 
 /// What the words taken so far have built.
@@ -44,7 +44,7 @@ fn larger(a: usize, b: usize) -> usize
 impl Built {
     // What there is once the word before is taken.
     fn before(self, word: &Word) -> Result<Built, SelectFault>
-        ensures { Gives built_value result
+        ensures { AnswersOrLacksMemory built_value result
             (measure_before (word_value word.now) self.factor self.behind self.outer.items) }
     {
         let mut outer = self.outer;
@@ -96,7 +96,7 @@ impl Built {
     }
 }
 
-/// Whether these words spell an expression in which no more than 100 `not` and `(` stand round one place.
+/// Whether these words spell an expression in which no more than 100 `not` and `(` are nested.
 pub fn check_words(alloc: Global, words: &[Word]) -> Result<(), SelectFault>
     // Where no fault is answered, they spell one.
     ensures found { IfOk result (λ _. (e : Expression) ×

@@ -1,12 +1,11 @@
 //! Rules of tags, read from a text.
-ghost use Rattle.std.specs.Prelude.{◌≡◌, ◌⊎◌, ℕ, List, Some, Err, true, false, IfOk, IfErr};
+ghost use Rattle.std.specs.Prelude.{◌≡◌, ◌⊎◌, Some, Err, true, false, IfOk, IfErr};
 ghost use Rattle.std.specs.List.{list_any};
 ghost use Rattle.gk_select.specs.declared.select_fault.SelectFault.TheVariants.{BadTagText, Memory};
-ghost use Rattle.gk_select.specs.SelectFault.{Gives};
-ghost use Rattle.gk_select.specs.Alternatives.{AlternativeValue, ReadsAlternatives, FirstAlternativeSays, alternative_holds};
+ghost use Rattle.gk_select.specs.SelectFault.{AnswersOrLacksMemory};
+ghost use Rattle.gk_select.specs.Alternatives.{FirstAlternativeSays};
 ghost use Rattle.gk_select.specs.TagGrammar.{Expression};
 ghost use Rattle.gk_select.specs.TagRules.{ReadsTags, ReadsOldForm, ReadsNewForm, SpellsNone, NeedsMemory, FirstWordSays, tag_rule_value};
-ghost use Rattle.gk_select.specs.TagValues.{holds};
 ghost use Rattle.gk_select.specs.TagWords as spec;
 
 use crate::alternatives::words_of_alternatives;
@@ -66,7 +65,7 @@ fn read_either_form(alloc: Global, text: &str) -> Result<TagRule, SelectFault>
 ///
 /// A text of alternatives spells no rule where one of them is none. An expression spells none where the
 /// grammar doesn't have its words, where one of its tags has a comma or a backslash, and where more than
-/// 100 `not` and `(` stand round one place. `BadTagText` comes only there. `Memory` comes only where a
+/// 100 `not` and `(` are nested. `BadTagText` comes only there. `Memory` comes only where a
 /// growth was refused, so it may come in place of either answer; but never where the first alternative is
 /// none, nor where the first word of an expression is none or there is no word.
 /// The time that it takes is linear in the text. (behave's documentation: tag expressions; Cucumber's tag
@@ -76,7 +75,7 @@ pub fn read_tags(alloc: Global, text: &str) -> Result<TagRule, SelectFault>
     ensures found { IfOk result (λ r. ReadsTags text.now (tag_rule_value r)) }
     // What the text spells is answered, unless memory runs out.
     ensures only { (rule : Expression) → ReadsTags text.now rule →
-        Gives tag_rule_value result (Some rule) }
+        AnswersOrLacksMemory tag_rule_value result (Some rule) }
     // Memory runs out only after the first alternative, or the first word, was read.
     ensures memory { result ≡ Err Memory → NeedsMemory text.now }
     // Which fault it is: a bad text spells nothing.
@@ -84,19 +83,3 @@ pub fn read_tags(alloc: Global, text: &str) -> Result<TagRule, SelectFault>
 {
     read_either_form(alloc, text)
 }
-
-/// No text spells two different rules, whichever form it has. (behave's documentation: tag expressions;
-/// Cucumber's tag expressions)
-pub fn texts_have_one_rule()
-    ensures { (text : List ℕ) (a b : Expression) →
-        ReadsTags text a → ReadsTags text b → a ≡ b }
-{}
-
-/// A text of alternatives spells a rule, and it holds of the sets of which one of them does. (behave's
-/// documentation: tag expressions)
-pub fn alternatives_are_rules()
-    ensures { (text : List ℕ) (alternatives : List AlternativeValue) →
-        ReadsAlternatives text alternatives → (rule : Expression) × ReadsTags text rule ×
-        ((tags : List (List ℕ)) →
-        holds rule tags ≡ list_any (alternative_holds tags) alternatives) }
-{}

@@ -5,7 +5,7 @@ ghost use Rattle.std.specs.Str.{IsUtf8, IsCharBoundary};
 ghost use Rattle.gk_gherkin.specs.Tags.{is_tag};
 ghost use Rattle.gk_gherkin.specs.Text as blanks;
 ghost use Rattle.gk_select.specs.declared.select_fault.SelectFault.TheVariants.{BadTagText, Memory};
-ghost use Rattle.gk_select.specs.SelectFault.{Gives};
+ghost use Rattle.gk_select.specs.SelectFault.{AnswersOrLacksMemory};
 ghost use Rattle.gk_select.specs.TagWords as spec;
 ghost use Rattle.gk_select.specs.TagWords.{AreWords, WordValue, word_value, words_of_text};
 
@@ -52,7 +52,7 @@ fn is_tag_word(word: &str) -> bool
 }
 
 fn word_said(alloc: Global, word: &str) -> Result<Word, SelectFault>
-    ensures { Gives word_value result (spec.word_said word.now) }
+    ensures { AnswersOrLacksMemory word_value result (spec.word_said word.now) }
 {
     if word == "(" {
         return Ok(Word::Open);

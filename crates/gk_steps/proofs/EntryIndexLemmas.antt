@@ -8,15 +8,15 @@ use Rattle.std.proofs.lemmas.List.{append-nil, take_at, drop_at}
 use Rattle.gk_steps.specs.declared.library.Entry.{Entry}
 use Rattle.gk_steps.specs.declared.pattern.Piece.{Piece}
 use Rattle.gk_steps.specs.declared.entry_index.Index.{Index}
-use Rattle.gk_steps.specs.declared.entry_index.Numbered.{Numbered}
+use Rattle.gk_steps.specs.declared.entry_index.Keyed.{Keyed}
 use Rattle.gk_steps.specs.Pattern.{PieceValue, Literal, FieldPiece, piece_value, pattern_value}
 use Rattle.gk_steps.specs.Matching.{Matches, MatchesNot, woven}
-use Rattle.gk_steps.specs.PassingOver.{FitsEnd}
+use Rattle.gk_steps.specs.LiteralEnds.{FitsEnd}
 use Rattle.gk_gherkin.specs.declared.feature.StepType.{StepType}
 use Rattle.gk_steps.specs.Finding.{EntryValue, entry_value, NoneBefore}
 use Rattle.gk_steps.specs.FilledCells.{cells_of_type}
-use Rattle.gk_steps.specs.EntryIndex.{literal_of, first_literal, last_literal, key_more, key_over, first_key, ends_key, numbered, IsAmong, IsUnder, IsMarked, bucket_at, bucket_of, HasBuckets, Lists, AreListed, IsLeastFrom, Skips, CanStand, HasFirst, HasEnds, HasEndsAmong, IsShorter, IsAny, SkipsEntries}
-use Rattle.gk_steps.proofs.PassingOverLemmas.{match_fits}
+use Rattle.gk_steps.specs.EntryIndex.{literal_of, first_literal, last_literal, key_more, key_over, first_key, ends_key, keyed, IsAmong, IsUnder, IsMarked, bucket_at, bucket_of, HasBuckets, Lists, AreListed, IsLeastFrom, Skips, CanStand, HasFirst, HasEnds, HasEndsAmong, IsShorter, IsAny, SkipsEntries}
+use Rattle.gk_steps.proofs.LiteralEndLemmas.{match_fits}
 
 -- the last literal
 same_some : {A : Type 0} (x y : A) → ◌≡◌ {A = Option A} (Some x) (Some y) → x ≡ y
@@ -36,7 +36,7 @@ not_empty (q ∷ pieces) p e = omega arith
 pub last_is : (pieces : List Piece) (p : Piece) → slice_get pieces (length pieces - 1) ≡ Some p → literal_of (piece_value p) ≡ last_literal (map piece_value pieces)
 last_is pieces p e = last_said pieces (length pieces - 1) p (not_empty pieces p e) e
 
--- places of a list
+-- positions of a list
 pub get_at : {X : Type 0} (xs : List X) (i : ℕ) (x : X) → i < length xs → x ≡ get_or xs i x → slice_get xs i ≡ Some x
 get_at [] i x l e = absurd (omega arith)
 get_at (y ∷ ys) zero x l e = ap Some (sym e)
@@ -52,46 +52,46 @@ get_within [] k x is = let bad : ⊥ = cc in absurd bad
 get_within (y ∷ ys) zero x is = omega arith
 get_within (y ∷ ys) (suc k) x is = let less = get_within ys k x is in omega arith
 
-among_push : (p q : Numbered) (xs : List Numbered) → IsAmong p xs → IsAmong p (xs ++ q ∷ [])
+among_push : (p q : Keyed) (xs : List Keyed) → IsAmong p xs → IsAmong p (xs ++ q ∷ [])
 among_push p q [] a = let bad : ⊥ = cc in absurd bad
 among_push p q (x ∷ xs) (zero, e) = (0, e)
 among_push p q (x ∷ xs) (suc k, e) = let more = among_push p q xs (k, e) in (suc more.0, more.1)
 
-among_new : (p : Numbered) (xs : List Numbered) → IsAmong p (xs ++ p ∷ [])
+among_new : (p : Keyed) (xs : List Keyed) → IsAmong p (xs ++ p ∷ [])
 among_new p [] = (0, refl)
 among_new p (x ∷ xs) = let more = among_new p xs in (suc more.0, more.1)
 
--- a bucket with a place more
-pub kept_set : (bs : List (Vec Numbered Global)) (slot k : ℕ) (old new : Vec Numbered Global) (place p : Numbered) → slot < length bs → old ≡ get_or bs slot old → new.items ≡ old.items ++ place ∷ [] → IsAmong p (bucket_at bs k) → IsAmong p (bucket_at (slice_set bs slot new) k)
-kept_set [] slot k old new place p l e is a = absurd (omega arith)
-kept_set (b ∷ bs) zero zero old new place p l e is a = subst (IsAmong p) (sym is) (among_push p place old.items (subst (λ (v : Vec Numbered Global). IsAmong p v.items) (sym e) a))
-kept_set (b ∷ bs) zero (suc k) old new place p l e is a = a
-kept_set (b ∷ bs) (suc slot) zero old new place p l e is a = a
-kept_set (b ∷ bs) (suc slot) (suc k) old new place p l e is a = kept_set bs slot k old new place p (omega arith) e is a
+-- a bucket with a position more
+pub kept_set : (bs : List (Vec Keyed Global)) (slot k : ℕ) (old new : Vec Keyed Global) (position p : Keyed) → slot < length bs → old ≡ get_or bs slot old → new.items ≡ old.items ++ position ∷ [] → IsAmong p (bucket_at bs k) → IsAmong p (bucket_at (slice_set bs slot new) k)
+kept_set [] slot k old new position p l e is a = absurd (omega arith)
+kept_set (b ∷ bs) zero zero old new position p l e is a = subst (IsAmong p) (sym is) (among_push p position old.items (subst (λ (v : Vec Keyed Global). IsAmong p v.items) (sym e) a))
+kept_set (b ∷ bs) zero (suc k) old new position p l e is a = a
+kept_set (b ∷ bs) (suc slot) zero old new position p l e is a = a
+kept_set (b ∷ bs) (suc slot) (suc k) old new position p l e is a = kept_set bs slot k old new position p (omega arith) e is a
 
-pub added_set : (bs : List (Vec Numbered Global)) (slot : ℕ) (old new : Vec Numbered Global) (place : Numbered) → slot < length bs → new.items ≡ old.items ++ place ∷ [] → IsAmong place (bucket_at (slice_set bs slot new) slot)
-added_set [] slot old new place l is = absurd (omega arith)
-added_set (b ∷ bs) zero old new place l is = subst (IsAmong place) (sym is) (among_new place old.items)
-added_set (b ∷ bs) (suc slot) old new place l is = added_set bs slot old new place (omega arith) is
+pub added_set : (bs : List (Vec Keyed Global)) (slot : ℕ) (old new : Vec Keyed Global) (position : Keyed) → slot < length bs → new.items ≡ old.items ++ position ∷ [] → IsAmong position (bucket_at (slice_set bs slot new) slot)
+added_set [] slot old new position l is = absurd (omega arith)
+added_set (b ∷ bs) zero old new position l is = subst (IsAmong position) (sym is) (among_new position old.items)
+added_set (b ∷ bs) (suc slot) old new position l is = added_set bs slot old new position (omega arith) is
 
-pub bucket_read : (bs : List (Vec Numbered Global)) (k : ℕ) (v : Vec Numbered Global) → k < length bs → v ≡ get_or bs k v → bucket_at bs k ≡ v.items
+pub bucket_read : (bs : List (Vec Keyed Global)) (k : ℕ) (v : Vec Keyed Global) → k < length bs → v ≡ get_or bs k v → bucket_at bs k ≡ v.items
 bucket_read [] k v l e = absurd (omega arith)
-bucket_read (b ∷ bs) zero v l e = ap (λ (w : Vec Numbered Global). w.items) (sym e)
+bucket_read (b ∷ bs) zero v l e = ap (λ (w : Vec Keyed Global). w.items) (sym e)
 bucket_read (b ∷ bs) (suc k) v l e = bucket_read bs k v (omega arith) e
 
 -- the bucket of a key
 mod_of : (key n : ℕ) → 0 < n → key % n < n
 mod_of key n l = mod-lt key {m = n} l
 
-pub slot_within : (bs : List (Vec Numbered Global)) (key n : ℕ) → n ≡ length bs → 0 < length bs → key % n < length bs
+pub slot_within : (bs : List (Vec Keyed Global)) (key n : ℕ) → n ≡ length bs → 0 < length bs → key % n < length bs
 slot_within bs key n size some = let there : 0 < n = omega (arith, size, some) in omega (arith, mod_of key n there, size)
 
-pub kept_of : (bs : List (Vec Numbered Global)) (key slot k m : ℕ) (n : Numbered) (old new : Vec Numbered Global) (number : Numbered) → slot ≡ key % m → m ≡ length bs → 0 < length bs → length (slice_set bs slot new) ≡ length bs → old ≡ get_or bs slot old → new.items ≡ old.items ++ number ∷ [] → IsAmong n (bucket_of bs k) → IsAmong n (bucket_of (slice_set bs slot new) k)
+pub kept_of : (bs : List (Vec Keyed Global)) (key slot k m : ℕ) (n : Keyed) (old new : Vec Keyed Global) (number : Keyed) → slot ≡ key % m → m ≡ length bs → 0 < length bs → length (slice_set bs slot new) ≡ length bs → old ≡ get_or bs slot old → new.items ≡ old.items ++ number ∷ [] → IsAmong n (bucket_of bs k) → IsAmong n (bucket_of (slice_set bs slot new) k)
 kept_of bs key slot k m n old new number at size some same e is a =
     let less : slot < length bs = omega (arith, at, slot_within bs key m size some) in
     subst (λ q. IsAmong n (bucket_at (slice_set bs slot new) (k % q))) (sym same) (kept_set bs slot (k % length bs) old new number n less e is a)
 
-pub added_of : (bs : List (Vec Numbered Global)) (key slot m : ℕ) (old new : Vec Numbered Global) (number : Numbered) → slot ≡ key % m → m ≡ length bs → 0 < length bs → length (slice_set bs slot new) ≡ length bs → new.items ≡ old.items ++ number ∷ [] → IsAmong number (bucket_of (slice_set bs slot new) key)
+pub added_of : (bs : List (Vec Keyed Global)) (key slot m : ℕ) (old new : Vec Keyed Global) (number : Keyed) → slot ≡ key % m → m ≡ length bs → 0 < length bs → length (slice_set bs slot new) ≡ length bs → new.items ≡ old.items ++ number ∷ [] → IsAmong number (bucket_of (slice_set bs slot new) key)
 added_of bs key slot m old new number at size some same is =
     let less : slot < length bs = omega (arith, at, slot_within bs key m size some) in
     let here : slot ≡ key % length (slice_set bs slot new) = at ∙ ap (λ q. key % q) (size ∙ sym same) in
@@ -108,12 +108,12 @@ key_between key (b ∷ bytes) (suc size) (suc first) some within =
 
 -- what is listed stays so
 pub lists_kept : (old new : Index) (p : ℕ) (ps : List PieceValue) → ((k : ℕ) → IsMarked k old.firsts.items → IsMarked k new.firsts.items)
-    → ((k : ℕ) (n : Numbered) → IsAmong n (bucket_of old.lasts.items k) → IsAmong n (bucket_of new.lasts.items k))
-    → ((k : ℕ) (n : Numbered) → IsAmong n (bucket_of old.places.items k) → IsAmong n (bucket_of new.places.items k)) → Lists old p ps → Lists new p ps
-lists_kept old new p ps firsts lasts places h = record {
+    → ((k : ℕ) (n : Keyed) → IsAmong n (bucket_of old.lasts.items k) → IsAmong n (bucket_of new.lasts.items k))
+    → ((k : ℕ) (n : Keyed) → IsAmong n (bucket_of old.positions.items k) → IsAmong n (bucket_of new.positions.items k)) → Lists old p ps → Lists new p ps
+lists_kept old new p ps firsts lasts positions h = record {
   first = firsts (length (first_literal ps)) h.first;
-  last = lasts (first_key ps) (numbered (first_key ps) (length (last_literal ps))) h.last;
-  listed = places (ends_key ps) (numbered (ends_key ps) p) h.listed;
+  last = lasts (first_key ps) (keyed (first_key ps) (length (last_literal ps))) h.last;
+  listed = positions (ends_key ps) (keyed (ends_key ps) p) h.listed;
 }
 
 -- the ends of a text that a pattern matches
@@ -147,68 +147,68 @@ fits_length ps text spans m =
     (omega (arith, ap length a.1, length-append (first_literal ps) a.0), omega (arith, ap length b.1, length-append b.0 (last_literal ps)))
 
 -- a pattern that is added
-pub index_some : {T E : Type 0} (r : Result T E) (old new : Index) → length new.lasts.items ≡ length old.lasts.items → OnOk r (length new.places.items ≡ length old.places.items) → HasBuckets old → OnOk r (HasBuckets new)
-index_some (Ok x) old new lasts places h = record { lasts = omega (arith, lasts, h.lasts); places = omega (arith, places, h.places) }
-index_some (Err e) old new lasts places h = tt
+pub index_some : {T E : Type 0} (r : Result T E) (old new : Index) → length new.lasts.items ≡ length old.lasts.items → OnOk r (length new.positions.items ≡ length old.positions.items) → HasBuckets old → OnOk r (HasBuckets new)
+index_some (Ok x) old new lasts positions h = record { lasts = omega (arith, lasts, h.lasts); positions = omega (arith, positions, h.positions) }
+index_some (Err e) old new lasts positions h = tt
 
 pub index_kept : {T E : Type 0} (r : Result T E) (old new : Index) → ((k : ℕ) → IsMarked k old.firsts.items → IsMarked k new.firsts.items)
-    → ((k : ℕ) (n : Numbered) → IsAmong n (bucket_of old.lasts.items k) → IsAmong n (bucket_of new.lasts.items k))
-    → OnOk r ((k : ℕ) (n : Numbered) → IsAmong n (bucket_of old.places.items k) → IsAmong n (bucket_of new.places.items k)) → OnOk r ((p : ℕ) (ps : List PieceValue) → Lists old p ps → Lists new p ps)
-index_kept (Ok x) old new firsts lasts places = λ p ps h. lists_kept old new p ps firsts lasts places h
-index_kept (Err e) old new firsts lasts places = tt
+    → ((k : ℕ) (n : Keyed) → IsAmong n (bucket_of old.lasts.items k) → IsAmong n (bucket_of new.lasts.items k))
+    → OnOk r ((k : ℕ) (n : Keyed) → IsAmong n (bucket_of old.positions.items k) → IsAmong n (bucket_of new.positions.items k)) → OnOk r ((p : ℕ) (ps : List PieceValue) → Lists old p ps → Lists new p ps)
+index_kept (Ok x) old new firsts lasts positions = λ p ps h. lists_kept old new p ps firsts lasts positions h
+index_kept (Err e) old new firsts lasts positions = tt
 
-pub index_added : {T E : Type 0} (r : Result T E) (index : Index) (place key ends : ℕ) (first last : List ℕ) (ps : List PieceValue) → first ≡ first_literal ps → last ≡ last_literal ps → key ≡ key_over 0 first → ends ≡ key_over key last → IsMarked (length first) index.firsts.items
-    → IsUnder key (length last) (bucket_of index.lasts.items key) → OnOk r (IsUnder ends place (bucket_of index.places.items ends)) → OnOk r (Lists index place ps)
-index_added (Ok x) index place key ends first last ps f g k e marked lasts places =
+pub index_added : {T E : Type 0} (r : Result T E) (index : Index) (position key ends : ℕ) (first last : List ℕ) (ps : List PieceValue) → first ≡ first_literal ps → last ≡ last_literal ps → key ≡ key_over 0 first → ends ≡ key_over key last → IsMarked (length first) index.firsts.items
+    → IsUnder key (length last) (bucket_of index.lasts.items key) → OnOk r (IsUnder ends position (bucket_of index.positions.items ends)) → OnOk r (Lists index position ps)
+index_added (Ok x) index position key ends first last ps f g k e marked lasts positions =
     let first_is : key ≡ first_key ps = k ∙ ap (key_over 0) f in
     let ends_is : ends ≡ ends_key ps = e ∙ ap (key_over key) g ∙ ap (λ q. key_over q (last_literal ps)) first_is in
     record {
       first = subst (λ t. IsMarked (length t) index.firsts.items) f marked;
       last = subst (λ t. IsUnder (first_key ps) (length t) (bucket_of index.lasts.items (first_key ps))) g (subst (λ q. IsUnder q (length last) (bucket_of index.lasts.items q)) first_is lasts);
-      listed = subst (λ q. IsUnder q place (bucket_of index.places.items q)) ends_is places;
+      listed = subst (λ q. IsUnder q position (bucket_of index.positions.items q)) ends_is positions;
     }
-index_added (Err e) index place key ends first last ps f g k x marked lasts places = tt
+index_added (Err e) index position key ends first last ps f g k x marked lasts positions = tt
 
 -- kinds of patterns
-pub skips_none : (IsKind : List PieceValue → Type 0) (index : Index) (from most : ℕ) (text : List ℕ) → ((place : ℕ) (ps : List PieceValue) (spans : List (List ℕ)) → IsKind ps → Lists index place ps → Matches ps text spans → ⊥) → Skips IsKind index from most text most
+pub skips_none : (IsKind : List PieceValue → Type 0) (index : Index) (from most : ℕ) (text : List ℕ) → ((position : ℕ) (ps : List PieceValue) (spans : List (List ℕ)) → IsKind ps → Lists index position ps → Matches ps text spans → ⊥) → Skips IsKind index from most text most
 skips_none IsKind index from most text h = record {
   low = λ l. l;
   high = omega arith;
-  skipped = λ place ps kind lists low under spans m. h place ps spans kind lists m;
+  skipped = λ position ps kind lists low under spans m. h position ps spans kind lists m;
 }
 
 pub skips_as : (IsOther IsKind : List PieceValue → Type 0) (index : Index) (from most result : ℕ) (text : List ℕ) → Skips IsOther index from most text result
-    → ((place : ℕ) (ps : List PieceValue) (spans : List (List ℕ)) → IsKind ps → Lists index place ps → Matches ps text spans → IsOther ps) → Skips IsKind index from most text result
+    → ((position : ℕ) (ps : List PieceValue) (spans : List (List ℕ)) → IsKind ps → Lists index position ps → Matches ps text spans → IsOther ps) → Skips IsKind index from most text result
 skips_as IsOther IsKind index from most result text h cover = record {
   low = h.low;
   high = h.high;
-  skipped = λ place ps kind lists low under spans m. h.skipped place ps (cover place ps spans kind lists m) lists low under spans m;
+  skipped = λ position ps kind lists low under spans m. h.skipped position ps (cover position ps spans kind lists m) lists low under spans m;
 }
 
 pub skips_more : (IsOne IsOther IsKind : List PieceValue → Type 0) (index : Index) (from most least next : ℕ) (text : List ℕ) → Skips IsOne index from most text least → Skips IsOther index from least text next
-    → ((place : ℕ) (ps : List PieceValue) (spans : List (List ℕ)) → IsKind ps → Lists index place ps → Matches ps text spans → IsOne ps ⊎ IsOther ps) → Skips IsKind index from most text next
+    → ((position : ℕ) (ps : List PieceValue) (spans : List (List ℕ)) → IsKind ps → Lists index position ps → Matches ps text spans → IsOne ps ⊎ IsOther ps) → Skips IsKind index from most text next
 skips_more IsOne IsOther IsKind index from most least next text h more cover = record {
   low = λ l. more.low (h.low l);
   high = omega (arith, h.high, more.high);
-  skipped = λ place ps kind lists low under spans m. elim (cover place ps spans kind lists m) [
-    | inl one ↦ h.skipped place ps one lists low (omega (arith, under, more.high)) spans m
-    | inr other ↦ more.skipped place ps other lists low under spans m
+  skipped = λ position ps kind lists low under spans m. elim (cover position ps spans kind lists m) [
+    | inl one ↦ h.skipped position ps one lists low (omega (arith, under, more.high)) spans m
+    | inr other ↦ more.skipped position ps other lists low under spans m
   ];
 }
 
 -- both ends
 pub ends_short : (index : Index) (key last from most : ℕ) (text : List ℕ) → length text < last → Skips (HasEnds key last) index from most text most
-ends_short index key last from most text short = skips_none (HasEnds key last) index from most text (λ place ps spans kind lists m. omega (arith, short, kind.1, (fits_length ps text spans m).1))
+ends_short index key last from most text short = skips_none (HasEnds key last) index from most text (λ position ps spans kind lists m. omega (arith, short, kind.1, (fits_length ps text spans m).1))
 
-pub ends_bucket : (index : Index) (key last from most result : ℕ) (text back : List ℕ) (bucket : List Numbered) (ends : ℕ) → back ≡ drop (length text - last) text → ends ≡ key_over key back → bucket ≡ bucket_of index.places.items ends → IsLeastFrom bucket ends from most result → Skips (HasEnds key last) index from most text result
+pub ends_bucket : (index : Index) (key last from most result : ℕ) (text back : List ℕ) (bucket : List Keyed) (ends : ℕ) → back ≡ drop (length text - last) text → ends ≡ key_over key back → bucket ≡ bucket_of index.positions.items ends → IsLeastFrom bucket ends from most result → Skips (HasEnds key last) index from most text result
 ends_bucket index key last from most result text back bucket ends b e is h = record {
   low = h.low;
   high = h.high;
-  skipped = λ place ps kind lists low under spans m.
+  skipped = λ position ps kind lists low under spans m.
       let back_is : back ≡ last_literal ps = b ∙ ap (λ n. drop (length text - n) text) kind.1 ∙ last_taken ps text spans m in
       let ends_is : ends ≡ ends_key ps = e ∙ ap (key_over key) back_is ∙ ap (λ k. key_over k (last_literal ps)) kind.0 in
-      let here : IsUnder ends place bucket = subst (IsUnder ends place) (sym is) (subst (λ q. IsUnder q place (bucket_of index.places.items q)) (sym ends_is) lists.listed) in
-      omega (arith, under, h.least place here low);
+      let here : IsUnder ends position bucket = subst (IsUnder ends position) (sym is) (subst (λ q. IsUnder q position (bucket_of index.positions.items q)) (sym ends_is) lists.listed) in
+      omega (arith, under, h.least position here low);
 }
 
 -- the last literals beside a first one
@@ -222,43 +222,43 @@ can_stand (Literal literal ∷ q ∷ ps) text spans m =
     inl (omega (arith, ap length m.whole, length-append literal rest, (fits_length (q ∷ ps) rest spans more).1))
 can_stand (FieldPiece name kind ∷ q ∷ ps) text spans m = inl (omega (arith, (fits_length (FieldPiece name kind ∷ q ∷ ps) text spans m).1))
 
-same_last : (lasts : List Numbered) (count k key size : ℕ) (other : Numbered) → count < length lasts → k ≡ count → slice_get lasts k ≡ Some (numbered key size) → get_or lasts count other ≡ numbered key size
-same_last lasts count k key size other l same is = same_some (get_or lasts count other) (numbered key size) (sym (get_there lasts count other l) ∙ ap (slice_get lasts) (sym same) ∙ is)
+same_last : (lasts : List Keyed) (count k key size : ℕ) (other : Keyed) → count < length lasts → k ≡ count → slice_get lasts k ≡ Some (keyed key size) → get_or lasts count other ≡ keyed key size
+same_last lasts count k key size other l same is = same_some (get_or lasts count other) (keyed key size) (sym (get_there lasts count other l) ∙ ap (slice_get lasts) (sym same) ∙ is)
 
-pub among_more : (index : Index) (first key count from most least next : ℕ) (other : Numbered) (lasts : List Numbered) (text : List ℕ) → count < length lasts
+pub among_more : (index : Index) (first key count from most least next : ℕ) (other : Keyed) (lasts : List Keyed) (text : List ℕ) → count < length lasts
     → Skips (HasEndsAmong first key lasts count) index from most text least → Skips (HasEnds key (get_or lasts count other).number) index from least text next → Skips (HasEndsAmong first key lasts (count + 1)) index from most text next
 among_more index first key count from most least next other lasts text l h more =
-    skips_more (HasEndsAmong first key lasts count) (HasEnds key (get_or lasts count other).number) (HasEndsAmong first key lasts (count + 1)) index from most least next text h more (λ place ps spans kind lists m.
+    skips_more (HasEndsAmong first key lasts count) (HasEnds key (get_or lasts count other).number) (HasEndsAmong first key lasts (count + 1)) index from most least next text h more (λ position ps spans kind lists m.
     elim (let le : kind.2 ≤ count = omega (arith, kind.3) in eq-or-lt_of_le le) [
       | inr old ↦ inl (kind.0, kind.1, kind.2, old, kind.4)
-      | inl same ↦ inr (kind.1, ap (λ (n : Numbered). n.number) (same_last lasts count kind.2 key (length (last_literal ps)) other l same kind.4))
+      | inl same ↦ inr (kind.1, ap (λ (n : Keyed). n.number) (same_last lasts count kind.2 key (length (last_literal ps)) other l same kind.4))
     ])
 
-pub among_passed : (index : Index) (first key count from most least size : ℕ) (other : Numbered) (lasts : List Numbered) (text : List ℕ) → count < length lasts → size ≡ length text → ((get_or lasts count other).key ≡ key → CanStand first (get_or lasts count other).number size → ⊥)
+pub among_passed : (index : Index) (first key count from most least size : ℕ) (other : Keyed) (lasts : List Keyed) (text : List ℕ) → count < length lasts → size ≡ length text → ((get_or lasts count other).key ≡ key → CanStand first (get_or lasts count other).number size → ⊥)
     → Skips (HasEndsAmong first key lasts count) index from most text least → Skips (HasEndsAmong first key lasts (count + 1)) index from most text least
 among_passed index first key count from most least size other lasts text l same_size never h =
-    skips_as (HasEndsAmong first key lasts count) (HasEndsAmong first key lasts (count + 1)) index from most least text h (λ place ps spans kind lists m.
+    skips_as (HasEndsAmong first key lasts count) (HasEndsAmong first key lasts (count + 1)) index from most least text h (λ position ps spans kind lists m.
     elim (let le : kind.2 ≤ count = omega (arith, kind.3) in eq-or-lt_of_le le) [
       | inr old ↦ (kind.0, kind.1, kind.2, old, kind.4)
       | inl same ↦
-          let is : get_or lasts count other ≡ numbered key (length (last_literal ps)) = same_last lasts count kind.2 key (length (last_literal ps)) other l same kind.4 in
+          let is : get_or lasts count other ≡ keyed key (length (last_literal ps)) = same_last lasts count kind.2 key (length (last_literal ps)) other l same kind.4 in
           let stands : CanStand first (get_or lasts count other).number size =
           subst (λ n. CanStand n (get_or lasts count other).number size) (sym kind.0)
-          (subst (λ (n : Numbered). CanStand (length (first_literal ps)) n.number size) (sym is)
+          (subst (λ (n : Keyed). CanStand (length (first_literal ps)) n.number size) (sym is)
           (subst (λ n. CanStand (length (first_literal ps)) (length (last_literal ps)) n) (sym same_size) (can_stand ps text spans m))) in
-          absurd (never (ap (λ (n : Numbered). n.key) is) stands)
+          absurd (never (ap (λ (n : Keyed). n.key) is) stands)
     ])
 
-pub among_all : (index : Index) (first key count from most least : ℕ) (lasts : List Numbered) (text : List ℕ) → length lasts ≤ count → lasts ≡ bucket_of index.lasts.items key → Skips (HasEndsAmong first key lasts count) index from most text least → Skips (HasFirst first key) index from most text least
+pub among_all : (index : Index) (first key count from most least : ℕ) (lasts : List Keyed) (text : List ℕ) → length lasts ≤ count → lasts ≡ bucket_of index.lasts.items key → Skips (HasEndsAmong first key lasts count) index from most text least → Skips (HasFirst first key) index from most text least
 among_all index first key count from most least lasts text past is h =
-    skips_as (HasEndsAmong first key lasts count) (HasFirst first key) index from most least text h (λ place ps spans kind lists m.
+    skips_as (HasEndsAmong first key lasts count) (HasFirst first key) index from most least text h (λ position ps spans kind lists m.
     let a : IsUnder key (length (last_literal ps)) lasts = subst (IsUnder key (length (last_literal ps))) (sym is) (subst (λ q. IsUnder q (length (last_literal ps)) (bucket_of index.lasts.items q)) (sym kind.1) lists.last) in
-    (kind.0, kind.1, a.0, omega (arith, past, get_within lasts a.0 (numbered key (length (last_literal ps))) a.1), a.1))
+    (kind.0, kind.1, a.0, omega (arith, past, get_within lasts a.0 (keyed key (length (last_literal ps))) a.1), a.1))
 
 -- the first literals
 pub first_more : (index : Index) (first key from most least next : ℕ) (text : List ℕ) → key ≡ key_over 0 (take first text) → Skips (IsShorter first) index from most text least → Skips (HasFirst first key) index from least text next → Skips (IsShorter (first + 1)) index from most text next
 first_more index first key from most least next text e h more =
-    skips_more (IsShorter first) (HasFirst first key) (IsShorter (first + 1)) index from most least next text h more (λ place ps spans kind lists m.
+    skips_more (IsShorter first) (HasFirst first key) (IsShorter (first + 1)) index from most least next text h more (λ position ps spans kind lists m.
     elim (let le : length (first_literal ps) ≤ first = omega (arith, kind) in eq-or-lt_of_le le) [
       | inr old ↦ inl old
       | inl same ↦ inr (sym same, e ∙ ap (λ n. key_over 0 (take n text)) (sym same) ∙ ap (key_over 0) (first_taken ps text spans m))
@@ -266,7 +266,7 @@ first_more index first key from most least next text e h more =
 
 pub first_unmarked : (index : Index) (marked : Bool) (first from most least : ℕ) (text : List ℕ) → first < length index.firsts.items → marked ≡ get_or index.firsts.items first marked → ◌≡◌ marked false → Skips (IsShorter first) index from most text least → Skips (IsShorter (first + 1)) index from most text least
 first_unmarked index marked first from most least text l e not h =
-    skips_as (IsShorter first) (IsShorter (first + 1)) index from most least text h (λ place ps spans kind lists m.
+    skips_as (IsShorter first) (IsShorter (first + 1)) index from most least text h (λ position ps spans kind lists m.
     elim (let le : length (first_literal ps) ≤ first = omega (arith, kind) in eq-or-lt_of_le le) [
       | inr old ↦ old
       | inl same ↦
@@ -275,38 +275,38 @@ first_unmarked index marked first from most least text l e not h =
     ])
 
 pub first_short : (index : Index) (first from most least : ℕ) (text : List ℕ) → length text < first → Skips (IsShorter first) index from most text least → Skips IsAny index from most text least
-first_short index first from most least text short h = skips_as (IsShorter first) IsAny index from most least text h (λ place ps spans kind lists m. omega (arith, short, (fits_length ps text spans m).0))
+first_short index first from most least text short h = skips_as (IsShorter first) IsAny index from most least text h (λ position ps spans kind lists m. omega (arith, short, (fits_length ps text spans m).0))
 
 pub first_all : (index : Index) (first from most least : ℕ) (text : List ℕ) → length index.firsts.items ≤ first → Skips (IsShorter first) index from most text least → Skips IsAny index from most text least
-first_all index first from most least text past h = skips_as (IsShorter first) IsAny index from most least text h (λ place ps spans kind lists m. omega (arith, past, get_within index.firsts.items (length (first_literal ps)) true lists.first))
+first_all index first from most least text past h = skips_as (IsShorter first) IsAny index from most least text h (λ position ps spans kind lists m. omega (arith, past, get_within index.firsts.items (length (first_literal ps)) true lists.first))
 
 -- the entries
-pub skips_entries : (index : Index) (entries : List Entry) (from most result : ℕ) (text : List ℕ) → most ≡ length entries → 0 < length index.places.items → AreListed index entries → Skips IsAny index from most text result → SkipsEntries entries from text result
+pub skips_entries : (index : Index) (entries : List Entry) (from most result : ℕ) (text : List ℕ) → most ≡ length entries → 0 < length index.positions.items → AreListed index entries → Skips IsAny index from most text result → SkipsEntries entries from text result
 skips_entries index entries from most result text size some listed h = record {
   low = λ le. h.low (omega (arith, size, le));
-  skipped = λ place entry is low under spans m. listed some place entry is (λ lists. h.skipped place (pattern_value entry.pattern) tt lists low under spans m);
+  skipped = λ position entry is low under spans m. listed some position entry is (λ lists. h.skipped position (pattern_value entry.pattern) tt lists low under spans m);
 }
 
 -- one entry more is listed
 pub listed_more : (old new : Index) (entries : List Entry) (count : ℕ) (x : Entry) → count < length entries → x ≡ get_or entries count x → ((p : ℕ) (ps : List PieceValue) → Lists old p ps → Lists new p ps) → Lists new count (pattern_value x.pattern)
-    → ((place : ℕ) (entry : Entry) → place < count → slice_get entries place ≡ Some entry → Lists old place (pattern_value entry.pattern))
-    → (place : ℕ) (entry : Entry) → place < count + 1 → slice_get entries place ≡ Some entry → Lists new place (pattern_value entry.pattern)
-listed_more old new entries count x l e kept added h place entry less is = elim (let le : place ≤ count = omega arith in eq-or-lt_of_le le) [
-  | inr before ↦ kept place (pattern_value entry.pattern) (h place entry before is)
+    → ((position : ℕ) (entry : Entry) → position < count → slice_get entries position ≡ Some entry → Lists old position (pattern_value entry.pattern))
+    → (position : ℕ) (entry : Entry) → position < count + 1 → slice_get entries position ≡ Some entry → Lists new position (pattern_value entry.pattern)
+listed_more old new entries count x l e kept added h position entry less is = elim (let le : position ≤ count = omega arith in eq-or-lt_of_le le) [
+  | inr before ↦ kept position (pattern_value entry.pattern) (h position entry before is)
   | inl same ↦
       let entry_is : x ≡ entry = same_some x entry (sym (get_at entries count x l e) ∙ ap (slice_get entries) (sym same) ∙ is) in
       subst (λ n. Lists new n (pattern_value entry.pattern)) (sym same) (subst (λ (v : Entry). Lists new count (pattern_value v.pattern)) entry_is added)
 ]
 
-pub listed_all : (index : Index) (entries : List Entry) (count : ℕ) → length entries ≤ count → ((place : ℕ) (entry : Entry) → place < count → slice_get entries place ≡ Some entry → Lists index place (pattern_value entry.pattern)) → AreListed index entries
-listed_all index entries count past h some place entry is bad = bad (h place entry (omega (arith, get_within entries place entry is)) is)
+pub listed_all : (index : Index) (entries : List Entry) (count : ℕ) → length entries ≤ count → ((position : ℕ) (entry : Entry) → position < count → slice_get entries position ≡ Some entry → Lists index position (pattern_value entry.pattern)) → AreListed index entries
+listed_all index entries count past h some position entry is bad = bad (h position entry (omega (arith, get_within entries position entry is)) is)
 
 -- whether there are buckets
 pub not_zero : (n : ℕ) → ◌≡◌ false (n == 0) → 0 < n
 not_zero zero e = let same : ◌≡◌ false true = e ∙ eq-eqb 0 0 refl in let bad : ⊥ = cc in absurd bad
 not_zero (suc n) e = omega arith
 
-pub bucket_here : (bs : List (Vec Numbered Global)) (key : ℕ) (v : Vec Numbered Global) (xs : List Numbered) → ◌≡◌ false (length bs == 0) → xs ≡ v.items → v ≡ get_or bs (key % length bs) v → xs ≡ bucket_of bs key
+pub bucket_here : (bs : List (Vec Keyed Global)) (key : ℕ) (v : Vec Keyed Global) (xs : List Keyed) → ◌≡◌ false (length bs == 0) → xs ≡ v.items → v ≡ get_or bs (key % length bs) v → xs ≡ bucket_of bs key
 bucket_here bs key v xs some same is = same ∙ sym (bucket_read bs (key % length bs) v (mod_of key (length bs) (not_zero (length bs) some)) is)
 
 -- entries that are skipped
@@ -315,8 +315,8 @@ get_map [] k other e = let bad : ⊥ = cc in absurd bad
 get_map (x ∷ xs) zero other e = (x, refl, same_some (entry_value x) other e)
 get_map (x ∷ xs) (suc k) other e = get_map xs k other e
 
-pub none_skipped : (entries : List Entry) (step_type : Option StepType) (text : List ℕ) (place next : ℕ) → NoneBefore place (map entry_value entries) step_type text → SkipsEntries entries place text next → NoneBefore next (map entry_value entries) step_type text
-none_skipped entries step_type text place next h s = λ earlier other less is same. elim (cases_lt earlier place) [
+pub none_skipped : (entries : List Entry) (step_type : Option StepType) (text : List ℕ) (position next : ℕ) → NoneBefore position (map entry_value entries) step_type text → SkipsEntries entries position text next → NoneBefore next (map entry_value entries) step_type text
+none_skipped entries step_type text position next h s = λ earlier other less is same. elim (cases_lt earlier position) [
   | inl before ↦ h earlier other before is same
   | inr le ↦ let x = get_map entries earlier other is in subst (λ (v : EntryValue). MatchesNot v.pattern text) x.2 (s.skipped earlier x.0 x.1 le less)
 ]
@@ -331,9 +331,9 @@ later_cells (x ∷ xs) zero (suc m) step_type text le = omega (arith, later_cell
 later_cells (x ∷ xs) (suc n) zero step_type text le = absurd (omega arith)
 later_cells (x ∷ xs) (suc n) (suc m) step_type text le = later_cells xs n m step_type text (omega arith)
 
-pub cells_skipped : (entries : List Entry) (place next : ℕ) (step_type : Option StepType) (text : List ℕ) (start old : ℕ) → place ≤ next → old + cells_of_type (map entry_value (drop place entries)) step_type text ≤ start + cells_of_type (map entry_value entries) step_type text
+pub cells_skipped : (entries : List Entry) (position next : ℕ) (step_type : Option StepType) (text : List ℕ) (start old : ℕ) → position ≤ next → old + cells_of_type (map entry_value (drop position entries)) step_type text ≤ start + cells_of_type (map entry_value entries) step_type text
     → old + cells_of_type (map entry_value (drop next entries)) step_type text ≤ start + cells_of_type (map entry_value entries) step_type text
-cells_skipped entries place next step_type text start old le h = omega (arith, h, later_cells entries place next step_type text le)
+cells_skipped entries position next step_type text start old le h = omega (arith, h, later_cells entries position next step_type text le)
 
 -- an entry more is listed
 get_push : {X : Type 0} (xs : List X) (x : X) (k : ℕ) (y : X) → slice_get (xs ++ x ∷ []) k ≡ Some y → (slice_get xs k ≡ Some y) ⊎ ((k ≡ length xs) × (x ≡ y))
@@ -342,11 +342,11 @@ get_push [] x (suc k) y e = let bad : ⊥ = cc in absurd bad
 get_push (z ∷ zs) x zero y e = inl e
 get_push (z ∷ zs) x (suc k) y e = elim (get_push zs x k y e) [ inl a ↦ inl a | inr b ↦ inr (ap suc b.0, b.1) ]
 
-pub listed_push : (old new : Index) (entries items : List Entry) (x : Entry) (n : ℕ) (pieces : List Piece) → n ≡ length entries → items ≡ entries ++ x ∷ [] → pieces ≡ x.pattern.pieces.items → ((p : ℕ) (ps : List PieceValue) → Lists old p ps → Lists new p ps) → Lists new n (map piece_value pieces) → 0 < length old.places.items → AreListed old entries → AreListed new items
-listed_push old new entries items x n pieces size same said kept added before_some h some place entry is bad = elim (get_push entries x place entry (ap (λ es. slice_get es place) (sym same) ∙ is)) [
-  | inl before ↦ h before_some place entry before (λ lists. bad (kept place (pattern_value entry.pattern) lists))
+pub listed_push : (old new : Index) (entries items : List Entry) (x : Entry) (n : ℕ) (pieces : List Piece) → n ≡ length entries → items ≡ entries ++ x ∷ [] → pieces ≡ x.pattern.pieces.items → ((p : ℕ) (ps : List PieceValue) → Lists old p ps → Lists new p ps) → Lists new n (map piece_value pieces) → 0 < length old.positions.items → AreListed old entries → AreListed new items
+listed_push old new entries items x n pieces size same said kept added before_some h some position entry is bad = elim (get_push entries x position entry (ap (λ es. slice_get es position) (sym same) ∙ is)) [
+  | inl before ↦ h before_some position entry before (λ lists. bad (kept position (pattern_value entry.pattern) lists))
   | inr last ↦
-      let at : n ≡ place = size ∙ sym last.0 in
+      let at : n ≡ position = size ∙ sym last.0 in
       let own : Lists new n (pattern_value x.pattern) = subst (λ q. Lists new n (map piece_value q)) said added in
       bad (subst (λ k. Lists new k (pattern_value entry.pattern)) at (subst (λ (v : Entry). Lists new n (pattern_value v.pattern)) last.1 own))
 ]
@@ -359,7 +359,7 @@ get_taken (y ∷ ys) (suc n) zero x e = e
 get_taken (y ∷ ys) (suc n) (suc i) x e = get_taken ys n i x e
 
 pub listed_taken : (index : Index) (entries slice : List Entry) (n : ℕ) → slice ≡ take n entries → AreListed index entries → AreListed index slice
-listed_taken index entries slice n same h some place entry is = h some place entry (get_taken entries n place entry (ap (λ es. slice_get es place) (sym same) ∙ is))
+listed_taken index entries slice n same h some position entry is = h some position entry (get_taken entries n position entry (ap (λ es. slice_get es position) (sym same) ∙ is))
 
 pub if_taken : (o : Option (Bor Index)) (p : Option Index) (entries slice : List Entry) (n : ℕ) → option_copied o ≡ p → slice ≡ take n entries → IfSome p (λ i. AreListed i entries) → IfSome o (λ i. AreListed i.now slice)
 if_taken None p entries slice n e same h = tt

@@ -8,7 +8,7 @@ use Rattle.gk_gherkin.specs.declared.feature.StepType.{StepType}
 use Rattle.gk_steps.specs.declared.library.Entry.{Entry}
 use Rattle.gk_steps.specs.declared.pattern.Piece.{Piece}
 use Rattle.gk_steps.specs.Pattern.{PieceValue, piece_value}
-use Rattle.gk_steps.specs.Places.{ArePlaces}
+use Rattle.gk_steps.specs.CharBoundaries.{AreBoundaries}
 use Rattle.gk_steps.specs.Finding.{LibraryValue, is_of_type, entry_value}
 use Rattle.gk_steps.specs.FilledCells.{table_cells, cells_of_type, GoesOnBy}
 use Rattle.gk_steps.proofs.TableLemmas.{width_is}
@@ -27,10 +27,10 @@ row_more start old new rows width h more fits =
     omega (arith, before, after)
 
 -- the rest of a match asks for no larger a table
-pub fewer_chars : (text : List ℕ) (place : ℕ) → IsUtf8 text → IsCharBoundary text place → length (chars (drop place text)) ≤ length (chars text)
-fewer_chars text place u b =
-    let whole : length (chars text) ≡ length (chars (take place text)) + length (chars (drop place text)) =
-    ap (λ t. length (chars t)) (sym (take-append-drop place text)) ∙ ap length (chars-append (take place text) (drop place text) (IsUtf8-take text place u b)) ∙ length-append (chars (take place text)) (chars (drop place text)) in
+pub fewer_chars : (text : List ℕ) (position : ℕ) → IsUtf8 text → IsCharBoundary text position → length (chars (drop position text)) ≤ length (chars text)
+fewer_chars text position u b =
+    let whole : length (chars text) ≡ length (chars (take position text)) + length (chars (drop position text)) =
+    ap (λ t. length (chars t)) (sym (take-append-drop position text)) ∙ ap length (chars-append (take position text) (drop position text) (IsUtf8-take text position u b)) ∙ length-append (chars (take position text)) (chars (drop position text)) in
     omega (arith, whole)
 
 pub fewer_cells : (left ps : List PieceValue) (rest text : List ℕ) → length left ≤ length ps → length (chars rest) ≤ length (chars text) → table_cells left rest ≤ table_cells ps text
@@ -50,9 +50,9 @@ first_cells [] (suc n) step_type text = omega arith
 first_cells (e ∷ es) (suc n) step_type text = omega (arith, first_cells es n step_type text)
 
 -- what a match of the last pieces filled
-pub rest_most : (pieces : List Piece) (rest places slice : List ℕ) (old new : ℕ) → IsUtf8 rest → ArePlaces rest places → slice ≡ places → new ≤ old + (length pieces + 1) * length slice → new ≤ old + table_cells (map piece_value pieces) rest
-rest_most pieces rest places slice old new u h same most =
-    let width : length slice ≡ length (chars rest) + 1 = ap length same ∙ width_is rest places u h in
+pub rest_most : (pieces : List Piece) (rest boundaries slice : List ℕ) (old new : ℕ) → IsUtf8 rest → AreBoundaries rest boundaries → slice ≡ boundaries → new ≤ old + (length pieces + 1) * length slice → new ≤ old + table_cells (map piece_value pieces) rest
+rest_most pieces rest boundaries slice old new u h same most =
+    let width : length slice ≡ length (chars rest) + 1 = ap length same ∙ width_is rest boundaries u h in
     let rows : length pieces ≡ length (map piece_value pieces) = sym (length-map pieces piece_value) in
     subst (λ n. new ≤ old + n) (ap (λ n. (length pieces + 1) * n) width ∙ ap (λ n. (n + 1) * (length (chars rest) + 1)) rows) most
 
@@ -62,16 +62,16 @@ left_most left pieces rest text start old new l c same most =
     omega (arith, fewer, most)
 
 -- what a look-up filled after an entry that was asked, and after one that was passed over
-pub asked : (entries : List Entry) (place : ℕ) (x : Entry) (step_type : Option StepType) (text : List ℕ) (pieces : List Piece) (start old new : ℕ) → place < length entries → x ≡ get_or entries place x → x.step_type ≡ step_type → pieces ≡ x.pattern.pieces.items
-    → new ≤ old + table_cells (map piece_value pieces) text → old + cells_of_type (map entry_value (drop place entries)) step_type text ≤ start + cells_of_type (map entry_value entries) step_type text
-    → new + cells_of_type (map entry_value (drop (place + 1) entries)) step_type text ≤ start + cells_of_type (map entry_value entries) step_type text
-asked entries place x step_type text pieces start old new l e is same most h =
+pub asked : (entries : List Entry) (position : ℕ) (x : Entry) (step_type : Option StepType) (text : List ℕ) (pieces : List Piece) (start old new : ℕ) → position < length entries → x ≡ get_or entries position x → x.step_type ≡ step_type → pieces ≡ x.pattern.pieces.items
+    → new ≤ old + table_cells (map piece_value pieces) text → old + cells_of_type (map entry_value (drop position entries)) step_type text ≤ start + cells_of_type (map entry_value entries) step_type text
+    → new + cells_of_type (map entry_value (drop (position + 1) entries)) step_type text ≤ start + cells_of_type (map entry_value entries) step_type text
+asked entries position x step_type text pieces start old new l e is same most h =
     let here : table_cells (map piece_value pieces) text ≡ cond (is_of_type x.step_type step_type) (table_cells (entry_value x).pattern text) 0 = ap (λ q. table_cells (map piece_value q) text) same ∙ sym (cells_here x step_type text is) in
-    omega (arith, here, most, h, cells_at entries place x step_type text l e)
+    omega (arith, here, most, h, cells_at entries position x step_type text l e)
 
-pub passed_over : (entries : List Entry) (place : ℕ) (x : Entry) (step_type : Option StepType) (text : List ℕ) (start old : ℕ) → place < length entries → x ≡ get_or entries place x → old + cells_of_type (map entry_value (drop place entries)) step_type text ≤ start + cells_of_type (map entry_value entries) step_type text
-    → old + cells_of_type (map entry_value (drop (place + 1) entries)) step_type text ≤ start + cells_of_type (map entry_value entries) step_type text
-passed_over entries place x step_type text start old l e h = omega (arith, h, cells_at entries place x step_type text l e)
+pub passed_over : (entries : List Entry) (position : ℕ) (x : Entry) (step_type : Option StepType) (text : List ℕ) (start old : ℕ) → position < length entries → x ≡ get_or entries position x → old + cells_of_type (map entry_value (drop position entries)) step_type text ≤ start + cells_of_type (map entry_value entries) step_type text
+    → old + cells_of_type (map entry_value (drop (position + 1) entries)) step_type text ≤ start + cells_of_type (map entry_value entries) step_type text
+passed_over entries position x step_type text start old l e h = omega (arith, h, cells_at entries position x step_type text l e)
 
 pub within_all : (a b c d : ℕ) → a + b ≤ c + d → a ≤ c + d
 within_all a b c d h = omega (arith, h)

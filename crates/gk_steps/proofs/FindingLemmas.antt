@@ -9,7 +9,7 @@ use Rattle.gk_gherkin.specs.declared.feature.StepType.TheVariants.{Given, When, 
 use Rattle.gk_steps.specs.declared.pattern.FieldKind.TheVariants.{Plain, Decimal}
 use Rattle.gk_steps.specs.declared.library.Entry.{Entry}
 use Rattle.gk_steps.specs.Pattern.{PieceValue, Literal, FieldPiece}
-use Rattle.gk_steps.specs.PassingOver.{FitsStart, FitsEnd}
+use Rattle.gk_steps.specs.LiteralEnds.{FitsStart, FitsEnd}
 use Rattle.gk_steps.specs.Matching.{AreSpans, MatchesNot, IsMatchResult, FieldValue, span_values, match_of}
 use Rattle.gk_steps.proofs.MatchingLemmas.{one_result}
 use Rattle.gk_steps.proofs.BestMatchLemmas.{match_of_is}
@@ -29,30 +29,30 @@ within (x ∷ xs) zero e is = omega arith
 within (x ∷ xs) (suc k) e is = let less = within xs k e is in omega arith
 
 -- one entry more without a match
-pub none_more : (entries : List Entry) (step_type : Option StepType) (text : List ℕ) (place : ℕ) (x : Entry) → place < length entries → x ≡ get_or entries place x → (x.step_type ≡ step_type → MatchesNot (entry_value x).pattern text) → NoneBefore place (map entry_value entries) step_type text → NoneBefore (place + 1) (map entry_value entries) step_type text
-none_more entries step_type text place x l e not_here h = λ earlier other less is same. elim (let most : earlier ≤ place = omega arith in eq-or-lt_of_le most) [
+pub none_more : (entries : List Entry) (step_type : Option StepType) (text : List ℕ) (position : ℕ) (x : Entry) → position < length entries → x ≡ get_or entries position x → (x.step_type ≡ step_type → MatchesNot (entry_value x).pattern text) → NoneBefore position (map entry_value entries) step_type text → NoneBefore (position + 1) (map entry_value entries) step_type text
+none_more entries step_type text position x l e not_here h = λ earlier other less is same. elim (let most : earlier ≤ position = omega arith in eq-or-lt_of_le most) [
   | inr old ↦ h earlier other old is same
   | inl here ↦
-      let other_is : entry_value x ≡ other = same_option (entry_value x) other (sym (entry_at entries place x l e) ∙ ap (slice_get (map entry_value entries)) (sym here) ∙ is) in
+      let other_is : entry_value x ≡ other = same_option (entry_value x) other (sym (entry_at entries position x l e) ∙ ap (slice_get (map entry_value entries)) (sym here) ∙ is) in
       subst (λ (v : EntryValue). MatchesNot v.pattern text) other_is (not_here (ap (λ (v : EntryValue). v.step_type) other_is ∙ same))
 ]
 
-pub none_all : (entries : List Entry) (step_type : Option StepType) (text : List ℕ) (place : ℕ) → length entries ≤ place → NoneBefore place (map entry_value entries) step_type text → NoneFound (map entry_value entries) step_type text
-none_all entries step_type text place past h = λ k e is same. h k e (omega (arith, within (map entry_value entries) k e is, length-map entries entry_value)) is same
+pub none_all : (entries : List Entry) (step_type : Option StepType) (text : List ℕ) (position : ℕ) → length entries ≤ position → NoneBefore position (map entry_value entries) step_type text → NoneFound (map entry_value entries) step_type text
+none_all entries step_type text position past h = λ k e is same. h k e (omega (arith, within (map entry_value entries) k e is, length-map entries entry_value)) is same
 
-pub first_at : (entries : List Entry) (step_type : Option StepType) (text : List ℕ) (place : ℕ) (x : Entry) (fields : List FieldValue) → place < length entries → x ≡ get_or entries place x → x.step_type ≡ step_type → IsMatchResult (entry_value x).pattern text (Some fields) → NoneBefore place (map entry_value entries) step_type text
-    → IsFirstFound (map entry_value entries) step_type text (record { entry = place; fields = fields })
-first_at entries step_type text place x fields l e is found h = record { entry = entry_value x; place = entry_at entries place x l e; is_type = is; fields = found; first = h }
+pub first_at : (entries : List Entry) (step_type : Option StepType) (text : List ℕ) (position : ℕ) (x : Entry) (fields : List FieldValue) → position < length entries → x ≡ get_or entries position x → x.step_type ≡ step_type → IsMatchResult (entry_value x).pattern text (Some fields) → NoneBefore position (map entry_value entries) step_type text
+    → IsFirstFound (map entry_value entries) step_type text (record { entry = position; fields = fields })
+first_at entries step_type text position x fields l e is found h = record { entry = entry_value x; position = entry_at entries position x l e; is_type = is; fields = found; first = h }
 
 -- what holds holds of a fault
 pub of_fault : {T E P : Type 0} (r : Result T E) → P → IfErr r (λ e. P)
 of_fault (Ok x) p = tt
 of_fault (Err e) p = p
 
--- the entry at a place whose ends a text has
-pub candidate : (entries : List Entry) (step_type : Option StepType) (text : List ℕ) (place : ℕ) (x : Entry) → place < length entries → x ≡ get_or entries place x → x.step_type ≡ step_type → FitsStart (entry_value x).pattern text × FitsEnd (entry_value x).pattern text
+-- the entry at a position whose ends a text has
+pub candidate : (entries : List Entry) (step_type : Option StepType) (text : List ℕ) (position : ℕ) (x : Entry) → position < length entries → x ≡ get_or entries position x → x.step_type ≡ step_type → FitsStart (entry_value x).pattern text × FitsEnd (entry_value x).pattern text
     → HasCandidate (map entry_value entries) step_type text
-candidate entries step_type text place x l e is fits = record { place = place; entry = entry_value x; stands = entry_at entries place x l e; is_type = is; prefix = fits.0; back = fits.1 }
+candidate entries step_type text position x l e is fits = record { position = position; entry = entry_value x; stands = entry_at entries position x l e; is_type = is; prefix = fits.0; back = fits.1 }
 
 -- the computed test of types
 same_type_is : (a b : StepType) → is_same_type a b ≡ true → a ≡ b
@@ -84,7 +84,7 @@ of_type_itself (Some a) = same_type_test a
 pub of_type_not : (a b : Option StepType) → is_of_type a b ≡ false → a ≡ b → ⊥
 of_type_not a b e same = let no : true ≡ false = sym (of_type_itself a) ∙ ap (is_of_type a) same ∙ e in let bad : ⊥ = cc in bad
 
--- what is found among entries of which the first has the place base
+-- what is found among entries of which the first has the position base
 abbrev IsFoundFrom : ℕ → LibraryValue → Option StepType → List ℕ → Option FoundValue → Type 0
 IsFoundFrom base es step_type text None = NoneFound es step_type text
 IsFoundFrom base es step_type text (Some f) = (k : ℕ) × (f.entry ≡ base + k) × IsFirstFound es step_type text (record { entry = k; fields = f.fields })
@@ -106,7 +106,7 @@ later_found : (e : EntryValue) (es : LibraryValue) (step_type : Option StepType)
 later_found e es step_type text base None h more = not_at e es step_type text h more
 later_found e es step_type text base (Some f) h more =
     let i = more.2 in
-    (suc more.0, omega (arith, more.1), record { entry = i.entry; place = i.place; is_type = i.is_type; fields = i.fields; first = earlier_not e es step_type text more.0 h i.first })
+    (suc more.0, omega (arith, more.1), record { entry = i.entry; position = i.position; is_type = i.is_type; fields = i.fields; first = earlier_not e es step_type text more.0 h i.first })
 
 -- what a pattern finds where its entry is of the type
 abbrev IsWhere : EntryValue → Option StepType → List ℕ → Option (List FieldValue) → Type 0
@@ -123,11 +123,11 @@ where_is e step_type text false is = λ same. absurd (of_type_not e.step_type st
 
 first_found : (e : EntryValue) (es : LibraryValue) (step_type : Option StepType) (text : List ℕ) (base : ℕ) (o : Option (List FieldValue)) (later : Option FoundValue) → IsWhere e step_type text o → IsFoundFrom (suc base) es step_type text later
     → IsFoundFrom base (e ∷ es) step_type text (elim o [ Some fields ↦ Some (found_at base fields) | None ↦ later ])
-first_found e es step_type text base (Some fields) later h more = (0, omega arith, record { entry = e; place = refl; is_type = h.0; fields = h.1; first = λ earlier other less is same. absurd (omega arith) })
+first_found e es step_type text base (Some fields) later h more = (0, omega arith, record { entry = e; position = refl; is_type = h.0; fields = h.1; first = λ earlier other less is same. absurd (omega arith) })
 first_found e es step_type text base None later h more = later_found e es step_type text base later h more
 
 found_from_is : (es : LibraryValue) (step_type : Option StepType) (text : List ℕ) (base : ℕ) → IsFoundFrom base es step_type text (found_from base es step_type text)
-found_from_is [] step_type text base = λ place entry is same. no_option entry is
+found_from_is [] step_type text base = λ position entry is same. no_option entry is
 found_from_is (e ∷ es) step_type text base =
     first_found e es step_type text base (match_where (is_of_type e.step_type step_type) e.pattern text) (found_from (suc base) es step_type text) (where_is e step_type text (is_of_type e.step_type step_type) refl) (found_from_is es step_type text (suc base))
 
@@ -144,22 +144,22 @@ of_is es step_type text = from_zero es step_type text (found_from 0 es step_type
 refuses : (e : EntryValue) (text : List ℕ) (fields : List FieldValue) → IsMatchResult e.pattern text (Some fields) → MatchesNot e.pattern text → ⊥
 refuses e text fields h never = never h.0 h.1.matches
 
-same_place : (es : LibraryValue) (step_type : Option StepType) (text : List ℕ) (f g : FoundValue) (h : IsFirstFound es step_type text f) (k : IsFirstFound es step_type text g) → f.entry < g.entry → ⊥
-same_place es step_type text f g h k less = refuses h.entry text f.fields h.fields (k.first f.entry h.entry less h.place h.is_type)
+same_position : (es : LibraryValue) (step_type : Option StepType) (text : List ℕ) (f g : FoundValue) (h : IsFirstFound es step_type text f) (k : IsFirstFound es step_type text g) → f.entry < g.entry → ⊥
+same_position es step_type text f g h k less = refuses h.entry text f.fields h.fields (k.first f.entry h.entry less h.position h.is_type)
 
 both_found : (es : LibraryValue) (step_type : Option StepType) (text : List ℕ) (f g : FoundValue) (h : IsFirstFound es step_type text f) (k : IsFirstFound es step_type text g) → f.entry ≡ g.entry → f ≡ g
 both_found es step_type text f g h k e =
-    let entries : h.entry ≡ k.entry = same_option h.entry k.entry (sym h.place ∙ ap (slice_get es) e ∙ k.place) in
+    let entries : h.entry ≡ k.entry = same_option h.entry k.entry (sym h.position ∙ ap (slice_get es) e ∙ k.position) in
     let fields : f.fields ≡ g.fields = same_option f.fields g.fields (one_result k.entry.pattern text (Some f.fields) (Some g.fields) (subst (λ (x : EntryValue). IsMatchResult x.pattern text (Some f.fields)) entries h.fields) k.fields) in
     ap (λ n. let x : FoundValue = record { entry = n; fields = f.fields } in x) e ∙ ap (λ fs. let x : FoundValue = record { entry = g.entry; fields = fs } in x) fields
 
 two_found : (es : LibraryValue) (step_type : Option StepType) (text : List ℕ) (f g : FoundValue) (h : IsFirstFound es step_type text f) (k : IsFirstFound es step_type text g) → f ≡ g
 two_found es step_type text f g h k =
-    let not_more : f.entry ≤ g.entry = omega (arith, same_place es step_type text g f k h) in
-    elim (eq-or-lt_of_le not_more) [ inl e ↦ both_found es step_type text f g h k e | inr less ↦ absurd (same_place es step_type text f g h k less) ]
+    let not_more : f.entry ≤ g.entry = omega (arith, same_position es step_type text g f k h) in
+    elim (eq-or-lt_of_le not_more) [ inl e ↦ both_found es step_type text f g h k e | inr less ↦ absurd (same_position es step_type text f g h k less) ]
 
 none_or_first : (es : LibraryValue) (step_type : Option StepType) (text : List ℕ) (f : FoundValue) → NoneFound es step_type text → IsFirstFound es step_type text f → ⊥
-none_or_first es step_type text f h k = refuses k.entry text f.fields k.fields (h f.entry k.entry k.place k.is_type)
+none_or_first es step_type text f h k = refuses k.entry text f.fields k.fields (h f.entry k.entry k.position k.is_type)
 
 pub one_of : (es : LibraryValue) (step_type : Option StepType) (text : List ℕ) (a b : Option FoundValue) → IsFoundOf es step_type text a → IsFoundOf es step_type text b → a ≡ b
 one_of es step_type text None None h k = refl
@@ -219,7 +219,7 @@ have_kinds (FieldPiece name Plain ∷ ps) (span ∷ spans) h = have_kinds ps spa
 have_kinds (FieldPiece name Decimal ∷ ps) (span ∷ spans) h = have_kinds ps spans h.1
 
 first_fits : (es : LibraryValue) (step_type : Option StepType) (text : List ℕ) (f : FoundValue) → IsFirstFound es step_type text f → FitsLibrary es f
-first_fits es step_type text f h = record { entry = h.entry; place = h.place; fields = subst (HaveKindsOf h.entry.pattern) (sym h.fields.2) (have_kinds h.entry.pattern h.fields.0 h.fields.1.matches.spans_fit) }
+first_fits es step_type text f h = record { entry = h.entry; position = h.position; fields = subst (HaveKindsOf h.entry.pattern) (sym h.fields.2) (have_kinds h.entry.pattern h.fields.0 h.fields.1.matches.spans_fit) }
 
 found_fits : (es : LibraryValue) (step_type : StepType) (text : List ℕ) (f : FoundValue) → IsFound es step_type text (Some f) → FitsLibrary es f
 found_fits es step_type text f (inl h) = first_fits es (Some step_type) text f h

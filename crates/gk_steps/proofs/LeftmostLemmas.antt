@@ -12,7 +12,7 @@ use Rattle.gk_steps.specs.declared.pattern.FieldKind.TheVariants.{Plain}
 use Rattle.gk_steps.specs.declared.pattern.Piece.{Piece}
 use Rattle.gk_steps.specs.Pattern.{PieceValue, Literal, FieldPiece, piece_value}
 use Rattle.gk_steps.specs.Matching.{IsSpan, Matches, MatchesNot, IsPreferred, IsBestMatch, IsMatchResult, FieldValue, TextField}
-use Rattle.gk_steps.specs.Columns.{values_of}
+use Rattle.gk_steps.specs.Advances.{values_of}
 use Rattle.gk_steps.specs.Leftmost.{CanStandAt, StandsNowhereBefore, IsFirst, IsCut, IsLeft}
 use Rattle.gk_steps.proofs.MatchingLemmas.{same_prefix, same_back, split, join, nothing_left, best_nothing}
 use Rattle.gk_steps.proofs.BestMatchLemmas.{after_literal, begins_so, begins_with_itself}
@@ -168,13 +168,13 @@ field_least literal name after text x more whole part front e first y other ys f
       | inr le ↦ (le, field_match literal name after text x more whole part front e y other ys fit cut m le)
     ]
 
-pub field_cut : (name literal other : List ℕ) (after : List PieceValue) (text : List ℕ) (place : ℕ) → IsUtf8 text → IsUtf8 literal → IsFirst literal text place → IsCut (FieldPiece name Plain) (Literal literal ∷ FieldPiece other Plain ∷ after) text place
-field_cut name literal other after text place whole part h =
-    let x = take place text in
-    let within : place ≤ length text = h.here.boundary.0 in
-    let size : length x ≡ place = length-take-le place text within in
-    let front : IsUtf8 x = IsUtf8-take text place whole h.here.boundary in
-    let e : text ≡ x ++ (literal ++ h.here.rest) = sym (take-append-drop place text) ∙ ap (λ r. x ++ r) h.here.stands in
+pub field_cut : (name literal other : List ℕ) (after : List PieceValue) (text : List ℕ) (position : ℕ) → IsUtf8 text → IsUtf8 literal → IsFirst literal text position → IsCut (FieldPiece name Plain) (Literal literal ∷ FieldPiece other Plain ∷ after) text position
+field_cut name literal other after text position whole part h =
+    let x = take position text in
+    let within : position ≤ length text = h.here.boundary.0 in
+    let size : length x ≡ position = length-take-le position text within in
+    let front : IsUtf8 x = IsUtf8-take text position whole h.here.boundary in
+    let e : text ≡ x ++ (literal ++ h.here.rest) = sym (take-append-drop position text) ∙ ap (λ r. x ++ r) h.here.stands in
     let first : StandsNowhereBefore literal text (length x) = subst (StandsNowhereBefore literal text) (sym size) h.first in
     let some : 0 < length x = subst (λ n. 0 < n) (sym size) h.after in
     subst (IsCut (FieldPiece name Plain) (Literal literal ∷ FieldPiece other Plain ∷ after) text) size
@@ -186,14 +186,14 @@ field_nowhere name literal ps text whole none = λ spans m.
     let within : length s.x < length text + 1 = omega (arith, ap length s.whole, length-append s.x s.rest) in
     none (length s.x) s.takes.1 within (stands_after literal text s.x s.rest ps s.xs whole s.whole s.takes.0 s.after)
 
--- the search for the first place
+-- the search for the first position
 pub first_start : (literal text : List ℕ) → StandsNowhereBefore literal text 1
-first_start literal text = λ place some less here. omega arith
+first_start literal text = λ position some less here. omega arith
 
-pub first_more : (literal text : List ℕ) (place : ℕ) → StandsNowhereBefore literal text place → (CanStandAt literal text place → ⊥) → StandsNowhereBefore literal text (place + 1)
-first_more literal text place before never = λ other some less here. elim (cases_lt other place) [
+pub first_more : (literal text : List ℕ) (position : ℕ) → StandsNowhereBefore literal text position → (CanStandAt literal text position → ⊥) → StandsNowhereBefore literal text (position + 1)
+first_more literal text position before never = λ other some less here. elim (cases_lt other position) [
   | inl smaller ↦ before other some smaller here
-  | inr le ↦ let same : other ≡ place = omega arith in never (subst (CanStandAt literal text) same here)
+  | inr le ↦ let same : other ≡ position = omega arith in never (subst (CanStandAt literal text) same here)
 ]
 
 -- the pieces that are left
@@ -201,12 +201,12 @@ pub left_start : (ps : List PieceValue) (text : List ℕ) → IsLeft ps text [] 
 left_start ps text None h = h
 left_start ps text (Some fields) h = h
 
-pub left_more : (ps : List PieceValue) (text : List ℕ) (fields fields' : List FieldValue) (piece : PieceValue) (others : List PieceValue) (rest : List ℕ) (place : ℕ) → IsLeft ps text fields (piece ∷ others) rest → IsCut piece others rest place
-    → fields' ≡ fields ++ values_of piece (take place rest) → IsLeft ps text fields' others (drop place rest)
-left_more ps text fields fields' piece others rest place known cut e None h = known None (cut.goes_on None h)
-left_more ps text fields fields' piece others rest place known cut e (Some found) h =
-    subst (λ (v : List FieldValue). IsMatchResult ps text (Some v)) (sym (append_assoc fields (values_of piece (take place rest)) found) ∙ ap (λ (v : List FieldValue). v ++ found) (sym e))
-    (known (Some (values_of piece (take place rest) ++ found)) (cut.goes_on (Some found) h))
+pub left_more : (ps : List PieceValue) (text : List ℕ) (fields fields' : List FieldValue) (piece : PieceValue) (others : List PieceValue) (rest : List ℕ) (position : ℕ) → IsLeft ps text fields (piece ∷ others) rest → IsCut piece others rest position
+    → fields' ≡ fields ++ values_of piece (take position rest) → IsLeft ps text fields' others (drop position rest)
+left_more ps text fields fields' piece others rest position known cut e None h = known None (cut.goes_on None h)
+left_more ps text fields fields' piece others rest position known cut e (Some found) h =
+    subst (λ (v : List FieldValue). IsMatchResult ps text (Some v)) (sym (append_assoc fields (values_of piece (take position rest)) found) ∙ ap (λ (v : List FieldValue). v ++ found) (sym e))
+    (known (Some (values_of piece (take position rest) ++ found)) (cut.goes_on (Some found) h))
 
 pub left_nothing : (ps : List PieceValue) (text : List ℕ) (fields : List FieldValue) (rest : List ℕ) → IsLeft ps text fields [] rest → length rest ≡ 0 → IsMatchResult ps text (Some fields)
 left_nothing ps text fields [] known e = subst (λ (v : List FieldValue). IsMatchResult ps text (Some v)) (append-nil fields) (known (Some []) ([], best_nothing [] refl, refl))
@@ -215,23 +215,23 @@ left_nothing ps text fields (b ∷ rest) known e = absurd (omega arith)
 pub left_over : (ps : List PieceValue) (text : List ℕ) (fields : List FieldValue) (rest : List ℕ) → IsLeft ps text fields [] rest → 0 < length rest → IsMatchResult ps text None
 left_over ps text fields rest known some = known None (λ spans m. let none : length rest ≡ 0 = ap length (nothing_left rest spans m) in omega arith)
 
-pub stands : (b : Bool) (literal text : List ℕ) (place : ℕ) → starts_with nat_eq (drop place text) literal ≡ true → (IsTrue b ↔ IsCharBoundary text place) → MatchBool b (CanStandAt literal text place) (CanStandAt literal text place → ⊥)
-stands true literal text place e test = record { boundary = test.0 refl; rest = drop (length literal) (drop place text); stands = begins_so (drop place text) literal e }
-stands false literal text place e test = λ here. let bad : false ≡ true = test.1 here.boundary in let none : ⊥ = cc in none
+pub stands : (b : Bool) (literal text : List ℕ) (position : ℕ) → starts_with nat_eq (drop position text) literal ≡ true → (IsTrue b ↔ IsCharBoundary text position) → MatchBool b (CanStandAt literal text position) (CanStandAt literal text position → ⊥)
+stands true literal text position e test = record { boundary = test.0 refl; rest = drop (length literal) (drop position text); stands = begins_so (drop position text) literal e }
+stands false literal text position e test = λ here. let bad : false ≡ true = test.1 here.boundary in let none : ⊥ = cc in none
 
-pub stands_not : (literal text : List ℕ) (place : ℕ) → starts_with nat_eq (drop place text) literal ≡ false → CanStandAt literal text place → ⊥
-stands_not literal text place e here =
+pub stands_not : (literal text : List ℕ) (position : ℕ) → starts_with nat_eq (drop position text) literal ≡ false → CanStandAt literal text position → ⊥
+stands_not literal text position e here =
     let bad : true ≡ false = sym (begins_with_itself literal here.rest) ∙ ap (λ t. starts_with nat_eq t literal) (sym here.stands) ∙ e in
     let none : ⊥ = cc in none
 
-pub match_not : (b : Bool) (literal text : List ℕ) (place : ℕ) → b ≡ false → starts_with nat_eq (drop place text) literal ≡ false → MatchBool b (CanStandAt literal text place) (CanStandAt literal text place → ⊥)
-match_not true literal text place is e = let bad : ⊥ = cc in absurd bad
-match_not false literal text place is e = stands_not literal text place e
+pub match_not : (b : Bool) (literal text : List ℕ) (position : ℕ) → b ≡ false → starts_with nat_eq (drop position text) literal ≡ false → MatchBool b (CanStandAt literal text position) (CanStandAt literal text position → ⊥)
+match_not true literal text position is e = let bad : ⊥ = cc in absurd bad
+match_not false literal text position is e = stands_not literal text position e
 
-pub compared : (b : Bool) (bytes word text literal : List ℕ) (place : ℕ) → b ≡ starts_with nat_eq (take (length bytes - place) (drop place bytes)) word → bytes ≡ text → word ≡ literal → starts_with nat_eq (drop place text) literal ≡ b
-compared b bytes word text literal place e same equal =
-    let all : take (length bytes - place) (drop place bytes) ≡ drop place bytes = ap (λ n. take n (drop place bytes)) (sym (length-drop place bytes)) ∙ take-length (drop place bytes) in
-    ap (λ t. starts_with nat_eq (drop place t) literal) (sym same) ∙ ap (starts_with nat_eq (drop place bytes)) (sym equal) ∙ ap (λ t. starts_with nat_eq t word) (sym all) ∙ sym e
+pub compared : (b : Bool) (bytes word text literal : List ℕ) (position : ℕ) → b ≡ starts_with nat_eq (take (length bytes - position) (drop position bytes)) word → bytes ≡ text → word ≡ literal → starts_with nat_eq (drop position text) literal ≡ b
+compared b bytes word text literal position e same equal =
+    let all : take (length bytes - position) (drop position bytes) ≡ drop position bytes = ap (λ n. take n (drop position bytes)) (sym (length-drop position bytes)) ∙ take-length (drop position bytes) in
+    ap (λ t. starts_with nat_eq (drop position t) literal) (sym same) ∙ ap (starts_with nat_eq (drop position bytes)) (sym equal) ∙ ap (λ t. starts_with nat_eq t word) (sym all) ∙ sym e
 
 -- pieces, taken apart
 pub none_left : {A : Type 0} (xs : List A) → length xs ≡ 0 → xs ≡ []

@@ -1,12 +1,12 @@
 mod DecimalLemmas
 mod MatchingLemmas
 mod BestMatchLemmas
-mod PlacesLemmas
+mod CharBoundaryLemmas
 mod TableLemmas
-mod ColumnLemmas
+mod AdvanceLemmas
 mod TableRowLemmas
 mod TableReadLemmas
-mod PassingOverLemmas
+mod LiteralEndLemmas
 mod FindingLemmas
 mod FilledCellsLemmas
 mod SpellingLemmas
@@ -23,5 +23,5 @@ mod NumberLemmas
 mod LeftmostLemmas
 mod LibraryLemmas
 mod EntryIndexLemmas
-mod KeptLemmas
+mod CaptureLemmas
 mod UsedFieldsLemmas

@@ -1,4 +1,4 @@
--- What is found among entries of which those from a place on are for steps of each type.
+-- What is found among entries of which those from a position on are for steps of each type.
 use Rattle.std.proofs.Common.{◌≡◌, ℕ, zero, suc, ◌<◌, ◌≤◌, inl, inr, Bool, true, false, ◌&&◌, List, [], ◌∷◌, length, take, map, Option, Some, None, refl, ap, sym, subst, ◌∙◌, arith}
 use Rattle.std.specs.Prelude.{slice_get, is_none}
 use Rattle.std.specs.List.{list_all}
@@ -11,7 +11,7 @@ use Rattle.gk_steps.specs.Finding.{EntryValue, LibraryValue, FoundValue, HasCand
 use Rattle.gk_steps.specs.Library.{are_for_each_from}
 use Rattle.gk_steps.proofs.DecimalLemmas.{and_left, and_right}
 
--- elements before a place
+-- elements before a position
 pub get_before : {X : Type 0} (xs : List X) (n i : ℕ) → i < n → slice_get (take n xs) i ≡ slice_get xs i
 get_before xs zero i less = absurd (omega arith)
 get_before [] (suc n) i less = refl
@@ -24,7 +24,7 @@ get_taken [] (suc n) i x e = let bad : ⊥ = cc in absurd bad
 get_taken (y ∷ ys) (suc n) zero x e = omega arith
 get_taken (y ∷ ys) (suc n) (suc i) x e = let less : i < n = get_taken ys n i x e in omega arith
 
--- entries from a place on
+-- entries from a position on
 none_so : (o : Option StepType) → is_none o ≡ true → o ≡ None
 none_so None e = refl
 none_so (Some t) e = let bad : ⊥ = cc in absurd bad
@@ -32,28 +32,28 @@ none_so (Some t) e = let bad : ⊥ = cc in absurd bad
 same_entry : (x y : EntryValue) → ◌≡◌ {A = Option EntryValue} (Some x) (Some y) → y ≡ x
 same_entry x y e = cc
 
-for_each_at : (entries : List Entry) (typed place : ℕ) (entry : EntryValue) → are_for_each_from typed entries ≡ true → typed ≤ place → slice_get (map entry_value entries) place ≡ Some entry → entry.step_type ≡ None
-for_each_at [] typed place entry all le e = let bad : ⊥ = cc in absurd bad
+for_each_at : (entries : List Entry) (typed position : ℕ) (entry : EntryValue) → are_for_each_from typed entries ≡ true → typed ≤ position → slice_get (map entry_value entries) position ≡ Some entry → entry.step_type ≡ None
+for_each_at [] typed position entry all le e = let bad : ⊥ = cc in absurd bad
 for_each_at (x ∷ xs) (suc n) zero entry all le e = absurd (omega arith)
 for_each_at (x ∷ xs) (suc n) (suc p) entry all le e = for_each_at xs n p entry all (omega arith) e
 for_each_at (x ∷ xs) zero zero entry all le e = ap (λ (v : EntryValue). v.step_type) (same_entry (entry_value x) entry e) ∙ none_so x.step_type (and_left (is_none x.step_type) (are_for_each_from 0 xs) all)
 for_each_at (x ∷ xs) zero (suc p) entry all le e = for_each_at xs zero p entry (and_right (is_none x.step_type) (are_for_each_from 0 xs) all) (omega arith) e
 
--- what is found before a place is found
+-- what is found before a position is found
 not_typed : (o : Option StepType) (t : StepType) → o ≡ None → o ≡ Some t → ⊥
 not_typed o t a b = let bad : ◌≡◌ {A = Option StepType} None (Some t) = sym a ∙ b in let none : ⊥ = cc in none
 
-found_before : (es : LibraryValue) (n : ℕ) (t : StepType) (text : List ℕ) (found : Option FoundValue) → ((place : ℕ) (entry : EntryValue) → n ≤ place → slice_get es place ≡ Some entry → entry.step_type ≡ None)
+found_before : (es : LibraryValue) (n : ℕ) (t : StepType) (text : List ℕ) (found : Option FoundValue) → ((position : ℕ) (entry : EntryValue) → n ≤ position → slice_get es position ≡ Some entry → entry.step_type ≡ None)
     → IsFoundOf (take n es) (Some t) text found → IsFoundOf es (Some t) text found
-found_before es n t text None rest h = λ place entry e is. elim (cases_lt place n) [
-  | inl less ↦ h place entry (get_before es n place less ∙ e) is
-  | inr le ↦ absurd (not_typed entry.step_type t (rest place entry le e) is)
+found_before es n t text None rest h = λ position entry e is. elim (cases_lt position n) [
+  | inl less ↦ h position entry (get_before es n position less ∙ e) is
+  | inr le ↦ absurd (not_typed entry.step_type t (rest position entry le e) is)
 ]
 found_before es n t text (Some found) rest h =
-    let within : found.entry < n = get_taken es n found.entry h.entry h.place in
+    let within : found.entry < n = get_taken es n found.entry h.entry h.position in
     record {
       entry = h.entry;
-      place = sym (get_before es n found.entry within) ∙ h.place;
+      position = sym (get_before es n found.entry within) ∙ h.position;
       is_type = h.is_type;
       fields = h.fields;
       first = λ earlier other less e is. h.first earlier other less (get_before es n earlier (omega arith) ∙ e) is;
@@ -61,15 +61,15 @@ found_before es n t text (Some found) rest h =
 
 pub typed_found : (entries : List Entry) (typed : ℕ) (t : StepType) (text : List ℕ) (found : Option FoundValue) → are_for_each_from typed entries ≡ true → IsFoundOf (map entry_value (take typed entries)) (Some t) text found → IsFoundOf (map entry_value entries) (Some t) text found
 typed_found entries typed t text found all h =
-    found_before (map entry_value entries) typed t text found (λ place entry le e. for_each_at entries typed place entry all le e)
+    found_before (map entry_value entries) typed t text found (λ position entry le e. for_each_at entries typed position entry all le e)
     (subst (λ es. IsFoundOf es (Some t) text found) (sym (take-map entry_value typed entries)) h)
 
--- an entry before a place whose ends a text has
+-- an entry before a position whose ends a text has
 candidate_before : (es : LibraryValue) (n : ℕ) (step_type : Option StepType) (text : List ℕ) → HasCandidate (take n es) step_type text → HasCandidate es step_type text
 candidate_before es n step_type text h = record {
-  place = h.place;
+  position = h.position;
   entry = h.entry;
-  stands = sym (get_before es n h.place (get_taken es n h.place h.entry h.stands)) ∙ h.stands;
+  stands = sym (get_before es n h.position (get_taken es n h.position h.entry h.stands)) ∙ h.stands;
   is_type = h.is_type;
   prefix = h.prefix;
   back = h.back;

@@ -168,14 +168,14 @@ pub record IsAt (xs : LibraryValue) (x : EntryValue) : Type 0 where
   pub after : LibraryValue
   pub whole : xs ≡ before ++ x ∷ after
 
-at_place : (xs : LibraryValue) (i : ℕ) (x : EntryValue) → slice_get xs i ≡ Some x → IsAt xs x
-at_place [] i x e = let bad : ⊥ = cc in absurd bad
-at_place (y ∷ ys) zero x e = let same : y ≡ x = cc in record { before = []; after = ys; whole = ap (λ (z : EntryValue). z ∷ ys) same }
-at_place (y ∷ ys) (suc i) x e = let more = at_place ys i x e in record { before = y ∷ more.before; after = more.after; whole = ap (λ (zs : LibraryValue). y ∷ zs) more.whole }
+at_position : (xs : LibraryValue) (i : ℕ) (x : EntryValue) → slice_get xs i ≡ Some x → IsAt xs x
+at_position [] i x e = let bad : ⊥ = cc in absurd bad
+at_position (y ∷ ys) zero x e = let same : y ≡ x = cc in record { before = []; after = ys; whole = ap (λ (z : EntryValue). z ∷ ys) same }
+at_position (y ∷ ys) (suc i) x e = let more = at_position ys i x e in record { before = y ∷ more.before; after = more.after; whole = ap (λ (zs : LibraryValue). y ∷ zs) more.whole }
 
 pub ambiguous : (earlier : LibraryValue) (line : LineValue) (step_type : Option StepType) (text name : List ℕ) (ps : List PieceValue) (action : Action) (f : FoundValue) → IsEntryText line step_type text name → SpellsPattern text ps → FitsAction name ps action → IsFirstFound earlier step_type text f → IsAmbiguous earlier line
 ambiguous earlier line step_type text name ps action f c s a first =
-    let place = at_place earlier f.entry first.entry first.place in
+    let position = at_position earlier f.entry first.entry first.position in
     record {
       step_type = step_type;
       sides = record { pattern = text; action = name };
@@ -185,10 +185,10 @@ ambiguous earlier line step_type text name ps action f c s a first =
       is_action = a.is_action;
       needs = a.needs;
       kinds = a.kinds;
-      before = place.before;
+      before = position.before;
       entry = first.entry;
-      after = place.after;
-      whole = place.whole;
+      after = position.after;
+      whole = position.whole;
       same = first.is_type;
       spans = first.fields.0;
       matches = first.fields.1.matches;
@@ -196,7 +196,7 @@ ambiguous earlier line step_type text name ps action f c s a first =
 
 none_matches : (earlier : LibraryValue) (step_type : Option StepType) (text : List ℕ) → NoneFound earlier step_type text → NoneMatches earlier step_type text
 none_matches [] step_type text h = tt
-none_matches (e ∷ es) step_type text h = (λ same. h 0 e refl same, none_matches es step_type text (λ place entry is same. h (suc place) entry is same))
+none_matches (e ∷ es) step_type text h = (λ same. h 0 e refl same, none_matches es step_type text (λ position entry is same. h (suc position) entry is same))
 
 pub spells_entry : (earlier : LibraryValue) (line : LineValue) (step_type : Option StepType) (text name : List ℕ) (ps : List PieceValue) (action : Action) → IsEntryText line step_type text name → SpellsPattern text ps → FitsAction name ps action → NoneFound earlier step_type text
     → SpellsEntry earlier line (record { step_type = step_type; pattern = ps; action = action })
@@ -213,7 +213,7 @@ spells_entry earlier line step_type text name ps action c s a none = record {
   unambiguous = none_matches earlier step_type text none;
 }
 
--- the arrow at a place of the loop
+-- the arrow at a position of the loop
 pub arrow_end : (text : List ℕ) (n : ℕ) → length text ≤ n → last_arrow (drop n text) ≡ None
 unfolding last_arrow
 arrow_end text n h = ap last_arrow (drop_all n text h)

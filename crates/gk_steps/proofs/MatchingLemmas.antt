@@ -4,7 +4,7 @@ use Rattle.std.proofs.Math.Seq.{take-append_seam, drop-append_seam}
 use Rattle.gk_steps.specs.declared.pattern.FieldKind.TheVariants.{Plain, Decimal}
 use Rattle.gk_steps.specs.Pattern.{PieceValue, Literal, FieldPiece}
 use Rattle.gk_steps.specs.Matching.{woven, AreSpans, Matches, IsPreferred, IsBestMatch, IsMatchResult, FieldValue, span_values}
-use Rattle.gk_steps.specs.Columns.{Takes}
+use Rattle.gk_steps.specs.Advances.{Takes}
 
 -- two ways to cut a list after as many elements are one
 pub same_prefix : (a b x y : List ℕ) → a ++ x ≡ b ++ y → length a ≡ length b → a ≡ b

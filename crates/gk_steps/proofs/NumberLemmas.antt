@@ -10,64 +10,64 @@ use Rattle.std.proofs.lemmas.List.{drop_more, get_or-take, get_or-drop}
 use Rattle.gk_steps.specs.declared.pattern.FieldKind.TheVariants.{Decimal}
 use Rattle.gk_steps.specs.Pattern.{FieldPiece}
 use Rattle.gk_steps.specs.Matching.{IsSpan}
-use Rattle.gk_steps.specs.Places.{ArePlaces}
-use Rattle.gk_steps.specs.Columns.{part, IsAdvanceTo, IsAdvance, IsDigitsTo, HasDigits, IsLongest}
+use Rattle.gk_steps.specs.CharBoundaries.{AreBoundaries}
+use Rattle.gk_steps.specs.Advances.{part, IsAdvanceTo, IsAdvance, IsDigitsTo, HasDigits, IsLongest}
 use Rattle.gk_steps.specs.Digits.{HasNumber}
 use Rattle.gk_steps.proofs.TableLemmas.{part_size}
-use Rattle.gk_steps.proofs.ColumnLemmas.{before, decimal_some}
-use Rattle.gk_steps.proofs.DigitLemmas.{part_none, next_place}
+use Rattle.gk_steps.proofs.AdvanceLemmas.{before, decimal_some}
+use Rattle.gk_steps.proofs.DigitLemmas.{part_none, next_position}
 
 -- a part from its first byte
-pub part_prefix : (text places : List ℕ) (c d : ℕ) → ArePlaces text places → c + 1 < length places → d ≤ c → get_or places c 0 ≡ get_or places (c + 1) 0 + 1 → part text places (c + 1) d ≡ get_or text (get_or places (c + 1) 0) 0 ∷ part text places c d
-part_prefix text places c d h l within next =
-    let q = get_or places (c + 1) 0 in
-    let size = part_size text places c d h (omega arith) within in
+pub part_prefix : (text boundaries : List ℕ) (c d : ℕ) → AreBoundaries text boundaries → c + 1 < length boundaries → d ≤ c → get_or boundaries c 0 ≡ get_or boundaries (c + 1) 0 + 1 → part text boundaries (c + 1) d ≡ get_or text (get_or boundaries (c + 1) 0) 0 ∷ part text boundaries c d
+part_prefix text boundaries c d h l within next =
+    let q = get_or boundaries (c + 1) 0 in
+    let size = part_size text boundaries c d h (omega arith) within in
     let end = (h.cuts c (omega arith)).0 in
-    let count : get_or places d 0 - q ≡ suc (get_or places d 0 - get_or places c 0) = omega arith in
+    let count : get_or boundaries d 0 - q ≡ suc (get_or boundaries d 0 - get_or boundaries c 0) = omega arith in
     let whole : drop q text ≡ get_or text q 0 ∷ drop (q + 1) text = drop_more text q 0 (omega arith) in
-    ap (λ n. take n (drop q text)) count ∙ ap (take (suc (get_or places d 0 - get_or places c 0))) whole ∙ ap (λ k. get_or text q 0 ∷ take (get_or places d 0 - get_or places c 0) (drop k text)) (sym next)
+    ap (λ n. take n (drop q text)) count ∙ ap (take (suc (get_or boundaries d 0 - get_or boundaries c 0))) whole ∙ ap (λ k. get_or text q 0 ∷ take (get_or boundaries d 0 - get_or boundaries c 0) (drop k text)) (sym next)
 
 -- digits take something
-digits_before : (most : ℕ) (text places : List ℕ) (below : List Bool) (c d : ℕ) → IsDigitsTo most text places below c d → d < c
-digits_before most text places below c d s = elim (eq-or-lt_of_le s.within) [
+digits_before : (most : ℕ) (text boundaries : List ℕ) (below : List Bool) (c d : ℕ) → IsDigitsTo most text boundaries below c d → d < c
+digits_before most text boundaries below c d s = elim (eq-or-lt_of_le s.within) [
   | inr less ↦ less
-  | inl same ↦ let none : length (part text places c d) ≡ 0 = ap (λ k. length (part text places c k)) same ∙ ap length (part_none text places c) in absurd (omega (arith, s.numeral.0))
+  | inl same ↦ let none : length (part text boundaries c d) ≡ 0 = ap (λ k. length (part text boundaries c k)) same ∙ ap length (part_none text boundaries c) in absurd (omega (arith, s.numeral.0))
 ]
 
 -- a leading zero
-pub zero_below : (most : ℕ) (text places : List ℕ) (below : List Bool) (c : ℕ) → ArePlaces text places → c + 1 < length places → get_or places c 0 ≡ get_or places (c + 1) 0 + 1 → get_or text (get_or places (c + 1) 0) 0 ≡ 48 → get_or below c false ≡ true → (d : ℕ) × IsDigitsTo most text places below (c + 1) d
-zero_below most text places below c h l next is here =
-    let one : part text places (c + 1) c ≡ 48 ∷ [] = part_prefix text places c c h l (omega arith) next ∙ ap (λ b. b ∷ part text places c c) is ∙ ap (λ x. 48 ∷ x) (part_none text places c) in (
+pub zero_below : (most : ℕ) (text boundaries : List ℕ) (below : List Bool) (c : ℕ) → AreBoundaries text boundaries → c + 1 < length boundaries → get_or boundaries c 0 ≡ get_or boundaries (c + 1) 0 + 1 → get_or text (get_or boundaries (c + 1) 0) 0 ≡ 48 → get_or below c false ≡ true → (d : ℕ) × IsDigitsTo most text boundaries below (c + 1) d
+zero_below most text boundaries below c h l next is here =
+    let one : part text boundaries (c + 1) c ≡ 48 ∷ [] = part_prefix text boundaries c c h l (omega arith) next ∙ ap (λ b. b ∷ part text boundaries c c) is ∙ ap (λ x. 48 ∷ x) (part_none text boundaries c) in (
       c,
       record {
         within = omega arith;
         rest = here;
         numeral = subst (IsNumeral 10) (sym one) (omega arith, (omega arith, tt));
-        value = let none : digits_value 10 (part text places (c + 1) c) ≡ 0 = ap (digits_value 10) one in omega arith;
+        value = let none : digits_value 10 (part text boundaries (c + 1) c) ≡ 0 = ap (digits_value 10) one in omega arith;
       },
     )
 
-pub zero_after : (most : ℕ) (text places : List ℕ) (below : List Bool) (c d : ℕ) → ArePlaces text places → c + 1 < length places → get_or places c 0 ≡ get_or places (c + 1) 0 + 1 → get_or text (get_or places (c + 1) 0) 0 ≡ 48 → IsDigitsTo most text places below c d → IsDigitsTo most text places below (c + 1) d
-zero_after most text places below c d h l next is s =
-    let more : part text places (c + 1) d ≡ 48 ∷ part text places c d = part_prefix text places c d h l s.within next ∙ ap (λ b. b ∷ part text places c d) is in
+pub zero_after : (most : ℕ) (text boundaries : List ℕ) (below : List Bool) (c d : ℕ) → AreBoundaries text boundaries → c + 1 < length boundaries → get_or boundaries c 0 ≡ get_or boundaries (c + 1) 0 + 1 → get_or text (get_or boundaries (c + 1) 0) 0 ≡ 48 → IsDigitsTo most text boundaries below c d → IsDigitsTo most text boundaries below (c + 1) d
+zero_after most text boundaries below c d h l next is s =
+    let more : part text boundaries (c + 1) d ≡ 48 ∷ part text boundaries c d = part_prefix text boundaries c d h l s.within next ∙ ap (λ b. b ∷ part text boundaries c d) is in
     record {
       within = let w = s.within in omega arith;
       rest = s.rest;
       numeral = subst (IsNumeral 10) (sym more) (omega arith, (omega arith, s.numeral.1));
-      value = let same : digits_value 10 (part text places (c + 1) d) ≡ digits_value 10 (part text places c d) = ap (digits_value 10) more in omega (arith, s.value);
+      value = let same : digits_value 10 (part text boundaries (c + 1) d) ≡ digits_value 10 (part text boundaries c d) = ap (digits_value 10) more in omega (arith, s.value);
     }
 
-pub zero_only : (most : ℕ) (text places : List ℕ) (below : List Bool) (c d : ℕ) → ArePlaces text places → c + 1 < length places → get_or places c 0 ≡ get_or places (c + 1) 0 + 1 → get_or text (get_or places (c + 1) 0) 0 ≡ 48 → get_or below c false ≡ false → ((e : ℕ) → IsDigitsTo most text places below c e → ⊥) → IsDigitsTo most text places below (c + 1) d → ⊥
-zero_only most text places below c d h l next is not_here none s =
-    let less = digits_before most text places below (c + 1) d s in
+pub zero_only : (most : ℕ) (text boundaries : List ℕ) (below : List Bool) (c d : ℕ) → AreBoundaries text boundaries → c + 1 < length boundaries → get_or boundaries c 0 ≡ get_or boundaries (c + 1) 0 + 1 → get_or text (get_or boundaries (c + 1) 0) 0 ≡ 48 → get_or below c false ≡ false → ((e : ℕ) → IsDigitsTo most text boundaries below c e → ⊥) → IsDigitsTo most text boundaries below (c + 1) d → ⊥
+zero_only most text boundaries below c d h l next is not_here none s =
+    let less = digits_before most text boundaries below (c + 1) d s in
     elim (let most : d ≤ c = omega arith in eq-or-lt_of_le most) [
       | inl same ↦ let is_true = s.rest in let is_false : get_or below d false ≡ false = ap (λ k. get_or below k false) same ∙ not_here in let bad : ⊥ = cc in bad
       | inr under ↦
-          let more : part text places (c + 1) d ≡ 48 ∷ part text places c d = part_prefix text places c d h l (omega arith) next ∙ ap (λ b. b ∷ part text places c d) is in
-          let size = part_size text places c d h (omega arith) (omega arith) in
+          let more : part text boundaries (c + 1) d ≡ 48 ∷ part text boundaries c d = part_prefix text boundaries c d h l (omega arith) next ∙ ap (λ b. b ∷ part text boundaries c d) is in
+          let size = part_size text boundaries c d h (omega arith) (omega arith) in
           let up = h.falling d c under (omega arith) in
-          let all : AllDigits 10 (48 ∷ part text places c d) = subst (AllDigits 10) more s.numeral.1 in
-          let same : digits_value 10 (part text places (c + 1) d) ≡ digits_value 10 (part text places c d) = ap (digits_value 10) more in
+          let all : AllDigits 10 (48 ∷ part text boundaries c d) = subst (AllDigits 10) more s.numeral.1 in
+          let same : digits_value 10 (part text boundaries (c + 1) d) ≡ digits_value 10 (part text boundaries c d) = ap (digits_value 10) more in
           none d (record { within = omega arith; rest = s.rest; numeral = (omega arith, all.1); value = omega (arith, s.value) })
     ]
 
@@ -110,17 +110,17 @@ digits_bare x m p h small =
     subst (λ b. SpanBy b (get_or x 0 0 == 43) x) (sym m) (subst (λ b. SpanBy false b x) (sym p) s)
 
 -- what the code knows at a column, from the column after
-pub zero_rest : (most : ℕ) (text places : List ℕ) (below : List Bool) (c : ℕ) (b : Bool) → ArePlaces text places → c + 1 < length places → get_or places c 0 ≡ get_or places (c + 1) 0 + 1 → get_or text (get_or places (c + 1) 0) 0 ≡ 48 → get_or below c false ≡ false → HasDigits most text places below c b → HasDigits most text places below (c + 1) b
-zero_rest most text places below c true h l next is not_here has = (has.0, zero_after most text places below c has.0 h l next is has.1)
-zero_rest most text places below c false h l next is not_here has = λ d s. zero_only most text places below c d h l next is not_here has s
+pub zero_rest : (most : ℕ) (text boundaries : List ℕ) (below : List Bool) (c : ℕ) (b : Bool) → AreBoundaries text boundaries → c + 1 < length boundaries → get_or boundaries c 0 ≡ get_or boundaries (c + 1) 0 + 1 → get_or text (get_or boundaries (c + 1) 0) 0 ≡ 48 → get_or below c false ≡ false → HasDigits most text boundaries below c b → HasDigits most text boundaries below (c + 1) b
+zero_rest most text boundaries below c true h l next is not_here has = (has.0, zero_after most text boundaries below c has.0 h l next is has.1)
+zero_rest most text boundaries below c false h l next is not_here has = λ d s. zero_only most text boundaries below c d h l next is not_here has s
 
-signed_part : (text places : List ℕ) (below : List Bool) (c d sign : ℕ) → ArePlaces text places → c + 1 < length places → get_or places c 0 ≡ get_or places (c + 1) 0 + 1 → get_or text (get_or places (c + 1) 0) 0 ≡ sign → d ≤ c → part text places (c + 1) d ≡ sign ∷ part text places c d
-signed_part text places below c d sign h l next is within = part_prefix text places c d h l within next ∙ ap (λ b. b ∷ part text places c d) is
+signed_part : (text boundaries : List ℕ) (below : List Bool) (c d sign : ℕ) → AreBoundaries text boundaries → c + 1 < length boundaries → get_or boundaries c 0 ≡ get_or boundaries (c + 1) 0 + 1 → get_or text (get_or boundaries (c + 1) 0) 0 ≡ sign → d ≤ c → part text boundaries (c + 1) d ≡ sign ∷ part text boundaries c d
+signed_part text boundaries below c d sign h l next is within = part_prefix text boundaries c d h l within next ∙ ap (λ b. b ∷ part text boundaries c d) is
 
 -- the longest step over a number, from the longest one over its digits
-longest_step : (most : ℕ) (text places : List ℕ) (below : List Bool) (c c' : ℕ) (o : Option ℕ) → ((d : ℕ) → IsDigitsTo most text places below c d → IsAdvanceTo (FieldPiece [] Decimal) text places below c' d) → ((d : ℕ) → IsAdvanceTo (FieldPiece [] Decimal) text places below c' d → IsDigitsTo most text places below c d) → IsLongest most text places below c o → IsAdvance (FieldPiece [] Decimal) text places below c' o
-longest_step most text places below c c' None to from best = λ d s. best d (omega arith) (from d s)
-longest_step most text places below c c' (Some b) to from best = (to b best.0, λ d s. best.1 d (omega arith) (from d s))
+longest_step : (most : ℕ) (text boundaries : List ℕ) (below : List Bool) (c c' : ℕ) (o : Option ℕ) → ((d : ℕ) → IsDigitsTo most text boundaries below c d → IsAdvanceTo (FieldPiece [] Decimal) text boundaries below c' d) → ((d : ℕ) → IsAdvanceTo (FieldPiece [] Decimal) text boundaries below c' d → IsDigitsTo most text boundaries below c d) → IsLongest most text boundaries below c o → IsAdvance (FieldPiece [] Decimal) text boundaries below c' o
+longest_step most text boundaries below c c' None to from best = λ d s. best d (omega arith) (from d s)
+longest_step most text boundaries below c c' (Some b) to from best = (to b best.0, λ d s. best.1 d (omega arith) (from d s))
 
 -- a sign before digits, with the largest value of these
 pub record IsSign (sign : ℕ) (most : ℕ) : Type 0 where
@@ -135,78 +135,78 @@ pub is_minus : IsSign 45 9223372036854775808
 is_minus = record { low = omega arith; digits = minus_digits; span = digits_minus }
 
 -- a sign at the column after one
-pub record IsSignAt (sign : ℕ) (text : List ℕ) (places : List ℕ) (c : ℕ) : Type 0 where
-  pub known : c + 1 < length places
-  pub next : get_or places c 0 ≡ get_or places (c + 1) 0 + 1
-  pub is : get_or text (get_or places (c + 1) 0) 0 ≡ sign
+pub record IsSignAt (sign : ℕ) (text : List ℕ) (boundaries : List ℕ) (c : ℕ) : Type 0 where
+  pub known : c + 1 < length boundaries
+  pub next : get_or boundaries c 0 ≡ get_or boundaries (c + 1) 0 + 1
+  pub is : get_or text (get_or boundaries (c + 1) 0) 0 ≡ sign
 
-signed_to : (sign most : ℕ) (text places : List ℕ) (below : List Bool) (c d : ℕ) → IsSign sign most → ArePlaces text places → IsSignAt sign text places c → IsDigitsTo most text places below c d → IsAdvanceTo (FieldPiece [] Decimal) text places below (c + 1) d
-signed_to sign most text places below c d k h a s = record {
+signed_to : (sign most : ℕ) (text boundaries : List ℕ) (below : List Bool) (c d : ℕ) → IsSign sign most → AreBoundaries text boundaries → IsSignAt sign text boundaries c → IsDigitsTo most text boundaries below c d → IsAdvanceTo (FieldPiece [] Decimal) text boundaries below (c + 1) d
+signed_to sign most text boundaries below c d k h a s = record {
   within = let w = s.within in omega arith;
   rest = s.rest;
-  takes = subst (IsSpan Decimal) (sym (signed_part text places below c d sign h a.known a.next a.is s.within)) (k.span (part text places c d) s.numeral s.value);
+  takes = subst (IsSpan Decimal) (sym (signed_part text boundaries below c d sign h a.known a.next a.is s.within)) (k.span (part text boundaries c d) s.numeral s.value);
 }
 
-signed_from : (sign most : ℕ) (text places : List ℕ) (below : List Bool) (c d : ℕ) → IsSign sign most → ArePlaces text places → IsSignAt sign text places c → IsAdvanceTo (FieldPiece [] Decimal) text places below (c + 1) d → IsDigitsTo most text places below c d
-signed_from sign most text places below c d k h a s =
-    let less = before (FieldPiece [] Decimal) text places below (c + 1) d h a.known s (decimal_some (part text places (c + 1) d) s.takes) in
-    let digits = k.digits (part text places c d) (subst (IsSpan Decimal) (signed_part text places below c d sign h a.known a.next a.is (omega arith)) s.takes) in
+signed_from : (sign most : ℕ) (text boundaries : List ℕ) (below : List Bool) (c d : ℕ) → IsSign sign most → AreBoundaries text boundaries → IsSignAt sign text boundaries c → IsAdvanceTo (FieldPiece [] Decimal) text boundaries below (c + 1) d → IsDigitsTo most text boundaries below c d
+signed_from sign most text boundaries below c d k h a s =
+    let less = before (FieldPiece [] Decimal) text boundaries below (c + 1) d h a.known s (decimal_some (part text boundaries (c + 1) d) s.takes) in
+    let digits = k.digits (part text boundaries c d) (subst (IsSpan Decimal) (signed_part text boundaries below c d sign h a.known a.next a.is (omega arith)) s.takes) in
     record { within = omega arith; rest = s.rest; numeral = digits.0; value = digits.1 }
 
-signed_at : (sign most : ℕ) (text places : List ℕ) (below : List Bool) (c : ℕ) (b : Bool) → IsSign sign most → ArePlaces text places → IsSignAt sign text places c → HasDigits most text places below c b → HasNumber text places below (c + 1) b
-signed_at sign most text places below c true k h a has = (has.0, signed_to sign most text places below c has.0 k h a has.1)
-signed_at sign most text places below c false k h a has = λ d s. has d (signed_from sign most text places below c d k h a s)
+signed_at : (sign most : ℕ) (text boundaries : List ℕ) (below : List Bool) (c : ℕ) (b : Bool) → IsSign sign most → AreBoundaries text boundaries → IsSignAt sign text boundaries c → HasDigits most text boundaries below c b → HasNumber text boundaries below (c + 1) b
+signed_at sign most text boundaries below c true k h a has = (has.0, signed_to sign most text boundaries below c has.0 k h a has.1)
+signed_at sign most text boundaries below c false k h a has = λ d s. has d (signed_from sign most text boundaries below c d k h a s)
 
-sign_at : (sign most : ℕ) (text places : List ℕ) (c : ℕ) → IsSign sign most → IsUtf8 text → ArePlaces text places → c + 1 < length places → get_or text (get_or places (c + 1) 0) 0 ≡ sign → IsSignAt sign text places c
-sign_at sign most text places c k u h l is = record { known = l; next = next_place text places c u h l (subst (λ b. b < 128) (sym is) k.low); is = is }
+sign_at : (sign most : ℕ) (text boundaries : List ℕ) (c : ℕ) → IsSign sign most → IsUtf8 text → AreBoundaries text boundaries → c + 1 < length boundaries → get_or text (get_or boundaries (c + 1) 0) 0 ≡ sign → IsSignAt sign text boundaries c
+sign_at sign most text boundaries c k u h l is = record { known = l; next = next_position text boundaries c u h l (subst (λ b. b < 128) (sym is) k.low); is = is }
 
 -- the digits are looked at from the column before
-pub number_signed : (sign most : ℕ) (text places : List ℕ) (below : List Bool) (c : ℕ) (b : Bool) → IsSign sign most → IsUtf8 text → ArePlaces text places → 0 < c → c < length places → get_or text (get_or places c 0) 0 ≡ sign → HasDigits most text places below (c - 1) b → HasNumber text places below c b
-number_signed sign most text places below zero b k u h some l is has = absurd (omega arith)
-number_signed sign most text places below (suc c) b k u h some l is has =
+pub number_signed : (sign most : ℕ) (text boundaries : List ℕ) (below : List Bool) (c : ℕ) (b : Bool) → IsSign sign most → IsUtf8 text → AreBoundaries text boundaries → 0 < c → c < length boundaries → get_or text (get_or boundaries c 0) 0 ≡ sign → HasDigits most text boundaries below (c - 1) b → HasNumber text boundaries below c b
+number_signed sign most text boundaries below zero b k u h some l is has = absurd (omega arith)
+number_signed sign most text boundaries below (suc c) b k u h some l is has =
     let up : c + 1 ≡ suc c = omega arith in
     let here : suc c - 1 ≡ c = omega arith in
-    let at = sign_at sign most text places c k u h (omega arith) (ap (λ n. get_or text (get_or places n 0) 0) up ∙ is) in
-    subst (λ n. HasNumber text places below n b) up (signed_at sign most text places below c b k h at (subst (λ n. HasDigits most text places below n b) here has))
+    let at = sign_at sign most text boundaries c k u h (omega arith) (ap (λ n. get_or text (get_or boundaries n 0) 0) up ∙ is) in
+    subst (λ n. HasNumber text boundaries below n b) up (signed_at sign most text boundaries below c b k h at (subst (λ n. HasDigits most text boundaries below n b) here has))
 
-pub step_signed : (sign most : ℕ) (text places : List ℕ) (below : List Bool) (c : ℕ) (o : Option ℕ) → IsSign sign most → IsUtf8 text → ArePlaces text places → 0 < c → c < length places → get_or text (get_or places c 0) 0 ≡ sign → IsLongest most text places below (c - 1) o → IsAdvance (FieldPiece [] Decimal) text places below c o
-step_signed sign most text places below zero o k u h some l is best = absurd (omega arith)
-step_signed sign most text places below (suc c) o k u h some l is best =
+pub step_signed : (sign most : ℕ) (text boundaries : List ℕ) (below : List Bool) (c : ℕ) (o : Option ℕ) → IsSign sign most → IsUtf8 text → AreBoundaries text boundaries → 0 < c → c < length boundaries → get_or text (get_or boundaries c 0) 0 ≡ sign → IsLongest most text boundaries below (c - 1) o → IsAdvance (FieldPiece [] Decimal) text boundaries below c o
+step_signed sign most text boundaries below zero o k u h some l is best = absurd (omega arith)
+step_signed sign most text boundaries below (suc c) o k u h some l is best =
     let up : c + 1 ≡ suc c = omega arith in
     let here : suc c - 1 ≡ c = omega arith in
-    let at = sign_at sign most text places c k u h (omega arith) (ap (λ n. get_or text (get_or places n 0) 0) up ∙ is) in
-    let from : IsLongest most text places below c o = subst (λ n. IsLongest most text places below n o) here best in
-    subst (λ n. IsAdvance (FieldPiece [] Decimal) text places below n o) up
-    (longest_step most text places below c (c + 1) o (λ d s. signed_to sign most text places below c d k h at s) (λ d s. signed_from sign most text places below c d k h at s) from)
+    let at = sign_at sign most text boundaries c k u h (omega arith) (ap (λ n. get_or text (get_or boundaries n 0) 0) up ∙ is) in
+    let from : IsLongest most text boundaries below c o = subst (λ n. IsLongest most text boundaries below n o) here best in
+    subst (λ n. IsAdvance (FieldPiece [] Decimal) text boundaries below n o) up
+    (longest_step most text boundaries below c (c + 1) o (λ d s. signed_to sign most text boundaries below c d k h at s) (λ d s. signed_from sign most text boundaries below c d k h at s) from)
 
-first_byte : (text places : List ℕ) (c d : ℕ) → ArePlaces text places → c < length places → d < c → get_or (part text places c d) 0 0 ≡ get_or text (get_or places c 0) 0
-first_byte text places c d h l less =
+first_byte : (text boundaries : List ℕ) (c d : ℕ) → AreBoundaries text boundaries → c < length boundaries → d < c → get_or (part text boundaries c d) 0 0 ≡ get_or text (get_or boundaries c 0) 0
+first_byte text boundaries c d h l less =
     let up = h.falling d c less l in
-    let same : get_or places c 0 + 0 ≡ get_or places c 0 = omega arith in
-    get_or-take (get_or places d 0 - get_or places c 0) (drop (get_or places c 0) text) 0 0 (omega arith) ∙ get_or-drop (get_or places c 0) text 0 0 ∙ ap (λ k. get_or text k 0) same
+    let same : get_or boundaries c 0 + 0 ≡ get_or boundaries c 0 = omega arith in
+    get_or-take (get_or boundaries d 0 - get_or boundaries c 0) (drop (get_or boundaries c 0) text) 0 0 (omega arith) ∙ get_or-drop (get_or boundaries c 0) text 0 0 ∙ ap (λ k. get_or text k 0) same
 
-bare_to : (text places : List ℕ) (below : List Bool) (c d : ℕ) → ArePlaces text places → c < length places → (get_or text (get_or places c 0) 0 == 45) ≡ false → (get_or text (get_or places c 0) 0 == 43) ≡ false → IsDigitsTo 9223372036854775807 text places below c d → IsAdvanceTo (FieldPiece [] Decimal) text places below c d
-bare_to text places below c d h l m p s =
-    let first = first_byte text places c d h l (digits_before 9223372036854775807 text places below c d s) in
+bare_to : (text boundaries : List ℕ) (below : List Bool) (c d : ℕ) → AreBoundaries text boundaries → c < length boundaries → (get_or text (get_or boundaries c 0) 0 == 45) ≡ false → (get_or text (get_or boundaries c 0) 0 == 43) ≡ false → IsDigitsTo 9223372036854775807 text boundaries below c d → IsAdvanceTo (FieldPiece [] Decimal) text boundaries below c d
+bare_to text boundaries below c d h l m p s =
+    let first = first_byte text boundaries c d h l (digits_before 9223372036854775807 text boundaries below c d s) in
     record {
       within = s.within;
       rest = s.rest;
-      takes = digits_bare (part text places c d) (ap (λ k. k == 45) first ∙ m) (ap (λ k. k == 43) first ∙ p) s.numeral s.value;
+      takes = digits_bare (part text boundaries c d) (ap (λ k. k == 45) first ∙ m) (ap (λ k. k == 43) first ∙ p) s.numeral s.value;
     }
 
-bare_from : (text places : List ℕ) (below : List Bool) (c d : ℕ) → ArePlaces text places → c < length places → (get_or text (get_or places c 0) 0 == 45) ≡ false → (get_or text (get_or places c 0) 0 == 43) ≡ false → IsAdvanceTo (FieldPiece [] Decimal) text places below c d → IsDigitsTo 9223372036854775807 text places below c d
-bare_from text places below c d h l m p s =
-    let less = before (FieldPiece [] Decimal) text places below c d h l s (decimal_some (part text places c d) s.takes) in
-    let first = first_byte text places c d h l less in
-    let digits = bare_digits (part text places c d) (ap (λ k. k == 45) first ∙ m) (ap (λ k. k == 43) first ∙ p) s.takes in
+bare_from : (text boundaries : List ℕ) (below : List Bool) (c d : ℕ) → AreBoundaries text boundaries → c < length boundaries → (get_or text (get_or boundaries c 0) 0 == 45) ≡ false → (get_or text (get_or boundaries c 0) 0 == 43) ≡ false → IsAdvanceTo (FieldPiece [] Decimal) text boundaries below c d → IsDigitsTo 9223372036854775807 text boundaries below c d
+bare_from text boundaries below c d h l m p s =
+    let less = before (FieldPiece [] Decimal) text boundaries below c d h l s (decimal_some (part text boundaries c d) s.takes) in
+    let first = first_byte text boundaries c d h l less in
+    let digits = bare_digits (part text boundaries c d) (ap (λ k. k == 45) first ∙ m) (ap (λ k. k == 43) first ∙ p) s.takes in
     record { within = s.within; rest = s.rest; numeral = digits.0; value = digits.1 }
 
-pub bare_at : (text places : List ℕ) (below : List Bool) (c : ℕ) (b : Bool) → ArePlaces text places → c < length places → (get_or text (get_or places c 0) 0 == 45) ≡ false → (get_or text (get_or places c 0) 0 == 43) ≡ false → HasDigits 9223372036854775807 text places below c b → HasNumber text places below c b
-bare_at text places below c true h l m p has = (has.0, bare_to text places below c has.0 h l m p has.1)
-bare_at text places below c false h l m p has = λ d s. has d (bare_from text places below c d h l m p s)
+pub bare_at : (text boundaries : List ℕ) (below : List Bool) (c : ℕ) (b : Bool) → AreBoundaries text boundaries → c < length boundaries → (get_or text (get_or boundaries c 0) 0 == 45) ≡ false → (get_or text (get_or boundaries c 0) 0 == 43) ≡ false → HasDigits 9223372036854775807 text boundaries below c b → HasNumber text boundaries below c b
+bare_at text boundaries below c true h l m p has = (has.0, bare_to text boundaries below c has.0 h l m p has.1)
+bare_at text boundaries below c false h l m p has = λ d s. has d (bare_from text boundaries below c d h l m p s)
 
-pub bare_longest : (text places : List ℕ) (below : List Bool) (c : ℕ) (o : Option ℕ) → ArePlaces text places → c < length places → (get_or text (get_or places c 0) 0 == 45) ≡ false → (get_or text (get_or places c 0) 0 == 43) ≡ false → IsLongest 9223372036854775807 text places below c o → IsAdvance (FieldPiece [] Decimal) text places below c o
-bare_longest text places below c o h l m p best = longest_step 9223372036854775807 text places below c c o (λ d s. bare_to text places below c d h l m p s) (λ d s. bare_from text places below c d h l m p s) best
+pub bare_longest : (text boundaries : List ℕ) (below : List Bool) (c : ℕ) (o : Option ℕ) → AreBoundaries text boundaries → c < length boundaries → (get_or text (get_or boundaries c 0) 0 == 45) ≡ false → (get_or text (get_or boundaries c 0) 0 == 43) ≡ false → IsLongest 9223372036854775807 text boundaries below c o → IsAdvance (FieldPiece [] Decimal) text boundaries below c o
+bare_longest text boundaries below c o h l m p best = longest_step 9223372036854775807 text boundaries below c c o (λ d s. bare_to text boundaries below c d h l m p s) (λ d s. bare_from text boundaries below c d h l m p s) best
 
 pub not_byte : (a b : ℕ) → (a ≡ b → ⊥) → (a == b) ≡ false
 not_byte a b differ = elim (eqb_tells a b) [ inl t ↦ absurd (differ t.1) | inr f ↦ f.0 ]

@@ -414,7 +414,7 @@ not_pattern text qs ps e same s = let no : true ≡ false = sym (spells_test tex
 pub not_bad : (fault : PatternFault) → fault ≡ Memory → ◌≡◌ {A = Result Pattern PatternFault} (Err fault) (Err BadPattern) → ⊥
 not_bad fault e is = let f : Memory ≡ BadPattern = cc in let bad : ⊥ = cc in bad
 
--- what stands before a place that is given by a number
+-- what stands before a position that is given by a number
 pub plain_of : (text part : List ℕ) (n : ℕ) → n ≡ position_or_len is_brace text → part ≡ take (n - 0) text → flat_map spelled_literal part ≡ part
 plain_of text part n e cut =
     let whole : n - 0 ≡ position_or_len is_brace text = omega arith in

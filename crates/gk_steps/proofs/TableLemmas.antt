@@ -13,8 +13,8 @@ use Rattle.std.proofs.lemmas.Bool.Decides.{nat_tests}
 use Rattle.gk_steps.specs.declared.pattern.FieldKind.TheVariants.{Plain, Decimal}
 use Rattle.gk_steps.specs.Pattern.{PieceValue, Literal, FieldPiece}
 use Rattle.gk_steps.specs.Matching.{IsSpan, Matches, MatchesNot, IsPreferred, IsBestMatch}
-use Rattle.gk_steps.specs.Places.{ArePlaces}
-use Rattle.gk_steps.specs.Columns.{part, Takes, IsAdvanceTo, IsNotAfter, IsAdvance}
+use Rattle.gk_steps.specs.CharBoundaries.{AreBoundaries}
+use Rattle.gk_steps.specs.Advances.{part, Takes, IsAdvanceTo, IsNotAfter, IsAdvance}
 use Rattle.gk_steps.specs.TableRows.{IsCell, IsRowTo, IsRow}
 use Rattle.gk_steps.proofs.MatchingLemmas.{same_prefix, same_back, with_span, IsSplit, split, join}
 
@@ -55,7 +55,7 @@ taken_utf8 (Literal literal) x t h = subst IsUtf8 (sym h) t
 taken_utf8 (FieldPiece name Plain) x t h = h.0
 taken_utf8 (FieldPiece name Decimal) x t h = decimal_utf8 x h
 
--- after what a piece takes stands a place
+-- after what a piece takes stands a position
 cut_after : (text x rest : List ℕ) (p : ℕ) → IsUtf8 text → IsCharBoundary text p → drop p text ≡ x ++ rest → IsUtf8 x → IsCharBoundary text (p + length x)
 cut_after text x rest p u b e ux =
     let prefix : take (length x) (drop p text) ≡ x = ap (take (length x)) e ∙ take-append_seam x rest in
@@ -63,40 +63,40 @@ cut_after text x rest p u b e ux =
     IsCharBoundary-from_rest text p (length x) b.0 (IsCharBoundary-from_take (drop p text) (length x) (IsUtf8-drop text p u b) (omega arith) (subst IsUtf8 (sym prefix) ux))
 
 -- the column after what a piece takes
-pub record Lands (text places : List ℕ) (c : ℕ) (x rest : List ℕ) : Type 0 where
+pub record Lands (text boundaries : List ℕ) (c : ℕ) (x rest : List ℕ) : Type 0 where
   pub d : ℕ
   pub within : d ≤ c
-  pub known : d < length places
-  pub place : get_or places d 0 ≡ get_or places c 0 + length x
-  pub is_part : part text places c d ≡ x
-  pub is_rest : drop (get_or places d 0) text ≡ rest
+  pub known : d < length boundaries
+  pub position : get_or boundaries d 0 ≡ get_or boundaries c 0 + length x
+  pub is_part : part text boundaries c d ≡ x
+  pub is_rest : drop (get_or boundaries d 0) text ≡ rest
 
-pub lands : (text places : List ℕ) (c : ℕ) (x rest : List ℕ) → IsUtf8 text → ArePlaces text places → c < length places → drop (get_or places c 0) text ≡ x ++ rest → IsUtf8 x → Lands text places c x rest
-lands text places c x rest u h l e ux =
-    let p = get_or places c 0 in
+pub lands : (text boundaries : List ℕ) (c : ℕ) (x rest : List ℕ) → IsUtf8 text → AreBoundaries text boundaries → c < length boundaries → drop (get_or boundaries c 0) text ≡ x ++ rest → IsUtf8 x → Lands text boundaries c x rest
+lands text boundaries c x rest u h l e ux =
+    let p = get_or boundaries c 0 in
     let found = h.complete (p + length x) (omega arith) (cut_after text x rest p u (h.cuts c l) e ux) in
     by found.0 found.1 found.2 where
-      by : (d : ℕ) → d < length places → get_or places d 0 ≡ get_or places c 0 + length x → Lands text places c x rest
+      by : (d : ℕ) → d < length boundaries → get_or boundaries d 0 ≡ get_or boundaries c 0 + length x → Lands text boundaries c x rest
       by d k at =
-          let size : get_or places d 0 - get_or places c 0 ≡ length x = omega arith in
+          let size : get_or boundaries d 0 - get_or boundaries c 0 ≡ length x = omega arith in
           let not_more : c < d → ⊥ = λ less. let lower = h.falling c d less k in absurd (omega arith) in
           record {
             d = d;
             within = omega (arith, not_more);
             known = k;
-            place = at;
-            is_part = ap (λ n. take n (drop (get_or places c 0) text)) size ∙ ap (take (length x)) e ∙ take-append_seam x rest;
-            is_rest = ap (λ n. drop n text) at ∙ sym (drop-drop (length x) (get_or places c 0) text) ∙ ap (drop (length x)) e ∙ drop-append_seam x rest;
+            position = at;
+            is_part = ap (λ n. take n (drop (get_or boundaries c 0) text)) size ∙ ap (take (length x)) e ∙ take-append_seam x rest;
+            is_rest = ap (λ n. drop n text) at ∙ sym (drop-drop (length x) (get_or boundaries c 0) text) ∙ ap (drop (length x)) e ∙ drop-append_seam x rest;
           }
 
 -- what stands between two columns, and after it
-pub cut_at : (text places : List ℕ) (c d : ℕ) → ArePlaces text places → c < length places → d ≤ c → drop (get_or places c 0) text ≡ part text places c d ++ drop (get_or places d 0) text
-cut_at text places c d h l within =
-    let n = get_or places d 0 - get_or places c 0 in
-    let more : d < c → get_or places c 0 < get_or places d 0 = λ less. h.falling d c less l in
-    let up : get_or places c 0 ≤ get_or places d 0 = elim (eq-or-lt_of_le within) [ inl e ↦ omega (arith, ap (λ k. get_or places k 0) e) | inr less ↦ omega (arith, more less) ] in
-    let at : get_or places c 0 + (get_or places d 0 - get_or places c 0) ≡ get_or places d 0 = omega arith in
-    sym (take-append-drop n (drop (get_or places c 0) text)) ∙ ap (λ r. part text places c d ++ r) (drop-drop n (get_or places c 0) text ∙ ap (λ k. drop k text) at)
+pub cut_at : (text boundaries : List ℕ) (c d : ℕ) → AreBoundaries text boundaries → c < length boundaries → d ≤ c → drop (get_or boundaries c 0) text ≡ part text boundaries c d ++ drop (get_or boundaries d 0) text
+cut_at text boundaries c d h l within =
+    let n = get_or boundaries d 0 - get_or boundaries c 0 in
+    let more : d < c → get_or boundaries c 0 < get_or boundaries d 0 = λ less. h.falling d c less l in
+    let up : get_or boundaries c 0 ≤ get_or boundaries d 0 = elim (eq-or-lt_of_le within) [ inl e ↦ omega (arith, ap (λ k. get_or boundaries k 0) e) | inr less ↦ omega (arith, more less) ] in
+    let at : get_or boundaries c 0 + (get_or boundaries d 0 - get_or boundaries c 0) ≡ get_or boundaries d 0 = omega arith in
+    sym (take-append-drop n (drop (get_or boundaries c 0) text)) ∙ ap (λ r. part text boundaries c d ++ r) (drop-drop n (get_or boundaries c 0) text ∙ ap (λ k. drop k text) at)
 
 -- a cell after a step
 no_cell : (ps : List PieceValue) (text : List ℕ) (b : Bool) (spans : List (List ℕ)) → IsCell ps text b → Matches ps text spans → b ≡ true
@@ -108,34 +108,34 @@ true_cell ps text true h e = h
 true_cell ps text false h e = let bad : ⊥ = cc in absurd bad
 
 -- each match steps so
-pub stepped : (piece : PieceValue) (ps : List PieceValue) (text places : List ℕ) (row : List Bool) (c : ℕ) (x rest : List ℕ) (xs : List (List ℕ)) → IsRow ps text places row → (to : Lands text places c x rest) → Takes piece x → Matches ps rest xs → IsAdvanceTo piece text places row c to.d
-stepped piece ps text places row c x rest xs r to takes m = record {
+pub stepped : (piece : PieceValue) (ps : List PieceValue) (text boundaries : List ℕ) (row : List Bool) (c : ℕ) (x rest : List ℕ) (xs : List (List ℕ)) → IsRow ps text boundaries row → (to : Lands text boundaries c x rest) → Takes piece x → Matches ps rest xs → IsAdvanceTo piece text boundaries row c to.d
+stepped piece ps text boundaries row c x rest xs r to takes m = record {
   within = to.within;
-  rest = no_cell ps (drop (get_or places to.d 0) text) (get_or row to.d false) xs (r.cells to.d to.known) (subst (λ t. Matches ps t xs) (sym to.is_rest) m);
+  rest = no_cell ps (drop (get_or boundaries to.d 0) text) (get_or row to.d false) xs (r.cells to.d to.known) (subst (λ t. Matches ps t xs) (sym to.is_rest) m);
   takes = subst (Takes piece) (sym to.is_part) takes;
 }
 
 -- a column's cell, from the step over the piece
-pub step_cell : (piece : PieceValue) (ps : List PieceValue) (text places : List ℕ) (row : List Bool) (c d : ℕ) → ArePlaces text places → IsRow ps text places row → c < length places → IsAdvanceTo piece text places row c d → (spans : List (List ℕ)) × Matches (piece ∷ ps) (drop (get_or places c 0) text) spans
-step_cell piece ps text places row c d h r l s =
-    let known : d < length places = omega (arith, s.within) in
-    let m = true_cell ps (drop (get_or places d 0) text) (get_or row d false) (r.cells d known) s.rest in
-    (with_span piece (part text places c d) m.0, join piece ps (drop (get_or places c 0) text) (part text places c d) (drop (get_or places d 0) text) m.0 s.takes (cut_at text places c d h l s.within) m.1)
+pub step_cell : (piece : PieceValue) (ps : List PieceValue) (text boundaries : List ℕ) (row : List Bool) (c d : ℕ) → AreBoundaries text boundaries → IsRow ps text boundaries row → c < length boundaries → IsAdvanceTo piece text boundaries row c d → (spans : List (List ℕ)) × Matches (piece ∷ ps) (drop (get_or boundaries c 0) text) spans
+step_cell piece ps text boundaries row c d h r l s =
+    let known : d < length boundaries = omega (arith, s.within) in
+    let m = true_cell ps (drop (get_or boundaries d 0) text) (get_or row d false) (r.cells d known) s.rest in
+    (with_span piece (part text boundaries c d) m.0, join piece ps (drop (get_or boundaries c 0) text) (part text boundaries c d) (drop (get_or boundaries d 0) text) m.0 s.takes (cut_at text boundaries c d h l s.within) m.1)
 
-pub no_step_cell : (piece : PieceValue) (ps : List PieceValue) (text places : List ℕ) (row : List Bool) (c : ℕ) → IsUtf8 text → IsTextPiece piece → ArePlaces text places → IsRow ps text places row → c < length places → ((d : ℕ) → IsAdvanceTo piece text places row c d → ⊥) → MatchesNot (piece ∷ ps) (drop (get_or places c 0) text)
-no_step_cell piece ps text places row c u t h r l none = λ spans m. by (split piece ps (drop (get_or places c 0) text) spans m) where
-  by : {spans : List (List ℕ)} → IsSplit piece ps (drop (get_or places c 0) text) spans → ⊥
-  by s = let to = lands text places c s.x s.rest u h l s.whole (taken_utf8 piece s.x t s.takes) in
-      none to.d (stepped piece ps text places row c s.x s.rest s.xs r to s.takes s.after)
+pub no_step_cell : (piece : PieceValue) (ps : List PieceValue) (text boundaries : List ℕ) (row : List Bool) (c : ℕ) → IsUtf8 text → IsTextPiece piece → AreBoundaries text boundaries → IsRow ps text boundaries row → c < length boundaries → ((d : ℕ) → IsAdvanceTo piece text boundaries row c d → ⊥) → MatchesNot (piece ∷ ps) (drop (get_or boundaries c 0) text)
+no_step_cell piece ps text boundaries row c u t h r l none = λ spans m. by (split piece ps (drop (get_or boundaries c 0) text) spans m) where
+  by : {spans : List (List ℕ)} → IsSplit piece ps (drop (get_or boundaries c 0) text) spans → ⊥
+  by s = let to = lands text boundaries c s.x s.rest u h l s.whole (taken_utf8 piece s.x t s.takes) in
+      none to.d (stepped piece ps text boundaries row c s.x s.rest s.xs r to s.takes s.after)
 
-pub cell_of_step : (piece : PieceValue) (ps : List PieceValue) (text places : List ℕ) (row : List Bool) (c : ℕ) (o : Option ℕ) → IsUtf8 text → IsTextPiece piece → ArePlaces text places → IsRow ps text places row → c < length places → IsAdvance piece text places row c o → IsCell (piece ∷ ps) (drop (get_or places c 0) text) (is_some o)
-cell_of_step piece ps text places row c None u t h r l s = no_step_cell piece ps text places row c u t h r l s
-cell_of_step piece ps text places row c (Some d) u t h r l s = step_cell piece ps text places row c d h r l s.0
+pub cell_of_step : (piece : PieceValue) (ps : List PieceValue) (text boundaries : List ℕ) (row : List Bool) (c : ℕ) (o : Option ℕ) → IsUtf8 text → IsTextPiece piece → AreBoundaries text boundaries → IsRow ps text boundaries row → c < length boundaries → IsAdvance piece text boundaries row c o → IsCell (piece ∷ ps) (drop (get_or boundaries c 0) text) (is_some o)
+cell_of_step piece ps text boundaries row c None u t h r l s = no_step_cell piece ps text boundaries row c u t h r l s
+cell_of_step piece ps text boundaries row c (Some d) u t h r l s = step_cell piece ps text boundaries row c d h r l s.0
 
 -- there is a step where there is a match
-pub is_step : (piece : PieceValue) (ps : List PieceValue) (text places : List ℕ) (row : List Bool) (c : ℕ) (o : Option ℕ) → IsUtf8 text → IsTextPiece piece → ArePlaces text places → IsRow ps text places row → c < length places → IsAdvance piece text places row c o → (spans : List (List ℕ)) × Matches (piece ∷ ps) (drop (get_or places c 0) text) spans → is_some o ≡ true
-is_step piece ps text places row c None u t h r l s m = absurd (no_step_cell piece ps text places row c u t h r l s m.0 m.1)
-is_step piece ps text places row c (Some d) u t h r l s m = refl
+pub is_step : (piece : PieceValue) (ps : List PieceValue) (text boundaries : List ℕ) (row : List Bool) (c : ℕ) (o : Option ℕ) → IsUtf8 text → IsTextPiece piece → AreBoundaries text boundaries → IsRow ps text boundaries row → c < length boundaries → IsAdvance piece text boundaries row c o → (spans : List (List ℕ)) × Matches (piece ∷ ps) (drop (get_or boundaries c 0) text) spans → is_some o ≡ true
+is_step piece ps text boundaries row c None u t h r l s m = absurd (no_step_cell piece ps text boundaries row c u t h r l s m.0 m.1)
+is_step piece ps text boundaries row c (Some d) u t h r l s m = refl
 
 -- the preferred match after the preferred step is the preferred one
 same_step : (piece : PieceValue) (ps : List PieceValue) (text x rest x' rest' : List ℕ) (xs xs' : List (List ℕ)) → text ≡ x ++ rest → text ≡ x' ++ rest' → length x ≡ length x' → IsBestMatch ps rest xs → Matches ps rest' xs'
@@ -147,78 +147,78 @@ same_step (FieldPiece name kind) ps text x rest x' rest' xs xs' e e' n h m =
       | inr p ↦ inr (inr (n, p))
     ]
 
-other_step : (piece : PieceValue) (ps : List PieceValue) (text places : List ℕ) (c d e : ℕ) (x rest x' rest' : List ℕ) (xs xs' : List (List ℕ)) → ArePlaces text places → d < length places → e < length places
-    → get_or places d 0 ≡ get_or places c 0 + length x → get_or places e 0 ≡ get_or places c 0 + length x' → drop (get_or places c 0) text ≡ x ++ rest → drop (get_or places c 0) text ≡ x' ++ rest' → IsBestMatch ps rest xs → Matches ps rest' xs'
+other_step : (piece : PieceValue) (ps : List PieceValue) (text boundaries : List ℕ) (c d e : ℕ) (x rest x' rest' : List ℕ) (xs xs' : List (List ℕ)) → AreBoundaries text boundaries → d < length boundaries → e < length boundaries
+    → get_or boundaries d 0 ≡ get_or boundaries c 0 + length x → get_or boundaries e 0 ≡ get_or boundaries c 0 + length x' → drop (get_or boundaries c 0) text ≡ x ++ rest → drop (get_or boundaries c 0) text ≡ x' ++ rest' → IsBestMatch ps rest xs → Matches ps rest' xs'
     → Takes piece x → Takes piece x' → IsNotAfter piece d e → (with_span piece x' xs' ≡ with_span piece x xs) ⊎ IsPreferred (piece ∷ ps) (with_span piece x xs) (with_span piece x' xs')
-other_step (Literal literal) ps text places c d e x rest x' rest' xs xs' h kd ke pd pe cut cut' b m t t' n = same_step (Literal literal) ps (drop (get_or places c 0) text) x rest x' rest' xs xs' cut cut' (ap length t ∙ sym (ap length t')) b m
-other_step (FieldPiece name Plain) ps text places c d e x rest x' rest' xs xs' h kd ke pd pe cut cut' b m t t' n = elim (eq-or-lt_of_le n) [
-  | inl same ↦ same_step (FieldPiece name Plain) ps (drop (get_or places c 0) text) x rest x' rest' xs xs' cut cut' (let at : get_or places e 0 ≡ get_or places d 0 = ap (λ k. get_or places k 0) same in omega arith) b m
-  | inr less ↦ inr (inl (let more : get_or places d 0 < get_or places e 0 = h.falling e d less kd in omega arith))
+other_step (Literal literal) ps text boundaries c d e x rest x' rest' xs xs' h kd ke pd pe cut cut' b m t t' n = same_step (Literal literal) ps (drop (get_or boundaries c 0) text) x rest x' rest' xs xs' cut cut' (ap length t ∙ sym (ap length t')) b m
+other_step (FieldPiece name Plain) ps text boundaries c d e x rest x' rest' xs xs' h kd ke pd pe cut cut' b m t t' n = elim (eq-or-lt_of_le n) [
+  | inl same ↦ same_step (FieldPiece name Plain) ps (drop (get_or boundaries c 0) text) x rest x' rest' xs xs' cut cut' (let at : get_or boundaries e 0 ≡ get_or boundaries d 0 = ap (λ k. get_or boundaries k 0) same in omega arith) b m
+  | inr less ↦ inr (inl (let more : get_or boundaries d 0 < get_or boundaries e 0 = h.falling e d less kd in omega arith))
 ]
-other_step (FieldPiece name Decimal) ps text places c d e x rest x' rest' xs xs' h kd ke pd pe cut cut' b m t t' n = elim (eq-or-lt_of_le n) [
-  | inl same ↦ same_step (FieldPiece name Decimal) ps (drop (get_or places c 0) text) x rest x' rest' xs xs' cut cut' (let at : get_or places d 0 ≡ get_or places e 0 = ap (λ k. get_or places k 0) same in omega arith) b m
-  | inr less ↦ inr (inl (let more : get_or places e 0 < get_or places d 0 = h.falling d e less ke in omega arith))
+other_step (FieldPiece name Decimal) ps text boundaries c d e x rest x' rest' xs xs' h kd ke pd pe cut cut' b m t t' n = elim (eq-or-lt_of_le n) [
+  | inl same ↦ same_step (FieldPiece name Decimal) ps (drop (get_or boundaries c 0) text) x rest x' rest' xs xs' cut cut' (let at : get_or boundaries d 0 ≡ get_or boundaries e 0 = ap (λ k. get_or boundaries k 0) same in omega arith) b m
+  | inr less ↦ inr (inl (let more : get_or boundaries e 0 < get_or boundaries d 0 = h.falling d e less ke in omega arith))
 ]
 
-pub part_size : (text places : List ℕ) (c d : ℕ) → ArePlaces text places → c < length places → d ≤ c → get_or places d 0 ≡ get_or places c 0 + length (part text places c d)
-part_size text places c d h l within =
-    let more : d < c → get_or places c 0 < get_or places d 0 = λ less. h.falling d c less l in
-    let up : get_or places c 0 ≤ get_or places d 0 = elim (eq-or-lt_of_le within) [ inl e ↦ omega (arith, ap (λ k. get_or places k 0) e) | inr less ↦ omega (arith, more less) ] in
-    let end : get_or places d 0 ≤ length text = (h.cuts d (omega arith)).0 in
-    omega (arith, length-take (get_or places d 0 - get_or places c 0) (drop (get_or places c 0) text), length-drop (get_or places c 0) text)
+pub part_size : (text boundaries : List ℕ) (c d : ℕ) → AreBoundaries text boundaries → c < length boundaries → d ≤ c → get_or boundaries d 0 ≡ get_or boundaries c 0 + length (part text boundaries c d)
+part_size text boundaries c d h l within =
+    let more : d < c → get_or boundaries c 0 < get_or boundaries d 0 = λ less. h.falling d c less l in
+    let up : get_or boundaries c 0 ≤ get_or boundaries d 0 = elim (eq-or-lt_of_le within) [ inl e ↦ omega (arith, ap (λ k. get_or boundaries k 0) e) | inr less ↦ omega (arith, more less) ] in
+    let end : get_or boundaries d 0 ≤ length text = (h.cuts d (omega arith)).0 in
+    omega (arith, length-take (get_or boundaries d 0 - get_or boundaries c 0) (drop (get_or boundaries c 0) text), length-drop (get_or boundaries c 0) text)
 
-pub best_step : (piece : PieceValue) (ps : List PieceValue) (text places : List ℕ) (row : List Bool) (c d : ℕ) (xs : List (List ℕ)) → IsUtf8 text → IsTextPiece piece → ArePlaces text places → IsRow ps text places row → c < length places → IsAdvance piece text places row c (Some d)
-    → IsBestMatch ps (drop (get_or places d 0) text) xs → IsBestMatch (piece ∷ ps) (drop (get_or places c 0) text) (with_span piece (part text places c d) xs)
-best_step piece ps text places row c d xs u t h r l s b = record {
-  matches = join piece ps (drop (get_or places c 0) text) (part text places c d) (drop (get_or places d 0) text) xs s.0.takes (cut_at text places c d h l s.0.within) b.matches;
-  best = λ others m. by others (split piece ps (drop (get_or places c 0) text) others m);
+pub best_step : (piece : PieceValue) (ps : List PieceValue) (text boundaries : List ℕ) (row : List Bool) (c d : ℕ) (xs : List (List ℕ)) → IsUtf8 text → IsTextPiece piece → AreBoundaries text boundaries → IsRow ps text boundaries row → c < length boundaries → IsAdvance piece text boundaries row c (Some d)
+    → IsBestMatch ps (drop (get_or boundaries d 0) text) xs → IsBestMatch (piece ∷ ps) (drop (get_or boundaries c 0) text) (with_span piece (part text boundaries c d) xs)
+best_step piece ps text boundaries row c d xs u t h r l s b = record {
+  matches = join piece ps (drop (get_or boundaries c 0) text) (part text boundaries c d) (drop (get_or boundaries d 0) text) xs s.0.takes (cut_at text boundaries c d h l s.0.within) b.matches;
+  best = λ others m. by others (split piece ps (drop (get_or boundaries c 0) text) others m);
 } where
-  by : (others : List (List ℕ)) → IsSplit piece ps (drop (get_or places c 0) text) others → (others ≡ with_span piece (part text places c d) xs) ⊎ IsPreferred (piece ∷ ps) (with_span piece (part text places c d) xs) others
+  by : (others : List (List ℕ)) → IsSplit piece ps (drop (get_or boundaries c 0) text) others → (others ≡ with_span piece (part text boundaries c d) xs) ⊎ IsPreferred (piece ∷ ps) (with_span piece (part text boundaries c d) xs) others
   by others o =
-      let to = lands text places c o.x o.rest u h l o.whole (taken_utf8 piece o.x t o.takes) in
-      let not_after = s.1 to.d (stepped piece ps text places row c o.x o.rest o.xs r to o.takes o.after) in
-      subst (λ y. (y ≡ with_span piece (part text places c d) xs) ⊎ IsPreferred (piece ∷ ps) (with_span piece (part text places c d) xs) y) (sym o.spans_are)
-      (other_step piece ps text places c d to.d (part text places c d) (drop (get_or places d 0) text) o.x o.rest xs o.xs h (omega (arith, s.0.within)) to.known (part_size text places c d h l s.0.within) to.place (cut_at text places c d h l s.0.within) o.whole b o.after s.0.takes o.takes not_after)
+      let to = lands text boundaries c o.x o.rest u h l o.whole (taken_utf8 piece o.x t o.takes) in
+      let not_after = s.1 to.d (stepped piece ps text boundaries row c o.x o.rest o.xs r to o.takes o.after) in
+      subst (λ y. (y ≡ with_span piece (part text boundaries c d) xs) ⊎ IsPreferred (piece ∷ ps) (with_span piece (part text boundaries c d) xs) y) (sym o.spans_are)
+      (other_step piece ps text boundaries c d to.d (part text boundaries c d) (drop (get_or boundaries d 0) text) o.x o.rest xs o.xs h (omega (arith, s.0.within)) to.known (part_size text boundaries c d h l s.0.within) to.position (cut_at text boundaries c d h l s.0.within) o.whole b o.after s.0.takes o.takes not_after)
 
 -- a row with one cell more
-pub no_cells : (ps : List PieceValue) (text places : List ℕ) → IsRowTo 0 ps text places []
-no_cells ps text places = record { size_is = refl; cells = λ c l. absurd (omega arith) }
+pub no_cells : (ps : List PieceValue) (text boundaries : List ℕ) → IsRowTo 0 ps text boundaries []
+no_cells ps text boundaries = record { size_is = refl; cells = λ c l. absurd (omega arith) }
 
-pub cell_more : (size : ℕ) (ps : List PieceValue) (text places : List ℕ) (row : List Bool) (b : Bool) → IsRowTo size ps text places row → IsCell ps (drop (get_or places size 0) text) b → IsRowTo (size + 1) ps text places (row ++ b ∷ [])
-cell_more size ps text places row b h cell = record {
+pub cell_more : (size : ℕ) (ps : List PieceValue) (text boundaries : List ℕ) (row : List Bool) (b : Bool) → IsRowTo size ps text boundaries row → IsCell ps (drop (get_or boundaries size 0) text) b → IsRowTo (size + 1) ps text boundaries (row ++ b ∷ [])
+cell_more size ps text boundaries row b h cell = record {
   size_is = length-append row (b ∷ []) ∙ ap (λ n. n + 1) h.size_is;
   cells = λ c l. elim (let most : c ≤ size = omega arith in eq-or-lt_of_le most) [
-    | inl e ↦ subst (λ (k : ℕ). IsCell ps (drop (get_or places k 0) text) (get_or (row ++ b ∷ []) k false)) (sym e) (subst (IsCell ps (drop (get_or places size 0) text)) (sym (get_or_push row b false size h.size_is)) cell)
-    | inr old ↦ subst (IsCell ps (drop (get_or places c 0) text)) (sym (get_or_append_left row (b ∷ []) false c (omega (arith, h.size_is)))) (h.cells c old)
+    | inl e ↦ subst (λ (k : ℕ). IsCell ps (drop (get_or boundaries k 0) text) (get_or (row ++ b ∷ []) k false)) (sym e) (subst (IsCell ps (drop (get_or boundaries size 0) text)) (sym (get_or_push row b false size h.size_is)) cell)
+    | inr old ↦ subst (IsCell ps (drop (get_or boundaries c 0) text)) (sym (get_or_append_left row (b ∷ []) false c (omega (arith, h.size_is)))) (h.cells c old)
   ];
 }
 
 -- the row of no pieces
-at_end : (text places : List ℕ) → ArePlaces text places → get_or places 0 0 ≡ length text
-at_end text places h = by (h.complete (length text) (omega arith) (IsCharBoundary-end text)) where
-  by : (c : ℕ) × (c < length places) × (get_or places c 0 ≡ length text) → get_or places 0 0 ≡ length text
+at_end : (text boundaries : List ℕ) → AreBoundaries text boundaries → get_or boundaries 0 0 ≡ length text
+at_end text boundaries h = by (h.complete (length text) (omega arith) (IsCharBoundary-end text)) where
+  by : (c : ℕ) × (c < length boundaries) × (get_or boundaries c 0 ≡ length text) → get_or boundaries 0 0 ≡ length text
   by (zero, l, e) = e
   by (suc c, l, e) = let less = h.falling 0 (suc c) (omega arith) l in let within = (h.cuts 0 h.some).0 in absurd (omega arith)
 
-pub end_cell : (text places : List ℕ) (c : ℕ) (b : Bool) → ArePlaces text places → c < length places → (b ≡ true → c ≡ 0) → (c ≡ 0 → b ≡ true) → IsCell [] (drop (get_or places c 0) text) b
-end_cell text places c true h l only if = ([], record { spans_fit = tt; whole = ap (λ k. drop (get_or places k 0) text) (only refl) ∙ ap (λ k. drop k text) (at_end text places h) ∙ drop-length text })
-end_cell text places c false h l only if = λ spans m.
-    let none : length (chars (drop (get_or places c 0) text)) ≡ 0 = ap (λ t. length (chars t)) m.whole ∙ ap length chars-nil in
+pub end_cell : (text boundaries : List ℕ) (c : ℕ) (b : Bool) → AreBoundaries text boundaries → c < length boundaries → (b ≡ true → c ≡ 0) → (c ≡ 0 → b ≡ true) → IsCell [] (drop (get_or boundaries c 0) text) b
+end_cell text boundaries c true h l only if = ([], record { spans_fit = tt; whole = ap (λ k. drop (get_or boundaries k 0) text) (only refl) ∙ ap (λ k. drop k text) (at_end text boundaries h) ∙ drop-length text })
+end_cell text boundaries c false h l only if = λ spans m.
+    let none : length (chars (drop (get_or boundaries c 0) text)) ≡ 0 = ap (λ t. length (chars t)) m.whole ∙ ap length chars-nil in
     let zero_after : c ≡ 0 = sym (h.counts c l) ∙ none in
     let bad : false ≡ true = if zero_after in let no_way : ⊥ = cc in no_way
 
-pub last_cell : (text places : List ℕ) → IsUtf8 text → ArePlaces text places → get_or places (length places - 1) 0 ≡ 0
-last_cell text places u h = by (h.complete 0 (omega arith) (IsCharBoundary-start text u)) where
-  by : (c : ℕ) × (c < length places) × (get_or places c 0 ≡ 0) → get_or places (length places - 1) 0 ≡ 0
-  by (c, l, e) = elim (let most : c ≤ length places - 1 = omega arith in eq-or-lt_of_le most) [
-    | inl same ↦ ap (λ k. get_or places k 0) (sym same) ∙ e
-    | inr less ↦ let under = h.falling c (length places - 1) less (let some = h.some in omega arith) in absurd (omega arith)
+pub last_cell : (text boundaries : List ℕ) → IsUtf8 text → AreBoundaries text boundaries → get_or boundaries (length boundaries - 1) 0 ≡ 0
+last_cell text boundaries u h = by (h.complete 0 (omega arith) (IsCharBoundary-start text u)) where
+  by : (c : ℕ) × (c < length boundaries) × (get_or boundaries c 0 ≡ 0) → get_or boundaries (length boundaries - 1) 0 ≡ 0
+  by (c, l, e) = elim (let most : c ≤ length boundaries - 1 = omega arith in eq-or-lt_of_le most) [
+    | inl same ↦ ap (λ k. get_or boundaries k 0) (sym same) ∙ e
+    | inr less ↦ let under = h.falling c (length boundaries - 1) less (let some = h.some in omega arith) in absurd (omega arith)
   ]
 
 -- the width of the table
-pub width_is : (text places : List ℕ) → IsUtf8 text → ArePlaces text places → length places ≡ length (chars text) + 1
-width_is text places u h =
+pub width_is : (text boundaries : List ℕ) → IsUtf8 text → AreBoundaries text boundaries → length boundaries ≡ length (chars text) + 1
+width_is text boundaries u h =
     let some = h.some in
-    let last = h.counts (length places - 1) (omega arith) in
-    let prefix : length (chars (drop (get_or places (length places - 1) 0) text)) ≡ length (chars text) = ap (λ k. length (chars (drop k text))) (last_cell text places u h) in
+    let last = h.counts (length boundaries - 1) (omega arith) in
+    let prefix : length (chars (drop (get_or boundaries (length boundaries - 1) 0) text)) ≡ length (chars text) = ap (λ k. length (chars (drop k text))) (last_cell text boundaries u h) in
     omega arith

@@ -11,7 +11,7 @@ use Rattle.gk_steps.specs.declared.used_fields.FoundUse.{FoundUse}
 use Rattle.gk_steps.specs.Pattern.{PieceValue, Literal, FieldPiece}
 use Rattle.gk_steps.specs.Matching.{FieldValue, TextField, NumberField, span_value}
 use Rattle.gk_steps.specs.Finding.{EntryValue, FoundValue, LibraryValue, HasUsedFields, HaveKindsOf, IsUseOf, action_of, field_named, field_of, found_at}
-use Rattle.gk_steps.specs.Kept.{IsHit}
+use Rattle.gk_steps.specs.Captures.{IsHit}
 use Rattle.gk_steps.specs.UsedFields.{AreFirst, AreJoined, IsAdded, KeepsFirst}
 
 -- fields of pieces, and those of the pieces after them
@@ -111,4 +111,4 @@ first_in library f e firsts stands h = record {
 
 pub use_some : (library : LibraryValue) (o : Option FoundValue) (hit : Hit FirstFields) (u : FoundUse) → IsHit KeepsFirst library (Some hit) o → ((fields : List FieldValue) → u.action ≡ action_of library (found_at hit.entry fields)) → ((f : FoundValue) → AreFirst (field_of library f) hit.kept → HasUsedFields library f u.fields) → IsUseOf library o (Some u)
 use_some library None hit u is action fields = absurd is
-use_some library (Some f) hit u is action fields = record { action = subst (λ (n : ℕ). u.action ≡ action_of library (found_at n f.fields)) is.place (action f.fields); fields = fields f (first_in library f is.entry hit.kept is.stands is.kept.first) }
+use_some library (Some f) hit u is action fields = record { action = subst (λ (n : ℕ). u.action ≡ action_of library (found_at n f.fields)) is.position (action f.fields); fields = fields f (first_in library f is.entry hit.kept is.stands is.kept.first) }

@@ -1,11 +1,11 @@
--- Proof machinery: where an index lists the entries of a library, by the literals at their patterns' ends.
+-- Where an index lists the entries of a library, by the literals at their patterns' ends, and which entries it passes over.
 use Rattle.std.specs.Prelude.{◌≡◌, ◌⊎◌, ◌+◌, ◌*◌, ◌%◌, ◌<◌, ◌≤◌, ℕ, zero, suc, Bool, true, List, [], ◌∷◌, length, slice_get, Vec, Some, IfSome}
 use Rattle.std.specs.declared.alloc.Global.{Global}
 use Rattle.gk_steps.specs.declared.library.Entry.{Entry}
-use Rattle.gk_steps.specs.declared.library.Growing.{Growing}
+use Rattle.gk_steps.specs.declared.library.LibraryBuilder.{LibraryBuilder}
 use Rattle.gk_steps.specs.declared.entry_index.Index.{Index}
-use Rattle.gk_steps.specs.declared.entry_index.Numbered.{Numbered}
-use Rattle.gk_steps.specs.declared.entry_index.Shelf.{Shelf}
+use Rattle.gk_steps.specs.declared.entry_index.Keyed.{Keyed}
+use Rattle.gk_steps.specs.declared.entry_index.IndexedEntries.{IndexedEntries}
 use Rattle.gk_steps.specs.Pattern.{PieceValue, Literal, FieldPiece, pattern_value}
 use Rattle.gk_steps.specs.Matching.{MatchesNot}
 
@@ -43,57 +43,57 @@ abbrev pub ends_key : List PieceValue → ℕ
 ends_key ps = key_over (first_key ps) (last_literal ps)
 
 -- A number with its key.
-abbrev pub numbered : ℕ → ℕ → Numbered
-numbered key number = record { key = key; number = number }
+abbrev pub keyed : ℕ → ℕ → Keyed
+keyed key number = record { key = key; number = number }
 
 -- A number stands in a bucket, with its key.
-abbrev pub IsAmong : Numbered → List Numbered → Type 0
+abbrev pub IsAmong : Keyed → List Keyed → Type 0
 IsAmong n bucket = (k : ℕ) × (slice_get bucket k ≡ Some n)
 
 -- A number stands in a bucket under a key.
-abbrev pub IsUnder : ℕ → ℕ → List Numbered → Type 0
-IsUnder key number bucket = IsAmong (numbered key number) bucket
+abbrev pub IsUnder : ℕ → ℕ → List Keyed → Type 0
+IsUnder key number bucket = IsAmong (keyed key number) bucket
 
 -- The bucket of a number; empty where there is none.
-abbrev pub bucket_at : List (Vec Numbered Global) → ℕ → List Numbered
+abbrev pub bucket_at : List (Vec Keyed Global) → ℕ → List Keyed
 bucket_at [] k = []
 bucket_at (b ∷ bs) zero = b.items
 bucket_at (b ∷ bs) (suc k) = bucket_at bs k
 
 -- The bucket of a key; empty where there is none.
-abbrev pub bucket_of : List (Vec Numbered Global) → ℕ → List Numbered
+abbrev pub bucket_of : List (Vec Keyed Global) → ℕ → List Keyed
 bucket_of buckets key = bucket_at buckets (key % length buckets)
 
 -- A length is marked.
 abbrev pub IsMarked : ℕ → List Bool → Type 0
 IsMarked size marks = slice_get marks size ≡ Some true
 
--- An index lists a pattern at a place: by the length of its first literal; by that of its last one, under the first one's key; and under the key of both.
-pub record Lists (index : Index) (place : ℕ) (ps : List PieceValue) : Type 0 where
+-- An index lists a pattern at a position: by the length of its first literal; by that of its last one, under the first one's key; and under the key of both.
+pub record Lists (index : Index) (position : ℕ) (ps : List PieceValue) : Type 0 where
   pub first : IsMarked (length (first_literal ps)) index.firsts.items
   pub last : IsUnder (first_key ps) (length (last_literal ps)) (bucket_of index.lasts.items (first_key ps))
-  pub listed : IsUnder (ends_key ps) place (bucket_of index.places.items (ends_key ps))
+  pub listed : IsUnder (ends_key ps) position (bucket_of index.positions.items (ends_key ps))
 
 -- An index has buckets.
 pub record HasBuckets (index : Index) : Type 0 where
   pub lasts : 0 < length index.lasts.items
-  pub places : 0 < length index.places.items
+  pub positions : 0 < length index.positions.items
 
--- An index that has buckets lists each of these entries at its place. Said twice negated, so that it is a fact that a type can keep.
+-- An index that has buckets lists each of these entries at its position. Said twice negated, so that it is a fact that a type can keep.
 abbrev pub AreListed : Index → List Entry → Type 0
-AreListed index entries = 0 < length index.places.items → (place : ℕ) (entry : Entry) → slice_get entries place ≡ Some entry → (Lists index place (pattern_value entry.pattern) → ⊥) → ⊥
+AreListed index entries = 0 < length index.positions.items → (position : ℕ) (entry : Entry) → slice_get entries position ≡ Some entry → (Lists index position (pattern_value entry.pattern) → ⊥) → ⊥
 
--- The least place under a key in a bucket from a place on, or a larger one that is given where none is less.
-pub record IsLeastFrom (bucket : List Numbered) (key from most result : ℕ) : Type 0 where
+-- The least position under a key in a bucket from a position on, or a larger one that is given where none is less.
+pub record IsLeastFrom (bucket : List Keyed) (key from most result : ℕ) : Type 0 where
   pub low : from ≤ most → from ≤ result
   pub high : result ≤ most
-  pub least : (place : ℕ) → IsUnder key place bucket → from ≤ place → result ≤ place
+  pub least : (position : ℕ) → IsUnder key position bucket → from ≤ position → result ≤ position
 
--- No pattern of a kind that is listed at a place between two matches.
+-- No pattern of a kind that is listed at a position between two matches.
 pub record Skips (IsKind : List PieceValue → Type 0) (index : Index) (from most : ℕ) (text : List ℕ) (result : ℕ) : Type 0 where
   pub low : from ≤ most → from ≤ result
   pub high : result ≤ most
-  pub skipped : (place : ℕ) (ps : List PieceValue) → IsKind ps → Lists index place ps → from ≤ place → place < result → MatchesNot ps text
+  pub skipped : (position : ℕ) (ps : List PieceValue) → IsKind ps → Lists index position ps → from ≤ position → position < result → MatchesNot ps text
 
 -- A text of a size has room for a first and a last literal of these lengths: they stand beside one another, or one literal is the whole text.
 abbrev pub CanStand : ℕ → ℕ → ℕ → Type 0
@@ -108,8 +108,8 @@ abbrev pub HasEnds : ℕ → ℕ → List PieceValue → Type 0
 HasEnds key last ps = (key ≡ first_key ps) × (last ≡ length (last_literal ps))
 
 -- Patterns whose first literal has a length and a key, and whose last one has one of the first of some lengths.
-abbrev pub HasEndsAmong : ℕ → ℕ → List Numbered → ℕ → List PieceValue → Type 0
-HasEndsAmong first key lasts count ps = (first ≡ length (first_literal ps)) × (key ≡ first_key ps) × (k : ℕ) × (k < count) × (slice_get lasts k ≡ Some (numbered key (length (last_literal ps))))
+abbrev pub HasEndsAmong : ℕ → ℕ → List Keyed → ℕ → List PieceValue → Type 0
+HasEndsAmong first key lasts count ps = (first ≡ length (first_literal ps)) × (key ≡ first_key ps) × (k : ℕ) × (k < count) × (slice_get lasts k ≡ Some (keyed key (length (last_literal ps))))
 
 -- Patterns whose first literal is shorter than a length.
 abbrev pub IsShorter : ℕ → List PieceValue → Type 0
@@ -119,15 +119,15 @@ IsShorter size ps = length (first_literal ps) < size
 abbrev pub IsAny : List PieceValue → Type 0
 IsAny ps = Unit {0}
 
--- No entry at a place between two matches.
+-- No entry at a position between two matches.
 pub record SkipsEntries (entries : List Entry) (from : ℕ) (text : List ℕ) (result : ℕ) : Type 0 where
   pub low : from ≤ length entries → from ≤ result
-  pub skipped : (place : ℕ) (entry : Entry) → slice_get entries place ≡ Some entry → from ≤ place → place < result → MatchesNot (pattern_value entry.pattern) text
+  pub skipped : (position : ℕ) (entry : Entry) → slice_get entries position ≡ Some entry → from ≤ position → position < result → MatchesNot (pattern_value entry.pattern) text
 
--- The index of a shelf lists its entries.
-abbrev pub IsShelf : Shelf → Type 0
-IsShelf shelf = IfSome shelf.index (λ i. AreListed i.now shelf.entries.now)
+-- The index of these entries lists them.
+abbrev pub IsIndexed : IndexedEntries → Type 0
+IsIndexed indexed = IfSome indexed.index (λ i. AreListed i.now indexed.entries.now)
 
 -- The index of the entries that were read so far lists them.
-abbrev pub IsGrown : Growing → Type 0
-IsGrown growing = AreListed growing.index growing.entries.items
+abbrev pub HasIndex : LibraryBuilder → Type 0
+HasIndex builder = AreListed builder.index builder.entries.items

@@ -14,7 +14,7 @@ use Rattle.gk_steps.specs.declared.finding.Found.{Found}
 use Rattle.gk_steps.specs.declared.used_fields.UsedFields.{UsedFields}
 use Rattle.gk_steps.specs.declared.used_fields.FoundUse.{FoundUse}
 use Rattle.gk_steps.specs.Pattern.{PieceValue, Literal, FieldPiece, pattern_value}
-use Rattle.gk_steps.specs.PassingOver.{FitsStart, FitsEnd}
+use Rattle.gk_steps.specs.LiteralEnds.{FitsStart, FitsEnd}
 use Rattle.gk_steps.specs.Matching.{FieldValue, TextField, NumberField, field_value, MatchesNot, IsMatchResult, match_of}
 
 -- An entry: the type of the steps that it is for, or none for steps of each type; its pattern; its action. (behave's documentation: step implementations)
@@ -39,7 +39,7 @@ LibraryValue = List EntryValue
 abbrev pub library_value : Library → LibraryValue
 library_value l = map entry_value l.entries.items
 
--- What is found: the place of an entry in the library, from 0, and its fields in the pattern's order.
+-- What is found: the position of an entry in the library, from 0, and its fields in the pattern's order.
 pub record FoundValue : Type 0 where
   pub entry : ℕ
   pub fields : List FieldValue
@@ -50,9 +50,9 @@ found_value f = record { entry = f.entry; fields = map field_value f.fields.item
 
 -- An entry for steps of this type, or of each type where it is none, whose literals at the ends stand at the text's ends.
 pub record HasCandidate (entries : LibraryValue) (step_type : Option StepType) (text : List ℕ) : Type 0 where
-  pub place : ℕ
+  pub position : ℕ
   pub entry : EntryValue
-  pub stands : slice_get entries place ≡ Some entry
+  pub stands : slice_get entries position ≡ Some entry
   pub is_type : entry.step_type ≡ step_type
   pub prefix : FitsStart entry.pattern text
   pub back : FitsEnd entry.pattern text
@@ -63,12 +63,12 @@ HasCandidateFor entries step_type text = HasCandidate entries (Some step_type) t
 
 -- No entry for steps of this type, or of each type where it is none, matches the text.
 abbrev pub NoneFound : LibraryValue → Option StepType → List ℕ → Type 0
-NoneFound entries step_type text = (place : ℕ) (entry : EntryValue) → slice_get entries place ≡ Some entry → entry.step_type ≡ step_type → MatchesNot entry.pattern text
+NoneFound entries step_type text = (position : ℕ) (entry : EntryValue) → slice_get entries position ≡ Some entry → entry.step_type ≡ step_type → MatchesNot entry.pattern text
 
 -- The preferred match of the first entry of this type that has one, in library order.
 pub record IsFirstFound (entries : LibraryValue) (step_type : Option StepType) (text : List ℕ) (found : FoundValue) : Type 0 where
   pub entry : EntryValue
-  pub place : slice_get entries found.entry ≡ Some entry
+  pub position : slice_get entries found.entry ≡ Some entry
   pub is_type : entry.step_type ≡ step_type
   pub fields : IsMatchResult entry.pattern text (Some found.fields)
   pub first : (earlier : ℕ) (other : EntryValue) → earlier < found.entry → slice_get entries earlier ≡ Some other → other.step_type ≡ step_type → MatchesNot other.pattern text
@@ -110,14 +110,14 @@ abbrev pub match_where : Bool → List PieceValue → List ℕ → Option (List 
 match_where true ps text = match_of ps text
 match_where false ps text = None
 
--- What is found at a place.
+-- What is found at a position.
 abbrev pub found_at : ℕ → List FieldValue → FoundValue
-found_at place fields = record { entry = place; fields = fields }
+found_at position fields = record { entry = position; fields = fields }
 
--- What is found among entries of which the first has this place, computed.
+-- What is found among entries of which the first has this position, computed.
 abbrev pub found_from : ℕ → LibraryValue → Option StepType → List ℕ → Option FoundValue
-found_from place [] step_type text = None
-found_from place (e ∷ es) step_type text = elim (match_where (is_of_type e.step_type step_type) e.pattern text) [ Some fields ↦ Some (found_at place fields) | None ↦ found_from (suc place) es step_type text ]
+found_from position [] step_type text = None
+found_from position (e ∷ es) step_type text = elim (match_where (is_of_type e.step_type step_type) e.pattern text) [ Some fields ↦ Some (found_at position fields) | None ↦ found_from (suc position) es step_type text ]
 
 -- What a text finds among the entries of type `step`, computed.
 unfoldable pub found_any : LibraryValue → List ℕ → Option FoundValue
@@ -135,10 +135,10 @@ HaveKindsOf (FieldPiece name Plain ∷ ps) (TextField text ∷ fields) = HaveKin
 HaveKindsOf (FieldPiece name Decimal ∷ ps) (NumberField n ∷ fields) = HaveKindsOf ps fields
 HaveKindsOf _ fields = ⊥
 
--- What was found fits a library: its entry is a place there, and its fields have that pattern's number and kinds.
+-- What was found fits a library: its entry is the position of an entry there, and its fields have that pattern's number and kinds.
 pub record FitsLibrary (entries : LibraryValue) (found : FoundValue) : Type 0 where
   pub entry : EntryValue
-  pub place : slice_get entries found.entry ≡ Some entry
+  pub position : slice_get entries found.entry ≡ Some entry
   pub fields : HaveKindsOf entry.pattern found.fields
 
 -- The computed values are what a text finds, there is nothing else that it finds, and what it finds fits the library.
@@ -205,6 +205,6 @@ IsUseOf library None None = Unit {0}
 IsUseOf library (Some f) (Some u) = HasUse library f u
 IsUseOf library _ _ = ⊥
 
--- Proof machinery: no entry before a place matches.
+-- Proof machinery: no entry before a position matches.
 abbrev pub NoneBefore : ℕ → LibraryValue → Option StepType → List ℕ → Type 0
 NoneBefore size entries step_type text = (earlier : ℕ) (other : EntryValue) → earlier < size → slice_get entries earlier ≡ Some other → other.step_type ≡ step_type → MatchesNot other.pattern text

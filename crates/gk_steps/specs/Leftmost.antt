@@ -6,34 +6,34 @@ use Rattle.gk_steps.specs.declared.leftmost.Cut.TheVariants.{At, Nowhere, Unknow
 use Rattle.gk_steps.specs.declared.pattern.FieldKind.TheVariants.{Plain, Decimal}
 use Rattle.gk_steps.specs.Pattern.{PieceValue, Literal, FieldPiece}
 use Rattle.gk_steps.specs.Matching.{MatchesNot, IsMatchResult, FieldValue}
-use Rattle.gk_steps.specs.Columns.{Takes, values_of}
+use Rattle.gk_steps.specs.Advances.{Takes, values_of}
 
--- A literal stands at a place where the text may be cut.
-pub record CanStandAt (literal : List ℕ) (text : List ℕ) (place : ℕ) : Type 0 where
-  pub boundary : IsCharBoundary text place
+-- A literal stands at a position where the text may be cut.
+pub record CanStandAt (literal : List ℕ) (text : List ℕ) (position : ℕ) : Type 0 where
+  pub boundary : IsCharBoundary text position
   pub rest : List ℕ
-  pub stands : drop place text ≡ literal ++ rest
+  pub stands : drop position text ≡ literal ++ rest
 
--- It stands at no such place after the beginning and before another place.
+-- It stands at no such position after the beginning and before another position.
 abbrev pub StandsNowhereBefore : List ℕ → List ℕ → ℕ → Type 0
-StandsNowhereBefore literal text end = (place : ℕ) → 0 < place → place < end → CanStandAt literal text place → ⊥
+StandsNowhereBefore literal text end = (position : ℕ) → 0 < position → position < end → CanStandAt literal text position → ⊥
 
--- The first such place after the beginning.
-pub record IsFirst (literal : List ℕ) (text : List ℕ) (place : ℕ) : Type 0 where
-  pub after : 0 < place
-  pub here : CanStandAt literal text place
-  pub first : StandsNowhereBefore literal text place
+-- The first such position after the beginning.
+pub record IsFirst (literal : List ℕ) (text : List ℕ) (position : ℕ) : Type 0 where
+  pub after : 0 < position
+  pub here : CanStandAt literal text position
+  pub first : StandsNowhereBefore literal text position
 
--- The first such place, or that there is none.
-abbrev pub IsFirstPlace : List ℕ → List ℕ → Option ℕ → Type 0
-IsFirstPlace literal text None = StandsNowhereBefore literal text (length text + 1)
-IsFirstPlace literal text (Some place) = IsFirst literal text place
+-- The first such position, or that there is none.
+abbrev pub IsFirstPosition : List ℕ → List ℕ → Option ℕ → Type 0
+IsFirstPosition literal text None = StandsNowhereBefore literal text (length text + 1)
+IsFirstPosition literal text (Some position) = IsFirst literal text position
 
--- A piece takes what stands before a place: what the rest of the pattern finds after it, with what the piece says before it, is what the whole finds.
-pub record IsCut (piece : PieceValue) (ps : List PieceValue) (text : List ℕ) (place : ℕ) : Type 0 where
-  pub boundary : IsCharBoundary text place
-  pub takes : Takes piece (take place text)
-  pub goes_on : (found : Option (List FieldValue)) → IsMatchResult ps (drop place text) found → IsMatchResult (piece ∷ ps) text (option_map (λ (fields : List FieldValue). values_of piece (take place text) ++ fields) found)
+-- A piece takes what stands before a position: what the rest of the pattern finds after it, with what the piece says before it, is what the whole finds.
+pub record IsCut (piece : PieceValue) (ps : List PieceValue) (text : List ℕ) (position : ℕ) : Type 0 where
+  pub boundary : IsCharBoundary text position
+  pub takes : Takes piece (take position text)
+  pub goes_on : (found : Option (List FieldValue)) → IsMatchResult ps (drop position text) found → IsMatchResult (piece ∷ ps) text (option_map (λ (fields : List FieldValue). values_of piece (take position text) ++ fields) found)
 
 -- What the first piece takes depends on more than a literal and a plain field after it: it is a number, or a plain field before another field, or before a literal after which a number or another literal comes.
 abbrev pub DependsOnMore : PieceValue → List PieceValue → Type 0
@@ -48,7 +48,7 @@ DependsOnMore (FieldPiece name Plain) (Literal literal ∷ Literal other ∷ ps)
 
 -- What is known of the first piece: what it takes, or that the pattern has no match. Nothing is said only where that depends on more.
 abbrev pub IsCutOf : PieceValue → List PieceValue → List ℕ → Cut → Type 0
-IsCutOf piece ps text (At place) = IsCut piece ps text place
+IsCutOf piece ps text (At position) = IsCut piece ps text position
 IsCutOf piece ps text Nowhere = MatchesNot (piece ∷ ps) text
 IsCutOf piece ps text Unknown = DependsOnMore piece ps
 

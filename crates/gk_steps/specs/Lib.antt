@@ -2,22 +2,23 @@
 pub mod Pattern
 pub mod Decimal
 pub mod Matching
-pub mod PassingOver
+pub mod LiteralEnds
 pub mod Action
 pub mod Finding
 pub mod FilledCells
 pub mod LibraryFile
 pub mod LibraryFault
 pub mod DefaultFile
+-- How a library is kept: up to where it has entries for steps of one type, and the index of its entries.
+pub mod Library
+pub mod EntryIndex
 -- Proof machinery: what the steps of reading, matching and finding say.
 pub mod Spelling
 pub mod LibraryLine
-pub mod Library
-pub mod Places
-pub mod Columns
+pub mod CharBoundaries
+pub mod Advances
 pub mod TableRows
 pub mod Leftmost
-pub mod Kept
+pub mod Captures
 pub mod UsedFields
 pub mod Digits
-pub mod EntryIndex

@@ -10,14 +10,14 @@ abbrev pub IsCell : List PieceValue → List ℕ → Bool → Type 0
 IsCell ps text true = (spans : List (List ℕ)) × Matches ps text spans
 IsCell ps text false = MatchesNot ps text
 
--- The first cells of a row: whether these pieces match what stands after each place.
-pub record IsRowTo (size : ℕ) (ps : List PieceValue) (text : List ℕ) (places : List ℕ) (row : List Bool) : Type 0 where
+-- The first cells of a row: whether these pieces match what stands after each position.
+pub record IsRowTo (size : ℕ) (ps : List PieceValue) (text : List ℕ) (boundaries : List ℕ) (row : List Bool) : Type 0 where
   pub size_is : length row ≡ size
-  pub cells : (c : ℕ) → c < size → IsCell ps (drop (slice_index places c) text) (slice_index_or row c false)
+  pub cells : (c : ℕ) → c < size → IsCell ps (drop (slice_index boundaries c) text) (slice_index_or row c false)
 
 -- A whole row.
 abbrev pub IsRow : List PieceValue → List ℕ → List ℕ → List Bool → Type 0
-IsRow ps text places row = IsRowTo (length places) ps text places row
+IsRow ps text boundaries row = IsRowTo (length boundaries) ps text boundaries row
 
 -- Whether a cell before a column is true.
 abbrev pub IsAnyBefore : List Bool → ℕ → Bool → Type 0
@@ -31,13 +31,13 @@ pub record IsPlainRow (size : ℕ) (below : List Bool) (row : List Bool) : Type 
 
 -- This is the row with one piece more in front, whatever the pieces of the row below are.
 abbrev pub IsRowOver : PieceValue → List ℕ → List ℕ → List Bool → List Bool → Type 0
-IsRowOver piece text places below row = (ps : List PieceValue) → IsRow ps text places below → IsRow (piece ∷ ps) text places row
+IsRowOver piece text boundaries below row = (ps : List PieceValue) → IsRow ps text boundaries below → IsRow (piece ∷ ps) text boundaries row
 
 -- The rows for the last pieces of a pattern, from none on.
-pub record IsTable (size : ℕ) (ps : List PieceValue) (text : List ℕ) (places : List ℕ) (rows : List (Vec Bool Global)) : Type 0 where
+pub record IsTable (size : ℕ) (ps : List PieceValue) (text : List ℕ) (boundaries : List ℕ) (rows : List (Vec Bool Global)) : Type 0 where
   pub size_is : length rows ≡ size
-  pub each : (r : ℕ) (d : Vec Bool Global) → r < size → IsRow (drop (length ps - r) ps) text places (slice_index_or rows r d).items
+  pub each : (r : ℕ) (d : Vec Bool Global) → r < size → IsRow (drop (length ps - r) ps) text boundaries (slice_index_or rows r d).items
 
 -- The rows of all last pieces of a pattern, from none of them to the whole pattern.
 abbrev pub IsWholeTable : List Piece → List ℕ → List ℕ → List (Vec Bool Global) → Type 0
-IsWholeTable pieces text places rows = IsTable (length pieces + 1) (pieces_said pieces) text places rows
+IsWholeTable pieces text boundaries rows = IsTable (length pieces + 1) (pieces_said pieces) text boundaries rows

@@ -2,16 +2,16 @@
 use Rattle.std.specs.Prelude.{◌≡◌, codes, ℕ, Bool, List, if◌then◌else◌, Option, Some, None, option_map}
 use Rattle.std.specs.Option.{option_or}
 use Rattle.std.specs.Str.{bytes_eq}
-use Rattle.gk_steps.specs.declared.kept.Taken.{Taken}
+use Rattle.gk_steps.specs.declared.captures.Capture.{Capture}
 use Rattle.gk_steps.specs.declared.used_fields.FirstFields.{FirstFields}
 use Rattle.gk_steps.specs.Pattern.{PieceValue}
 use Rattle.gk_steps.specs.Matching.{FieldValue}
 use Rattle.gk_steps.specs.Finding.{HaveKindsOf, field_named}
-use Rattle.gk_steps.specs.Kept.{taken_value}
+use Rattle.gk_steps.specs.Captures.{capture_value}
 
 -- What a field says, where there is one.
-abbrev pub said : Option Taken → Option FieldValue
-said taken = option_map taken_value taken
+abbrev pub said : Option Capture → Option FieldValue
+said taken = option_map capture_value taken
 
 -- The first field of a name, with one field more.
 abbrev pub first_of : Option FieldValue → Bool → FieldValue → Option FieldValue

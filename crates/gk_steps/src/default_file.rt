@@ -61,8 +61,3 @@ pub fn default_library(alloc: Global) -> Result<Library, AllocError>
         Err(fault) => Err(as_alloc_error(fault)),
     }
 }
-
-/// The default library's text reads as its entries, whatever memory there is.
-pub fn default_text_reads_as_its_entries()
-    ensures { ReadsLibrary (lines_of default_text) default_entries }
-{}

@@ -1,11 +1,10 @@
 //! Runs of digits, looked along from a column.
 ghost use Rattle.std.specs.Prelude.{◌≡◌, ◌<◌, ◌≤◌, ◌+◌, ◌-◌, ◌*◌, length, MatchOption};
-ghost use Rattle.gk_steps.specs.Places.{ArePlaces};
-ghost use Rattle.gk_steps.specs.Columns.{HasDigits, IsLongest};
+ghost use Rattle.gk_steps.specs.CharBoundaries.{AreBoundaries};
+ghost use Rattle.gk_steps.specs.Advances.{HasDigits, IsLongest};
 ghost use Rattle.gk_steps.specs.Digits.{KnowsDigits, HasNumber};
 
 use crate::decimal::LARGEST;
-use crate::places::RowBelow;
 
 // A value with one digit more, up to a limit.
 fn grown(value: u64, digit: u8, most: u64) -> Option<u64>
@@ -18,16 +17,22 @@ fn grown(value: u64, digit: u8, most: u64) -> Option<u64>
 }
 
 /// Whether digits stand at a column, with a value up to a limit, after which the rest matches.
-pub(crate) fn has_digits(most: u64, text: &str, below: &RowBelow<'_>, column: usize) -> bool
-    requires places { ArePlaces text.now below.now.places.now }
-    requires column { column < length below.now.places.now }
-    requires width { length below.now.cells.now ≡ length below.now.places.now }
-    ensures { HasDigits most text.now below.now.places.now below.now.cells.now column result }
+pub(crate) fn has_digits(
+    most: u64,
+    text: &str,
+    boundaries: &[usize],
+    below: &[bool],
+    column: usize,
+) -> bool
+    requires boundaries { AreBoundaries text.now boundaries.now }
+    requires column { column < length boundaries.now }
+    requires width { length below.now ≡ length boundaries.now }
+    ensures { HasDigits most text.now boundaries.now below.now column result }
 {
     let bytes = text.as_bytes();
     let mut value: u64 = 0;
     for back in 0..column {
-        let byte = bytes[below.places[column - back]];
+        let byte = bytes[boundaries[column - back]];
         if !byte.is_ascii_digit() {
             return false;
         }
@@ -35,7 +40,7 @@ pub(crate) fn has_digits(most: u64, text: &str, below: &RowBelow<'_>, column: us
             Some(more) => value = more,
             None => return false,
         }
-        if below.cells[column - back - 1] {
+        if below[column - back - 1] {
             return true;
         }
     }
@@ -46,19 +51,20 @@ pub(crate) fn has_digits(most: u64, text: &str, below: &RowBelow<'_>, column: us
 pub(crate) fn longest_digits(
     most: u64,
     text: &str,
-    below: &RowBelow<'_>,
+    boundaries: &[usize],
+    below: &[bool],
     column: usize,
 ) -> Option<usize>
-    requires places { ArePlaces text.now below.now.places.now }
-    requires column { column < length below.now.places.now }
-    requires width { length below.now.cells.now ≡ length below.now.places.now }
-    ensures { IsLongest most text.now below.now.places.now below.now.cells.now column result }
+    requires boundaries { AreBoundaries text.now boundaries.now }
+    requires column { column < length boundaries.now }
+    requires width { length below.now ≡ length boundaries.now }
+    ensures { IsLongest most text.now boundaries.now below.now column result }
 {
     let bytes = text.as_bytes();
     let mut value: u64 = 0;
     let mut longest = None;
     for back in 0..column {
-        let byte = bytes[below.places[column - back]];
+        let byte = bytes[boundaries[column - back]];
         if !byte.is_ascii_digit() {
             return longest;
         }
@@ -67,7 +73,7 @@ pub(crate) fn longest_digits(
             None => return longest,
         }
         let next = column - back - 1;
-        if below.cells[next] {
+        if below[next] {
             longest = Some(next);
         }
     }
@@ -83,36 +89,49 @@ pub(crate) struct Digits {
 }
 
 // The same at a column, from the column after: a leading zero changes no value.
-fn digits_at(most: u64, text: &str, below: &RowBelow<'_>, column: usize, after: bool) -> bool
-    requires places { ArePlaces text.now below.now.places.now }
-    requires column { column < length below.now.places.now }
-    requires width { length below.now.cells.now ≡ length below.now.places.now }
+fn digits_at(
+    most: u64,
+    text: &str,
+    boundaries: &[usize],
+    below: &[bool],
+    column: usize,
+    after: bool,
+) -> bool
+    requires boundaries { AreBoundaries text.now boundaries.now }
+    requires column { column < length boundaries.now }
+    requires width { length below.now ≡ length boundaries.now }
     requires after { HasDigits most
-        text.now below.now.places.now below.now.cells.now (column - 1) after }
-    ensures { HasDigits most text.now below.now.places.now below.now.cells.now column result }
+        text.now boundaries.now below.now (column - 1) after }
+    ensures { HasDigits most text.now boundaries.now below.now column result }
 {
-    if column > 0 && text.as_bytes()[below.places[column]] == b'0' {
-        if below.cells[column - 1] {
+    if column > 0 && text.as_bytes()[boundaries[column]] == b'0' {
+        if below[column - 1] {
             return true;
         }
         return after;
     }
-    has_digits(most, text, below, column)
+    has_digits(most, text, boundaries, below, column)
 }
 
 impl Digits {
     /// What is known at a column, from the column after.
-    pub(crate) fn next(&self, text: &str, below: &RowBelow<'_>, column: usize) -> Digits
-        requires places { ArePlaces text.now below.now.places.now }
-        requires column { column < length below.now.places.now }
-        requires width { length below.now.cells.now ≡ length below.now.places.now }
+    pub(crate) fn next(
+        &self,
+        text: &str,
+        boundaries: &[usize],
+        below: &[bool],
+        column: usize,
+    ) -> Digits
+        requires boundaries { AreBoundaries text.now boundaries.now }
+        requires column { column < length boundaries.now }
+        requires width { length below.now ≡ length boundaries.now }
         requires after { KnowsDigits
-            text.now below.now.places.now below.now.cells.now (column - 1) self.now }
-        ensures { KnowsDigits text.now below.now.places.now below.now.cells.now column result }
+            text.now boundaries.now below.now (column - 1) self.now }
+        ensures { KnowsDigits text.now boundaries.now below.now column result }
     {
         Digits {
-            positive: digits_at(LARGEST, text, below, column, self.positive),
-            negative: digits_at(LARGEST + 1, text, below, column, self.negative),
+            positive: digits_at(LARGEST, text, boundaries, below, column, self.positive),
+            negative: digits_at(LARGEST + 1, text, boundaries, below, column, self.negative),
         }
     }
 }
@@ -120,22 +139,23 @@ impl Digits {
 /// Whether there is an advance over a number from a column, with a sign or none.
 pub(crate) fn has_number(
     text: &str,
-    below: &RowBelow<'_>,
+    boundaries: &[usize],
+    below: &[bool],
     column: usize,
     after: Digits,
     here: Digits,
 ) -> bool
-    requires places { ArePlaces text.now below.now.places.now }
-    requires column { column < length below.now.places.now }
+    requires boundaries { AreBoundaries text.now boundaries.now }
+    requires column { column < length boundaries.now }
     requires after { KnowsDigits
-        text.now below.now.places.now below.now.cells.now (column - 1) after }
-    requires here { KnowsDigits text.now below.now.places.now below.now.cells.now column here }
-    ensures { HasNumber text.now below.now.places.now below.now.cells.now column result }
+        text.now boundaries.now below.now (column - 1) after }
+    requires here { KnowsDigits text.now boundaries.now below.now column here }
+    ensures { HasNumber text.now boundaries.now below.now column result }
 {
     if column == 0 {
         return false;
     }
-    let byte = text.as_bytes()[below.places[column]];
+    let byte = text.as_bytes()[boundaries[column]];
     if byte == b'+' {
         return after.positive;
     }

@@ -1,11 +1,11 @@
 //! An index over the literals at the ends of patterns.
-ghost use Rattle.std.specs.Prelude.{◌≡◌, ◌<◌, ◌≤◌, ℕ, List, length, false, IsTrue, IfOk, IfSome, OnOk};
-ghost use Rattle.gk_steps.specs.declared.entry_index.Numbered.{Numbered};
+ghost use Rattle.std.specs.Prelude.{◌≡◌, ◌<◌, ℕ, List, length, false, IsTrue, IfOk, IfSome, OnOk};
+ghost use Rattle.gk_steps.specs.declared.entry_index.Keyed.{Keyed};
 ghost use Rattle.gk_steps.specs.Pattern.{PieceValue, piece_value, pieces_said};
 ghost use Rattle.gk_steps.specs.EntryIndex as spec;
 ghost use Rattle.gk_steps.specs.EntryIndex.{IsAmong, IsMarked, bucket_of, HasBuckets, Lists, AreListed};
 ghost use Rattle.gk_steps.specs.EntryIndex.{IsUnder, IsLeastFrom, Skips, HasFirst, HasEnds};
-ghost use Rattle.gk_steps.specs.EntryIndex.{IsAny, CanStand, SkipsEntries, IsShelf};
+ghost use Rattle.gk_steps.specs.EntryIndex.{IsAny, CanStand, SkipsEntries, IsIndexed};
 
 use crate::library::Entry;
 use crate::pattern::Piece;
@@ -13,7 +13,7 @@ use std::alloc::{AllocError, Global};
 
 /// A number under a key.
 #[derive(Clone, Copy, Debug)]
-pub(crate) struct Numbered {
+pub(crate) struct Keyed {
     pub key: usize,
     pub number: usize,
 }
@@ -26,9 +26,9 @@ pub(crate) struct Index {
     /// For each length whether a first literal has it.
     pub firsts: Vec<bool>,
     /// The lengths of last literals, in the buckets of the first literals' keys.
-    pub lasts: Vec<Vec<Numbered>>,
-    /// The places of entries, in the buckets of both literals' keys.
-    pub places: Vec<Vec<Numbered>>,
+    pub lasts: Vec<Vec<Keyed>>,
+    /// The positions of entries, in the buckets of both literals' keys.
+    pub positions: Vec<Vec<Keyed>>,
 }
 
 // The bytes of a literal; none of a field.
@@ -77,8 +77,8 @@ fn key_over(key: usize, bytes: &[u8]) -> usize
     ensures small { result < 16777216 }
 {
     let mut over = key;
-    for place in 0..bytes.len() {
-        over = key_more(over, bytes[place]);
+    for position in 0..bytes.len() {
+        over = key_more(over, bytes[position]);
     }
     over
 }
@@ -97,7 +97,7 @@ fn mark(marks: &mut Vec<bool>, size: usize) -> Result<(), AllocError>
 }
 
 // The bucket of a key.
-fn bucket_of(buckets: &[Vec<Numbered>], key: usize) -> &[Numbered]
+fn bucket_of(buckets: &[Vec<Keyed>], key: usize) -> &[Keyed]
     ensures { result.now ≡ spec.bucket_of buckets.now key }
 {
     if buckets.is_empty() {
@@ -107,11 +107,11 @@ fn bucket_of(buckets: &[Vec<Numbered>], key: usize) -> &[Numbered]
 }
 
 // Whether a number is in a bucket under a key.
-fn is_under(bucket: &[Numbered], key: usize, number: usize) -> bool
+fn is_under(bucket: &[Keyed], key: usize, number: usize) -> bool
     ensures { IsTrue result → IsUnder key number bucket.now }
 {
-    for place in 0..bucket.len() {
-        let other = bucket[place];
+    for position in 0..bucket.len() {
+        let other = bucket[position];
         if other.key == key && other.number == number {
             return true;
         }
@@ -120,24 +120,24 @@ fn is_under(bucket: &[Numbered], key: usize, number: usize) -> bool
 }
 
 // Adds a number to the bucket of a key.
-fn add_number(buckets: &mut Vec<Vec<Numbered>>, key: usize, number: usize) -> Result<(), AllocError>
+fn add_number(buckets: &mut Vec<Vec<Keyed>>, key: usize, number: usize) -> Result<(), AllocError>
     requires { 0 < length buckets.old.items }
     ensures size { OnOk result (length buckets.new.items ≡ length buckets.old.items) }
-    ensures kept { OnOk result ((k : ℕ) (n : Numbered)
+    ensures kept { OnOk result ((k : ℕ) (n : Keyed)
         → IsAmong n (bucket_of buckets.old.items k) → IsAmong n (bucket_of buckets.new.items k)) }
     ensures added { OnOk result (IsUnder key number (bucket_of buckets.new.items key)) }
 {
     let slot = key % buckets.len();
     let bucket = &mut buckets[slot];
-    bucket.push(Numbered { key, number })?;
+    bucket.push(Keyed { key, number })?;
     Ok(())
 }
 
 // Adds a number to the bucket of a key, where it isn't there.
-fn add_once(buckets: &mut Vec<Vec<Numbered>>, key: usize, number: usize) -> Result<(), AllocError>
+fn add_once(buckets: &mut Vec<Vec<Keyed>>, key: usize, number: usize) -> Result<(), AllocError>
     requires { 0 < length buckets.old.items }
     ensures size { OnOk result (length buckets.new.items ≡ length buckets.old.items) }
-    ensures kept { OnOk result ((k : ℕ) (n : Numbered)
+    ensures kept { OnOk result ((k : ℕ) (n : Keyed)
         → IsAmong n (bucket_of buckets.old.items k) → IsAmong n (bucket_of buckets.new.items k)) }
     ensures added { OnOk result (IsUnder key number (bucket_of buckets.new.items key)) }
 {
@@ -147,15 +147,15 @@ fn add_once(buckets: &mut Vec<Vec<Numbered>>, key: usize, number: usize) -> Resu
     Ok(())
 }
 
-// The least place under a key in a bucket from a place on, or a larger one that is given where none is less.
-fn least_from(bucket: &[Numbered], key: usize, from: usize, most: usize) -> usize
+// The least position under a key in a bucket from a position on, or a larger one that is given where none is less.
+fn least_from(bucket: &[Keyed], key: usize, from: usize, most: usize) -> usize
     ensures { IsLeastFrom bucket.now key from most result }
 {
     let mut least = most;
     for k in 0..bucket.len() {
-        let place = bucket[k];
-        if place.key == key && from <= place.number && place.number < least {
-            least = place.number;
+        let position = bucket[k];
+        if position.key == key && from <= position.number && position.number < least {
+            least = position.number;
         }
     }
     least
@@ -163,14 +163,14 @@ fn least_from(bucket: &[Numbered], key: usize, from: usize, most: usize) -> usiz
 
 // Whether the length of a last literal is listed under a key, and a text of a size has room for that beside a first
 // literal of a length. It has none where the two would overlap, unless the last literal is the whole text.
-fn can_end(last: Numbered, first: usize, key: usize, size: usize) -> bool
+fn can_end(last: Keyed, first: usize, key: usize, size: usize) -> bool
     ensures { result ≡ false → last.key ≡ key → CanStand first last.number size → ⊥ }
 {
     last.key == key && (last.number == size || (last.number <= size && first <= size - last.number))
 }
 
 // So many empty buckets.
-fn empty_buckets(alloc: Global, size: usize) -> Result<Vec<Vec<Numbered>>, AllocError>
+fn empty_buckets(alloc: Global, size: usize) -> Result<Vec<Vec<Keyed>>, AllocError>
     ensures { IfOk result (λ buckets. length buckets.items ≡ size) }
 {
     let mut buckets = Vec::new(alloc);
@@ -183,12 +183,12 @@ fn empty_buckets(alloc: Global, size: usize) -> Result<Vec<Vec<Numbered>>, Alloc
 impl Index {
     /// An index that lists nothing, and isn't asked. Takes no memory.
     pub(crate) fn new(alloc: Global) -> Index
-        ensures { length result.places.items ≡ 0 }
+        ensures { length result.positions.items ≡ 0 }
     {
         Index {
             firsts: Vec::new(alloc),
             lasts: Vec::new(alloc),
-            places: Vec::new(alloc),
+            positions: Vec::new(alloc),
         }
     }
 
@@ -196,39 +196,43 @@ impl Index {
     pub(crate) fn into_asked(self) -> Option<Index>
         ensures { IfSome result (λ i. i ≡ self) }
     {
-        if self.places.is_empty() {
+        if self.positions.is_empty() {
             None
         } else {
             Some(self)
         }
     }
 
-    /// Whether there are no more entries than buckets, with one at a place.
-    pub(crate) fn has_room(&self, place: usize) -> bool
+    /// Whether there are no more entries than buckets, with one at a position.
+    pub(crate) fn has_room(&self, position: usize) -> bool
         ensures { IsTrue result → HasBuckets self.now }
     {
-        place < self.lasts.len() && place < self.places.len()
+        position < self.lasts.len() && position < self.positions.len()
     }
 
-    /// Lists a pattern at a place.
+    /// Lists a pattern at a position.
     pub(crate) fn add(
         &mut self,
         alloc: Global,
-        place: usize,
+        position: usize,
         pieces: &[Piece],
     ) -> Result<(), AllocError>
         requires { HasBuckets self.old }
         ensures some { OnOk result (HasBuckets self.new) }
         ensures kept { OnOk result ((p : ℕ) (ps : List PieceValue)
             → Lists self.old p ps → Lists self.new p ps) }
-        ensures added { OnOk result (Lists self.new place (pieces_said pieces.now)) }
+        ensures added { OnOk result (Lists self.new position (pieces_said pieces.now)) }
     {
         let first = first_literal(pieces);
         let last = last_literal(pieces);
         let key = key_over(0, first.as_bytes());
         mark(&mut self.firsts, first.len())?;
         add_once(&mut self.lasts, key, last.len())?;
-        add_number(&mut self.places, key_over(key, last.as_bytes()), place)
+        add_number(
+            &mut self.positions,
+            key_over(key, last.as_bytes()),
+            position,
+        )
     }
 
     /// The index of some entries, with room for more.
@@ -239,15 +243,15 @@ impl Index {
         let mut index = Index {
             firsts: Vec::new(alloc),
             lasts: empty_buckets(alloc, size)?,
-            places: empty_buckets(alloc, size)?,
+            positions: empty_buckets(alloc, size)?,
         };
-        for place in 0..entries.len() {
-            index.add(alloc, place, &entries[place].pattern.pieces)?;
+        for position in 0..entries.len() {
+            index.add(alloc, position, &entries[position].pattern.pieces)?;
         }
         Ok(index)
     }
 
-    // The least place between two that the index lists for a text, by a first literal of a key and a last one of a
+    // The least position between two that the index lists for a text, by a first literal of a key and a last one of a
     // length.
     fn next_by_ends(&self, key: usize, last: usize, from: usize, most: usize, text: &str) -> usize
         requires { key < 16777216 }
@@ -258,10 +262,10 @@ impl Index {
             return most;
         }
         let key = key_over(key, &bytes[bytes.len() - last..]);
-        least_from(bucket_of(&self.places, key), key, from, most)
+        least_from(bucket_of(&self.positions, key), key, from, most)
     }
 
-    // The least place between two that the index lists for a text, by a first literal of a length and a key.
+    // The least position between two that the index lists for a text, by a first literal of a length and a key.
     fn next_by_first(&self, first: usize, key: usize, from: usize, most: usize, text: &str) -> usize
         requires { key < 16777216 }
         ensures { Skips (HasFirst first key) self.now from most text.now result }
@@ -278,7 +282,7 @@ impl Index {
         least
     }
 
-    /// The least place between two that the index lists for a text, or the larger one where there is none.
+    /// The least position between two that the index lists for a text, or the larger one where there is none.
     // Apart, so that the search of a short library, which has no index, stays small.
     #[inline(never)]
     pub(crate) fn next(&self, from: usize, most: usize, text: &str) -> usize
@@ -304,22 +308,22 @@ impl Index {
 
 /// Entries, with their index where there is one.
 #[derive(Clone, Copy, Debug)]
-pub(crate) struct Shelf<'a> {
+pub(crate) struct IndexedEntries<'a> {
     pub entries: &'a [Entry],
     pub index: Option<&'a Index>,
 }
 
-impl Shelf<'_> {
-    /// A place from a place on, such that no entry between them matches a text. The index isn't asked after some
+impl IndexedEntries<'_> {
+    /// A position from a position on, such that no entry between them matches a text. The index isn't asked after some
     /// tries, since that would take longer.
     #[inline(always)]
     pub(crate) fn next(&self, from: usize, tries: usize, text: &str) -> usize
-        requires { IsShelf self.now }
+        requires { IsIndexed self.now }
         ensures { SkipsEntries self.now.entries.now from text.now result }
     {
         match self.index {
             Some(index) => {
-                if tries < 8 && from < self.entries.len() && !index.places.is_empty() {
+                if tries < 8 && from < self.entries.len() && !index.positions.is_empty() {
                     index.next(from, self.entries.len(), text)
                 } else {
                     from

@@ -6,14 +6,14 @@ use std::alloc::AllocError;
 
 /// Counts the cells of tables as matches fill them. It stops at the largest number of 64 bits.
 #[derive(Debug, Drop)]
-pub struct Cells {
+pub(crate) struct Cells {
     /// How many were filled so far.
     pub filled: u64,
 }
 
 impl Cells {
     /// A count at 0.
-    pub fn new() -> Cells
+    pub(crate) fn new() -> Cells
         ensures { result.filled ≡ 0 }
     {
         Cells { filled: 0 }

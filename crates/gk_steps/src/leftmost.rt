@@ -1,11 +1,11 @@
 //! What the first pieces of a pattern take from the left, where the pieces after them leave no choice.
-ghost use Rattle.std.specs.Prelude.{◌≤◌, [], ◌∷◌, ℕ, List, map, length, MatchBool};
+ghost use Rattle.std.specs.Prelude.{◌≤◌, [], ◌∷◌, ℕ, List, length, MatchBool};
 ghost use Rattle.gk_steps.specs.declared.pattern.FieldKind.TheVariants as kinds;
 ghost use Rattle.gk_steps.specs.Pattern.{Literal, FieldPiece, piece_value, pieces_said};
-ghost use Rattle.gk_steps.specs.Leftmost.{CanStandAt, IsFirstPlace, IsCutOf, IsCutBefore};
+ghost use Rattle.gk_steps.specs.Leftmost.{CanStandAt, IsFirstPosition, IsCutOf, IsCutBefore};
 
-use crate::columns::rest_after;
-use crate::passing_over::{begins_with_bytes, ends_with};
+use crate::advances::rest_after;
+use crate::literal_ends::{begins_with_bytes, ends_with};
 use crate::pattern::{FieldKind, Piece};
 
 /// How much of a text the first piece of a pattern takes.
@@ -19,24 +19,25 @@ pub(crate) enum Cut {
     Unknown,
 }
 
-// Whether a literal stands at a place where the text may be cut.
+// Whether a literal stands at a position where the text may be cut.
 #[inline(always)]
-fn stands_at(literal: &str, text: &str, place: usize) -> bool
-    requires { place ≤ length text.now }
-    ensures { MatchBool result (CanStandAt literal.now text.now place)
-        (CanStandAt literal.now text.now place → ⊥) }
+fn stands_at(literal: &str, text: &str, position: usize) -> bool
+    requires { position ≤ length text.now }
+    ensures { MatchBool result (CanStandAt literal.now text.now position)
+        (CanStandAt literal.now text.now position → ⊥) }
 {
-    begins_with_bytes(&text.as_bytes()[place..], literal.as_bytes()) && text.is_char_boundary(place)
+    begins_with_bytes(&text.as_bytes()[position..], literal.as_bytes())
+        && text.is_char_boundary(position)
 }
 
-// The first place after a character or more where a literal stands.
+// The first position after a character or more where a literal stands.
 #[inline(always)]
-fn first_place(literal: &str, text: &str) -> Option<usize>
-    ensures { IsFirstPlace literal.now text.now result }
+fn first_position(literal: &str, text: &str) -> Option<usize>
+    ensures { IsFirstPosition literal.now text.now result }
 {
-    for place in 1..text.len() + 1 {
-        if stands_at(literal, text, place) {
-            return Some(place);
+    for position in 1..text.len() + 1 {
+        if stands_at(literal, text, position) {
+            return Some(position);
         }
     }
     None
@@ -72,8 +73,8 @@ fn cut_before_field(literal: &str, other: &str, after: &[Piece], text: &str) -> 
     ensures { let left = FieldPiece other.now kinds.Plain ∷ pieces_said after.now in
         IsCutBefore literal.now left text.now result }
 {
-    match first_place(literal, text) {
-        Some(place) => Cut::At(place),
+    match first_position(literal, text) {
+        Some(position) => Cut::At(position),
         None => Cut::Nowhere,
     }
 }

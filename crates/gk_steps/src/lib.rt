@@ -3,36 +3,40 @@
 #![tactic(auto)]
 
 mod action;
-mod columns;
+mod advances;
+mod captures;
+mod char_boundaries;
 mod decimal;
 mod default_file;
 mod digits;
 mod entry_index;
 mod filled_cells;
 mod finding;
-mod kept;
+mod laws;
 mod leftmost;
 mod library;
 mod library_fault;
 mod library_file;
 mod library_line;
+mod literal_ends;
 mod matching;
-mod passing_over;
 mod pattern;
-mod places;
 mod spelling;
 mod table_rows;
 mod used_fields;
 
 pub use action::Action;
 pub use decimal::number_of;
-pub use default_file::{DEFAULT_TEXT, default_library, default_text_reads_as_its_entries};
-pub use filled_cells::Cells;
-pub use finding::{Found, finding_is_determined};
+pub use default_file::{DEFAULT_TEXT, default_library};
+pub use finding::Found;
+pub use laws::{
+    default_text_reads_as_its_entries, finding_is_determined, library_fault_is_unique,
+    library_reading_is_unique, matches_are_determined, spelling_is_unique,
+};
 pub use library::{Entry, Library};
-pub use library_fault::{LibraryFault, library_fault_is_unique};
-pub use library_file::{library_reading_is_unique, read_library};
-pub use matching::matches_are_determined;
+pub use library_fault::LibraryFault;
+pub use library_file::read_library;
+pub use library_line::is_ignored;
 pub use pattern::{Field, FieldKind, Pattern, PatternFault, Piece};
-pub use spelling::{read_pattern, spelling_is_unique};
+pub use spelling::read_pattern;
 pub use used_fields::{FoundUse, UsedFields};

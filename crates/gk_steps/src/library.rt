@@ -1,11 +1,11 @@
 //! Step libraries.
 ghost use Rattle.std.specs.Prelude.{◌≡◌, ◌≤◌, ◌++◌, ◌∷◌, [], length, take, IsTrue, IfSome, OnOk};
 ghost use Rattle.std.proofs.Props.{props};
-ghost use Rattle.gk_steps.specs.Library.{are_for_each_from, is_for_one_before};
-ghost use Rattle.gk_steps.specs.EntryIndex.{AreListed, IsGrown, IsShelf};
+ghost use Rattle.gk_steps.specs.Library.{IsTypedEnd, are_for_each_from, is_for_one_before};
+ghost use Rattle.gk_steps.specs.EntryIndex.{AreListed, HasIndex, IsIndexed};
 
 use crate::action::Action;
-use crate::entry_index::{Index, Shelf};
+use crate::entry_index::{Index, IndexedEntries};
 use crate::pattern::Pattern;
 use gk_gherkin::StepType;
 use std::alloc::{AllocError, Global};
@@ -23,15 +23,12 @@ pub struct Entry {
 #[derive(Debug, Drop)]
 pub struct Library {
     pub entries: Vec<Entry>,
-    /// How many of the entries there are up to and with the last that is for steps of one type, and 0 where
-    /// none is. Those from this place on are for steps of each type, so a search for one type ends here.
-    pub typed: usize,
-    /// Where the entries stand, by the literals at their patterns' ends. A short library and one that was not read
-    /// have none: their entries are all looked at.
+    // Where the entries for steps of one type end: those from here on are for steps of each type, so a search for one
+    // type ends here.
+    pub(crate) typed: usize,
+    // Which entries may match a text. A short library and one that was not read have none: all entries are tried.
     index: Option<Index>,
-    ghost within: { typed ≤ length entries.items },
-    ghost rest: { IsTrue (are_for_each_from typed entries.items) },
-    ghost last: { IsTrue (is_for_one_before typed entries.items) },
+    ghost typed_end: { IsTypedEnd typed entries.items } by { Prim.hlevel props },
     ghost listed: { IfSome index (λ i. AreListed i entries.items) } by { Prim.hlevel props },
 }
 
@@ -50,18 +47,18 @@ fn typed_len(entries: &[Entry]) -> usize
 
 /// The entries that were read so far, with their index.
 #[derive(Debug, Drop)]
-pub(crate) struct Growing {
+pub(crate) struct LibraryBuilder {
     pub entries: Vec<Entry>,
     pub index: Index,
 }
 
-impl Growing {
+impl LibraryBuilder {
     /// No entries. Takes no memory.
-    pub(crate) fn new(alloc: Global) -> Growing
+    pub(crate) fn new(alloc: Global) -> LibraryBuilder
         ensures items { result.entries.items ≡ [] }
-        ensures grown { IsGrown result }
+        ensures indexed { HasIndex result }
     {
-        Growing {
+        LibraryBuilder {
             entries: Vec::new(alloc),
             index: Index::new(alloc),
         }
@@ -69,18 +66,18 @@ impl Growing {
 
     /// Adds an entry, as the last. The index is made once there are many, and anew with more room where it is full.
     pub(crate) fn push(&mut self, alloc: Global, entry: Entry) -> Result<(), AllocError>
-        requires { IsGrown self.old }
+        requires { HasIndex self.old }
         ensures items { OnOk result
             (self.new.entries.items ≡ self.old.entries.items ++ entry ∷ []) }
-        ensures grown { OnOk result (IsGrown self.new) }
+        ensures indexed { OnOk result (HasIndex self.new) }
     {
-        let place = self.entries.len();
-        if self.index.has_room(place) {
-            self.index.add(alloc, place, &entry.pattern.pieces)?;
+        let position = self.entries.len();
+        if self.index.has_room(position) {
+            self.index.add(alloc, position, &entry.pattern.pieces)?;
             self.entries.push(entry)?;
         } else {
             self.entries.push(entry)?;
-            self.index = if place < 64 {
+            self.index = if position < 64 {
                 Index::new(alloc)
             } else {
                 Index::of(alloc, &self.entries)?
@@ -90,12 +87,12 @@ impl Growing {
     }
 
     /// The entries, to be searched.
-    pub(crate) fn shelf(&self) -> Shelf<'_>
-        requires { IsGrown self.now }
+    pub(crate) fn indexed(&self) -> IndexedEntries<'_>
+        requires { HasIndex self.now }
         ensures entries { result.entries.now ≡ self.now.entries.items }
-        ensures listed { IsShelf result }
+        ensures listed { IsIndexed result }
     {
-        Shelf {
+        IndexedEntries {
             entries: &self.entries,
             index: Some(&self.index),
         }
@@ -116,36 +113,36 @@ impl Library {
     }
 
     /// The library of the entries that were read.
-    pub(crate) fn grown(growing: Growing) -> Library
-        requires { IsGrown growing }
-        ensures { result.entries ≡ growing.entries }
+    pub(crate) fn built(builder: LibraryBuilder) -> Library
+        requires { HasIndex builder }
+        ensures { result.entries ≡ builder.entries }
     {
-        let typed = typed_len(&growing.entries);
+        let typed = typed_len(&builder.entries);
         Library {
-            entries: growing.entries,
+            entries: builder.entries,
             typed,
-            index: growing.index.into_asked(),
+            index: builder.index.into_asked(),
         }
     }
 
     /// All entries, to be searched.
-    pub(crate) fn whole(&self) -> Shelf<'_>
+    pub(crate) fn whole(&self) -> IndexedEntries<'_>
         ensures entries { result.entries.now ≡ self.now.entries.items }
-        ensures listed { IsShelf result }
+        ensures listed { IsIndexed result }
     {
-        Shelf {
+        IndexedEntries {
             entries: &self.entries,
             index: self.index.as_ref(),
         }
     }
 
-    /// The entries before a place, to be searched.
-    pub(crate) fn shelf(&self, size: usize) -> Shelf<'_>
+    /// The entries before a position, to be searched.
+    pub(crate) fn indexed(&self, size: usize) -> IndexedEntries<'_>
         requires { size ≤ length self.now.entries.items }
         ensures entries { result.entries.now ≡ take size self.now.entries.items }
-        ensures listed { IsShelf result }
+        ensures listed { IsIndexed result }
     {
-        Shelf {
+        IndexedEntries {
             entries: &self.entries[..size],
             index: self.index.as_ref(),
         }

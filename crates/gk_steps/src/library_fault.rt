@@ -1,7 +1,6 @@
 //! Why a step library could not be read.
 ghost use Rattle.std.specs.Prelude.{◌≡◌};
 ghost use Rattle.gk_steps.specs.LibraryFault.{line_of_library_fault, library_fault_text};
-ghost use Rattle.gk_steps.specs.LibraryFault.{LibraryFaultIsUnique};
 ghost use Rattle.gk_steps.specs.declared.library_fault.LibraryFault.TheVariants.{Memory};
 
 use gk_gherkin::Refused;
@@ -11,8 +10,6 @@ use gk_gherkin::Refused;
 /// comes; of faulty lines the first.
 #[derive(Clone, Copy, Debug, PartialEq, Eq)]
 pub enum LibraryFault {
-    /// More bytes than a file may have, whatever they spell.
-    TooLong,
     /// The bytes aren't UTF-8. The line is that of the first byte after the longest prefix that is.
     NotUtf8 { line: u32 },
     /// A line whose first word is not `given`, `when`, `then` or `step`.
@@ -27,6 +24,8 @@ pub enum LibraryFault {
     FieldKind { line: u32 },
     /// A line whose pattern's text, as written, is matched by an earlier entry of its type.
     Ambiguous { line: u32 },
+    /// More bytes than a file may have, whatever they spell.
+    TooLong,
     /// A growth of memory was refused.
     Memory,
 }
@@ -73,9 +72,3 @@ impl<E: Refused> From<E> for LibraryFault {
         LibraryFault::Memory
     }
 }
-
-/// No bytes have two faults as a library file, neither of two kinds nor on two lines. Refused memory is no
-/// fault of the bytes.
-pub fn library_fault_is_unique()
-    ensures { LibraryFaultIsUnique }
-{}

@@ -1,17 +1,17 @@
 //! Reading a step library file.
-ghost use Rattle.std.specs.Prelude.{◌≡◌, ◌≢◌, ◌≤◌, ℕ, List, length, IfOk, IfErr, OnOk};
+ghost use Rattle.std.specs.Prelude.{◌≢◌, ◌≤◌, ℕ, List, length, IfOk, IfErr, OnOk};
 ghost use Rattle.gk_gherkin.specs.ReadFault.{LinesFaultSays};
 ghost use Rattle.gk_gherkin.specs.declared.read_fault.ReadFault.TheVariants.{Memory as ReadMemory};
 ghost use Rattle.gk_gherkin.specs.Lines.{borrowed_value, numbered_from, lines_of, IsText};
 ghost use Rattle.std.specs.Str.Lines.{lines};
-ghost use Rattle.gk_steps.specs.EntryIndex.{IsGrown};
+ghost use Rattle.gk_steps.specs.EntryIndex.{HasIndex};
 ghost use Rattle.gk_steps.specs.Finding.{LibraryValue, entries_said, library_value};
-ghost use Rattle.gk_steps.specs.LibraryFile.{ReadsLibrary, AnswersLibrary, LibraryReadingIsUnique};
+ghost use Rattle.gk_steps.specs.LibraryFile.{ReadsLibrary, AnswersLibrary};
 ghost use Rattle.gk_steps.specs.LibraryFault.{LibraryFaultSays};
 ghost use Rattle.gk_steps.specs.LibraryLine.{EntryFaultSays, LineFaultSays, LibraryLinesFaultSays};
 ghost use Rattle.gk_steps.specs.LibraryLine.{AddsEntry, AddsLine};
 
-use crate::library::{Growing, Library};
+use crate::library::{Library, LibraryBuilder};
 use crate::library_fault::LibraryFault;
 use crate::library_line::{is_ignored, read_entry};
 use gk_gherkin::{BorrowedLine, LIMIT, ReadFault, borrowed_line, text_of};
@@ -32,20 +32,20 @@ fn lines_fault(fault: ReadFault) -> LibraryFault
 
 // Adds the entry that a line spells.
 fn add_entry(
-    growing: &mut Growing,
+    builder: &mut LibraryBuilder,
     alloc: Global,
     line: &BorrowedLine<'_>,
 ) -> Result<(), LibraryFault>
-    requires { IsGrown growing.old }
-    ensures grown { OnOk result (IsGrown growing.new) }
+    requires { HasIndex builder.old }
+    ensures indexed { OnOk result (HasIndex builder.new) }
     ensures fault { IfErr result (λ f.
-        EntryFaultSays f (entries_said growing.old.entries.items) (borrowed_value line.now)) }
-    ensures added { OnOk result (AddsEntry (entries_said growing.old.entries.items)
-        (borrowed_value line.now) (entries_said growing.new.entries.items)) }
+        EntryFaultSays f (entries_said builder.old.entries.items) (borrowed_value line.now)) }
+    ensures added { OnOk result (AddsEntry (entries_said builder.old.entries.items)
+        (borrowed_value line.now) (entries_said builder.new.entries.items)) }
 {
-    match read_entry(alloc, &growing.shelf(), line) {
+    match read_entry(alloc, &builder.indexed(), line) {
         Ok(entry) => {
-            growing.push(alloc, entry)?;
+            builder.push(alloc, entry)?;
             Ok(())
         }
         Err(fault) => Err(fault),
@@ -54,45 +54,45 @@ fn add_entry(
 
 // Adds what a line says, where it isn't ignored.
 fn add_line(
-    growing: &mut Growing,
+    builder: &mut LibraryBuilder,
     alloc: Global,
     line: &BorrowedLine<'_>,
 ) -> Result<(), LibraryFault>
-    requires { IsGrown growing.old }
-    ensures grown { OnOk result (IsGrown growing.new) }
-    ensures added { OnOk result (AddsLine (entries_said growing.old.entries.items)
-        (borrowed_value line.now) (entries_said growing.new.entries.items)) }
+    requires { HasIndex builder.old }
+    ensures indexed { OnOk result (HasIndex builder.new) }
+    ensures added { OnOk result (AddsLine (entries_said builder.old.entries.items)
+        (borrowed_value line.now) (entries_said builder.new.entries.items)) }
     ensures fault { IfErr result (λ f.
-        LineFaultSays f (entries_said growing.old.entries.items) (borrowed_value line.now)) }
+        LineFaultSays f (entries_said builder.old.entries.items) (borrowed_value line.now)) }
 {
     if is_ignored(line) {
         return Ok(());
     }
-    match add_entry(growing, alloc, line) {
+    match add_entry(builder, alloc, line) {
         Ok(()) => Ok(()),
         Err(fault) => Err(fault),
     }
 }
 
 // The entries that the lines of a text spell.
-fn read_entries(alloc: Global, text: &str) -> Result<Growing, LibraryFault>
+fn read_entries(alloc: Global, text: &str) -> Result<LibraryBuilder, LibraryFault>
     requires { length text.now ≤ LIMIT }
-    ensures grown { IfOk result (λ g. IsGrown g) }
+    ensures indexed { IfOk result (λ g. HasIndex g) }
     ensures found { IfOk result (λ g.
         ReadsLibrary (numbered_from 1 (lines text.now)) (entries_said g.entries.items)) }
     ensures fault { IfErr result (λ f.
         LibraryLinesFaultSays f (numbered_from 1 (lines text.now))) }
 {
-    let mut growing = Growing::new(alloc);
+    let mut builder = LibraryBuilder::new(alloc);
     let mut number: u32 = 1;
     for part in text.lines() {
-        match add_line(&mut growing, alloc, &borrowed_line(number, part)) {
+        match add_line(&mut builder, alloc, &borrowed_line(number, part)) {
             Ok(()) => {}
             Err(fault) => return Err(fault),
         }
         number += 1;
     }
-    Ok(growing)
+    Ok(builder)
 }
 
 /// The library that the bytes of a file spell. Blank lines and those that begin with `#` are ignored;
@@ -115,14 +115,9 @@ pub fn read_library(alloc: Global, bytes: &[u8]) -> Result<Library, LibraryFault
 {
     match text_of(bytes) {
         Ok(text) => match read_entries(alloc, text) {
-            Ok(growing) => Ok(Library::grown(growing)),
+            Ok(builder) => Ok(Library::built(builder)),
             Err(fault) => Err(fault),
         },
         Err(fault) => Err(lines_fault(fault)),
     }
 }
-
-/// No list of lines says two libraries.
-pub fn library_reading_is_unique()
-    ensures { LibraryReadingIsUnique }
-{}

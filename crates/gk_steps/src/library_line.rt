@@ -1,13 +1,13 @@
 //! Reading one line of a step library file.
-ghost use Rattle.std.specs.Prelude.{◌≡◌, is_some, ◌≤◌, codes, length, map, option_map, IfOk, IfErr};
+ghost use Rattle.std.specs.Prelude.{◌≡◌, is_some, codes, option_map, IfOk, IfErr};
 ghost use Rattle.gk_gherkin.specs.Text as texts;
 ghost use Rattle.gk_gherkin.specs.Lines.{borrowed_value};
 ghost use Rattle.gk_steps.specs.Pattern.{pattern_value, pieces_said, SpellsPattern};
 ghost use Rattle.gk_steps.specs.Pattern.{field_kind as field_kind_of};
 ghost use Rattle.gk_steps.specs.Finding.{entries_said, entry_value};
-ghost use Rattle.gk_steps.specs.EntryIndex.{IsShelf};
+ghost use Rattle.gk_steps.specs.EntryIndex.{IsIndexed};
 ghost use Rattle.gk_steps.specs.LibraryFile as spec;
-ghost use Rattle.gk_steps.specs.LibraryFile.{Sides, SpellsEntry};
+ghost use Rattle.gk_steps.specs.LibraryFile.{SpellsEntry};
 ghost use Rattle.gk_steps.specs.Action as actions;
 ghost use Rattle.gk_steps.specs.LibraryLine as machinery;
 ghost use Rattle.std.specs.List.{list_all};
@@ -15,10 +15,10 @@ ghost use Rattle.gk_steps.specs.LibraryLine.{FitsAction, ActionFaultSays, Patter
 ghost use Rattle.gk_steps.specs.LibraryLine.{IsEntryText, EntryTextFaultSays, EntryFaultSays};
 
 use crate::action::{Action, row_named};
-use crate::entry_index::Shelf;
+use crate::captures::NoCaptures;
+use crate::entry_index::IndexedEntries;
 use crate::filled_cells::Cells;
 use crate::finding::find_of;
-use crate::kept::Unkept;
 use crate::library::Entry;
 use crate::library_fault::LibraryFault;
 use crate::pattern::{FieldKind, Pattern, PatternFault, Piece};
@@ -27,8 +27,8 @@ use gk_gherkin::text::{begins, split_word, trim};
 use gk_gherkin::{BorrowedLine, StepType};
 use std::alloc::Global;
 
-/// Whether a line is blank or a comment.
-pub(crate) fn is_ignored(line: &BorrowedLine<'_>) -> bool
+/// Returns whether a line of a library file is ignored: it is blank, or begins with `#`. Takes no memory.
+pub fn is_ignored(line: &BorrowedLine<'_>) -> bool
     ensures { result ≡ spec.is_ignored (borrowed_value line.now) }
 {
     let text = trim(line.text);
@@ -65,11 +65,11 @@ fn last_arrow<'a>(text: &'a str) -> Option<(&'a str, &'a str)>
         ≡ spec.last_arrow text.entry.now }
 {
     let bytes = text.as_bytes();
-    let mut place = bytes.len();
-    while place > 0 {
-        place -= 1;
-        if is_arrow(&bytes[place..]) {
-            return Some((&text[..place], &text[place + 2..]));
+    let mut position = bytes.len();
+    while position > 0 {
+        position -= 1;
+        if is_arrow(&bytes[position..]) {
+            return Some((&text[..position], &text[position + 2..]));
         }
     }
     None
@@ -200,11 +200,11 @@ fn action_at(line: u32, name: &str, pieces: &[Piece]) -> Result<Action, LibraryF
 // The entry of a line from what it says of it.
 fn entry_from(
     alloc: Global,
-    earlier: &Shelf<'_>,
+    earlier: &IndexedEntries<'_>,
     line: &BorrowedLine<'_>,
     said: &EntryText<'_>,
 ) -> Result<Entry, LibraryFault>
-    requires shelf { IsShelf earlier.now }
+    requires indexed { IsIndexed earlier.now }
     requires said { IsEntryText (borrowed_value line.now)
         said.now.step_type said.now.pattern.now said.now.action.now }
     ensures entry { IfOk result (λ e.
@@ -223,7 +223,7 @@ fn entry_from(
         Err(fault) => return Err(fault),
     };
     let mut cells = Cells::new();
-    match find_of::<Unkept>(&mut cells, alloc, earlier, said.step_type, said.pattern)? {
+    match find_of::<NoCaptures>(&mut cells, alloc, earlier, said.step_type, said.pattern)? {
         Some(_) => Err(LibraryFault::Ambiguous { line: number }),
         None => Ok(Entry {
             step_type: said.step_type,
@@ -236,10 +236,10 @@ fn entry_from(
 /// The entry that a line spells after earlier ones.
 pub(crate) fn read_entry(
     alloc: Global,
-    earlier: &Shelf<'_>,
+    earlier: &IndexedEntries<'_>,
     line: &BorrowedLine<'_>,
 ) -> Result<Entry, LibraryFault>
-    requires { IsShelf earlier.now }
+    requires { IsIndexed earlier.now }
     ensures entry { IfOk result (λ e.
         SpellsEntry (entries_said earlier.now.entries.now)
         (borrowed_value line.now) (entry_value e)) }

@@ -6,13 +6,13 @@ ghost use Rattle.gk_steps.specs.declared.pattern.FieldKind.{FieldKind as Kind};
 ghost use Rattle.gk_steps.specs.declared.pattern.PatternFault.TheVariants.{BadPattern, Memory};
 ghost use Rattle.gk_steps.specs.Pattern as spec;
 ghost use Rattle.gk_steps.specs.Pattern.{PieceValue, pieces_said, pattern_value, spelled_literal};
-ghost use Rattle.gk_steps.specs.Pattern.{BeginsWithPiece, SpellsPattern, SpellingIsUnique};
+ghost use Rattle.gk_steps.specs.Pattern.{BeginsWithPiece, SpellsPattern};
 ghost use Rattle.gk_steps.specs.Spelling as machinery;
 ghost use Rattle.gk_steps.specs.Spelling.{BeginsAtBrace, EndsLiteral, IsOnlyName, HasLiteral};
 ghost use Rattle.gk_steps.specs.Spelling.{HasField, HasNoField, PushesLiteral, PushesField};
 ghost use Rattle.gk_steps.specs.Spelling.{IsSpelled, AnswersPieces, field_tail};
 
-use crate::columns::rest_after;
+use crate::advances::rest_after;
 use crate::pattern::{FieldKind, Pattern, PatternFault, Piece};
 use std::alloc::{AllocError, Global};
 
@@ -281,8 +281,3 @@ pub fn read_pattern(alloc: Global, text: &str) -> Result<Pattern, PatternFault>
     }
     Ok(Pattern { pieces })
 }
-
-/// A text spells one pattern at most.
-pub fn spelling_is_unique()
-    ensures { SpellingIsUnique }
-{}

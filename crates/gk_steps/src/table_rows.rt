@@ -1,33 +1,32 @@
 //! The rows of the table of a match.
 ghost use Rattle.std.specs.Prelude.{◌≡◌, ◌<◌, ◌≤◌, ◌+◌, ℕ, List, [], length, IfOk, OnOk};
 ghost use Rattle.gk_steps.specs.FilledCells.{GoesOnBy};
-ghost use Rattle.gk_steps.specs.Pattern.{PieceValue, piece_value};
+ghost use Rattle.gk_steps.specs.Pattern.{piece_value};
 ghost use Rattle.gk_steps.specs.Digits.{IsNumberRow};
-ghost use Rattle.gk_steps.specs.Places.{ArePlaces};
+ghost use Rattle.gk_steps.specs.CharBoundaries.{AreBoundaries};
 ghost use Rattle.gk_steps.specs.TableRows.{IsRow, IsRowOver, IsPlainRow};
 
-use crate::columns::advance;
+use crate::advances::advance;
 use crate::digits::{Digits, has_number};
 use crate::filled_cells::Cells;
 use crate::pattern::{FieldKind, Piece};
-use crate::places::RowBelow;
 use std::alloc::{AllocError, Global};
 
 /// The row of no pieces: they match what is empty.
 pub(crate) fn first_row(
     cells: &mut Cells,
     alloc: Global,
-    places: &[usize],
+    boundaries: &[usize],
 ) -> Result<Vec<bool>, AllocError>
-    ensures row { (text : List ℕ) → ArePlaces text places.now
-        → IfOk result (λ row. IsRow [] text places.now row.items) }
-    ensures most { cells.new.filled ≤ cells.old.filled + length places.now }
+    ensures row { (text : List ℕ) → AreBoundaries text boundaries.now
+        → IfOk result (λ row. IsRow [] text boundaries.now row.items) }
+    ensures most { cells.new.filled ≤ cells.old.filled + length boundaries.now }
     ensures least { cells.old.filled ≤ cells.new.filled }
     ensures filled { OnOk result
-        (GoesOnBy (length places.now) cells.old.filled cells.new.filled) }
+        (GoesOnBy (length boundaries.now) cells.old.filled cells.new.filled) }
 {
     let mut row = Vec::new(alloc);
-    for column in 0..places.len() {
+    for column in 0..boundaries.len() {
         cells.fill(&mut row, column == 0)?;
     }
     Ok(row)
@@ -55,58 +54,63 @@ fn decimal_row(
     cells: &mut Cells,
     alloc: Global,
     text: &str,
-    below: &RowBelow<'_>,
+    boundaries: &[usize],
+    below: &[bool],
 ) -> Result<Vec<bool>, AllocError>
-    requires places { ArePlaces text.now below.now.places.now }
-    requires width { length below.now.cells.now ≡ length below.now.places.now }
+    requires boundaries { AreBoundaries text.now boundaries.now }
+    requires width { length below.now ≡ length boundaries.now }
     ensures row { IfOk result (λ row.
-        IsNumberRow (length below.now.places.now)
-        text.now below.now.places.now below.now.cells.now row.items) }
-    ensures most { cells.new.filled ≤ cells.old.filled + length below.now.places.now }
+        IsNumberRow (length boundaries.now)
+        text.now boundaries.now below.now row.items) }
+    ensures most { cells.new.filled ≤ cells.old.filled + length boundaries.now }
     ensures least { cells.old.filled ≤ cells.new.filled }
     ensures filled { OnOk result
-        (GoesOnBy (length below.now.places.now) cells.old.filled cells.new.filled) }
+        (GoesOnBy (length boundaries.now) cells.old.filled cells.new.filled) }
 {
     let mut row = Vec::new(alloc);
     let mut digits = Digits {
         positive: false,
         negative: false,
     };
-    for column in 0..below.places.len() {
-        let here = digits.next(text, below, column);
-        cells.fill(&mut row, has_number(text, below, column, digits, here))?;
+    for column in 0..boundaries.len() {
+        let here = digits.next(text, boundaries, below, column);
+        cells.fill(
+            &mut row,
+            has_number(text, boundaries, below, column, digits, here),
+        )?;
         digits = here;
     }
     Ok(row)
 }
 
-/// The row of a piece and those of the row below: whether they match what stands after each place.
+/// The row of a piece and those of the row below: whether they match what stands after each position.
 pub(crate) fn row_over(
     cells: &mut Cells,
     alloc: Global,
     piece: &Piece,
     text: &str,
-    below: &RowBelow<'_>,
+    boundaries: &[usize],
+    below: &[bool],
 ) -> Result<Vec<bool>, AllocError>
-    requires places { ArePlaces text.now below.now.places.now }
-    requires width { length below.now.cells.now ≡ length below.now.places.now }
+    requires boundaries { AreBoundaries text.now boundaries.now }
+    requires width { length below.now ≡ length boundaries.now }
     ensures row { IfOk result (λ row.
         IsRowOver (piece_value piece.now)
-        text.now below.now.places.now below.now.cells.now row.items) }
-    ensures most { cells.new.filled ≤ cells.old.filled + length below.now.places.now }
+        text.now boundaries.now below.now row.items) }
+    ensures most { cells.new.filled ≤ cells.old.filled + length boundaries.now }
     ensures least { cells.old.filled ≤ cells.new.filled }
     ensures filled { OnOk result
-        (GoesOnBy (length below.now.places.now) cells.old.filled cells.new.filled) }
+        (GoesOnBy (length boundaries.now) cells.old.filled cells.new.filled) }
 {
     if let Piece::Field { kind, .. } = piece {
         return match kind {
-            FieldKind::Plain => plain_row(cells, alloc, below.cells),
-            FieldKind::Decimal => decimal_row(cells, alloc, text, below),
+            FieldKind::Plain => plain_row(cells, alloc, below),
+            FieldKind::Decimal => decimal_row(cells, alloc, text, boundaries, below),
         };
     }
     let mut row = Vec::new(alloc);
-    for column in 0..below.places.len() {
-        let cell = advance(piece, text, below, column).is_some();
+    for column in 0..boundaries.len() {
+        let cell = advance(piece, text, boundaries, below, column).is_some();
         cells.fill(&mut row, cell)?;
     }
     Ok(row)

@@ -1,17 +1,17 @@
 //! What the fields took that actions use.
 ghost use Rattle.std.specs.Prelude.{◌≡◌, ◌++◌, ◌∷◌, [], codes, map, List, IfOk, IfErr, option_map, option_and_then};
 ghost use Rattle.gk_steps.specs.Pattern.{PieceValue, piece_value, pieces_said};
-ghost use Rattle.gk_steps.specs.Columns.{Takes, values_of};
+ghost use Rattle.gk_steps.specs.Advances.{Takes, values_of};
 ghost use Rattle.gk_steps.specs.Matching.{FieldValue, field_value};
 ghost use Rattle.gk_steps.specs.Finding as spec;
 ghost use Rattle.gk_steps.specs.Finding.{FoundValue, HasCandidateFor, HasUsedFields, IsUseOf, LibraryValue, library_value, found_value};
-ghost use Rattle.gk_steps.specs.Kept.{taken_value};
+ghost use Rattle.gk_steps.specs.Captures.{capture_value};
 ghost use Rattle.gk_steps.specs.UsedFields.{said, first_of, AreFirst, AreJoined, IsAdded, KeepsFirst};
 
 use crate::action::Action;
+use crate::captures::{Capture, Captures, capture_of};
 use crate::filled_cells::Cells;
 use crate::finding::{Found, Hit};
-use crate::kept::{Kept, Taken, taken_of};
 use crate::library::Library;
 use crate::pattern::{Field, Piece};
 use gk_gherkin::StepType;
@@ -44,15 +44,15 @@ pub struct FoundUse<'a> {
 /// What the first field of each of these names took.
 #[derive(Clone, Copy, Debug)]
 pub(crate) struct FirstFields<'a> {
-    pub name: Option<Taken<'a>>,
-    pub to: Option<Taken<'a>>,
-    pub step: Option<Taken<'a>>,
-    pub number: Option<Taken<'a>>,
-    pub text: Option<Taken<'a>>,
+    pub name: Option<Capture<'a>>,
+    pub to: Option<Capture<'a>>,
+    pub step: Option<Capture<'a>>,
+    pub number: Option<Capture<'a>>,
+    pub text: Option<Capture<'a>>,
 }
 
 /// Nothing is kept of the others, and no memory is taken.
-impl<'t> Kept<'t> for FirstFields<'t> {
+impl<'t> Captures<'t> for FirstFields<'t> {
     ghost keeps = { KeepsFirst };
 
     #[inline(always)]
@@ -84,8 +84,8 @@ const NO_FIELDS: FirstFields<'static> = FirstFields {
 
 // The first field of a name, with one field more, which may have that name.
 #[inline(always)]
-fn first<'a>(so_far: Option<Taken<'a>>, is_named: bool, taken: Taken<'a>) -> Option<Taken<'a>>
-    ensures { said result ≡ first_of (said so_far.entry) is_named (taken_value taken.entry) }
+fn first<'a>(so_far: Option<Capture<'a>>, is_named: bool, taken: Capture<'a>) -> Option<Capture<'a>>
+    ensures { said result ≡ first_of (said so_far.entry) is_named (capture_value taken.entry) }
 {
     if so_far.is_none() && is_named {
         Some(taken)
@@ -96,8 +96,8 @@ fn first<'a>(so_far: Option<Taken<'a>>, is_named: bool, taken: Taken<'a>) -> Opt
 
 // The first fields, with one field more.
 #[inline(always)]
-fn with_field<'a>(so_far: FirstFields<'a>, name: &str, taken: Taken<'a>) -> FirstFields<'a>
-    ensures { IsAdded name.now (taken_value taken.entry) so_far.entry result }
+fn with_field<'a>(so_far: FirstFields<'a>, name: &str, taken: Capture<'a>) -> FirstFields<'a>
+    ensures { IsAdded name.now (capture_value taken.entry) so_far.entry result }
 {
     FirstFields {
         name: first(so_far.name, name == "name", taken),
@@ -118,7 +118,9 @@ fn with_piece<'a>(so_far: FirstFields<'a>, piece: &Piece, span: &'a str) -> Firs
 {
     match piece {
         Piece::Literal(_) => so_far,
-        Piece::Field { name, kind } => { with_field(so_far, name.as_str(), taken_of(*kind, span)) }
+        Piece::Field { name, kind } => {
+            with_field(so_far, name.as_str(), capture_of(*kind, span))
+        }
     }
 }
 
@@ -138,12 +140,12 @@ fn joined<'a>(so_far: FirstFields<'a>, later: FirstFields<'a>) -> FirstFields<'a
 
 // What a field took.
 #[inline(always)]
-fn lent<'a>(field: &'a Field) -> Taken<'a>
-    ensures { taken_value result ≡ field_value field.now }
+fn lent<'a>(field: &'a Field) -> Capture<'a>
+    ensures { capture_value result ≡ field_value field.now }
 {
     match field {
-        Field::Text(text) => Taken::Text(text),
-        Field::Number(number) => Taken::Number(*number),
+        Field::Text(text) => Capture::Text(text),
+        Field::Number(number) => Capture::Number(*number),
     }
 }
 
@@ -169,23 +171,23 @@ fn first_fields<'a>(pieces: &[Piece], fields: &'a [Field]) -> FirstFields<'a>
 
 // The text that a field took.
 #[inline(always)]
-fn text_in<'a>(taken: Option<Taken<'a>>) -> Option<&'a str>
+fn text_in<'a>(taken: Option<Capture<'a>>) -> Option<&'a str>
     ensures { option_map (λ t. t.now) result ≡ option_and_then spec.as_text (said taken.entry) }
 {
     match taken? {
-        Taken::Text(text) => Some(text),
-        Taken::Number(_) => None,
+        Capture::Text(text) => Some(text),
+        Capture::Number(_) => None,
     }
 }
 
 // The number that a field took.
 #[inline(always)]
-fn number_in(taken: Option<Taken<'_>>) -> Option<i64>
+fn number_in(taken: Option<Capture<'_>>) -> Option<i64>
     ensures { result ≡ option_and_then spec.as_number (said taken.entry) }
 {
     match taken? {
-        Taken::Text(_) => None,
-        Taken::Number(number) => Some(number),
+        Capture::Text(_) => None,
+        Capture::Number(number) => Some(number),
     }
 }
 
@@ -216,8 +218,8 @@ impl Library {
         }
     }
 
-    /// What the fields of what was found in this library took that actions use, each as `text` and `number`
-    /// answer it. Each field is looked at once. Takes no memory.
+    /// Returns what the fields of what was found in this library took that actions use. Each field is looked at
+    /// once. Takes no memory.
     #[inline(always)]
     pub fn used_fields<'a>(&self, found: &'a Found) -> UsedFields<'a>
         ensures name { option_map (λ t. t.now) result.name
@@ -235,7 +237,8 @@ impl Library {
     }
 
     /// What `find` finds, as a step's action works with it. No text is copied: what the fields took are
-    /// slices of this text. Memory is taken only where a table is made.
+    /// slices of this text. Memory is taken only where a table is made. At most one whole table is filled for each
+    /// entry of the step's type and of type `step`: (pieces + 1) times (characters + 1) cells.
     /// (behave's documentation: step implementations)
     #[inline(always)]
     pub fn find_used<'a>(

@@ -5,6 +5,8 @@
 #![tactic(auto)]
 
 #[cfg(test)]
+mod act_tests;
+#[cfg(test)]
 mod gherkin_tests;
 #[cfg(test)]
 mod library_tests;

@@ -1,5 +1,5 @@
 use gk_gherkin::StepType;
-use gk_steps::{Cells, Found, FoundUse, Library, default_library, read_library};
+use gk_steps::{Found, FoundUse, Library, default_library, read_library};
 use std::alloc::{AllocError, Global};
 use std::test::Fail;
 
@@ -86,9 +86,8 @@ fn the_built_in_library_has_its_entries(rt: HostRuntime) -> Result<(), Fail> {
 #[test]
 fn known_steps_are_told_from_others(rt: HostRuntime) -> Result<(), Fail> {
     let library = read_library(rt.alloc(), LIBRARY.as_bytes())?;
-    let mut cells = Cells::new();
     for (text, wanted) in [("a b", true), ("a c", false)] {
-        let known = library.knows_counting(rt.alloc(), &mut cells, StepType::When, text)?;
+        let known = library.knows(rt.alloc(), StepType::When, text)?;
         assert_eq!(rt; known, wanted);
     }
     Ok(())

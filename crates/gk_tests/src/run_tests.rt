@@ -116,7 +116,7 @@ fn shown(alloc: Global, case: &CaseResult) -> Result<String, AllocError> {
 }
 
 // The cases of the feature that a text has.
-fn cases_of(alloc: Global, text: &str) -> Result<Vec<Case>, Fail> {
+pub fn cases_of(alloc: Global, text: &str) -> Result<Vec<Case>, Fail> {
     let feature = feature_of(alloc, text)?;
     Ok(expand(alloc, &feature)?)
 }

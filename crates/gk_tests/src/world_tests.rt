@@ -213,7 +213,7 @@ fn change_in_two_layers(world: &mut Sandbox, names: &[String], rounds: usize) ->
     (done, inside)
 }
 
-/// Makes changes in three layers, one inside the other, and answers whether enough were carried out, and
+/// Makes changes in three layers, one inside the other, and answers whether a thousand were carried out, and
 /// whether those of the two inner ones aren't recorded any more after their end.
 fn three_layers_end(world: &mut Sandbox, names: &[String], rounds: usize) -> bool
     requires { depth world.old ≡ 0 }
@@ -224,19 +224,20 @@ fn three_layers_end(world: &mut Sandbox, names: &[String], rounds: usize) -> boo
     let (middle, inner) = change_in_two_layers(world, names, rounds);
     let recorded = world.recorded();
     world.end(layer);
-    done > 100 && middle > 100 && inner > 100 && recorded == done
+    let all = done.saturating_add(middle).saturating_add(inner);
+    all >= 1000 && recorded == done
 }
 
-/// Whether all is as before after three layers with changes, and enough of them were carried out.
+/// Whether all is as before after three layers with a thousand changes.
 fn three_layers_give_back(world: &mut Sandbox, alloc: Global) -> Result<bool, WorldFault>
     requires { depth world.old ≡ 0 }
 {
     let names = forty_names(alloc)?;
     fill(world, &names)?;
     let before = world.listing(alloc)?;
-    let is_enough = three_layers_end(world, &names, 9);
+    let are_thousand = three_layers_end(world, &names, 10);
     let after = world.listing(alloc)?;
-    Ok(is_enough && is_same(&before, &after))
+    Ok(are_thousand && is_same(&before, &after))
 }
 
 #[test]

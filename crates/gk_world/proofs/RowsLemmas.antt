@@ -6,8 +6,8 @@ use Rattle.std.specs.Map.{lookup, keys_of, values_of}
 use Rattle.indexmap.specs.IndexMap.{IndexMap, set_value_at, insert_entry}
 use Rattle.indexmap.proofs.CallerLemmas.{insert_entry-new}
 use Rattle.gk_world.specs.Cells.{Slot, Cell, cell_at}
-use Rattle.gk_world.specs.Slots.{Writes, HasCell, cells_of, name_at, with_cells, with_cell, IsPlace, IsMissing, IsAt, IsNew, NamesDiffer, seen, slots_of}
-use Rattle.gk_world.proofs.SlotsLemmas.{place_is, writes, has_cell, cell-back, differ-with_cells, differ-front, push-back}
+use Rattle.gk_world.specs.Slots.{Writes, HasCell, cells_of, name_at, with_cells, with_cell, IsPosition, IsMissing, IsAt, IsNew, NamesDiffer, seen, slots_of}
+use Rattle.gk_world.proofs.SlotsLemmas.{position_is, writes, has_cell, cell-back, differ-with_cells, differ-front, push-back}
 
 -- whether a key is this name
 abbrev pub is_name : List ℕ → String Global → Bool
@@ -28,31 +28,31 @@ module _ {C : Type 0} (cells : C → List Cell) where
   lookup-missing n [] h = refl
   lookup-missing n (e ∷ es) h = ap (λ b. cond b (Some e.1) (lookup (is_name n) es)) h.0 ∙ lookup-missing n es h.1
 
-  place_by_index : (n : List ℕ) (es : List (String Global × C)) (i : ℕ) (d : String Global) → i < length es → is_name n (get_or (keys_of es) i d) ≡ true → ((k : ℕ) → k < i → is_name n (get_or (keys_of es) k d) ≡ false) → IsPlace n (slots_of cells es) i
-  place_by_index n [] i d lt hit h = absurd (omega arith)
-  place_by_index n (e ∷ es) zero d lt hit h = hit
-  place_by_index n (e ∷ es) (suc i) d lt hit h = (h zero (omega arith), place_by_index n es i d (omega arith) hit (λ k l. h (suc k) (omega arith)))
+  position_by_index : (n : List ℕ) (es : List (String Global × C)) (i : ℕ) (d : String Global) → i < length es → is_name n (get_or (keys_of es) i d) ≡ true → ((k : ℕ) → k < i → is_name n (get_or (keys_of es) k d) ≡ false) → IsPosition n (slots_of cells es) i
+  position_by_index n [] i d lt hit h = absurd (omega arith)
+  position_by_index n (e ∷ es) zero d lt hit h = hit
+  position_by_index n (e ∷ es) (suc i) d lt hit h = (h zero (omega arith), position_by_index n es i d (omega arith) hit (λ k l. h (suc k) (omega arith)))
 
   length-keys : (es : List (String Global × C)) → length (keys_of es) ≡ length es
   length-keys [] = refl
   length-keys (e ∷ es) = ap suc (length-keys es)
 
-  place_from : (n : List ℕ) (es : List (String Global × C)) (i : ℕ) → position (is_name n) (keys_of es) ≡ Some i → IsPlace n (slots_of cells es) i
-  place_from n [] i h = absurd (true≢false (sym (ap is_some h)))
-  place_from n (e ∷ es) i h =
+  position_from : (n : List ℕ) (es : List (String Global × C)) (i : ℕ) → position (is_name n) (keys_of es) ≡ Some i → IsPosition n (slots_of cells es) i
+  position_from n [] i h = absurd (true≢false (sym (ap is_some h)))
+  position_from n (e ∷ es) i h =
       let f = position-Some (is_name n) (keys_of (e ∷ es)) i e.0 h in
-      place_by_index n (e ∷ es) i e.0 (subst (λ n. i < n) (length-keys (e ∷ es)) f.0) f.1 f.2
+      position_by_index n (e ∷ es) i e.0 (subst (λ n. i < n) (length-keys (e ∷ es)) f.0) f.1 f.2
 
   -- where an index map finds a name
   pub found_at : (n : List ℕ) (es : List (String Global × C)) (s : List Slot) (r : Option ℕ) → slots_of cells es ≡ s → r ≡ position (is_name n) (keys_of es) → is_some r ≡ is_some (lookup (is_name n) es) → MatchOption r (IsNew n s) (λ i. IsAt n s i)
-  found_at n es s r e h f = place_is n (slots_of cells es) s r e (raw r h f)
+  found_at n es s r e h f = position_is n (slots_of cells es) s r e (raw r h f)
     where
       none : {A : Type 0} (o : Option A) → false ≡ is_some o → o ≡ None
       none None g = refl
       none (Some x) g = absurd (true≢false (sym g))
 
-      raw : (r : Option ℕ) → r ≡ position (is_name n) (keys_of es) → is_some r ≡ is_some (lookup (is_name n) es) → MatchOption r (IsMissing n (slots_of cells es)) (λ i. IsPlace n (slots_of cells es) i)
-      raw (Some i) h f = place_from n es i (sym h)
+      raw : (r : Option ℕ) → r ≡ position (is_name n) (keys_of es) → is_some r ≡ is_some (lookup (is_name n) es) → MatchOption r (IsMissing n (slots_of cells es)) (λ i. IsPosition n (slots_of cells es) i)
+      raw (Some i) h f = position_from n es i (sym h)
       raw None h f = missing_from n es (none (lookup (is_name n) es) f)
 
   rows-set : (es : List (String Global × C)) (i : ℕ) (new : C) → slots_of cells (set_value_at es i new) ≡ with_cells (slots_of cells es) i (cells new)
@@ -65,8 +65,8 @@ module _ {C : Type 0} (cells : C → List Cell) where
   cells-at (e ∷ es) zero x h = let same : e.1 ≡ x = cc in ap cells same
   cells-at (e ∷ es) (suc i) x h = cells-at es i x h
 
-  pub cells-at-place : (es : List (String Global × C)) (s : List Slot) (i : ℕ) (x : C) → slots_of cells es ≡ s → slice_get (values_of es) i ≡ Some x → cells x ≡ cells_of s i
-  cells-at-place es s i x is at = sym (cells-at es i x at) ∙ ap (λ s. cells_of s i) is
+  pub cells-at-position : (es : List (String Global × C)) (s : List Slot) (i : ℕ) (x : C) → slots_of cells es ≡ s → slice_get (values_of es) i ≡ Some x → cells x ≡ cells_of s i
+  cells-at-position es s i x is at = sym (cells-at es i x at) ∙ ap (λ s. cells_of s i) is
 
   -- the name of the row at i
   name-at : (es : List (String Global × C)) (i : ℕ) (r : String Global × C) → Some r ≡ slice_get es i → string_bytes r.0 ≡ name_at (slots_of cells es) i
@@ -74,8 +74,8 @@ module _ {C : Type 0} (cells : C → List Cell) where
   name-at (e ∷ es) zero r h = let same : r ≡ e = cc in ap (λ (r : String Global × C). string_bytes r.0) same
   name-at (e ∷ es) (suc i) r h = name-at es i r h
 
-  pub name-at-place : (es : List (String Global × C)) (s : List Slot) (i : ℕ) (r : String Global × C) → slots_of cells es ≡ s → Some r ≡ slice_get es i → string_bytes r.0 ≡ name_at s i
-  name-at-place es s i r is at = name-at es i r at ∙ ap (λ s. name_at s i) is
+  pub name-at-position : (es : List (String Global × C)) (s : List Slot) (i : ℕ) (r : String Global × C) → slots_of cells es ≡ s → Some r ≡ slice_get es i → string_bytes r.0 ≡ name_at s i
+  name-at-position es s i r is at = name-at es i r at ∙ ap (λ s. name_at s i) is
 
   no-name : (es : List (String Global × C)) (i : ℕ) → None ≡ slice_get es i → [] ≡ name_at (slots_of cells es) i
   no-name [] i h = refl
@@ -83,27 +83,27 @@ module _ {C : Type 0} (cells : C → List Cell) where
   no-name (e ∷ es) (suc i) h = no-name es i h
 
   -- there is no name after the last row
-  pub no-name-at-place : (es : List (String Global × C)) (s : List Slot) (i : ℕ) → slots_of cells es ≡ s → None ≡ slice_get es i → [] ≡ name_at s i
-  no-name-at-place es s i is at = no-name es i at ∙ ap (λ s. name_at s i) is
+  pub no-name-at-position : (es : List (String Global × C)) (s : List Slot) (i : ℕ) → slots_of cells es ≡ s → None ≡ slice_get es i → [] ≡ name_at s i
+  no-name-at-position es s i is at = no-name es i at ∙ ap (λ s. name_at s i) is
 
   -- a write of one cell of the row at i
   row-write : (es : List (String Global × C)) (s : List Slot) (i j : ℕ) (x new : C) (c : Cell) → slots_of cells es ≡ s → slice_get (values_of es) i ≡ Some x → cells new ≡ set (cells x) j c → slots_of cells (set_value_at es i new) ≡ with_cell s i j c
   row-write es s i j x new c is at e =
       rows-set es i new
-      ∙ ap (with_cells (slots_of cells es) i) (e ∙ ap (λ l. set l j c) (cells-at-place es s i x is at))
+      ∙ ap (with_cells (slots_of cells es) i) (e ∙ ap (λ l. set l j c) (cells-at-position es s i x is at))
       ∙ ap (λ t. with_cells t i (set (cells_of s i) j c)) is
 
   -- what a write of one cell of the row at i makes of slots, and what its undo makes of these
   pub record IsWritten (width : ℕ) (s t : List Slot) (i j : ℕ) (c old : Cell) : Type 0 where
     pub set_to : t ≡ with_cell s i j c
-    pub on_maps : (name : List ℕ) → IsPlace name s i → Writes name j c s t
+    pub on_maps : (name : List ℕ) → IsPosition name s i → Writes name j c s t
     pub has : HasCell width t i j
     pub back : with_cell t i j old ≡ s
 
   pub written : (width : ℕ) (es : List (String Global × C)) (s : List Slot) (i j : ℕ) (x new : C) (c old : Cell) → slots_of cells es ≡ s → i < length s → j < width → slice_get (values_of es) i ≡ Some x → j < length (cells x) → cells new ≡ set (cells x) j c → old ≡ cell_at j (cells x) → IsWritten width s (slots_of cells (set_value_at es i new)) i j c old
   written width es s i j x new c old is there allowed at within e was =
       let t = slots_of cells (set_value_at es i new) in
-      let row : cells x ≡ cells_of s i = cells-at-place es s i x is at in
+      let row : cells x ≡ cells_of s i = cells-at-position es s i x is at in
       let same : t ≡ with_cell s i j c = row-write es s i j x new c is at e in
       let here : j < length (cells_of s i) = subst (λ l. j < length l) row within in
       record {
@@ -139,8 +139,8 @@ module _ {C : Type 0} (cells : C → List Cell) where
   differ-popped es fs o e d = differ-front (slots_of cells fs) (slots_of cells (option_to_list o)) (subst NamesDiffer (ap (slots_of cells) e ∙ slots_of-append fs (option_to_list o)) d)
 
   -- the rows before the last, where it is taken off
-  pub popped : (es fs : List (String Global × C)) (o : Option (String Global × C)) (s : List Slot) (place : ℕ) → slots_of cells es ≡ s → es ≡ fs ++ option_to_list o → length s ≡ place + 1 → (0 < length es → IsSome o) → take place s ≡ slots_of cells fs
-  popped es fs None s place view e last found = absurd (true≢false (sym (found (omega (arith, last, ap length view, length-slots_of es)))))
-  popped es fs (Some r) s place view e last found =
+  pub popped : (es fs : List (String Global × C)) (o : Option (String Global × C)) (s : List Slot) (position : ℕ) → slots_of cells es ≡ s → es ≡ fs ++ option_to_list o → length s ≡ position + 1 → (0 < length es → IsSome o) → take position s ≡ slots_of cells fs
+  popped es fs None s position view e last found = absurd (true≢false (sym (found (omega (arith, last, ap length view, length-slots_of es)))))
+  popped es fs (Some r) s position view e last found =
       let more : s ≡ slots_of cells fs ++ seen cells r ∷ [] = sym view ∙ ap (slots_of cells) e ∙ slots_of-append fs (r ∷ []) in
-      push-back (slots_of cells fs) s (seen cells r) place more (omega (arith, last, ap length more, length-append (slots_of cells fs) (seen cells r ∷ [])))
+      push-back (slots_of cells fs) s (seen cells r) position more (omega (arith, last, ap length more, length-append (slots_of cells fs) (seen cells r ∷ [])))

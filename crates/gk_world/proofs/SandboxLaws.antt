@@ -25,7 +25,7 @@ give_back s t u w e =
     let marks : length u.entries ∷ u.marks ≡ length s.entries ∷ s.marks = sym e.forgotten ∙ inner.1 in
     record {
       contents = ap (λ l. get_or l 0 s.now) saved;
-      layers = ap rest_of saved;
+      saved = ap rest_of saved;
       marks = ap rest_of marks;
       recorded = ap (λ l. get_or l 0 0) marks;
     }

@@ -9,7 +9,7 @@ use Rattle.std.proofs.lemmas.List.{take-append-le, length-append}
 use Rattle.std.proofs.Math.Seq.{take-length}
 use Rattle.gk_world.specs.Cells.{Slot, Cell, cell_at, IsOnly}
 use Rattle.gk_world.specs.State.{Texts, with_entry}
-use Rattle.gk_world.specs.Slots.{map_at, Writes, with_cells, with_cell, cells_of, name_at, IsPlace, IsMissing, IsAt, IsNew, HasCell, IsNewest, NamesDiffer}
+use Rattle.gk_world.specs.Slots.{map_at, Writes, with_cells, with_cell, cells_of, name_at, IsPosition, IsMissing, IsAt, IsNew, HasCell, IsNewest, NamesDiffer}
 
 pub same_texts : (m n : Texts) → ((q : List ℕ) → get m q ≡ get n q) → m ≡ n
 same_texts m n h = same_map nat_list_cmp_total (slice_cmp-IsAntisymmetric nat_cmp-IsAntisymmetric) m n h
@@ -38,7 +38,7 @@ apart n m q f a b =
     true≢false (sym ((bytes_eq-Decides n m).1 same) ∙ f)
 
 -- to write the slot of a name is to set that name
-get-map_at-with_cells : (j : ℕ) (n : List ℕ) (s : List Slot) (i : ℕ) (c : List Cell) → IsPlace n s i → (q : List ℕ) → get (map_at j (with_cells s i c)) q ≡ cond (bytes_eq q n) (cell_at j c) (get (map_at j s) q)
+get-map_at-with_cells : (j : ℕ) (n : List ℕ) (s : List Slot) (i : ℕ) (c : List Cell) → IsPosition n s i → (q : List ℕ) → get (map_at j (with_cells s i c)) q ≡ cond (bytes_eq q n) (cell_at j c) (get (map_at j s) q)
 get-map_at-with_cells j n [] i c h q = absurd h
 get-map_at-with_cells j n (s ∷ ss) zero c h q =
     get-with_entry (map_at j ss) s.0 (cell_at j c) q
@@ -60,17 +60,17 @@ get-map_at-push j n (s ∷ ss) c h q =
     ∙ ap (cond (bytes_eq q n) (cell_at j c)) (sym (get-with_entry (map_at j ss) s.0 (cell_at j s.1) q))
 
 -- the same as equations of maps
-map_at-with_cells : (j : ℕ) (n : List ℕ) (s : List Slot) (i : ℕ) (c : List Cell) → IsPlace n s i → map_at j (with_cells s i c) ≡ with_entry (map_at j s) n (cell_at j c)
+map_at-with_cells : (j : ℕ) (n : List ℕ) (s : List Slot) (i : ℕ) (c : List Cell) → IsPosition n s i → map_at j (with_cells s i c) ≡ with_entry (map_at j s) n (cell_at j c)
 map_at-with_cells j n s i c h = same_texts _ _ (λ q. get-map_at-with_cells j n s i c h q ∙ sym (get-with_entry (map_at j s) n (cell_at j c) q))
 
 pub map_at-push : (j : ℕ) (n : List ℕ) (s : List Slot) (c : List Cell) → IsMissing n s → map_at j (s ++ (n, c) ∷ []) ≡ with_entry (map_at j s) n (cell_at j c)
 map_at-push j n s c h = same_texts _ _ (λ q. get-map_at-push j n s c h q ∙ sym (get-with_entry (map_at j s) n (cell_at j c) q))
 
 -- what a map has at a name
-pub get-map_at-place : (j : ℕ) (n : List ℕ) (s : List Slot) (i : ℕ) → IsPlace n s i → get (map_at j s) n ≡ cell_at j (cells_of s i)
-get-map_at-place j n [] i h = absurd h
-get-map_at-place j n (s ∷ ss) zero h = get-with_entry (map_at j ss) s.0 (cell_at j s.1) n ∙ ap (λ b. cond b (cell_at j s.1) (get (map_at j ss) n)) h
-get-map_at-place j n (s ∷ ss) (suc i) h = get-with_entry (map_at j ss) s.0 (cell_at j s.1) n ∙ ap (λ b. cond b (cell_at j s.1) (get (map_at j ss) n)) h.0 ∙ get-map_at-place j n ss i h.1
+pub get-map_at-position : (j : ℕ) (n : List ℕ) (s : List Slot) (i : ℕ) → IsPosition n s i → get (map_at j s) n ≡ cell_at j (cells_of s i)
+get-map_at-position j n [] i h = absurd h
+get-map_at-position j n (s ∷ ss) zero h = get-with_entry (map_at j ss) s.0 (cell_at j s.1) n ∙ ap (λ b. cond b (cell_at j s.1) (get (map_at j ss) n)) h
+get-map_at-position j n (s ∷ ss) (suc i) h = get-with_entry (map_at j ss) s.0 (cell_at j s.1) n ∙ ap (λ b. cond b (cell_at j s.1) (get (map_at j ss) n)) h.0 ∙ get-map_at-position j n ss i h.1
 
 pub get-map_at-missing : (j : ℕ) (n : List ℕ) (s : List Slot) → IsMissing n s → get (map_at j s) n ≡ None
 get-map_at-missing j n [] h = get-empty _ n
@@ -85,13 +85,13 @@ same_write m n c h = same_texts _ _ (λ q. get-with_entry m n c q ∙ by (bytes_
     by false q e = refl
 
 -- a write of one cell of a name's slot
-pub writes : (n : List ℕ) (s t : List Slot) (i j : ℕ) (c : Cell) → t ≡ with_cell s i j c → IsPlace n s i → j < length (cells_of s i) → Writes n j c s t
+pub writes : (n : List ℕ) (s t : List Slot) (i j : ℕ) (c : Cell) → t ≡ with_cell s i j c → IsPosition n s i → j < length (cells_of s i) → Writes n j c s t
 writes n s t i j c e h lt = subst (Writes n j c s) (sym e) (record {
   here = map_at-with_cells j n s i (set (cells_of s i) j c) h ∙ ap (with_entry (map_at j s) n) (get_or-set_same (cells_of s i) j c None lt);
   others = λ k ne.
       map_at-with_cells k n s i (set (cells_of s i) j c) h
       ∙ ap (with_entry (map_at k s) n) (get_or-set_other (cells_of s i) j k c None ne)
-      ∙ same_write (map_at k s) n (cell_at k (cells_of s i)) (get-map_at-place k n s i h);
+      ∙ same_write (map_at k s) n (cell_at k (cells_of s i)) (get-map_at-position k n s i h);
 })
 
 -- a slot that is added, with one text
@@ -101,19 +101,19 @@ pushes n s t cells j c e h only = subst (Writes n j c s) (sym e) (record {
   others = λ k ne. map_at-push k n s cells h ∙ same_write (map_at k s) n (cell_at k cells) (get-map_at-missing k n s h ∙ sym (only.others k ne));
 })
 
--- ---- places
-pub place-within : (n : List ℕ) (s : List Slot) (i : ℕ) → IsPlace n s i → i < length s
-place-within n [] i h = absurd h
-place-within n (s ∷ ss) zero h = omega arith
-place-within n (s ∷ ss) (suc i) h = omega (arith, place-within n ss i h.1)
+-- ---- positions
+pub position-within : (n : List ℕ) (s : List Slot) (i : ℕ) → IsPosition n s i → i < length s
+position-within n [] i h = absurd h
+position-within n (s ∷ ss) zero h = omega arith
+position-within n (s ∷ ss) (suc i) h = omega (arith, position-within n ss i h.1)
 
-pub named : (n : List ℕ) (s : List Slot) (i : ℕ) → IsPlace n s i → n ≡ name_at s i
+pub named : (n : List ℕ) (s : List Slot) (i : ℕ) → IsPosition n s i → n ≡ name_at s i
 named n [] i h = absurd h
 named n (w ∷ s) zero h = bytes_self n w.0 h
 named n (w ∷ s) (suc i) h = named n s i h.1
 
-pub first_is : (n : List ℕ) (s : List Slot) (i : ℕ) → IsPlace n s i → IsPlace (name_at s i) s i
-first_is n s i h = subst (λ n. IsPlace n s i) (named n s i h) h
+pub first_is : (n : List ℕ) (s : List Slot) (i : ℕ) → IsPosition n s i → IsPosition (name_at s i) s i
+first_is n s i h = subst (λ n. IsPosition n s i) (named n s i h) h
 
 -- ---- names that differ
 unequal : (n m : List ℕ) → bytes_eq n m ≡ false → bytes_eq m n ≡ false
@@ -129,7 +129,7 @@ missing-name n (w ∷ s) zero h lt = unequal n w.0 h.0
 missing-name n (w ∷ s) (suc i) h lt = missing-name n s i h.1 (omega arith)
 
 -- where names differ, each slot is the first of its name
-pub first_of : (s : List Slot) (i : ℕ) → NamesDiffer s → i < length s → IsPlace (name_at s i) s i
+pub first_of : (s : List Slot) (i : ℕ) → NamesDiffer s → i < length s → IsPosition (name_at s i) s i
 first_of [] i d lt = absurd (omega arith)
 first_of (w ∷ s) zero d lt = (bytes_eq-Decides w.0 w.0).1 refl
 first_of (w ∷ s) (suc i) d lt = (missing-name w.0 s i d.0 (omega arith), first_of s i d.1 (omega arith))
@@ -211,9 +211,9 @@ newest width n s t cells i j c e is only allowed =
     last [] = refl
     last (v ∷ s) = last s
 
-pub place_is : (n : List ℕ) (s t : List Slot) (r : Option ℕ) → s ≡ t → MatchOption r (IsMissing n s) (λ i. IsPlace n s i) → MatchOption r (IsNew n t) (λ i. IsAt n t i)
-place_is n s t None e h = subst (IsNew n) e (record { missing = h; absent = λ k. get-map_at-missing k n s h })
-place_is n s t (Some i) e h = subst (λ s. IsAt n s i) e (record { within = place-within n s i h; found = h; first = first_is n s i h; holds = λ k. get-map_at-place k n s i h })
+pub position_is : (n : List ℕ) (s t : List Slot) (r : Option ℕ) → s ≡ t → MatchOption r (IsMissing n s) (λ i. IsPosition n s i) → MatchOption r (IsNew n t) (λ i. IsAt n t i)
+position_is n s t None e h = subst (IsNew n) e (record { missing = h; absent = λ k. get-map_at-missing k n s h })
+position_is n s t (Some i) e h = subst (λ s. IsAt n s i) e (record { within = position-within n s i h; found = h; first = first_is n s i h; holds = λ k. get-map_at-position k n s i h })
 
 -- ---- undoing
 written-twice : (s : List Slot) (i : ℕ) (cs ds : List Cell) → with_cells (with_cells s i cs) i ds ≡ with_cells s i ds

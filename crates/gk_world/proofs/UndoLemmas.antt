@@ -26,15 +26,15 @@ taken_back m n c none = same_texts _ _ (λ q. by (bytes_eq q n) q refl ∙ sym (
 
 -- an undo sets a cell of its name to the old text
 pub undo_writes : (w : ℕ) (u : SlotUndo) (s : List Slot) → NamesDiffer s → Fits w u s → Undoes u s (undone u s)
-undo_writes w (Restore place cell old) s d h = writes (name_at s place) s _ place cell (option_map string_bytes old) refl (first_of s place d h.there) h.within
-undo_writes w (Created place cell) s d h =
-    let within : place < length s = omega (arith, h.last) in
-    let x : Slot = get_or s place ([], []) in
-    let before : List Slot = take place s in
-    let e : (k : ℕ) → map_at k s ≡ with_entry (map_at k before) x.0 (cell_at k x.1) = λ k. ap (map_at k) (last_off s place h.last) ∙ map_at-push k x.0 before x.1 (missing_before s place d within) in
+undo_writes w (Restore position cell old) s d h = writes (name_at s position) s _ position cell (option_map string_bytes old) refl (first_of s position d h.there) h.within
+undo_writes w (Created position cell) s d h =
+    let within : position < length s = omega (arith, h.last) in
+    let x : Slot = get_or s position ([], []) in
+    let before : List Slot = take position s in
+    let e : (k : ℕ) → map_at k s ≡ with_entry (map_at k before) x.0 (cell_at k x.1) = λ k. ap (map_at k) (last_off s position h.last) ∙ map_at-push k x.0 before x.1 (missing_before s position d within) in
     record {
-      here = taken_back (map_at cell before) x.0 (cell_at cell x.1) (get-map_at-missing cell x.0 before (missing_before s place d within)) ∙ ap (λ m. with_entry m x.0 None) (sym (e cell));
-      others = λ k ne. sym (e k ∙ same_write (map_at k before) x.0 (cell_at k x.1) (get-map_at-missing k x.0 before (missing_before s place d within) ∙ sym (h.others k ne)));
+      here = taken_back (map_at cell before) x.0 (cell_at cell x.1) (get-map_at-missing cell x.0 before (missing_before s position d within)) ∙ ap (λ m. with_entry m x.0 None) (sym (e cell));
+      others = λ k ne. sym (e k ∙ same_write (map_at k before) x.0 (cell_at k x.1) (get-map_at-missing k x.0 before (missing_before s position d within) ∙ sym (h.others k ne)));
     }
 
 pub length-layers_of : (d : ℕ) (s : List Slot) → length (layers_of d s) ≡ d
@@ -86,23 +86,23 @@ kept_take (suc n) (w ∷ s) =
     record { shorter = omega (arith, r.shorter); names = elim [ zero ↦ λ h. refl | suc k ↦ λ h. r.names k (omega arith) ] }
 
 pub kept_undone : (u : SlotUndo) (s : List Slot) → Kept (undone u s) s
-kept_undone (Restore place cell old) s = kept_cells s place _
-kept_undone (Created place cell) s = kept_take place s
+kept_undone (Restore position cell old) s = kept_cells s position _
+kept_undone (Created position cell) s = kept_take position s
 
 -- names still differ after an undo
 pub differ_undone : (u : SlotUndo) (s : List Slot) → NamesDiffer s → NamesDiffer (undone u s)
-differ_undone (Restore place cell old) s d = differ-with_cells s place _ d
-differ_undone (Created place cell) s d = differ-take place s d
+differ_undone (Restore position cell old) s d = differ-with_cells s position _ d
+differ_undone (Created position cell) s d = differ-take position s d
 
 -- an undo that fits where the names are kept has the same name
 pub name_same : (w : ℕ) (u : SlotUndo) (t s : List Slot) → Kept t s → Fits w u t → name_of t u ≡ name_of s u
-name_same w (Restore place cell old) t s k h = k.names place h.there
-name_same w (Created place cell) t s k h = k.names place (omega (arith, h.last))
+name_same w (Restore position cell old) t s k h = k.names position h.there
+name_same w (Created position cell) t s k h = k.names position (omega (arith, h.last))
 
 -- an undo that fits is of one of so many cells
 pub cell_within : (w : ℕ) (u : SlotUndo) (s : List Slot) → Fits w u s → cell_of u < w
-cell_within w (Restore place cell old) s h = h.allowed
-cell_within w (Created place cell) s h = h.allowed
+cell_within w (Restore position cell old) s h = h.allowed
+cell_within w (Created position cell) s h = h.allowed
 
 -- where there is one cell alone, an undo sets its name to the old text
 pub map_undone : (u : SlotUndo) (s : List Slot) → NamesDiffer s → Fits 1 u s → map_at 0 (undone u s) ≡ with_entry (map_at 0 s) (name_of s u) (old_of u)

@@ -69,15 +69,15 @@ pub data Works : SandboxValue → SandboxValue → Type 0 where
   layer : {s t u v : SandboxValue} → Works (begun s) t → Ends t u → Works u v → Works s v
 
 -- The contents, what each open layer's end gives, the marks and the number of entries are what they were. (behave's documentation: context layers)
-pub record IsAsBefore (old new : SandboxValue) : Type 0 where
+pub record IsSame (old new : SandboxValue) : Type 0 where
   pub contents : new.now ≡ old.now
-  pub layers : new.saved ≡ old.saved
+  pub saved : new.saved ≡ old.saved
   pub marks : new.marks ≡ old.marks
   pub recorded : length new.entries ≡ length old.entries
 
 -- Whatever is done in a layer, its end gives back what was there as it began. (behave's documentation: context layers)
 abbrev pub LayersGiveBack : Type 0
-LayersGiveBack = (s t u : SandboxValue) → Works (begun s) t → Ends t u → IsAsBefore s u
+LayersGiveBack = (s t u : SandboxValue) → Works (begun s) t → Ends t u → IsSame s u
 
 -- Contents with so many further layers, which have no values. (behave's documentation: context layers)
 abbrev pub with_layers : ℕ → Contents → Contents

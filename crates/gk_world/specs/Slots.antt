@@ -59,14 +59,14 @@ abbrev pub with_cell : List Slot → ℕ → ℕ → Cell → List Slot
 with_cell s i k c = with_cells s i (slice_set (cells_of s i) k c)
 
 -- The first slot of this name is at i.
-abbrev pub IsPlace : List ℕ → List Slot → ℕ → Type 0
-IsPlace name [] i = ⊥
-IsPlace name (s ∷ ss) zero = bytes_eq name s.0 ≡ true
-IsPlace name (s ∷ ss) (suc i) = (bytes_eq name s.0 ≡ false) × IsPlace name ss i
+abbrev pub IsPosition : List ℕ → List Slot → ℕ → Type 0
+IsPosition name [] i = ⊥
+IsPosition name (s ∷ ss) zero = bytes_eq name s.0 ≡ true
+IsPosition name (s ∷ ss) (suc i) = (bytes_eq name s.0 ≡ false) × IsPosition name ss i
 
 -- In the slot at i, the first of its name, this cell has this text or none, and all else stays.
 abbrev pub WritesAt : ℕ → ℕ → Cell → List Slot → List Slot → Type 0
-WritesAt i cell text old new = (name : List ℕ) → IsPlace name old i → Writes name cell text old new
+WritesAt i cell text old new = (name : List ℕ) → IsPosition name old i → Writes name cell text old new
 
 -- There is no slot of this name.
 abbrev pub IsMissing : List ℕ → List Slot → Type 0
@@ -76,8 +76,8 @@ IsMissing name (s ∷ ss) = (bytes_eq name s.0 ≡ false) × IsMissing name ss
 -- The slot at i is the first of this name, and has the name's texts.
 pub record IsAt (name : List ℕ) (s : List Slot) (i : ℕ) : Type 0 where
   pub within : i < length s
-  pub found : IsPlace name s i
-  pub first : IsPlace (name_at s i) s i
+  pub found : IsPosition name s i
+  pub first : IsPosition (name_at s i) s i
   pub holds : (k : ℕ) → finite.get (map_at k s) name ≡ cell_at k (cells_of s i)
 
 -- The name has no slot, and so no text.
@@ -90,42 +90,42 @@ abbrev pub NamesDiffer : List Slot → Type 0
 NamesDiffer [] = Unit {0}
 NamesDiffer (s ∷ ss) = IsMissing s.0 ss × NamesDiffer ss
 
--- There is a slot at this place, and it has this cell, one of so many.
-pub record HasCell (width : ℕ) (s : List Slot) (place cell : ℕ) : Type 0 where
-  pub there : place < length s
-  pub within : cell < length (cells_of s place)
+-- There is a slot at this position, and it has this cell, one of so many.
+pub record HasCell (width : ℕ) (s : List Slot) (position cell : ℕ) : Type 0 where
+  pub there : position < length s
+  pub within : cell < length (cells_of s position)
   pub allowed : cell < width
 
--- The slot at this place is the last, and has nothing but in this cell, one of so many.
-pub record IsNewest (width : ℕ) (s : List Slot) (place cell : ℕ) : Type 0 where
-  pub last : length s ≡ place + 1
-  pub others : (k : ℕ) → k ≢ cell → cell_at k (cells_of s place) ≡ None
+-- The slot at this position is the last, and has nothing but in this cell, one of so many.
+pub record IsNewest (width : ℕ) (s : List Slot) (position cell : ℕ) : Type 0 where
+  pub last : length s ≡ position + 1
+  pub others : (k : ℕ) → k ≢ cell → cell_at k (cells_of s position) ≡ None
   pub allowed : cell < width
 
 -- Whether an undo fits these slots: the slot that it names is there and, for a creation, is the last, with its other cells absent.
 abbrev pub Fits : ℕ → SlotUndo → List Slot → Type 0
-Fits width (Restore place cell old) s = HasCell width s place cell
-Fits width (Created place cell) s = IsNewest width s place cell
+Fits width (Restore position cell old) s = HasCell width s position cell
+Fits width (Created position cell) s = IsNewest width s position cell
 
 -- The slots before a change: the cell has its old text again, or the new slot is gone.
 abbrev pub undone : SlotUndo → List Slot → List Slot
-undone (Restore place cell old) s = with_cell s place cell (option_map string_bytes old)
-undone (Created place cell) s = take place s
+undone (Restore position cell old) s = with_cell s position cell (option_map string_bytes old)
+undone (Created position cell) s = take position s
 
 -- The name of an undo, as it is seen where it is in slots.
 abbrev pub name_of : List Slot → SlotUndo → List ℕ
-name_of s (Restore place cell old) = name_at s place
-name_of s (Created place cell) = name_at s place
+name_of s (Restore position cell old) = name_at s position
+name_of s (Created position cell) = name_at s position
 
 -- The cell of an undo.
 abbrev pub cell_of : SlotUndo → ℕ
-cell_of (Restore place cell old) = cell
-cell_of (Created place cell) = cell
+cell_of (Restore position cell old) = cell
+cell_of (Created position cell) = cell
 
 -- The old text of an undo, or none.
 abbrev pub old_of : SlotUndo → Cell
-old_of (Restore place cell old) = option_map string_bytes old
-old_of (Created place cell) = None
+old_of (Restore position cell old) = option_map string_bytes old
+old_of (Created position cell) = None
 
 -- An undo, on maps: the cell of its name has the old text again, or none, and all else stays.
 abbrev pub Undoes : SlotUndo → List Slot → List Slot → Type 0

@@ -37,7 +37,7 @@ impl<T: Reversible> Journal<T> {
         self.entries.len()
     }
 
-    /// Makes a change and records its undo, as the newest entry. The entry's place comes before the
+    /// Makes a change and records its undo, as the newest entry. The entry's position comes before the
     /// change, so `Memory` may stand in place of another fault. A refusal changes nothing and keeps
     /// every entry.
     pub fn change(&mut self, on: &mut T, change: T::Change) -> Result<(), WorldFault>

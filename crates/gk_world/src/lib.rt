@@ -5,22 +5,22 @@
 
 mod cells;
 mod journal;
+mod laws;
 mod listing;
 mod refusals;
 mod reversible;
 mod sandbox;
 mod slots;
-mod state;
 mod table;
 mod values;
 mod world;
 
 pub use journal::Journal;
+pub use laws::{changes_are_of_state, layers_enter, layers_give_back, put_texts, removed_texts};
 pub use listing::Listing;
 pub use refusals::{LONGEST_NAME, LONGEST_TEXT, WorldFault, is_bad_name};
 pub use reversible::Reversible;
-pub use sandbox::{Layer, Sandbox, changes_are_of_state, layers_give_back};
+pub use sandbox::{Layer, Sandbox};
 pub use slots::SlotUndo;
-pub use state::{layers_enter, put_texts, removed_texts};
 pub use table::{Table, TableChange};
 pub use values::{ValueChange, Values};

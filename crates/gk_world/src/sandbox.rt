@@ -22,7 +22,7 @@ use std::marker::Model;
 /// An open layer: its number, counted from 1 at the outermost. It has to be spent, and only
 /// `Sandbox::end` takes it. (behave's documentation: context layers)
 pub struct Layer {
-    // Its place, counted from 1 at the outermost.
+    // Its position, counted from 1 at the outermost.
     number: usize,
 }
 
@@ -283,16 +283,3 @@ impl Sandbox {
         self.world.listing(alloc, self.depth)
     }
 }
-
-/// Whatever is done in a layer, by changes, refused ones among them, and by inner layers that end, its end
-/// gives back the contents at its beginning, and leaves the layers further out as they were.
-/// (behave's documentation: context layers)
-pub fn layers_give_back()
-    ensures { LayersGiveBack }
-{}
-
-/// What each change of the contents is to the plain state.
-/// (behave's documentation: context layers)
-pub fn changes_are_of_state()
-    ensures { ChangesAreOfState }
-{}

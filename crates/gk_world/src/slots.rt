@@ -1,6 +1,6 @@
 //! Rows of cells by name, each a text or absent. Each change can be undone.
 ghost use Rattle.std.specs.Prelude.{◌≡◌, List, [], ◌<◌, length, MatchOption, None, Some, OnOk, OnErr, IfOk, IfErr, IfSome, IfNone, is_none, true, false, option_map, option_copied, string_bytes};
-ghost use Rattle.gk_world.specs.Slots.{text_at, with_cell, cells_of, name_at, Puts, Writes, WritesAt, IsPlace, IsMissing, IsAt, IsNew, slots_of, Fits, undone, Undoes, NamesDiffer};
+ghost use Rattle.gk_world.specs.Slots.{text_at, with_cell, cells_of, name_at, Puts, Writes, WritesAt, IsPosition, IsMissing, IsAt, IsNew, slots_of, Fits, undone, Undoes, NamesDiffer};
 ghost use Rattle.gk_world.specs.Cells.{cell_at};
 
 use crate::cells::Cells;
@@ -12,9 +12,9 @@ use std::marker::Model;
 /// The inverse of one change of one row.
 #[derive(Drop)]
 pub enum SlotUndo {
-    /// The row at a place had this in a cell.
+    /// The row at a position had this in a cell.
     Restore(usize, usize, Option<String>),
-    /// The row at a place is new, and has its only text in this cell.
+    /// The row at a position is new, and has its only text in this cell.
     Created(usize, usize),
 }
 
@@ -46,34 +46,34 @@ impl<C: Cells> Slots<C> {
         }
     }
 
-    /// The place of a name's row.
-    fn place(&self, name: &str) -> Option<usize>
+    /// The position of a name's row.
+    fn position(&self, name: &str) -> Option<usize>
         ensures { MatchOption result (IsNew name.now self.now) (λ i. IsAt name.now self.now i) }
     {
         self.rows.get_index_of(name)
     }
 
-    /// What is in a cell of the row at a place.
-    fn cell(&self, place: usize, cell: usize) -> Option<&str>
-        requires place { place < length self.now }
+    /// What is in a cell of the row at a position.
+    fn cell(&self, position: usize, cell: usize) -> Option<&str>
+        requires position { position < length self.now }
         requires cell { cell < C.width }
-        ensures { option_copied result ≡ cell_at cell (cells_of self.now place) }
+        ensures { option_copied result ≡ cell_at cell (cells_of self.now position) }
     {
-        self.rows[place].text(cell)
+        self.rows[position].text(cell)
     }
 
-    /// Puts a text, or none, into a cell of the row at a place.
-    fn write(&mut self, place: usize, cell: usize, text: Option<String>) -> SlotUndo
-        requires place { place < length self.old }
+    /// Puts a text, or none, into a cell of the row at a position.
+    fn write(&mut self, position: usize, cell: usize, text: Option<String>) -> SlotUndo
+        requires position { position < length self.old }
         requires cell { cell < C.width }
-        ensures writes { WritesAt place cell (option_map string_bytes text) self.old self.new }
-        ensures set { self.new ≡ with_cell self.old place cell (option_map string_bytes text) }
+        ensures writes { WritesAt position cell (option_map string_bytes text) self.old self.new }
+        ensures set { self.new ≡ with_cell self.old position cell (option_map string_bytes text) }
         ensures fits { Fits C.width result self.new }
         ensures before { undone result self.new ≡ self.old }
     {
-        let cells = &mut self.rows[place];
+        let cells = &mut self.rows[position];
         let old = cells.replace(cell, text);
-        SlotUndo::Restore(place, cell, old)
+        SlotUndo::Restore(position, cell, old)
     }
 
     /// Adds a row, as the last, with its only text in a cell.
@@ -86,9 +86,9 @@ impl<C: Cells> Slots<C> {
         ensures err { OnErr result (self.new ≡ self.old) }
         ensures memory { IfErr result (λ e. e ≡ WorldFault.Memory) }
     {
-        let place = self.rows.len();
+        let position = self.rows.len();
         match self.rows.insert(name, C::only(cell, text)) {
-            Ok(_) => Ok(SlotUndo::Created(place, cell)),
+            Ok(_) => Ok(SlotUndo::Created(position, cell)),
             Err(_) => Err(WorldFault::Memory),
         }
     }
@@ -107,12 +107,12 @@ impl<C: Cells> Slots<C> {
         self.rows.len()
     }
 
-    /// The name of the row at a place.
-    pub fn name(&self, place: usize) -> &str
-        requires { place < length self.now }
-        ensures { result.now ≡ name_at self.now place }
+    /// The name of the row at a position.
+    pub fn name(&self, position: usize) -> &str
+        requires { position < length self.now }
+        ensures { result.now ≡ name_at self.now position }
     {
-        match self.rows.get_index(place) {
+        match self.rows.get_index(position) {
             Some((name, _)) => name.as_str(),
             None => "",
         }
@@ -123,8 +123,8 @@ impl<C: Cells> Slots<C> {
         requires { cell < C.width }
         ensures { option_copied result ≡ text_at cell self.now name.now }
     {
-        match self.place(name) {
-            Some(place) => self.cell(place, cell),
+        match self.position(name) {
+            Some(position) => self.cell(position, cell),
             None => None,
         }
     }
@@ -139,8 +139,8 @@ impl<C: Cells> Slots<C> {
         ensures err { OnErr result (self.new ≡ self.old) }
         ensures memory { IfErr result (λ e. e ≡ WorldFault.Memory) }
     {
-        let answer = match self.place(name.as_str()) {
-            Some(place) => Ok(self.write(place, cell, Some(text))),
+        let answer = match self.position(name.as_str()) {
+            Some(position) => Ok(self.write(position, cell, Some(text))),
             None => self.push(name, cell, text),
         };
         self.names_differ();
@@ -158,9 +158,9 @@ impl<C: Cells> Slots<C> {
         ensures absent { IfNone result (is_none (text_at cell self.old name.now) ≡ true) }
         ensures none { IfNone result (self.new ≡ self.old) }
     {
-        let undo = match self.place(name) {
-            Some(place) if self.cell(place, cell).is_some() => {
-                Some(self.write(place, cell, None))
+        let undo = match self.position(name) {
+            Some(position) if self.cell(position, cell).is_some() => {
+                Some(self.write(position, cell, None))
             }
             _ => None,
         };
@@ -176,7 +176,7 @@ impl<C: Cells> Slots<C> {
     {
         self.names_differ();
         match undo {
-            SlotUndo::Restore(place, cell, old) => drop(self.write(place, cell, old)),
+            SlotUndo::Restore(position, cell, old) => drop(self.write(position, cell, old)),
             SlotUndo::Created(_, _) => drop(self.rows.pop()),
         }
     }

@@ -25,7 +25,7 @@ pub enum TableChange {
     Remove(String),
 }
 
-/// Texts by name, as of files or of variables. A removed name keeps its place.
+/// Texts by name, as of files or of variables. A removed name keeps its position.
 #[derive(Drop)]
 pub struct Table {
     alloc: Global,
@@ -89,12 +89,12 @@ impl Table {
     }
 
     /// The names that have a text, with it, sorted by name.
-    pub fn listing(&self, alloc: Global) -> Result<Vec<(String, String)>, AllocError>
+    pub(crate) fn listing(&self, alloc: Global) -> Result<Vec<(String, String)>, AllocError>
         ensures { IfOk result (λ pairs. Lists (text_at 0 self.now) pairs.items) }
     {
         let mut texts = BTreeMap::new(alloc);
-        for place in 0..self.slots.len() {
-            let name = self.slots.name(place);
+        for position in 0..self.slots.len() {
+            let name = self.slots.name(position);
             note(alloc, &mut texts, name, self.slots.text(name, 0))?;
         }
         sorted(alloc, texts)
@@ -102,7 +102,7 @@ impl Table {
 
     /// The text of a name, or the empty one where it has none, with more at its end. It takes memory once,
     /// and an error comes only where that growth was refused.
-    pub fn extended(&self, name: &str, more: &str) -> Result<String, AllocError>
+    pub(crate) fn extended(&self, name: &str, more: &str) -> Result<String, AllocError>
         ensures { IfOk result (λ text.
             string_bytes text ≡ refusals.joined (text_at 0 self.now) name.now more.now) }
     {

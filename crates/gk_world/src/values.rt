@@ -27,7 +27,7 @@ pub enum ValueChange {
     Delete(usize, String),
 }
 
-/// Values by name, each with a cell for each layer. A name keeps its place.
+/// Values by name, each with a cell for each layer. A name keeps its position.
 #[derive(Drop)]
 pub struct Values {
     slots: Slots<[Option<String>; LAYERS]>,
@@ -83,13 +83,17 @@ impl Values {
     }
 
     /// The names that have a value in one of so many layers, with the value that is seen, sorted by name.
-    pub fn listing(&self, alloc: Global, layers: usize) -> Result<Vec<(String, String)>, AllocError>
+    pub(crate) fn listing(
+        &self,
+        alloc: Global,
+        layers: usize,
+    ) -> Result<Vec<(String, String)>, AllocError>
         requires { layers ≤ state.layers }
         ensures { IfOk result (λ pairs. Lists (see (state_at layers self.now)) pairs.items) }
     {
         let mut texts = BTreeMap::new(alloc);
-        for place in 0..self.slots.len() {
-            let name = self.slots.name(place);
+        for position in 0..self.slots.len() {
+            let name = self.slots.name(position);
             note(alloc, &mut texts, name, self.get(layers, name))?;
         }
         sorted(alloc, texts)

@@ -2,7 +2,7 @@
 use Rattle.std.specs.Prelude.{ℕ, List, Result, Ok, map, option_map}
 use Rattle.std.specs.String.{string_bytes}
 use Rattle.gk_gherkin.specs.declared.open_parts.Head.{Head}
-use Rattle.gk_gherkin.specs.declared.open_parts.Section.{Section}
+use Rattle.gk_gherkin.specs.declared.open_parts.Children.{Children}
 use Rattle.gk_gherkin.specs.declared.open_parts.Body.{Body}
 use Rattle.gk_gherkin.specs.declared.open_parts.Body.TheVariants as bodies
 use Rattle.gk_gherkin.specs.declared.open_parts.Owner.{Owner}
@@ -20,19 +20,19 @@ use Rattle.gk_gherkin.specs.OpenParts as spec
 abbrev pub head_value : Head → spec.HeadValue
 head_value h = record { tags = texts h.tags.items; name = string_bytes h.name; line = h.line }
 
--- What a `Section` says.
-abbrev pub section_value : Section → spec.SectionValue
-section_value s = record { background = option_map background_value s.background; scenarios = map scenario_value s.scenarios.items }
+-- What a `Children` says.
+abbrev pub children_value : Children → spec.ChildrenValue
+children_value s = record { background = option_map background_value s.background; scenarios = map scenario_value s.scenarios.items }
 
 -- What a `Body` says.
 abbrev pub body_value : Body → spec.Body
-body_value bodies.Describing = spec.Describing
-body_value (bodies.Stepped steps step) = spec.Stepped (map step_value steps.items) (step_value step)
+body_value bodies.NoSteps = spec.NoSteps
+body_value (bodies.Steps steps step) = spec.Steps (map step_value steps.items) (step_value step)
 
 -- What an `Owner` says.
 abbrev pub owner_value : Owner → spec.Owner
 owner_value (owners.OfBackground line) = spec.OfBackground line
-owner_value (owners.OfScenario section keyword head) = spec.OfScenario (section_value section) (string_bytes keyword) (head_value head)
+owner_value (owners.OfScenario children keyword head) = spec.OfScenario (children_value children) (string_bytes keyword) (head_value head)
 
 -- What a `Grid` says.
 abbrev pub grid_value : Grid → spec.Grid
@@ -41,22 +41,22 @@ grid_value (grids.Rows header rows) = spec.Rows (texts header.items) (map row_va
 
 -- What an `Outline` says.
 abbrev pub outline_value : Outline → spec.OutlineValue
-outline_value o = record { section = section_value o.section; scenario = scenario_value o.scenario }
+outline_value o = record { children = children_value o.children; scenario = scenario_value o.scenario }
 
 -- What an `Open` says.
 abbrev pub open_value : Open → spec.Open
-open_value opens.Headed = spec.Headed
-open_value (opens.Bodied owner body) = spec.Bodied (owner_value owner) (body_value body)
-open_value (opens.Exampled section scenario head grid) = spec.Exampled (section_value section) (scenario_value scenario) (head_value head) (grid_value grid)
+open_value opens.InDescription = spec.InDescription
+open_value (opens.InBody owner body) = spec.InBody (owner_value owner) (body_value body)
+open_value (opens.InExamples children scenario head grid) = spec.InExamples (children_value children) (scenario_value scenario) (head_value head) (grid_value grid)
 
 -- What an owner and its body say together.
 abbrev pub bodied_value : Owner → Body → spec.Open
-bodied_value owner body = spec.Bodied (owner_value owner) (body_value body)
+bodied_value owner body = spec.InBody (owner_value owner) (body_value body)
 
 -- What is finished when an owner's body is.
-abbrev pub section_after : Owner → Body → spec.SectionValue
-section_after owner body = spec.owner_section (owner_value owner) (spec.steps_of (body_value body))
+abbrev pub children_after : Owner → Body → spec.ChildrenValue
+children_after owner body = spec.owner_children (owner_value owner) (spec.steps_of (body_value body))
 
 -- A scenario that begins when an owner's body is finished.
 abbrev pub begun_after : Owner → Body → List ℕ → spec.HeadValue → Result spec.Open ReadFault
-begun_after owner body keyword head = Ok (spec.begun_scenario (section_after owner body) keyword head)
+begun_after owner body keyword head = Ok (spec.begun_scenario (children_after owner body) keyword head)

@@ -10,8 +10,8 @@ text_value t = record { fence = t.fence; column = t.column; line = t.line; conte
 
 -- The state with this doc string open, or none.
 abbrev pub state_value : {P : Type 0} → P → Option DocString → spec.State P
-state_value place text = spec.state_of place (option_map text_value text)
+state_value reader text = spec.state_of reader (option_map text_value text)
 
--- Where a doc string was open, the state is now at the place after it.
-abbrev pub EndsText : {P A : Type 0} → spec.Places P A → P → Option DocString → P → Option DocString → Type 0
-EndsText places old text new next = (it : spec.DocStringValue) → option_map text_value text ≡ Some it → state_value new next ≡ spec.At (places.after_text old (spec.whole_text it.content))
+-- Where a doc string was open, the state is now the reader after it.
+abbrev pub EndsText : {P A : Type 0} → spec.Readers P A → P → Option DocString → P → Option DocString → Type 0
+EndsText readers old text new next = (it : spec.DocStringValue) → option_map text_value text ≡ Some it → state_value new next ≡ spec.Outside (readers.after_text old (spec.whole_text it.content))

@@ -1,5 +1,5 @@
-use Rattle.std.proofs.Common.{◌∙◌, ap, Some}
 use Rattle.std.proofs.lemmas.Result.{on_ok_weaker}
+use Rattle.gk_cli.specs.Source.{source_value}
 use Rattle.gk_cli.specs.SuiteFiles.{suite_value}
 use Rattle.gk_cli.specs.FaultNotes.{name_at_fault}
 use Rattle.gherkin_run.specs.Fault.{said_line}
@@ -8,8 +8,6 @@ use Rattle.gherkin_run.proofs.fault_listing.push_block.Goals as goal
 
 pub returns : goal.returns
 returns c =
-    let said = said_line (name_at_fault (suite_value c.args.files.now) c.args.fault) c.args.fault in
-    let name = c.in_ok-name.ensures.ok ∙ c.name_at_fault.ensures in
-    let line = c.fault_named-named.ensures.line ∙ ap (λ text. Some (said_line text c.args.fault)) name in
-    let written = rw line at c.in_ok-write.ensures.bytes in
+    let said = said_line (name_at_fault (suite_value source_value c.args.files.now) c.args.fault) c.args.fault in
+    let written = rw c.name_at_fault.ensures at c.in_ok-write.ensures.bytes in
     on_ok_weaker c.push_notes.result (λ pushed. block_pushed _ said _ _ _ written pushed) c.push_notes.ensures

@@ -1,6 +1,7 @@
 use Rattle.std.proofs.Common.{map, subst, sym}
 use Rattle.gk_cli.specs.Arguments.{pair_value}
 use Rattle.gk_cli.specs.Suite.{device_of}
+use Rattle.gk_cli.specs.Source.{source_value}
 use Rattle.gk_cli.specs.SuiteFiles.{suite_value}
 use Rattle.gherkin_run.specs.Program.{SaysCallsOfRun, SaysProgram}
 use Rattle.gherkin_run.proofs.FilesLemmas.{passed_on}
@@ -41,7 +42,7 @@ returns-clause-run g c =
     let given = are_given c.args.words c.in_ok-files.files c.in_ok-files.ensures.library c.in_ok-files.ensures.hooks c.in_ok-files.ensures.named in
     let taken = taken_in c.args.words c.as_slice.result.now c.in_ok-put_variables.ensures.2 c.as_slice.ensures.value in
     let put = put_in c.args.words c.args.sandbox.now c.put_variables.new.sandbox.now c.as_slice.result.now c.in_ok-put_variables.ensures.0 c.requires.empty c.as_slice.ensures.value in
-    runs g.S.System.reads c.args.words c.args.system.now c.read_run_files.new.system (suite_value c.in_ok-files.files) _ _ c.put_variables.new.sandbox.now c.run_sources.result
+    runs g.S.System.reads c.args.words c.args.system.now c.read_run_files.new.system (suite_value source_value c.in_ok-files.files) _ _ c.put_variables.new.sandbox.now c.run_sources.result
     given c.in_ok-files.ensures.read taken put c.run_sources.ensures.run
 
 pub returns-clause-fault : goal.returns-clause-fault
@@ -49,5 +50,5 @@ returns-clause-fault g c =
     let given = are_given c.args.words c.in_ok-files.files c.in_ok-files.ensures.library c.in_ok-files.ensures.hooks c.in_ok-files.ensures.named in
     let taken = taken_in c.args.words c.as_slice.result.now c.in_ok-put_variables.ensures.2 c.as_slice.ensures.value in
     let put = put_in c.args.words c.args.sandbox.now c.put_variables.new.sandbox.now c.as_slice.result.now c.in_ok-put_variables.ensures.0 c.requires.empty c.as_slice.ensures.value in
-    fails g.S.System.reads c.args.words c.args.system.now c.read_run_files.new.system (suite_value c.in_ok-files.files) _ _ c.put_variables.new.sandbox.now c.run_sources.result
+    fails g.S.System.reads c.args.words c.args.system.now c.read_run_files.new.system (suite_value source_value c.in_ok-files.files) _ _ c.put_variables.new.sandbox.now c.run_sources.result
     given c.in_ok-files.ensures.read taken put c.run_sources.ensures.fault

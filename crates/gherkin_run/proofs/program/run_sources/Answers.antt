@@ -1,8 +1,9 @@
 use Rattle.std.proofs.Common.{◌∙◌, ap, inl, inr, refl}
 use Rattle.gk_cli.specs.Counted.{one_more}
 use Rattle.gk_cli.specs.Suite.{device_of}
+use Rattle.gk_cli.specs.Source.{source_value}
 use Rattle.gk_cli.specs.SuiteFiles.{suite_value}
-use Rattle.gherkin_run.proofs.ProgramLemmas.{calls_as, fault_as_before, within, within_left}
+use Rattle.gherkin_run.proofs.ProgramLemmas.{calls_as, fault_as_before}
 use Rattle.gherkin_run.proofs.program.run_sources.Goals as goal
 
 pub returns-in-Ok-flush-clause-run : goal.returns-in-Ok-flush-clause-run
@@ -22,16 +23,11 @@ returns-in-Ok-clause-fault g c = inr record {
   failed = c.in-Err-flush.ensures.failures ∙ ap one_more c.in-Ok.ensures.quiet;
 }
 
-pub fault_as-requires : goal.fault_as-requires
-fault_as-requires g c =
-    within_left c.args.manner.mode c.args.files c.write_run.new.files c.in-Err.fault c.write_run.ensures.left
-    (within c.args.manner.mode c.args.manner.options.now (suite_value c.args.files) _ _ _ c.in-Err.fault c.in-Err.ensures.fault)
-
 pub returns-clause-fault : goal.returns-clause-fault
 returns-clause-fault g c =
-    inl (c.in-Err.fault, fault_as_before c.args.manner.mode c.args.files c.write_run.new.files c.in-Err.fault c.fault_as.result c.write_run.ensures.left c.fault_as.ensures, c.in-Err.ensures.fault)
+    inl (c.in-Err.fault, fault_as_before c.args.manner.mode (suite_value source_value c.args.files) (suite_value source_value c.write_run.new.files) c.in-Err.fault c.fault_as.result c.write_run.ensures.left c.fault_as.ensures, c.in-Err.ensures.fault)
 
 pub returns-clause-calls : goal.returns-clause-calls
 returns-clause-calls g c =
-    let fault = fault_as_before c.args.manner.mode c.args.files c.write_run.new.files c.in-Err.fault c.fault_as.result c.write_run.ensures.left c.fault_as.ensures in
-    calls_as c.args.manner.mode _ _ _ _ (suite_value c.args.files) c.in-Err.fault c.fault_as.result c.requires.room fault c.in-Err.ensures.fault
+    let fault = fault_as_before c.args.manner.mode (suite_value source_value c.args.files) (suite_value source_value c.write_run.new.files) c.in-Err.fault c.fault_as.result c.write_run.ensures.left c.fault_as.ensures in
+    calls_as c.args.manner.mode _ _ _ _ (suite_value source_value c.args.files) c.in-Err.fault c.fault_as.result c.requires.room fault c.in-Err.ensures.fault

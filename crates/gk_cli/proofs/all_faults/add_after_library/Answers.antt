@@ -1,7 +1,6 @@
-use Rattle.std.proofs.Common.{map}
+use Rattle.std.proofs.Common.{map, option_map}
 use Rattle.std.proofs.lemmas.Result.{on_ok_weaker}
 use Rattle.gk_cli.specs.AllFaults.{hooks_files, sources_from}
-use Rattle.gk_cli.specs.SuiteFiles.{file_value}
 use Rattle.gk_cli.specs.Source.{source_value}
 use Rattle.gk_cli.proofs.AllFaultsLemmas.{added_more}
 use Rattle.gk_cli.proofs.all_faults.add_after_library.Goals as goal
@@ -9,5 +8,5 @@ use Rattle.gk_cli.proofs.all_faults.add_after_library.Goals as goal
 pub returns : goal.returns
 returns c =
     on_ok_weaker c.add_sources.result
-    (added_more (hooks_files (file_value c.args.files.now.hooks)) (sources_from 0 (map source_value c.args.files.now.sources.items)) c.args.faults.now.items c.add_fault.new.faults.items c.add_sources.new.faults.items (c.in_ok-add_fault.ensures (hooks_files (file_value c.args.files.now.hooks)) c.check_hooks.ensures))
+    (added_more (hooks_files (option_map source_value c.args.files.now.hooks)) (sources_from 0 (map source_value c.args.files.now.sources.items)) c.args.faults.now.items c.add_fault.new.faults.items c.add_sources.new.faults.items (c.in_ok-add_fault.ensures (hooks_files (option_map source_value c.args.files.now.hooks)) c.check_hooks.ensures))
     (rw c.as_slice.ensures.value at c.add_sources.ensures)

@@ -1,15 +1,15 @@
-use Rattle.std.proofs.Common.{Err, subst, sym}
+use Rattle.std.proofs.Common.{Err, option_map, subst, sym}
 use Rattle.gk_steps.specs.Finding.{library_value}
 use Rattle.gk_cli.specs.AllFaults.{SaysOfFiles, library_files}
-use Rattle.gk_cli.specs.SuiteFiles.{file_value}
+use Rattle.gk_cli.specs.Source.{source_value}
 use Rattle.gk_cli.proofs.AllFaultsLemmas.{library_reads, says_of_library}
 use Rattle.gk_cli.proofs.all_faults.check_library.Goals as goal
 
 pub returns-in-Ok : goal.returns-in-Ok
-returns-in-Ok c = library_reads (file_value c.args.library.now) (library_value c.in-Ok._library) (rw c.bytes_of.ensures at c.in-Ok.ensures.read)
+returns-in-Ok c = library_reads (option_map source_value c.args.library.now) (library_value c.in-Ok._library) (rw c.bytes_of.ensures at c.in-Ok.ensures.read)
 
 pub returns-in-Err : goal.returns-in-Err
 returns-in-Err c =
-    let file = file_value c.args.library.now in
+    let file = option_map source_value c.args.library.now in
     let says = rw c.bytes_of.ensures at c.in-Err.ensures.fault in
     subst (λ fault. SaysOfFiles (library_files file) (Err fault)) (sym c.library_fault.ensures) (says_of_library file c.in-Err.fault says)

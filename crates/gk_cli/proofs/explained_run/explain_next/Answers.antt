@@ -1,5 +1,6 @@
 use Rattle.std.proofs.Common.{inl, refl, subst, sym}
 use Rattle.gk_world.specs.State.{state_of}
+use Rattle.gk_run.specs.OpenRun.{opens_features}
 use Rattle.gk_run.specs.Chosen.{chosen_value}
 use Rattle.gk_run.specs.Results.{feature_row}
 use Rattle.gk_run.specs.Run.{run_of}
@@ -19,10 +20,10 @@ returns-in_ok-write_ready-in-Ok-clause-ok g c =
     let ready = c.in_ok-write_ready-in-Ok.ensures.ok in
     record {
       row = feature_row c.in-Ok.result;
-      result = c.in-Ok.ensures.row;
-      opens = c.in-Ok.ensures.next;
+      result = c.in-Ok.ensures.ran.result;
+      opens = c.in-Ok.ensures.ran.opens;
       text = let e = said c.end_feature.new.self in e.ready;
-      explained = told_feature run (state_of c.args.sandbox.now.now) c.args.so_far.now.suite.is_open (chosen_value c.args.feature) (feature_row c.in-Ok.result)
+      explained = told_feature run (state_of c.args.sandbox.now.now) (opens_features c.args.so_far.now.suite) (chosen_value c.args.feature) (feature_row c.in-Ok.result)
           old c.begin_feature.new.self c.feature_watched.new.observer c.end_feature.new.self c.write_ready.new.explainer begins c.in-Ok.ensures.told c.end_feature.ensures.becomes ready.uncut ready.taken;
       written = ready.written;
       counted = c.add.ensures.added;
@@ -37,9 +38,9 @@ returns-in_err-write_ready-in-Ok-clause-err g c =
     let begins = subst (λ t. Becomes old (with_source t) c.begin_feature.new.self) c.as_str.ensures.value c.begin_feature.ensures in
     passed_on c.from_residual.result c.from_residual.ensures.1 (λ fault same.
     subst (EndsNextExplaining c.args.glue.now c.args.sandbox.now c.args.feature before c.args.so_far.now new) (sym same)
-    (next_stopped run (state_of c.args.sandbox.now.now) c.args.so_far.now.suite.is_open (chosen_value c.args.feature) (feature_row c.in-Ok.result)
+    (next_stopped run (state_of c.args.sandbox.now.now) (opens_features c.args.so_far.now.suite) (chosen_value c.args.feature) (feature_row c.in-Ok.result)
     old c.begin_feature.new.self c.feature_watched.new.observer c.end_feature.new.self c.write_ready.new.explainer before new c.in_err-write_ready-in-Ok.field-0.0
-    c.in-Ok.ensures.row begins c.in-Ok.ensures.told c.end_feature.ensures.becomes c.in_err-write_ready-in-Ok.ensures.err))
+    c.in-Ok.ensures.ran.result begins c.in-Ok.ensures.told c.end_feature.ensures.becomes c.in_err-write_ready-in-Ok.ensures.err))
 
 pub returns-in-Err-clause-err : goal.returns-in-Err-clause-err
 returns-in-Err-clause-err g c = inl (refl, refl)

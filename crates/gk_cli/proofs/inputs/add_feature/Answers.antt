@@ -10,7 +10,7 @@ use Rattle.gk_cli.proofs.inputs.add_feature.Goals as goal
 pub returns-in-Err-clause-fault : goal.returns-in-Err-clause-fault
 returns-in-Err-clause-fault c =
     let feature = feature_value c.args.feature in
-    subst (SaysTooMany c.args.source.input feature) (sym c.select_fault_at.ensures) (too_many_at c.args.source.input feature c.in-Err.fault c.in-Err.ensures.fault)
+    subst (SaysTooMany c.args.input feature) (sym c.select_fault_at.ensures) (too_many_at c.args.input feature c.in-Err.fault c.in-Err.ensures.fault)
 
 pub returns-clause-added : goal.returns-clause-added
 returns-clause-added c =

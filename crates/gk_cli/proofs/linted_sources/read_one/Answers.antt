@@ -1,11 +1,6 @@
-use Rattle.std.proofs.Common.{option_map, subst}
-use Rattle.gk_gherkin.specs.Lines.{lines_of}
+use Rattle.std.proofs.Common.{option_map, ap}
 use Rattle.gk_gherkin.specs.Feature.{feature_value}
-use Rattle.gk_gherkin.specs.Grammar.{Reads}
 use Rattle.gk_cli.proofs.linted_sources.read_one.Goals as goal
 
 pub check_limit-requires : goal.check_limit-requires
-check_limit-requires c =
-    let found = c.in-Ok-Some.ensures.found in
-    let reads = subst (λ o. Reads (lines_of c.as_slice.result.now) (option_map feature_value o)) c.in-Ok-Some.field-0-is found.1 in
-    c.read_features_are_expandable.ensures c.as_slice.result.now (feature_value c.in-Ok-Some.feature) found.0 reads
+check_limit-requires c = c.in-Ok-Some.ensures.read.expandable (feature_value c.in-Ok-Some.feature) (ap (option_map feature_value) c.in-Ok-Some.field-0-is)

@@ -4,7 +4,7 @@ use Rattle.gk_select.specs.Choice.{is_chosen}
 use Rattle.gk_select.specs.TagRules.{tag_rule_value}
 use Rattle.gk_steps.specs.Finding.{library_value}
 use Rattle.gk_cli.specs.Source.{source_value}
-use Rattle.gk_cli.specs.SuiteFiles.{request_of_files}
+use Rattle.gk_cli.specs.SuiteFiles.{suite_value, request_of_files}
 use Rattle.gk_cli.specs.LintedSuite.{read_of}
 use Rattle.gk_cli.proofs.InputsLemmas.{sources_unread}
 use Rattle.gk_cli.proofs.linted_suite.read_and_lint.Goals as goal
@@ -31,7 +31,7 @@ returns-in-Err-clause-fault c =
 
 pub returns-clause-fault : goal.returns-clause-fault
 returns-clause-fault c =
-    let request = request_of_files c.args.options.now c.args.files.now in
+    let request = request_of_files c.args.options.now (suite_value source_value c.args.files.now) in
     let rules = map tag_rule_value c.in-Ok.before.rules.items in
     let read = rw (c.bytes_of-library.ensures, c.bytes_of-hooks.ensures) at c.in-Ok.ensures.read in
     let says = rw (c.as_slice.ensures.value) at c.in-Err-lint_sources.ensures.fault in

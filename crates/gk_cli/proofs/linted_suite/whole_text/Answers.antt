@@ -1,4 +1,4 @@
-use Rattle.std.proofs.Common.{◌++◌, ◌∙◌, map, ap, ap₂, subst, string_bytes}
+use Rattle.std.proofs.Common.{◌++◌, ◌∙◌, map, option_map, ap, ap₂, subst, string_bytes}
 use Rattle.gk_gherkin.specs.Feature.{feature_value}
 use Rattle.gk_gherkin.specs.Hooks.{hooks_value}
 use Rattle.gk_select.specs.TagRules.{tag_rule_value}
@@ -8,7 +8,8 @@ use Rattle.gk_lint.specs.NamedTags.{nowhere}
 use Rattle.gk_lint.specs.ScenarioLines.{without_scenario}
 use Rattle.gk_lint.specs.TagUse.{hooks_of_no_tag}
 use Rattle.gk_lint.specs.WrittenSteps.{of_hooks, found_in}
-use Rattle.gk_cli.specs.SuiteFiles.{file_value, bytes_of, library_name}
+use Rattle.gk_cli.specs.Source.{source_value}
+use Rattle.gk_cli.specs.SuiteFiles.{bytes_of, library_name, suite_value}
 use Rattle.gk_cli.specs.FindingLines.{finding_lines, tag_lines, idle_lines}
 use Rattle.gk_cli.specs.LintedSuite.{library_findings}
 use Rattle.gk_cli.proofs.LintedSuiteLemmas.{five_parts}
@@ -28,7 +29,7 @@ returns c =
       subst (λ features. AreInOrder (hooks_of_no_tag (map feature_value features) hooks ++ found_in library (of_hooks hooks)) found) c.as_slice.ensures.value c.in_ok-of_hooks.ensures.found,
       five_parts _ _ _ _ _ _ _ _ _ _ _ c.new-text.ensures.bytes
           (c.in_ok-push_library_findings.ensures
-          ∙ ap (λ places. string_bytes c.new-text.result ++ finding_lines (library_name c.args.files.now) (library_findings (bytes_of (file_value c.args.files.now.library)) places)) used)
+          ∙ ap (λ places. string_bytes c.new-text.result ++ finding_lines (library_name (suite_value source_value c.args.files.now)) (library_findings (bytes_of (option_map source_value c.args.files.now.library)) places)) used)
           (c.in_ok-push_findings.ensures
           ∙ ap₂ (λ name findings. string_bytes c.push_library_findings.new.out ++ finding_lines name findings) c.name_of-hooks.ensures c.as_slice-3.ensures.value)
           (c.in_ok-push_str.ensures.bytes ∙ ap (λ text. string_bytes c.push_findings.new.out ++ text) c.as_str.ensures.value)

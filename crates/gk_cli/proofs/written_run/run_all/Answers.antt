@@ -1,9 +1,9 @@
-use Rattle.std.proofs.Common.{Bool, List, map, refl, rules, subst, sym}
+use Rattle.std.proofs.Common.{Bool, List, ap, map, refl, rules, subst, sym, ◌∙◌}
 use Rattle.gk_world.specs.State.{state_of}
 use Rattle.gk_run.specs.Run.{run_of}
 use Rattle.gk_run.specs.Results.{FeatureRow}
 use Rattle.gk_run.specs.Chosen.{ChosenValue, chosen_value}
-use Rattle.gk_run.specs.OpenRun.{AreFeatures}
+use Rattle.gk_run.specs.OpenRun.{AreFeatures, IsFinished, SuiteValue, opens_features}
 use Rattle.gk_cli.specs.Suite.{device_of}
 use Rattle.gk_cli.specs.WrittenRun.{AreWritten, AreWrittenUpTo, IsPrefix}
 use Rattle.gk_cli.proofs.SuiteLemmas.{judged_by}
@@ -37,19 +37,21 @@ returns-in-Ok g c =
     let grown = c.run_features-written.new.so_far.report in
     let suite = c.start-suite.result in
     let around = c.finish-around.result in
-    let Give : List ChosenValue → List FeatureRow → Type 0 = AreFeatures run (state_of c.start-suite.new.sandbox.now) suite.is_open in
+    let stops = ap (λ (s : SuiteValue). s.stop) c.run_features-written.ensures.kept ∙ c.start-suite.ensures.stops in
+    let finished_so = subst (λ (stop : Bool). IsFinished (run_of c.args.inputs.library c.args.inputs.hooks stop) c.run_features-written.new.so_far.suite c.run_features-written.new.sandbox around) stops c.finish-around.ensures.around in
+    let Give : List ChosenValue → List FeatureRow → Type 0 = AreFeatures run (state_of c.start-suite.new.sandbox.now) (opens_features suite) in
     let written : AreWritten Give features head begun there grown =
-    subst (λ (stop : Bool). AreWritten (AreFeatures (run_of c.args.inputs.library c.args.inputs.hooks stop) (state_of c.start-suite.new.sandbox.now) suite.is_open) features head begun there grown) c.start-suite.ensures.stops c.in-Ok.ensures.ok in
+    subst (λ (stop : Bool). AreWritten (AreFeatures (run_of c.args.inputs.library c.args.inputs.hooks stop) (state_of c.start-suite.new.sandbox.now) (opens_features suite)) features head begun there grown) c.start-suite.ensures.stops c.in-Ok.ensures.ok in
     record {
       ok = if_ok c.finish.result (λ status reported. as_whole run run contents features style old head begun new status refl c.in_ok-report.ensures.style c.in_ok-report.ensures.ok
           (finished Give run contents features around head begun there grown new status
           (λ rows are. judged_by c.finished_runs_are_judged.ensures run c.args.sandbox.now c.start-suite.new.sandbox c.run_features-written.new.sandbox suite c.run_features-written.new.so_far.suite around features rows
-          c.start-suite.ensures c.run_features-written.ensures.kept c.run_features-written.ensures.same are (c.finish-around.ensures.around c.args.options.now.stop))
+          c.start-suite.ensures c.run_features-written.ensures.kept c.run_features-written.ensures.same are finished_so)
           c.run_features-written.ensures.style written reported)) c.finish.ensures.ok;
       err = if_err c.finish.result (λ fault reported. as_prefix run run contents features style old head begun new fault refl c.in_ok-report.ensures.style c.in_ok-report.ensures.ok
           (finished_short Give run contents features around head begun there grown new fault
           (λ rows are. judged_by c.finished_runs_are_judged.ensures run c.args.sandbox.now c.start-suite.new.sandbox c.run_features-written.new.sandbox suite c.run_features-written.new.so_far.suite around features rows
-          c.start-suite.ensures c.run_features-written.ensures.kept c.run_features-written.ensures.same are (c.finish-around.ensures.around c.args.options.now.stop))
+          c.start-suite.ensures c.run_features-written.ensures.kept c.run_features-written.ensures.same are finished_so)
           c.run_features-written.ensures.style written reported)) c.finish.ensures.err;
       same = search rules;
     }
@@ -65,9 +67,9 @@ returns-clause-err g c =
     let new = device_of g.W.Write.contents c.run_features-written.new.out in
     let begun = c.in_ok-report.report in
     let suite = c.start-suite.result in
-    let Give : List ChosenValue → List FeatureRow → Type 0 = AreFeatures run (state_of c.start-suite.new.sandbox.now) suite.is_open in
+    let Give : List ChosenValue → List FeatureRow → Type 0 = AreFeatures run (state_of c.start-suite.new.sandbox.now) (opens_features suite) in
     let written : AreWrittenUpTo Give features head begun new c.in-Err.fault =
-    subst (λ (stop : Bool). AreWrittenUpTo (AreFeatures (run_of c.args.inputs.library c.args.inputs.hooks stop) (state_of c.start-suite.new.sandbox.now) suite.is_open) features head begun new c.in-Err.fault) c.start-suite.ensures.stops c.in-Err.ensures.err in
+    subst (λ (stop : Bool). AreWrittenUpTo (AreFeatures (run_of c.args.inputs.library c.args.inputs.hooks stop) (state_of c.start-suite.new.sandbox.now) (opens_features suite)) features head begun new c.in-Err.fault) c.start-suite.ensures.stops c.in-Err.ensures.err in
     as_prefix run run contents features style old head begun new c.in-Err.fault refl c.in_ok-report.ensures.style c.in_ok-report.ensures.ok
     (unfinished Give run contents features head begun new c.in-Err.fault c.reports_grow_by_parts.ensures
     (λ done others rows are. c.unfinished_runs_are_judged.ensures run c.args.sandbox.now c.start-suite.new.sandbox suite done others rows c.start-suite.ensures are) written)

@@ -1,5 +1,5 @@
 use Rattle.gk_gherkin.specs.HookIndex.{AreListedTo}
 use Rattle.gk_gherkin.proofs.hook_index.index_of.Given as goal
 
-abbrev pub invariant-loop-place : goal.invariant-loop-place
-invariant-loop-place l = AreListedTo l.index l.hooks l.place
+abbrev pub invariant-loop-position : goal.invariant-loop-position
+invariant-loop-position l = AreListedTo l.index l.hooks l.position

@@ -8,9 +8,9 @@ use Rattle.gk_gherkin.proofs.reading.next_line.Goals as goal
 
 pub returns-then-is_closed_by-clause-says : goal.returns-then-is_closed_by-clause-says
 returns-then-is_closed_by-clause-says g c =
-    let places = g.P.FilePlace.places in
-    let place = g.P.FilePlace.value c.args.place.now in
+    let readers = g.P.FileReader.readers in
+    let reader = g.P.FileReader.value c.args.reader.now in
     let text = text_value c.in-Some.it in
-    ap (λ (t : Option DocString). spec.step places (state_value place t) (borrowed_value c.args.line.now)) c.in-Some.is
-    ∙ step_closes places place text (borrowed_value c.args.line.now) (sym c.is_closed_by.ensures ∙ c.if-is_closed_by.true)
+    ap (λ (t : Option DocString). spec.step readers (state_value reader t) (borrowed_value c.args.line.now)) c.in-Some.is
+    ∙ step_closes readers reader text (borrowed_value c.args.line.now) (sym c.is_closed_by.ensures ∙ c.if-is_closed_by.true)
     ∙ ap Ok (sym (c.end_text.ensures text refl))

@@ -20,46 +20,46 @@ words-init c = (
 
 pub range-word-requires-clause-end_boundary : goal.range-word-requires-clause-end_boundary
 range-word-requires-clause-end_boundary c =
-    let place = c.first_blank-end.ensures.value ∙ ap (position_or_len is_blank) c.as_bytes.ensures.value in
+    let position = c.first_blank-end.ensures.value ∙ ap (position_or_len is_blank) c.as_bytes.ensures.value in
     let within : c.first_blank-end.result ≤ length c.words.rest.now = omega (arith, ap length c.as_bytes.ensures.value) in
-    (within, λ below. (before_first_blank c.words.rest.now c.first_blank-end.result place below).1 below)
+    (within, λ below. (before_first_blank c.words.rest.now c.first_blank-end.result position below).1 below)
 
 pub range_from-requires : goal.range_from-requires
 range_from-requires c =
-    let place = c.first_blank-end.ensures.value ∙ ap (position_or_len is_blank) c.as_bytes.ensures.value in
+    let position = c.first_blank-end.ensures.value ∙ ap (position_or_len is_blank) c.as_bytes.ensures.value in
     let within : c.first_blank-end.result ≤ length c.words.rest.now = omega (arith, ap length c.as_bytes.ensures.value) in
-    λ _. (within, λ below. (before_first_blank c.words.rest.now c.first_blank-end.result place below).1 below)
+    λ _. (within, λ below. (before_first_blank c.words.rest.now c.first_blank-end.result position below).1 below)
 
 pub returns-then-not-is_tag-clause-says : goal.returns-then-not-is_tag-clause-says
 returns-then-not-is_tag-clause-says c =
     let t = c.words.rest.now in
     let n = c.first_blank-end.result in
-    let place = c.first_blank-end.ensures.value ∙ ap (position_or_len is_blank) c.as_bytes.ensures.value in
+    let position = c.first_blank-end.ensures.value ∙ ap (position_or_len is_blank) c.as_bytes.ensures.value in
     let some : 0 < length t = some_left (length t) c.is_empty.result c.is_empty.ensures c.words-test.true in
     let whole : n - 0 ≡ n = omega arith in
     let word : c.range-word.result.now ≡ take n t = c.range-word.ensures.value ∙ ap (λ (k : ℕ). take k t) whole in
-    ap Ok (refuses_word (tags_of (borrowed_value c.args.line.now)) t n (texts c.words.tags.items) some c.words.invariant.2 place (sym c.begins.ensures ∙ c.if-not-begins.true) c.words.invariant.1
+    ap Ok (refuses_word (tags_of (borrowed_value c.args.line.now)) t n (texts c.words.tags.items) some c.words.invariant.2 position (sym c.begins.ensures ∙ c.if-not-begins.true) c.words.invariant.1
     (ap is_tag (sym word) ∙ sym c.is_tag.ensures ∙ c.if-not-is_tag.true))
 
 pub words-preserved : goal.words-preserved
 words-preserved c =
     let t = c.words.rest.now in
     let n = c.first_blank-end.result in
-    let place = c.first_blank-end.ensures.value ∙ ap (position_or_len is_blank) c.as_bytes.ensures.value in
+    let position = c.first_blank-end.ensures.value ∙ ap (position_or_len is_blank) c.as_bytes.ensures.value in
     let some : 0 < length t = some_left (length t) c.is_empty.result c.is_empty.ensures c.words-test.true in
     let whole : n - 0 ≡ n = omega arith in
     let word : c.range-word.result.now ≡ take n t = c.range-word.ensures.value ∙ ap (λ (k : ℕ). take k t) whole in
     let next : c.trim_front-rest-in-words.result.now ≡ trim_front (drop n t) = c.trim_front-rest-in-words.ensures ∙ ap trim_front c.range_from.ensures.value in
     let pushed : texts c.push_tag.new.tags.items ≡ texts c.words.tags.items ++ take n t ∷ [] = c.in_ok-push_tag.ensures.pushed ∙ ap (λ (w : List ℕ). texts c.words.tags.items ++ w ∷ []) word in (
       c.trim_front-rest-in-words.utf8,
-      takes_tag (tags_of (borrowed_value c.args.line.now)) t n (texts c.words.tags.items) some c.words.invariant.2 place (sym c.begins.ensures ∙ c.if-not-begins.true) c.words.invariant.1
+      takes_tag (tags_of (borrowed_value c.args.line.now)) t n (texts c.words.tags.items) some c.words.invariant.2 position (sym c.begins.ensures ∙ c.if-not-begins.true) c.words.invariant.1
           (ap is_tag (sym word) ∙ sym c.is_tag.ensures ∙ c.if-not-is_tag.false)
           ∙ ap (λ (xs : List (List ℕ)). onto_tags xs (tags_by (words_of (trim_front (drop n t))))) (sym pushed)
           ∙ ap (λ (r : List ℕ). onto_tags (texts c.push_tag.new.tags.items) (tags_by (words_of r))) (sym next),
       ap (prefix_len is_blank) next ∙ no_blank_left (drop n t),
       elim c.words.invariant.3 [
         | inl begun ↦ inl begun
-        | inr start ↦ inl (first_tag (borrowed_value c.args.line.now) t n start some c.words.invariant.2 place (sym c.begins.ensures ∙ c.if-not-begins.true) (ap is_tag (sym word) ∙ sym c.is_tag.ensures ∙ c.if-not-is_tag.false))
+        | inr start ↦ inl (first_tag (borrowed_value c.args.line.now) t n start some c.words.invariant.2 position (sym c.begins.ensures ∙ c.if-not-begins.true) (ap is_tag (sym word) ∙ sym c.is_tag.ensures ∙ c.if-not-is_tag.false))
       ],
     )
 
@@ -67,11 +67,11 @@ pub returns-in_err-push_tag-clause-memory : goal.returns-in_err-push_tag-clause-
 returns-in_err-push_tag-clause-memory c =
     let t = c.words.rest.now in
     let n = c.first_blank-end.result in
-    let place = c.first_blank-end.ensures.value ∙ ap (position_or_len is_blank) c.as_bytes.ensures.value in
+    let position = c.first_blank-end.ensures.value ∙ ap (position_or_len is_blank) c.as_bytes.ensures.value in
     let some : 0 < length t = some_left (length t) c.is_empty.result c.is_empty.ensures c.words-test.true in
     let whole : n - 0 ≡ n = omega arith in
     let word : c.range-word.result.now ≡ take n t = c.range-word.ensures.value ∙ ap (λ (k : ℕ). take k t) whole in
     whatever c.from_residual.result (BeginsWithTag (borrowed_value c.args.line.now)) (elim c.words.invariant.3 [
       | inl begun ↦ begun
-      | inr start ↦ first_tag (borrowed_value c.args.line.now) t n start some c.words.invariant.2 place (sym c.begins.ensures ∙ c.if-not-begins.true) (ap is_tag (sym word) ∙ sym c.is_tag.ensures ∙ c.if-not-is_tag.false)
+      | inr start ↦ first_tag (borrowed_value c.args.line.now) t n start some c.words.invariant.2 position (sym c.begins.ensures ∙ c.if-not-begins.true) (ap is_tag (sym word) ∙ sym c.is_tag.ensures ∙ c.if-not-is_tag.false)
     ])

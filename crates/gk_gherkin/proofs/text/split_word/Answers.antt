@@ -7,9 +7,9 @@ use Rattle.gk_gherkin.proofs.text.split_word.Goals as goal
 
 pub range-requires-clause-end_boundary : goal.range-requires-clause-end_boundary
 range-requires-clause-end_boundary c =
-    let place = c.first_blank-end.ensures.value ∙ ap (position_or_len is_blank) c.as_bytes.ensures.value in
+    let position = c.first_blank-end.ensures.value ∙ ap (position_or_len is_blank) c.as_bytes.ensures.value in
     let within : c.first_blank-end.result ≤ length c.args.text.now = omega (arith, ap (length) c.as_bytes.ensures.value) in
-    (within, λ below. (before_first_blank c.args.text.now c.first_blank-end.result place below).1 below)
+    (within, λ below. (before_first_blank c.args.text.now c.first_blank-end.result position below).1 below)
 
 pub range_from-requires : goal.range_from-requires
 range_from-requires c =

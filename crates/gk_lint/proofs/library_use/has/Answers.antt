@@ -1,5 +1,5 @@
 use Rattle.std.proofs.Common.{◌∙◌}
-use Rattle.gk_lint.proofs.RisingNumbers.{found_among}
+use Rattle.gk_select.proofs.ChosenLines.{is_among as found_among}
 use Rattle.gk_lint.proofs.library_use.has.Goals as goal
 
 pub returns : goal.returns

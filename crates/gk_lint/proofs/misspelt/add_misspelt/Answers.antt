@@ -4,7 +4,7 @@ use Rattle.std.proofs.lemmas.Iterator.Consumers.{YieldsList-turn, YieldsList-end
 use Rattle.std.proofs.lemmas.List.{length_push}
 use Rattle.std.specs.Str.Lines.{lines}
 use Rattle.gk_gherkin.specs.Lines.{LineValue, line_at}
-use Rattle.gk_lint.specs.Standing.{after}
+use Rattle.gk_lint.specs.LineContext.{after}
 use Rattle.gk_lint.specs.Misspelt.{misspelt_at}
 use Rattle.gk_lint.proofs.MisspeltLoop.{one_line, no_line}
 use Rattle.gk_lint.proofs.misspelt.add_misspelt.Goals as goal
@@ -12,12 +12,12 @@ use Rattle.gk_lint.proofs.misspelt.add_misspelt.Goals as goal
 pub loop-part-preserved : goal.loop-part-preserved
 loop-part-preserved c =
     let all : List (List ℕ) = lines c.args.text.now in
-    let standing = c.loop-part.standing in
+    let context = c.loop-part.context in
     let turn = YieldsList-turn (YieldsList-from_lines c.args.text.now cc) c.loop-part.yielded _ c.loop-part.yielded_by _ _ _ c.in-Some.is c.next.ensures.steps in
     let line : LineValue = line_at c.loop-part.number c.in-Some.part.now in
-    let found = one_line standing all (length c.loop-part.yielded) c.loop-part.number c.in-Some.part.now turn.0 turn.1 c.loop-part.findings.items in
-    let added : c.add_at.new.findings.items ≡ c.loop-part.findings.items ++ misspelt_at standing line = c.in_ok-add_at.ensures ∙ ap (λ (l : LineValue). c.loop-part.findings.items ++ misspelt_at standing l) c.borrowed_line-line.ensures in
-    let moved : c.after-standing.result ≡ after standing line = c.after-standing.ensures ∙ ap (after standing) c.borrowed_line-line.ensures in
+    let found = one_line context all (length c.loop-part.yielded) c.loop-part.number c.in-Some.part.now turn.0 turn.1 c.loop-part.findings.items in
+    let added : c.add_at.new.findings.items ≡ c.loop-part.findings.items ++ misspelt_at context line = c.in_ok-add_at.ensures ∙ ap (λ (l : LineValue). c.loop-part.findings.items ++ misspelt_at context l) c.borrowed_line-line.ensures in
+    let moved : c.after-context.result ≡ after context line = c.after-context.ensures ∙ ap (after context) c.borrowed_line-line.ensures in
     let longer = length_push c.loop-part.yielded c.in-Some.part in
     record {
       so_far = rw (longer, added, moved) (sym found ∙ c.loop-part.invariant.so_far);
@@ -27,4 +27,4 @@ loop-part-preserved c =
 pub returns : goal.returns
 returns c =
     let t = YieldsList-end (YieldsList-from_lines c.args.text.now cc) c.loop-part.yielded _ c.loop-part.yielded_by _ _ c.in-None.is c.next.ensures.steps in
-    sym (no_line c.loop-part.standing (lines c.args.text.now) (length c.loop-part.yielded) c.loop-part.number c.loop-part.findings.items (omega (arith, t.1))) ∙ c.loop-part.invariant.so_far
+    sym (no_line c.loop-part.context (lines c.args.text.now) (length c.loop-part.yielded) c.loop-part.number c.loop-part.findings.items (omega (arith, t.1))) ∙ c.loop-part.invariant.so_far

@@ -15,7 +15,7 @@ returns c =
     let case = case_value c.args.case in
     let looked = c.dry_steps-looked.result in
     let rows = map step_row looked.results.items in
-    let steps = ap (λ ss. map step_value ss.items) c.in_ok-reserve_steps.ensures in
+    let steps = ap (λ ss. map step_value ss.items) c.in_ok-reserve.ensures in
     let are = subst (λ (ss : List StepValue). AreDrySteps library false ss rows looked.is_refused) steps c.dry_steps-looked.ensures in
     let is = dry_is library case rows looked.is_refused c.dry_status.result c.dry_status.ensures are in
     let row : List Outcome → CaseRow = λ os. record { keyword = case.keyword; name = case.name; line = case.line; status = c.dry_status.result; around = statuses.Passed; cleanups = os; steps = rows } in

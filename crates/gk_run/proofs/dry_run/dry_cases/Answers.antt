@@ -4,7 +4,6 @@ use Rattle.std.proofs.lemmas.List.{map_push}
 use Rattle.gk_steps.specs.Finding.{library_value}
 use Rattle.gk_run.specs.Results.{CaseRow, case_row}
 use Rattle.gk_run.specs.Chosen.{MemberValue, member_of, members_of}
-use Rattle.gk_run.specs.Reserved.{members_in}
 use Rattle.gk_run.proofs.CasesLemmas.{members_are, members_end}
 use Rattle.gk_run.proofs.DryRunLemmas.{GoesDryCases, dry_cases_first, dry_cases_on, dry_cases_last}
 use Rattle.gk_run.proofs.dry_run.dry_cases.Goals as goal
@@ -12,25 +11,25 @@ use Rattle.gk_run.proofs.dry_run.dry_cases.Goals as goal
 pub loop-case-init : goal.loop-case-init
 loop-case-init c =
     let library = library_value c.args.library.now in
-    let here : into_iter_items c.into_iter-case-iterator.result.a ≡ c.args.cases.cases.items = ap (λ z. into_iter_items z.a) c.into_iter-case-iterator.ensures.into_iter_gives ∙ ap into_iter_items c.zip-case-items.ensures.first ∙ c.into_iter.ensures.rest in
-    let there : into_iter_items c.into_iter-case-iterator.result.b ≡ c.args.cases.selected.items = ap (λ z. into_iter_items z.b) c.into_iter-case-iterator.ensures.into_iter_gives ∙ c.zip-case-items.ensures.second.0 in
+    let here : into_iter_items c.into_iter-case-iterator.result.a ≡ c.args.cases.list.items = ap (λ z. into_iter_items z.a) c.into_iter-case-iterator.ensures.into_iter_gives ∙ ap into_iter_items c.zip-case-items.ensures.first ∙ c.into_iter.ensures.rest in
+    let there : into_iter_items c.into_iter-case-iterator.result.b ≡ c.args.selected.items = ap (λ z. into_iter_items z.b) c.into_iter-case-iterator.ensures.into_iter_gives ∙ c.zip-case-items.ensures.second.0 in
     let first_len = ap (λ z. into_iter_len z.a) c.into_iter-case-iterator.ensures.into_iter_gives ∙ ap into_iter_len c.zip-case-items.ensures.first ∙ c.into_iter.ensures.len in
     let second_len = ap (λ z. into_iter_len z.b) c.into_iter-case-iterator.ensures.into_iter_gives ∙ c.zip-case-items.ensures.second.1 in
-    let all = members_in c.args.cases in
+    let all = members_of c.args.cases.list.items c.args.selected.items in
     let none : c.args.cases.results.items ≡ [] = c.args.cases.empty in
     record {
       goes =
           subst (λ (rows : List CaseRow). GoesDryCases library all rows (members_of (into_iter_items c.into_iter-case-iterator.result.a) (into_iter_items c.into_iter-case-iterator.result.b))) (sym (ap (map case_row) none))
           (subst (λ (left : List MemberValue). GoesDryCases library all [] left) (sym (members_are _ _ _ _ here there)) (dry_cases_first library all));
       room = omega (arith, c.args.cases.room, c.args.cases.results.ok.0, ap length none, ap length here);
-      cases_counted = omega (arith, c.args.cases.cases.ok.0, ap length here);
-      choices_counted = omega (arith, c.args.cases.selected.ok.0, ap length there);
+      cases_counted = omega (arith, c.args.cases.list.ok.0, ap length here);
+      choices_counted = omega (arith, c.args.selected.ok.0, ap length there);
     }
 
 pub loop-case-preserved : goal.loop-case-preserved
 loop-case-preserved c =
     let library = library_value c.args.library.now in
-    let all = members_in c.args.cases in
+    let all = members_of c.args.cases.list.items c.args.selected.items in
     let these = c.in-Some.ensures.steps.0 in
     let those = c.in-Some.ensures.steps.1 in
     let f = ap length these.0 in
@@ -57,4 +56,4 @@ returns c =
       | inl u ↦ members_end cases choices (inl (c.loop-case.invariant.cases_counted ∙ u.1.0))
       | inr u ↦ members_end cases choices (inr (c.loop-case.invariant.choices_counted ∙ u.1.0))
     ] in
-    dry_cases_last (library_value c.args.library.now) (members_in c.args.cases) (map case_row c.loop-case.results.items) (members_of cases choices) none c.loop-case.invariant.goes
+    dry_cases_last (library_value c.args.library.now) (members_of c.args.cases.list.items c.args.selected.items) (map case_row c.loop-case.results.items) (members_of cases choices) none c.loop-case.invariant.goes

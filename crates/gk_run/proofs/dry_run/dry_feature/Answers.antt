@@ -1,5 +1,4 @@
 use Rattle.std.proofs.Common.{◌≡◌, ◌∙◌, List, map, ap, subst}
-use Rattle.gk_select.specs.declared.case.Case.{Case}
 use Rattle.gk_steps.specs.Finding.{library_value}
 use Rattle.gk_run.specs.declared.results.CaseResult.{CaseResult}
 use Rattle.gk_run.specs.declared.results.Status.TheVariants as statuses
@@ -11,7 +10,6 @@ use Rattle.gk_run.specs.declared.chosen.RuleHead.{RuleHead}
 use Rattle.gk_run.specs.Cases.{case_statuses}
 use Rattle.gk_run.specs.Features.{feature_verdict, rule_statuses}
 use Rattle.gk_run.specs.DryRun.{dry_cases_of, dry_rules_of}
-use Rattle.gk_run.specs.Reserved.{members_in}
 use Rattle.gk_run.proofs.DryRunLemmas.{dry_feature_is}
 use Rattle.gk_run.proofs.dry_run.dry_feature.Goals as goal
 
@@ -20,12 +18,10 @@ returns c =
     let library = library_value c.args.library.now in
     let f = chosen_value c.args.chosen in
     let rows = map case_row c.in_ok-cases.cases.items in
-    let reserved = c.in_ok-reserved.ensures in
-    let members : members_in c.in_ok-reserved.reserved ≡ f.members =
-    ap (λ (cs : List Case). members_of cs c.in_ok-reserved.reserved.selected.items) (ap (λ cs. cs.items) reserved.same_cases) ∙ ap (members_of c.args.chosen.cases.items) (ap (λ ss. ss.items) reserved.same_choice) in
+    let members = ap (λ cs. members_of cs.items c.args.chosen.selected.items) c.in_ok-reserve-2.ensures in
     let results = c.dry_rules-rules.result.items in
     let rules = map rule_row results in
-    let are_rules : rules ≡ dry_rules_of f.rules = c.dry_rules-rules.ensures ∙ ap (λ (hs : List RuleHead). dry_rules_of (map head_value hs)) (ap (λ hs. hs.items) c.in_ok-reserve_rules.ensures) in
+    let are_rules : rules ≡ dry_rules_of f.rules = c.dry_rules-rules.ensures ∙ ap (λ (hs : List RuleHead). dry_rules_of (map head_value hs)) (ap (λ hs. hs.items) c.in_ok-reserve.ensures) in
     let verdict : c.feature_status.result ≡ feature_verdict statuses.Passed (rule_statuses rules) (case_statuses rows) =
     c.feature_status.ensures ∙ ap (λ (rs : List RuleResult). feature_verdict statuses.Passed (rule_statuses (map rule_row rs)) (case_statuses (map case_row c.as_slice-2.result.now))) c.as_slice.ensures.value
     ∙ ap (λ (cs : List CaseResult). feature_verdict statuses.Passed (rule_statuses rules) (case_statuses (map case_row cs))) c.as_slice-2.ensures.value in

@@ -11,21 +11,21 @@ use Rattle.gk_run.proofs.dry_run.dry_steps.Goals as goal
 
 pub loop-step-init : goal.loop-step-init
 loop-step-init c =
-    let here : into_iter_items c.into_iter-step-iterator.result ≡ c.args.steps.steps.items = c.into_iter-step-iterator.ensures.into_iter_gives.0 in
+    let here : into_iter_items c.into_iter-step-iterator.result ≡ c.args.steps.list.items = c.into_iter-step-iterator.ensures.into_iter_gives.0 in
     let library = library_value c.args.library.now in
-    let steps = map step_value c.args.steps.steps.items in
+    let steps = map step_value c.args.steps.list.items in
     record {
       goes =
           subst (λ (rows : List StepRow). GoesDrySteps library false (map step_value (into_iter_items c.into_iter-step-iterator.result)) rows steps) (sym (ap (map step_row) c.args.steps.empty))
           (subst (λ (left : List StepValue). GoesDrySteps library false left [] steps) (sym (ap (map step_value) here)) (dry_steps_first library steps));
       room = let e : length c.args.steps.results.items ≡ 0 = ap length c.args.steps.empty in let f = ap length here in let v = c.args.steps.results.ok.0 in omega (arith, c.args.steps.room);
-      counted = let l = c.into_iter-step-iterator.ensures.into_iter_gives.1 in let v = c.args.steps.steps.ok.0 in let f = ap length here in omega arith;
+      counted = let l = c.into_iter-step-iterator.ensures.into_iter_gives.1 in let v = c.args.steps.list.ok.0 in let f = ap length here in omega arith;
     }
 
 pub loop-step-preserved : goal.loop-step-preserved
 loop-step-preserved c =
     let library = library_value c.args.library.now in
-    let all = map step_value c.args.steps.steps.items in
+    let all = map step_value c.args.steps.list.items in
     let s = c.in-Some.ensures.steps in
     let f = ap length s.0 in
     let step = step_value c.in-Some.step in
@@ -46,4 +46,4 @@ loop-step-preserved c =
 pub returns : goal.returns
 returns c =
     let none : into_iter_items c.loop-step.step-iterator ≡ [] = nothing_in (into_iter_items c.loop-step.step-iterator) (c.loop-step.invariant.counted ∙ c.in-None.ensures.steps.0) in
-    dry_steps_last (library_value c.args.library.now) (map step_value c.args.steps.steps.items) c.loop-step.is_refused (map step_value (into_iter_items c.loop-step.step-iterator)) (map step_row c.loop-step.results.items) (ap (map step_value) none) c.loop-step.invariant.goes
+    dry_steps_last (library_value c.args.library.now) (map step_value c.args.steps.list.items) c.loop-step.is_refused (map step_value (into_iter_items c.loop-step.step-iterator)) (map step_row c.loop-step.results.items) (ap (map step_value) none) c.loop-step.invariant.goes

@@ -1,4 +1,4 @@
-use Rattle.std.proofs.Common.{◌∙◌, Bool, List, map, refl, subst, sym}
+use Rattle.std.proofs.Common.{◌∙◌, Bool, map, refl, subst, sym}
 use Rattle.gk_gherkin.specs.Feature.{texts}
 use Rattle.gk_world.specs.State.{State, state_of}
 use Rattle.gk_run.specs.declared.section.Level.TheVariants as levels
@@ -6,13 +6,13 @@ use Rattle.gk_run.specs.Chosen.{head_value}
 use Rattle.gk_run.specs.FeatureContracts.{inside_value, members_in}
 use Rattle.gk_run.specs.Features.{inside_by}
 use Rattle.gk_run.specs.Grouping.{groups_from, members_of_rank}
-use Rattle.gk_run.specs.OpenSection.{section_state}
+use Rattle.gk_run.specs.Events.{stand_of}
+use Rattle.gk_run.specs.Observer.{Ran}
+use Rattle.gk_run.specs.OpenSection.{IsBegun, section_state}
 use Rattle.gk_run.specs.Rules.{Inside}
 use Rattle.gk_run.specs.Run.{run_value}
-use Rattle.gk_run.specs.SectionContracts.{IsBegun}
-use Rattle.gk_run.specs.Watching.{Told, inside_told}
-use Rattle.gk_run.proofs.SectionLemmas.{begun_still, passed_state, ready, section_is}
-use Rattle.gk_run.proofs.ToldLemmas.{section_folds}
+use Rattle.gk_run.proofs.SectionLemmas.{begun_still, passed_state, ready}
+use Rattle.gk_run.proofs.ToldLemmas.{section_ran}
 use Rattle.gk_run.proofs.features.begin_feature.Goals as goal
 
 pub returns-in-Ok-clause-end : goal.returns-in-Ok-clause-end
@@ -27,17 +27,16 @@ returns-in-Ok-clause-end g c = λ there open_at.
     let opens = c.open_section-opened.ensures in
     let first = opens.0.first in
     let own = members_of_rank 0 (members_in c.args.content.cases) in
-    let groups = groups_from 1 (map head_value c.args.content.rules.heads.items) (members_in c.args.content.cases) in
+    let groups = groups_from 1 (map head_value c.args.content.rules.list.items) (members_in c.args.content.cases) in
     let around = c.end_around.result in
-    let begins : IsBegun run levels.Feature tags there first opened now = subst (λ (x : State). IsBegun run levels.Feature tags x first opened now) (open_at refl) opens.0.begins in
-    let known = c.in-Ok.ensures.inside (section_state run levels.Feature tags there) (λ o. passed_state run levels.Feature tags there first opened now begins (sym c.has_passed.ensures ∙ o)) in
-    let end = c.end_around.ensures.around run.stop there first (begun_still run levels.Feature tags there first opened now c.run_inside.new.sandbox c.in-Ok.ensures.same.contents begins) in
-    let passes = c.has_passed.ensures ∙ ready run levels.Feature tags there around first end.0 opened begins.ends end.2 in
-    let inside : State → Bool → Inside = λ section is_ready. inside_by run section is_ready known.0 known.1 own groups in
-    let heard : State → Bool → List Told = λ section is_ready. inside_told run section is_ready known.0 known.1 own groups in (
+    let before = opened.before in
+    let begins : IsBegun run levels.Feature tags there first before (stand_of now opened.cleanups) = subst (λ (x : State). IsBegun run levels.Feature tags x first before (stand_of now opened.cleanups)) (open_at refl) opens.0.begins in
+    let known = c.in-Ok.ensures.inside (section_state run levels.Feature tags there) (λ o. passed_state run levels.Feature tags there first before (stand_of now opened.cleanups) begins (sym c.has_passed.ensures ∙ o)) in
+    let end = c.end_around.ensures.around there first (begun_still run levels.Feature tags there first before opened.cleanups now c.run_inside.new.sandbox c.in-Ok.ensures.same.contents begins) in
+    let passes = c.has_passed.ensures ∙ ready run levels.Feature tags there around first end.0 before begins.ends end.2 in
+    let inside : State → Bool → Ran Inside = λ section is_ready. inside_by run section is_ready known.0 known.1 own groups in (
       end.2.cut,
       known.0,
       known.1,
-      section_is run levels.Feature tags there c.has_passed.result around first end.0 (inside_value c.in-Ok.inside) inside end.2 passes known.2,
-      section_folds hears ends run levels.Feature tags there c.has_passed.result around first end.0 heard c.args.observer.now c.open_section-opened.new.observer c.run_inside.new.observer c.end_around.new.observer end.2 passes opens.1 known.3 end.1,
+      section_ran hears ends run levels.Feature tags there c.has_passed.result around first end.0 (inside_value c.in-Ok.inside) inside c.args.observer.now c.open_section-opened.new.observer c.run_inside.new.observer c.end_around.new.observer end.2 passes opens.1 known.2 end.1,
     )

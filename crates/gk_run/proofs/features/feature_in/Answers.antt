@@ -17,12 +17,12 @@ use Rattle.gk_run.specs.Run.{run_value}
 use Rattle.gk_run.proofs.CasesLemmas.{selected_any}
 use Rattle.gk_run.proofs.FeaturesLemmas.{feature_is}
 use Rattle.gk_run.proofs.GroupingLemmas.{falls_into}
-use Rattle.gk_run.specs.Watching.{tells}
+use Rattle.gk_run.specs.Observer.{tells}
 use Rattle.gk_run.proofs.features.feature_in.Goals as goal
 
 pub new-cases-requires-clause-falls : goal.new-cases-requires-clause-falls
 new-cases-requires-clause-falls g c =
-    subst (λ (cs : List Case). falls_from 0 cs ≡ true) (sym (ap (λ cs. cs.items) c.in_ok-reserve_cases.ensures.same_cases)) (falls_into _ 0 c.args.chosen.cases.items c.requires.formed.falls)
+    subst (λ (cs : List Case). falls_from 0 cs ≡ true) (sym (ap (λ cs. cs.items) c.in_ok-reserve.ensures)) (falls_into _ 0 c.args.chosen.cases.items c.requires.formed.falls)
 
 pub returns-clause-ran : goal.returns-clause-ran
 returns-clause-ran g c =
@@ -31,12 +31,11 @@ returns-clause-ran g c =
     let f = chosen_value c.args.chosen in
     let end : SectionRow Inside = record { around = c.in_ok-end.end.around; inside = inside_value c.in_ok-end.end.inside } in
     let cases = c.args.chosen.cases.items in
-    let reserved = c.in_ok-reserve_cases.ensures in
     let begun_with = c.new-cases.ensures in
-    let waiting = begun_with.waiting ∙ ap (λ cs. cs.items) reserved.same_cases in
-    let selected = begun_with.selected ∙ ap (λ ss. ss.items) reserved.same_choice in
+    let waiting = begun_with.waiting ∙ ap (λ cs. cs.items) c.in_ok-reserve.ensures in
+    let selected = begun_with.selected in
     let members : members_in c.new-cases.result ≡ f.members = ap (λ (cs : List Case). members_of cs c.new-cases.result.selected.items) waiting ∙ ap (members_of cases) selected in
-    let heads : map head_value c.in_ok-rules.rules.heads.items ≡ f.rules = ap (λ hs. map head_value hs.items) c.in_ok-rules.ensures in
+    let heads : map head_value c.in_ok-rules.rules.list.items ≡ f.rules = ap (λ hs. map head_value hs.items) c.in_ok-rules.ensures in
     let begins : c.both-is_begun.result ≡ (c.args.is_open && has_selected f.members) =
     c.both-is_begun.ensures ∙ ap (λ (b : Bool). c.args.is_open && b) (c.has_selected.ensures ∙ ap (λ (ss : List Bool). list_any (λ (s : Bool). s) ss) c.as_slice.ensures.value ∙ sym (selected_any cases c.args.chosen.selected.items c.requires.formed.paired)) in
     let verdict : c.feature_status.result ≡ feature_verdict end.around (rule_statuses end.inside.rules) (case_statuses end.inside.cases) =
@@ -48,4 +47,4 @@ returns-clause-ran g c =
     feature_is g.O.Observer.hears g.O.Observer.ends run now c.args.is_open c.both-is_begun.result f c.feature_status.result end first last begins verdict
     (subst (λ (ms : List MemberValue). IsFeatureEnd told_by run now c.both-is_begun.result f.tags (members_of_rank 0 ms) (groups_from 1 f.rules ms) end first last) members
     (subst (λ (hs : List HeadValue). IsFeatureEnd told_by run now c.both-is_begun.result f.tags (members_of_rank 0 (members_in c.new-cases.result)) (groups_from 1 hs (members_in c.new-cases.result)) end first last) heads
-    (subst (λ (ts : List (List ℕ)). IsFeatureEnd told_by run now c.both-is_begun.result ts (members_of_rank 0 (members_in c.new-cases.result)) (groups_from 1 (map head_value c.in_ok-rules.rules.heads.items) (members_in c.new-cases.result)) end first last) (ap texts c.as_slice-2.ensures.value) c.in_ok-end.ensures.end)))
+    (subst (λ (ts : List (List ℕ)). IsFeatureEnd told_by run now c.both-is_begun.result ts (members_of_rank 0 (members_in c.new-cases.result)) (groups_from 1 (map head_value c.in_ok-rules.rules.list.items) (members_in c.new-cases.result)) end first last) (ap texts c.as_slice-2.ensures.value) c.in_ok-end.ensures.end)))

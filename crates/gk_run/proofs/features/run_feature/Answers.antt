@@ -1,9 +1,10 @@
-use Rattle.std.proofs.Common.{◌∙◌, ◌≡◌, ap, refl, true}
+use Rattle.std.proofs.Common.{◌∙◌, ap, true}
 use Rattle.gk_gherkin.specs.declared.hooks.HookFile.{HookFile}
 use Rattle.gk_world.specs.State.{state_of}
 use Rattle.gk_run.specs.declared.results.FeatureResult.{FeatureResult}
 use Rattle.gk_run.specs.Chosen.{chosen_value}
-use Rattle.gk_run.specs.Features.{FeatureCuts, feature_of}
+use Rattle.gk_run.specs.Features.{IsFeatureResult, feature_of}
+use Rattle.gk_run.specs.Observer.{result_of}
 use Rattle.gk_run.specs.Results.{feature_row}
 use Rattle.gk_run.specs.Run.{run_of}
 use Rattle.gk_run.proofs.CasesLemmas.{of_ok}
@@ -13,5 +14,5 @@ pub returns-clause-row : goal.returns-clause-row
 returns-clause-row c =
     let now = state_of c.args.sandbox.now.now in
     let f = chosen_value c.args.chosen in
-    of_ok (λ (r : FeatureResult). (cuts : FeatureCuts) × (feature_row r ≡ feature_of (run_of c.args.library.now c.args.hooks.now c.args.stop) now true cuts f)) c.feature_in.result c.feature_in.ensures.ran
-    (λ r h. let told = h now (λ _. refl) in (told.0, told.1 ∙ ap (λ (file : HookFile). feature_of (run_of c.args.library.now file c.args.stop) now true told.0 f) c.new-hooks.ensures))
+    of_ok (λ (r : FeatureResult). IsFeatureResult (run_of c.args.library.now c.args.hooks.now c.args.stop) now true f (feature_row r)) c.feature_in.result c.feature_in.ensures.ran
+    (λ r h outside opens. let told = h outside opens in (told.0, told.1.is ∙ ap (λ (file : HookFile). result_of (feature_of (run_of c.args.library.now file c.args.stop) outside true told.0 f)) c.new-hooks.ensures))

@@ -2,9 +2,9 @@ use Rattle.std.proofs.Common.{◌∙◌, refl, sym}
 use Rattle.gk_gherkin.specs.Feature.{texts}
 use Rattle.gk_gherkin.specs.Hooks.{hooks_value}
 use Rattle.gk_steps.specs.Finding.{library_value}
-use Rattle.gk_run.specs.Closing.{cleaned}
+use Rattle.gk_run.specs.Events.{stand_of}
+use Rattle.gk_run.specs.SectionEnd.{cleaned}
 use Rattle.gk_run.specs.SectionHooks.{after_lists, walk_each}
-use Rattle.gk_run.specs.WalkContracts.{stand_of}
 use Rattle.gk_run.proofs.GoesLemmas.{behind, nothing, under}
 use Rattle.gk_run.specs.Ending.{worse}
 use Rattle.gk_run.proofs.open_section.close_after.Goals as goal

@@ -2,19 +2,21 @@ use Rattle.std.proofs.Common.{◌∙◌, ap, subst, sym}
 use Rattle.gk_gherkin.specs.Feature.{texts}
 use Rattle.gk_run.specs.declared.results.Status.{Status}
 use Rattle.gk_run.specs.Ending.{around_status}
-use Rattle.gk_run.specs.Run.{run_of}
+use Rattle.gk_run.specs.Events.{stand_of}
+use Rattle.gk_run.specs.Run.{run_value}
 use Rattle.gk_run.specs.SectionContracts.{EndsAround}
 use Rattle.gk_run.proofs.SectionLemmas.{section_ends}
 use Rattle.gk_run.proofs.open_section.end_around.Goals as goal
 
 pub returns-clause-around : goal.returns-clause-around
-returns-clause-around g c = λ stop.
-    let run = run_of c.args.run.now.library.now c.args.run.now.hooks.now.file.now stop in
+returns-clause-around g c =
+    let run = run_value c.args.run.now in
     let tags = texts c.args.section.now.tags.now in
     let level = c.args.section.now.level in
-    let opened = c.args.opened in
+    let before = c.args.opened.before in
+    let now = stand_of c.args.sandbox.now c.args.opened.cleanups in
     let closed = c.end_section-closed.result in
     let first = c.args.observer.now in
     let last = c.end_section-closed.new.observer in
-    subst (λ (x : Status). EndsAround g.O.Observer.hears run level tags opened c.args.sandbox.now x first last) (sym (c.around_status.ensures ∙ ap around_status c.worse.ensures))
-    (section_ends g.O.Observer.hears run level tags opened c.args.sandbox.now closed.ending closed.outcomes.items first last c.end_section-closed.ensures.closed)
+    subst (λ (x : Status). EndsAround g.O.Observer.hears run level tags before now x first last) (sym (c.around_status.ensures ∙ ap around_status c.worse.ensures))
+    (section_ends g.O.Observer.hears run level tags before now closed.ending closed.outcomes.items first last c.end_section-closed.ensures.closed)

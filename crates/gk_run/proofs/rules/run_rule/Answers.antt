@@ -7,7 +7,7 @@ use Rattle.gk_run.specs.Chosen.{head_value}
 use Rattle.gk_run.specs.FeatureContracts.{BeginsRule, RunsRule, members_in}
 use Rattle.gk_run.specs.Grouping.{Group, members_of_rank}
 use Rattle.gk_run.specs.Run.{run_value}
-use Rattle.gk_run.specs.Watching.{tells}
+use Rattle.gk_run.specs.Observer.{tells}
 use Rattle.gk_run.proofs.CasesLemmas.{if_ok}
 use Rattle.gk_run.proofs.RulesLemmas.{passed_stays, rule_begun, rule_unbegun}
 use Rattle.gk_run.proofs.rules.run_rule.Goals as goal

@@ -14,8 +14,8 @@ loop-head-init g c =
     let run = run_of c.args.run.now.library.now c.args.run.now.hooks.now.file.now c.args.run.now.stop in
     let first = state_of c.args.sandbox.now.now in
     let old = c.args.cases.now in
-    let heads = map head_value c.args.rules.heads.items in
-    let here : into_iter_items c.into_iter-head-iterator.result ≡ c.args.rules.heads.items = c.into_iter-head-iterator.ensures.into_iter_gives.0 in
+    let heads = map head_value c.args.rules.list.items in
+    let here : into_iter_items c.into_iter-head-iterator.result ≡ c.args.rules.list.items = c.into_iter-head-iterator.ensures.into_iter_gives.0 in
     let none : c.args.rules.results.items ≡ [] = c.args.rules.empty in
     let begin = c.args.observer.now in
     record {
@@ -24,14 +24,14 @@ loop-head-init g c =
       same = record { contents = refl; saved = refl; marks = refl; recorded = refl };
       room = omega (arith, c.args.rules.room, c.args.rules.results.ok.0, ap length none, ap length here);
       ranks = omega (arith, c.args.rules.room, c.requires.first, ap length here);
-      counted = omega (arith, c.args.rules.heads.ok.0, ap length here, c.into_iter-head-iterator.ensures.into_iter_gives.1);
+      counted = omega (arith, c.args.rules.list.ok.0, ap length here, c.into_iter-head-iterator.ensures.into_iter_gives.1);
     }
 
 pub loop-head-preserved : goal.loop-head-preserved
 loop-head-preserved g c =
     let run = run_of c.args.run.now.library.now c.args.run.now.hooks.now.file.now c.args.run.now.stop in
     let first = state_of c.args.sandbox.now.now in
-    let heads = map head_value c.args.rules.heads.items in
+    let heads = map head_value c.args.rules.list.items in
     let old = c.args.cases.now in
     let now = c.loop-head.cases in
     let taken = c.next_rank.new.self in
@@ -59,7 +59,7 @@ pub returns-clause-rules : goal.returns-clause-rules
 returns-clause-rules g c =
     let run = run_of c.args.run.now.library.now c.args.run.now.hooks.now.file.now c.args.run.now.stop in
     let first = state_of c.args.sandbox.now.now in
-    let heads = map head_value c.args.rules.heads.items in
+    let heads = map head_value c.args.rules.list.items in
     let none : into_iter_items c.loop-head.head-iterator ≡ [] = nothing_in (into_iter_items c.loop-head.head-iterator) (c.loop-head.invariant.counted ∙ c.in-None.ensures.steps.0) in
     rules_last g.O.Observer.hears g.O.Observer.ends run first c.args.is_open heads c.args.cases.now c.loop-head.cases c.loop-head.is_open c.loop-head.results.items c.args.observer.now c.loop-head.observer
     (subst (λ (hs : List RuleHead). GoesRules g.O.Observer.hears g.O.Observer.ends run first c.args.is_open heads c.args.cases.now c.loop-head.cases c.loop-head.is_open c.loop-head.results.items (map head_value hs) c.args.observer.now c.loop-head.observer) none c.loop-head.invariant.goes)

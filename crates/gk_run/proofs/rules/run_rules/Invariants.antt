@@ -3,14 +3,14 @@ use Rattle.std.specs.Vec.Iter.{into_iter_items, into_iter_len}
 use Rattle.gk_world.specs.State.{state_of}
 use Rattle.gk_run.specs.Chosen.{head_value}
 use Rattle.gk_run.specs.Run.{run_of}
-use Rattle.gk_run.specs.Running.{IsSame}
+use Rattle.gk_world.specs.Sandbox.{IsSame}
 use Rattle.gk_run.proofs.RulesLemmas.{GoesRules}
 use Rattle.gk_run.proofs.rules.run_rules.Given as goal
 
 -- however the rules that are left are cut, all have cuts with these results before the others
 abbrev pub invariant-loop-head : goal.invariant-loop-head
 invariant-loop-head g l = record {
-  goes : GoesRules g.O.Observer.hears g.O.Observer.ends (run_of l.run.library.now l.run.hooks.now.file.now l.run.stop) (state_of l.fn.sandbox.now) l.fn.is_open (map head_value l.fn.rules.heads.items) l.fn.cases l.cases l.is_open l.results.items (map head_value (into_iter_items l.head-iterator)) l.fn.observer l.observer;
+  goes : GoesRules g.O.Observer.hears g.O.Observer.ends (run_of l.run.library.now l.run.hooks.now.file.now l.run.stop) (state_of l.fn.sandbox.now) l.fn.is_open (map head_value l.fn.rules.list.items) l.fn.cases l.cases l.is_open l.results.items (map head_value (into_iter_items l.head-iterator)) l.fn.observer l.observer;
   same : IsSame l.fn.sandbox l.sandbox;
   room : vec_len l.results + length (into_iter_items l.head-iterator) ≤ vec_capacity l.results;
   ranks : l.cases.rank + length (into_iter_items l.head-iterator) ≤ vec_capacity l.results;

@@ -2,6 +2,7 @@ use Rattle.std.proofs.Common.{List, ℕ, ◌∙◌, ◌≡◌, ap, map, subst, s
 use Rattle.gk_gherkin.specs.Feature.{StepValue, step_value, texts}
 use Rattle.gk_select.specs.Case.{case_value}
 use Rattle.gk_world.specs.State.{state_of}
+use Rattle.gk_run.specs.Events.{stand_of}
 use Rattle.gk_run.specs.declared.ending.Ending.TheVariants as endings
 use Rattle.gk_run.specs.declared.results.Status.{Status}
 use Rattle.gk_run.specs.declared.section.Level.TheVariants as levels
@@ -9,8 +10,8 @@ use Rattle.gk_run.specs.Ending.{around_status, verdict_status, worse}
 use Rattle.gk_run.specs.Results.{CaseRow, step_row}
 use Rattle.gk_run.specs.Run.{run_value}
 use Rattle.gk_run.specs.SectionHooks.{after_lists, begun, entered}
-use Rattle.gk_run.specs.WalkContracts.{Happens, IsClosing, stand_of}
-use Rattle.gk_run.specs.Watching.{AreEventsTold}
+use Rattle.gk_run.specs.WalkContracts.{Happens, IsClosing}
+use Rattle.gk_run.specs.Running.{AreEventsTold}
 use Rattle.gk_run.proofs.SectionLemmas.{case_told}
 use Rattle.gk_run.proofs.WalkLemmas.{AllSteps}
 use Rattle.gk_run.proofs.running.case_in.Goals as goal
@@ -40,7 +41,7 @@ returns-clause-told g c =
     let before : Begins case.own_tags = subst Begins tags before0 in
     let ran = c.run_steps-ending.ensures.stepped in
     let Ran : List StepValue → Type 0 = λ ss. AllSteps hears run.library b start mid ss e rows here there in
-    let steps0 : Ran (map step_value c.in_ok-steps.steps.steps.items) = record { goes = ran.goes; rows_are = ran.rows } in
+    let steps0 : Ran (map step_value c.in_ok-steps.steps.list.items) = record { goes = ran.goes; rows_are = ran.rows } in
     let steps : Ran case.steps = subst Ran (ap (λ ss. map step_value ss.items) c.in_ok-steps.ensures) steps0 in
     let closing = subst (λ (ts : List (List ℕ)). IsClosing hears run.library levels.Scenario (after_lists run.hooks levels.Scenario ts) e mid closed.ending closed.outcomes.items there last) tags c.end_section-closed.ensures.closed in
     let row : Status → Status → CaseRow = λ v a. record { keyword = case.keyword; name = case.name; line = case.line; status = v; around = a; cleanups = closed.outcomes.items; steps = rows } in

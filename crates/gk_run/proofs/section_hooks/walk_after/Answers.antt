@@ -3,12 +3,13 @@ use Rattle.std.proofs.lemmas.List.{append-nil}
 use Rattle.gk_gherkin.specs.Feature.{StepValue, step_value, texts}
 use Rattle.gk_gherkin.specs.Hooks.{hooks_value}
 use Rattle.gk_steps.specs.Finding.{library_value}
+use Rattle.gk_run.specs.Events.{stand_of}
 use Rattle.gk_run.specs.declared.ending.Ending.{Ending}
 use Rattle.gk_run.specs.declared.ending.Ending.TheVariants as endings
 use Rattle.gk_run.specs.Section.{after_of}
 use Rattle.gk_run.specs.SectionHooks.{after_kind, hook_steps, tag_lists, walk_each}
 use Rattle.gk_run.specs.Walk.{walk}
-use Rattle.gk_run.specs.WalkContracts.{Goes, Happens, stand_of}
+use Rattle.gk_run.specs.WalkContracts.{Goes, Happens}
 use Rattle.gk_run.proofs.GoesLemmas.{begin, behind, chain, with_rest}
 use Rattle.gk_run.proofs.WalkLemmas.{each_on}
 use Rattle.gk_run.proofs.section_hooks.walk_after.Goals as goal

@@ -5,13 +5,13 @@ use Rattle.gk_gherkin.specs.Feature.{StepValue, step_value, texts}
 use Rattle.gk_gherkin.specs.Hooks.{hooks_value}
 use Rattle.gk_steps.specs.Finding.{library_value}
 use Rattle.gk_world.specs.State.{state_of}
+use Rattle.gk_run.specs.Events.{stand_of}
 use Rattle.gk_run.specs.declared.ending.Ending.{Ending}
 use Rattle.gk_run.specs.declared.ending.Ending.TheVariants as endings
-use Rattle.gk_run.specs.Cleanups.{cleanups_value}
 use Rattle.gk_run.specs.Section.{before_of}
 use Rattle.gk_run.specs.SectionHooks.{before_kind, before_list, hook_steps}
 use Rattle.gk_run.specs.Walk.{walk}
-use Rattle.gk_run.specs.WalkContracts.{Goes, Happens, stand_of}
+use Rattle.gk_run.specs.WalkContracts.{Goes, Happens}
 use Rattle.gk_run.proofs.EndingLemmas.{passed_is}
 use Rattle.gk_run.proofs.GoesLemmas.{begin, chain}
 use Rattle.gk_run.proofs.WalkLemmas.{at, drop_next, drop_none, list_on}
@@ -32,7 +32,7 @@ loop-tag-preserved g c =
     let tag = c.tag-item.result in
     let left = before_list hooks level (texts (drop (i + 1) tags)) in
     let s = state_of c.loop-tag.sandbox.now in
-    let cs = cleanups_value c.loop-tag.cleanups in
+    let cs = c.loop-tag.cleanups in
     let e = c.walk_hook-ending.result in
     let now = stand_of c.walk_hook-ending.new.sandbox c.walk_hook-ending.new.cleanups in
     let all = walk library place (state_of c.args.sandbox.now.now) (before_list hooks level (texts tags)) in
@@ -64,7 +64,7 @@ returns-then-not-has_passed-clause-walked g c =
     let tag = c.tag-item.result in
     let left = before_list hooks level (texts (drop (i + 1) tags)) in
     let s = state_of c.loop-tag.sandbox.now in
-    let cs = cleanups_value c.loop-tag.cleanups in
+    let cs = c.loop-tag.cleanups in
     let e = c.walk_hook-ending.result in
     let now = stand_of c.walk_hook-ending.new.sandbox c.walk_hook-ending.new.cleanups in
     let all = walk library place (state_of c.args.sandbox.now.now) (before_list hooks level (texts tags)) in
@@ -88,7 +88,7 @@ returns-clause-walked g c =
     let place = before_of level in
     let tags = c.args.section.now.tags.now in
     let s = state_of c.loop-tag.sandbox.now in
-    let cs = cleanups_value c.loop-tag.cleanups in
+    let cs = c.loop-tag.cleanups in
     let e = c.walk_hook.result in
     let now = stand_of c.walk_hook.new.sandbox c.walk_hook.new.cleanups in
     let all = walk library place (state_of c.args.sandbox.now.now) (before_list hooks level (texts tags)) in

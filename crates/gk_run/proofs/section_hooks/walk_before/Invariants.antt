@@ -4,11 +4,12 @@ use Rattle.gk_gherkin.specs.Hooks.{hooks_value}
 use Rattle.gk_steps.specs.Finding.{library_value}
 use Rattle.gk_world.specs.State.{state_of}
 use Rattle.gk_world.specs.Sandbox.{KeepsLayers}
+use Rattle.gk_run.specs.Events.{stand_of}
 use Rattle.gk_run.specs.declared.ending.Ending.TheVariants as endings
 use Rattle.gk_run.specs.Section.{before_of}
 use Rattle.gk_run.specs.SectionHooks.{before_list}
 use Rattle.gk_run.specs.Walk.{walk}
-use Rattle.gk_run.specs.WalkContracts.{Goes, stand_of}
+use Rattle.gk_run.specs.WalkContracts.{Goes}
 use Rattle.gk_run.proofs.section_hooks.walk_before.Given as goal
 
 -- the lists of the tags so far passed, and that of those that are left is to be walked through

@@ -3,13 +3,14 @@ use Rattle.gk_gherkin.specs.declared.hooks.HookKind.TheVariants as kinds
 use Rattle.gk_gherkin.specs.Feature.{StepValue, texts}
 use Rattle.gk_gherkin.specs.Hooks.{hooks_value}
 use Rattle.gk_steps.specs.Finding.{library_value}
+use Rattle.gk_run.specs.Events.{stand_of}
 use Rattle.gk_run.specs.declared.ending.Ending.{Ending}
 use Rattle.gk_run.specs.declared.ending.Ending.TheVariants as endings
 use Rattle.gk_run.specs.Ending.{is_memory_ending, worse}
 use Rattle.gk_run.specs.Section.{after_of}
 use Rattle.gk_run.specs.SectionHooks.{hook_steps, tag_lists, walk_each}
 use Rattle.gk_run.specs.Walk.{walk}
-use Rattle.gk_run.specs.WalkContracts.{Goes, Happens, stand_of}
+use Rattle.gk_run.specs.WalkContracts.{Goes, Happens}
 use Rattle.gk_run.proofs.EndingLemmas.{is_memory, worse_memory}
 use Rattle.gk_run.proofs.GoesLemmas.{begin, unrefused, with_rest}
 use Rattle.gk_run.proofs.WalkLemmas.{drop_next, drop_none, each_on}

@@ -3,10 +3,11 @@ use Rattle.gk_gherkin.specs.Feature.{texts}
 use Rattle.gk_gherkin.specs.Hooks.{hooks_value}
 use Rattle.gk_steps.specs.Finding.{library_value}
 use Rattle.gk_world.specs.Sandbox.{KeepsLayers}
+use Rattle.gk_run.specs.Events.{stand_of}
 use Rattle.gk_run.specs.declared.ending.Ending.TheVariants as endings
 use Rattle.gk_run.specs.Ending.{is_memory_ending}
 use Rattle.gk_run.specs.SectionHooks.{tag_lists, walk_each}
-use Rattle.gk_run.specs.WalkContracts.{Goes, stand_of}
+use Rattle.gk_run.specs.WalkContracts.{Goes}
 use Rattle.gk_run.proofs.section_hooks.walk_tags.Given as goal
 
 -- the lists of the tags so far were walked through, and those of the tags that are left are to be

@@ -4,8 +4,7 @@ use Rattle.gk_steps.specs.declared.used_fields.FoundUse.{FoundUse}
 use Rattle.gk_steps.specs.Finding.{FoundValue, HasCandidateFor, IsUseOf, found, library_value}
 use Rattle.gk_world.specs.State.{state_of}
 use Rattle.gk_run.specs.declared.results.Outcome.TheVariants as outcomes
-use Rattle.gk_run.specs.Acting.{given_value}
-use Rattle.gk_run.specs.Cleanups.{cleanups_value}
+use Rattle.gk_run.specs.Acting.{arguments_value}
 use Rattle.gk_run.proofs.ActingLemmas.{none_written}
 use Rattle.gk_run.proofs.WalkLemmas.{used_kept, used_step}
 use Rattle.gk_run.proofs.walk.run_step.Goals as goal
@@ -16,8 +15,8 @@ returns-in-Ok-Some-clause-ran c =
     let step = step_value c.args.step.now in
     let looked = subst (λ (l : Option FoundUse). IsUseOf library (found library step.step_type c.as_str.result.now) l) c.in-Ok-Some.field-0-is c.in-Ok-Some.ensures.found in
     let used = subst (λ (t : List ℕ). IsUseOf library (found library step.step_type t) (Some c.in-Ok-Some.used)) c.as_str.ensures.value looked in
-    used_step library c.args.site (state_of c.args.sandbox.now.now) (state_of c.act_by.new.sandbox.now) (cleanups_value c.args.cleanups.now) (cleanups_value c.act_by.new.cleanups) step (found library step.step_type step.text) c.in-Ok-Some.used (given_value c.arguments_by.result) c.act_by.result
-    used c.arguments_by.ensures c.act_by.ensures.done c.act_by.ensures.registered
+    used_step library c.args.site (state_of c.args.sandbox.now.now) (state_of c.act_by.new.sandbox.now) c.args.cleanups.now c.act_by.new.cleanups step (found library step.step_type step.text) c.in-Ok-Some.used (arguments_value c.arguments_by-arguments.result) c.act_by.result
+    used c.arguments_by-arguments.ensures c.act_by.ensures.done c.act_by.ensures.registered
 
 pub returns-in-Ok-Some-clause-memory : goal.returns-in-Ok-Some-clause-memory
 returns-in-Ok-Some-clause-memory c none memory =
@@ -34,7 +33,7 @@ returns-in-Ok-Some-clause-kept c memory =
     let looked = subst (λ (l : Option FoundUse). IsUseOf library (found library step.step_type c.as_str.result.now) l) c.in-Ok-Some.field-0-is c.in-Ok-Some.ensures.found in
     let used = subst (λ (t : List ℕ). IsUseOf library (found library step.step_type t) (Some c.in-Ok-Some.used)) c.as_str.ensures.value looked in
     let refused : c.act_by.result ≡ outcomes.Memory = cc in
-    used_kept library c.args.sandbox.now c.act_by.new.sandbox step (found library step.step_type step.text) c.in-Ok-Some.used (given_value c.arguments_by.result) used c.arguments_by.ensures (c.act_by.ensures.kept refused)
+    used_kept library c.args.sandbox.now c.act_by.new.sandbox step (found library step.step_type step.text) c.in-Ok-Some.used (arguments_value c.arguments_by-arguments.result) used c.arguments_by-arguments.ensures (c.act_by.ensures.kept refused)
 
 pub returns-in-Err-clause-memory : goal.returns-in-Err-clause-memory
 returns-in-Err-clause-memory c none memory =

@@ -2,13 +2,13 @@ use Rattle.std.proofs.Common.{◌≡◌, ◌+◌, ◌∙◌, Bool, List, [], con
 use Rattle.gk_gherkin.specs.Feature.{StepValue, step_value}
 use Rattle.gk_steps.specs.Finding.{library_value}
 use Rattle.gk_world.specs.State.{state_of}
+use Rattle.gk_run.specs.Events.{stand_of}
 use Rattle.gk_run.specs.declared.acting.Site.{Site}
 use Rattle.gk_run.specs.declared.ending.Ending.{Ending}
 use Rattle.gk_run.specs.declared.ending.Ending.TheVariants as endings
-use Rattle.gk_run.specs.Cleanups.{cleanups_value}
 use Rattle.gk_run.specs.Ending.{ending_of, has_passed}
 use Rattle.gk_run.specs.Walk.{one_step, walk}
-use Rattle.gk_run.specs.WalkContracts.{Goes, IsStepRun, stand_of}
+use Rattle.gk_run.specs.WalkContracts.{Goes, IsStepRun}
 use Rattle.gk_run.proofs.EndingLemmas.{passed_is}
 use Rattle.gk_run.proofs.GoesLemmas.{begin}
 use Rattle.gk_run.proofs.WalkLemmas.{at, drop_next, drop_none, walk_on}
@@ -21,16 +21,16 @@ pub loop-step-preserved : goal.loop-step-preserved
 loop-step-preserved g c =
     let hears = g.O.Observer.hears in
     let library = library_value c.args.run.now.library.now in
-    let place = c.args.place in
+    let place = c.args.stage in
     let steps = c.args.steps.now in
     let i = c.loop-step.step-index in
     let step = c.step-item.result in
     let left = map step_value (drop (i + 1) steps) in
     let s = state_of c.loop-step.sandbox.now in
-    let cs = cleanups_value c.loop-step.cleanups in
+    let cs = c.loop-step.cleanups in
     let m = c.run_step-mark.result in
     let new = state_of c.run_step-mark.new.sandbox.now in
-    let new_cleanups = cleanups_value c.run_step-mark.new.cleanups in
+    let new_cleanups = c.run_step-mark.new.cleanups in
     let all = walk library place (state_of c.args.sandbox.now.now) (map step_value steps) in
     let start = stand_of c.args.sandbox.now c.args.cleanups.now in
     let first = c.args.observer.now in
@@ -50,16 +50,16 @@ pub returns-then-not-has_passed-clause-walked : goal.returns-then-not-has_passed
 returns-then-not-has_passed-clause-walked g c =
     let hears = g.O.Observer.hears in
     let library = library_value c.args.run.now.library.now in
-    let place = c.args.place in
+    let place = c.args.stage in
     let steps = c.args.steps.now in
     let i = c.loop-step.step-index in
     let step = c.step-item.result in
     let left = map step_value (drop (i + 1) steps) in
     let s = state_of c.loop-step.sandbox.now in
-    let cs = cleanups_value c.loop-step.cleanups in
+    let cs = c.loop-step.cleanups in
     let m = c.run_step-mark.result in
     let new = state_of c.run_step-mark.new.sandbox.now in
-    let new_cleanups = cleanups_value c.run_step-mark.new.cleanups in
+    let new_cleanups = c.run_step-mark.new.cleanups in
     let all = walk library place (state_of c.args.sandbox.now.now) (map step_value steps) in
     let start = stand_of c.args.sandbox.now c.args.cleanups.now in
     let first = c.args.observer.now in
@@ -76,6 +76,6 @@ pub returns-clause-walked : goal.returns-clause-walked
 returns-clause-walked g c =
     let library = library_value c.args.run.now.library.now in
     let s = state_of c.loop-step.sandbox.now in
-    let all = walk library c.args.place (state_of c.args.sandbox.now.now) (map step_value c.args.steps.now) in
-    subst (λ (xs : List StepValue). Goes g.O.Observer.hears endings.Passed all (walk library c.args.place s xs) (stand_of c.args.sandbox.now c.args.cleanups.now) (stand_of c.loop-step.sandbox c.loop-step.cleanups) endings.Passed c.args.observer.now c.loop-step.observer)
+    let all = walk library c.args.stage (state_of c.args.sandbox.now.now) (map step_value c.args.steps.now) in
+    subst (λ (xs : List StepValue). Goes g.O.Observer.hears endings.Passed all (walk library c.args.stage s xs) (stand_of c.args.sandbox.now c.args.cleanups.now) (stand_of c.loop-step.sandbox c.loop-step.cleanups) endings.Passed c.args.observer.now c.loop-step.observer)
     (drop_none step_value c.args.steps.now c.loop-step.step-index c.loop-step-test.false) c.loop-step.invariant.goes

@@ -5,9 +5,9 @@ use Rattle.gk_select.specs.Case.{case_value}
 use Rattle.gk_select.specs.Expansion.{cases, cases_of_rules, RowsFit}
 use Rattle.gk_select.proofs.expansion.copied_cases.Given as goal
 
-abbrev pub invariant-loop-place : goal.invariant-loop-place
-invariant-loop-place l = record {
-  fit : AllByRecursion (λ (r : RuleValue). RowsFit r.scenarios) (map rule_value (drop l.place l.feature.rules.items));
-  built : map case_value l.cases.items ++ cases_of_rules l.feature l.place (drop l.place l.feature.rules.items)
+abbrev pub invariant-loop-index : goal.invariant-loop-index
+invariant-loop-index l = record {
+  fit : AllByRecursion (λ (r : RuleValue). RowsFit r.scenarios) (map rule_value (drop l.index l.feature.rules.items));
+  built : map case_value l.cases.items ++ cases_of_rules l.feature l.index (drop l.index l.feature.rules.items)
       ≡ cases (feature_value l.feature);
 }

@@ -1,6 +1,6 @@
 use Rattle.std.proofs.Common.{◌-◌}
-use Rattle.gk_steps.specs.Columns.{IsRunTo}
+use Rattle.gk_steps.specs.Advances.{IsRunTo}
 use Rattle.gk_steps.proofs.digits.has_digits.Given as goal
 
 abbrev pub invariant-loop-back : goal.invariant-loop-back
-invariant-loop-back l = IsRunTo (l.column - l.back) l.most l.text l.below.places.now l.below.cells.now l.column l.value
+invariant-loop-back l = IsRunTo (l.column - l.back) l.most l.text l.boundaries l.below l.column l.value

@@ -1,6 +1,6 @@
 use Rattle.std.proofs.Common.{◌-◌}
-use Rattle.gk_steps.specs.Columns.{IsReachTo}
+use Rattle.gk_steps.specs.Advances.{IsReachTo}
 use Rattle.gk_steps.proofs.digits.longest_digits.Given as goal
 
 abbrev pub invariant-loop-back : goal.invariant-loop-back
-invariant-loop-back l = IsReachTo (l.column - l.back) l.most l.text l.below.places.now l.below.cells.now l.column l.value l.longest
+invariant-loop-back l = IsReachTo (l.column - l.back) l.most l.text l.boundaries l.below l.column l.value l.longest

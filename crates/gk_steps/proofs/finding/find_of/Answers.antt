@@ -3,79 +3,79 @@ use Rattle.gk_steps.specs.declared.filled_cells.Cells.{Cells}
 use Rattle.gk_steps.specs.FilledCells.{cells_of_type}
 use Rattle.gk_steps.specs.Finding.{NoneBefore, entry_value, found_at}
 use Rattle.gk_steps.proofs.FilledCellsLemmas.{asked, passed_over}
-use Rattle.gk_steps.specs.Kept.{IsKeptResult}
+use Rattle.gk_steps.specs.Captures.{IsKeptResult}
 use Rattle.gk_steps.specs.Pattern.{piece_value}
 use Rattle.gk_steps.proofs.FindingLemmas.{entry_at, none_more, none_all, first_at, candidate, of_fault}
-use Rattle.gk_steps.proofs.KeptLemmas.{kept_some, kept_none}
+use Rattle.gk_steps.proofs.CaptureLemmas.{kept_some, kept_none}
 use Rattle.gk_steps.proofs.EntryIndexLemmas.{none_skipped, cells_skipped}
 use Rattle.gk_steps.proofs.finding.find_of.Goals as goal
 use Rattle.gk_steps.proofs.finding.find_of.Goals.{then-is_same+then-can_match+in_ok-kept+in-None, else-is_same, else-is_same-via-then-is_same+else-can_match, else-is_same-via-else-is_same}
 
 pub returns-in-Some-clause-found : goal.returns-in-Some-clause-found
 returns-in-Some-clause-found g c =
-    let m = kept_some g.K.Kept.keeps (map piece_value c.index-entries-place.result.pattern.pieces.items) c.args.text.now c.in-Some.kept
-    (subst (IsKeptResult g.K.Kept.keeps (map piece_value c.index-entries-place.result.pattern.pieces.items) c.args.text.now) c.in-Some.is
-    (subst (λ ps. IsKeptResult g.K.Kept.keeps (map piece_value ps) c.args.text.now c.in_ok-kept.field-0) c.deref.ensures.value c.in_ok-kept.ensures.found)) in (
-      Some (found_at c.loop-place.place m.0),
+    let m = kept_some g.K.Captures.keeps (map piece_value c.index-entries-position.result.pattern.pieces.items) c.args.text.now c.in-Some.kept
+    (subst (IsKeptResult g.K.Captures.keeps (map piece_value c.index-entries-position.result.pattern.pieces.items) c.args.text.now) c.in-Some.is
+    (subst (λ ps. IsKeptResult g.K.Captures.keeps (map piece_value ps) c.args.text.now c.in_ok-kept.field-0) c.deref.ensures.value c.in_ok-kept.ensures.found)) in (
+      Some (found_at c.loop-position.position m.0),
       record {
-        place = refl;
-        entry = entry_value c.index-entries-place.result;
-        stands = entry_at c.args.shelf.now.entries.now c.loop-place.place c.index-entries-place.result c.loop-place-test.true c.index-entries-place.is;
+        position = refl;
+        entry = entry_value c.index-entries-position.result;
+        stands = entry_at c.args.indexed.now.entries.now c.loop-position.position c.index-entries-position.result c.loop-position-test.true c.index-entries-position.is;
         kept = m.1;
       },
-      first_at c.args.shelf.now.entries.now c.args.step_type c.args.text.now c.loop-place.place c.index-entries-place.result m.0 c.loop-place-test.true c.index-entries-place.is c.if-is_same.ensures m.2 c.loop-place.invariant.0,
+      first_at c.args.indexed.now.entries.now c.args.step_type c.args.text.now c.loop-position.position c.index-entries-position.result m.0 c.loop-position-test.true c.index-entries-position.is c.if-is_same.ensures m.2 c.loop-position.invariant.0,
     )
 
 pub returns-clause-found : goal.returns-clause-found
-returns-clause-found g c = (None, tt, none_all c.args.shelf.now.entries.now c.args.step_type c.args.text.now c.loop-place.place c.loop-place-test.false c.loop-place.invariant.0)
+returns-clause-found g c = (None, tt, none_all c.args.indexed.now.entries.now c.args.step_type c.args.text.now c.loop-position.position c.loop-position-test.false c.loop-position.invariant.0)
 
 pub returns-in_err-kept-clause-memory : goal.returns-in_err-kept-clause-memory
 returns-in_err-kept-clause-memory g c =
-    of_fault c.from_residual.result (candidate c.args.shelf.now.entries.now c.args.step_type c.args.text.now c.loop-place.place c.index-entries-place.result c.loop-place-test.true c.index-entries-place.is c.if-is_same.ensures (c.if-can_match.ensures.prefix refl, c.if-can_match.ensures.back refl))
+    of_fault c.from_residual.result (candidate c.args.indexed.now.entries.now c.args.step_type c.args.text.now c.loop-position.position c.index-entries-position.result c.loop-position-test.true c.index-entries-position.is c.if-is_same.ensures (c.if-can_match.ensures.prefix refl, c.if-can_match.ensures.back refl))
 
-pub loop-place-init : goal.loop-place-init
-loop-place-init g c =
-    let entries = c.args.shelf.now.entries.now in
-    let next = c.next-place.result in
+pub loop-position-init : goal.loop-position-init
+loop-position-init g c =
+    let entries = c.args.indexed.now.entries.now in
+    let next = c.next-position.result in
     let start : c.args.cells.now.filled + cells_of_type (map entry_value entries) c.args.step_type c.args.text.now ≤ c.args.cells.now.filled + cells_of_type (map entry_value entries) c.args.step_type c.args.text.now = omega arith in (
-      none_skipped entries c.args.step_type c.args.text.now 0 next (λ earlier other less is same. absurd (omega arith)) c.next-place.ensures,
+      none_skipped entries c.args.step_type c.args.text.now 0 next (λ earlier other less is same. absurd (omega arith)) c.next-position.ensures,
       cells_skipped entries 0 next c.args.step_type c.args.text.now c.args.cells.now.filled c.args.cells.now.filled (omega arith) start,
       omega arith,
     )
 
-pub loop-place-preserved : goal.loop-place-preserved
-loop-place-preserved g c =
-    let entries = c.args.shelf.now.entries.now in
-    let place = c.loop-place.place + 1 in
-    let next = c.next-place-in-loop-place.result in
-    let here : NoneBefore (c.loop-place.place + 1) (map entry_value c.args.shelf.now.entries.now) c.args.step_type c.args.text.now
-    × (c.if-is_same.cells.filled + cells_of_type (map entry_value (drop (c.loop-place.place + 1) c.args.shelf.now.entries.now)) c.args.step_type c.args.text.now ≤ c.args.cells.now.filled + cells_of_type (map entry_value c.args.shelf.now.entries.now) c.args.step_type c.args.text.now)
+pub loop-position-preserved : goal.loop-position-preserved
+loop-position-preserved g c =
+    let entries = c.args.indexed.now.entries.now in
+    let position = c.loop-position.position + 1 in
+    let next = c.next-position-in-loop-position.result in
+    let here : NoneBefore (c.loop-position.position + 1) (map entry_value c.args.indexed.now.entries.now) c.args.step_type c.args.text.now
+    × (c.if-is_same.cells.filled + cells_of_type (map entry_value (drop (c.loop-position.position + 1) c.args.indexed.now.entries.now)) c.args.step_type c.args.text.now ≤ c.args.cells.now.filled + cells_of_type (map entry_value c.args.indexed.now.entries.now) c.args.step_type c.args.text.now)
     × (c.args.cells.now.filled ≤ c.if-is_same.cells.filled) = elim c.if-is_same.branch [
       | then-is_same+then-can_match+in_ok-kept+in-None w ↦ (
-        none_more c.args.shelf.now.entries.now c.args.step_type c.args.text.now c.loop-place.place c.index-entries-place.result c.loop-place-test.true c.index-entries-place.is
-            (λ same. kept_none g.K.Kept.keeps (map piece_value c.index-entries-place.result.pattern.pieces.items) c.args.text.now
-            (subst (IsKeptResult g.K.Kept.keeps (map piece_value c.index-entries-place.result.pattern.pieces.items) c.args.text.now) w.in-None.is
-            (subst (λ ps. IsKeptResult g.K.Kept.keeps (map piece_value ps) c.args.text.now w.in_ok-kept.field-0) w.deref.ensures.value w.in_ok-kept.ensures.found))) c.loop-place.invariant.0,
-        subst (λ (cells : Cells). cells.filled + cells_of_type (map entry_value (drop (c.loop-place.place + 1) c.args.shelf.now.entries.now)) c.args.step_type c.args.text.now ≤ c.args.cells.now.filled + cells_of_type (map entry_value c.args.shelf.now.entries.now) c.args.step_type c.args.text.now) (sym w.cells-is)
-            (asked c.args.shelf.now.entries.now c.loop-place.place c.index-entries-place.result c.args.step_type c.args.text.now w.deref.result.now c.args.cells.now.filled c.loop-place.cells.filled w.match_from_left.new.cells.filled c.loop-place-test.true c.index-entries-place.is w.if-is_same.ensures w.deref.ensures.value w.match_from_left.ensures.most c.loop-place.invariant.1),
-        subst (λ (cells : Cells). c.args.cells.now.filled ≤ cells.filled) (sym w.cells-is) (omega (arith, c.loop-place.invariant.2, w.match_from_left.ensures.least)),
+        none_more c.args.indexed.now.entries.now c.args.step_type c.args.text.now c.loop-position.position c.index-entries-position.result c.loop-position-test.true c.index-entries-position.is
+            (λ same. kept_none g.K.Captures.keeps (map piece_value c.index-entries-position.result.pattern.pieces.items) c.args.text.now
+            (subst (IsKeptResult g.K.Captures.keeps (map piece_value c.index-entries-position.result.pattern.pieces.items) c.args.text.now) w.in-None.is
+            (subst (λ ps. IsKeptResult g.K.Captures.keeps (map piece_value ps) c.args.text.now w.in_ok-kept.field-0) w.deref.ensures.value w.in_ok-kept.ensures.found))) c.loop-position.invariant.0,
+        subst (λ (cells : Cells). cells.filled + cells_of_type (map entry_value (drop (c.loop-position.position + 1) c.args.indexed.now.entries.now)) c.args.step_type c.args.text.now ≤ c.args.cells.now.filled + cells_of_type (map entry_value c.args.indexed.now.entries.now) c.args.step_type c.args.text.now) (sym w.cells-is)
+            (asked c.args.indexed.now.entries.now c.loop-position.position c.index-entries-position.result c.args.step_type c.args.text.now w.deref.result.now c.args.cells.now.filled c.loop-position.cells.filled w.match_from_left.new.cells.filled c.loop-position-test.true c.index-entries-position.is w.if-is_same.ensures w.deref.ensures.value w.match_from_left.ensures.most c.loop-position.invariant.1),
+        subst (λ (cells : Cells). c.args.cells.now.filled ≤ cells.filled) (sym w.cells-is) (omega (arith, c.loop-position.invariant.2, w.match_from_left.ensures.least)),
       )
       | else-is_same w ↦ (
         elim w.else-is_same.branch [
           | else-is_same-via-then-is_same+else-can_match v ↦
-              none_more c.args.shelf.now.entries.now c.args.step_type c.args.text.now c.loop-place.place c.index-entries-place.result c.loop-place-test.true c.index-entries-place.is
-              (λ same. v.if-can_match.ensures.refused refl) c.loop-place.invariant.0
+              none_more c.args.indexed.now.entries.now c.args.step_type c.args.text.now c.loop-position.position c.index-entries-position.result c.loop-position-test.true c.index-entries-position.is
+              (λ same. v.if-can_match.ensures.refused refl) c.loop-position.invariant.0
           | else-is_same-via-else-is_same v ↦
-              none_more c.args.shelf.now.entries.now c.args.step_type c.args.text.now c.loop-place.place c.index-entries-place.result c.loop-place-test.true c.index-entries-place.is
-              (λ same. absurd (v.if-is_same.ensures same)) c.loop-place.invariant.0
+              none_more c.args.indexed.now.entries.now c.args.step_type c.args.text.now c.loop-position.position c.index-entries-position.result c.loop-position-test.true c.index-entries-position.is
+              (λ same. absurd (v.if-is_same.ensures same)) c.loop-position.invariant.0
         ],
-        subst (λ (cells : Cells). cells.filled + cells_of_type (map entry_value (drop (c.loop-place.place + 1) c.args.shelf.now.entries.now)) c.args.step_type c.args.text.now ≤ c.args.cells.now.filled + cells_of_type (map entry_value c.args.shelf.now.entries.now) c.args.step_type c.args.text.now) (sym w.cells-is)
-            (passed_over c.args.shelf.now.entries.now c.loop-place.place c.index-entries-place.result c.args.step_type c.args.text.now c.args.cells.now.filled c.loop-place.cells.filled c.loop-place-test.true c.index-entries-place.is c.loop-place.invariant.1),
-        subst (λ (cells : Cells). c.args.cells.now.filled ≤ cells.filled) (sym w.cells-is) c.loop-place.invariant.2,
+        subst (λ (cells : Cells). cells.filled + cells_of_type (map entry_value (drop (c.loop-position.position + 1) c.args.indexed.now.entries.now)) c.args.step_type c.args.text.now ≤ c.args.cells.now.filled + cells_of_type (map entry_value c.args.indexed.now.entries.now) c.args.step_type c.args.text.now) (sym w.cells-is)
+            (passed_over c.args.indexed.now.entries.now c.loop-position.position c.index-entries-position.result c.args.step_type c.args.text.now c.args.cells.now.filled c.loop-position.cells.filled c.loop-position-test.true c.index-entries-position.is c.loop-position.invariant.1),
+        subst (λ (cells : Cells). c.args.cells.now.filled ≤ cells.filled) (sym w.cells-is) c.loop-position.invariant.2,
       )
     ] in
-    let later : place ≤ next = c.next-place-in-loop-place.ensures.low (omega (arith, c.loop-place-test.true)) in (
-      none_skipped entries c.args.step_type c.args.text.now place next here.0 c.next-place-in-loop-place.ensures,
-      cells_skipped entries place next c.args.step_type c.args.text.now c.args.cells.now.filled c.if-is_same.cells.filled later here.1,
+    let later : position ≤ next = c.next-position-in-loop-position.ensures.low (omega (arith, c.loop-position-test.true)) in (
+      none_skipped entries c.args.step_type c.args.text.now position next here.0 c.next-position-in-loop-position.ensures,
+      cells_skipped entries position next c.args.step_type c.args.text.now c.args.cells.now.filled c.if-is_same.cells.filled later here.1,
       here.2,
     )

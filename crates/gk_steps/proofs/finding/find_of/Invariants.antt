@@ -3,10 +3,10 @@ use Rattle.gk_steps.specs.Finding.{NoneBefore, entry_value}
 use Rattle.gk_steps.specs.FilledCells.{cells_of_type}
 use Rattle.gk_steps.proofs.finding.find_of.Given as goal
 
-abbrev pub invariant-loop-place : goal.invariant-loop-place
-invariant-loop-place g l = NoneBefore l.place (map entry_value l.entries) l.step_type l.text
-    × (l.cells.filled + cells_of_type (map entry_value (drop l.place l.entries)) l.step_type l.text ≤ l.fn.cells.filled + cells_of_type (map entry_value l.entries) l.step_type l.text)
+abbrev pub invariant-loop-position : goal.invariant-loop-position
+invariant-loop-position g l = NoneBefore l.position (map entry_value l.entries) l.step_type l.text
+    × (l.cells.filled + cells_of_type (map entry_value (drop l.position l.entries)) l.step_type l.text ≤ l.fn.cells.filled + cells_of_type (map entry_value l.entries) l.step_type l.text)
     × (l.fn.cells.filled ≤ l.cells.filled)
 
-abbrev pub decreases-loop-place : goal.decreases-loop-place
-decreases-loop-place g l = length l.entries - l.place
+abbrev pub decreases-loop-position : goal.decreases-loop-position
+decreases-loop-position g l = length l.entries - l.position

@@ -2,7 +2,7 @@ use Rattle.std.proofs.Common.{◌∷◌, List, map, ap, subst, sym, ◌∙◌}
 use Rattle.gk_steps.specs.declared.pattern.FieldKind.TheVariants.{Plain}
 use Rattle.gk_steps.specs.Pattern.{PieceValue, Literal, FieldPiece, piece_value}
 use Rattle.gk_steps.specs.Leftmost.{IsCutOf}
-use Rattle.gk_steps.proofs.ColumnLemmas.{field_piece}
+use Rattle.gk_steps.proofs.AdvanceLemmas.{field_piece}
 use Rattle.gk_steps.proofs.LeftmostLemmas.{none_left, first_and_rest}
 use Rattle.gk_steps.proofs.leftmost.cut_before.Goals as goal
 

@@ -3,7 +3,7 @@ use Rattle.std.specs.Prelude.{string_bytes}
 use Rattle.gk_steps.specs.declared.pattern.FieldKind.TheVariants.{Plain}
 use Rattle.gk_steps.specs.Pattern.{piece_value}
 use Rattle.gk_steps.specs.Leftmost.{IsCutOf}
-use Rattle.gk_steps.proofs.ColumnLemmas.{field_piece}
+use Rattle.gk_steps.proofs.AdvanceLemmas.{field_piece}
 use Rattle.gk_steps.proofs.leftmost.cut_of.Goals as goal
 
 pub returns-in-Plain : goal.returns-in-Plain

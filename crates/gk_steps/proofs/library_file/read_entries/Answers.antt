@@ -15,7 +15,7 @@ pub returns-in-Err-clause-fault : goal.returns-in-Err-clause-fault
 returns-in-Err-clause-fault c =
     let all = lines c.args.text.now in
     let done = length c.loop-part.yielded in
-    let before = map entry_value c.loop-part.growing.entries.items in
+    let before = map entry_value c.loop-part.builder.entries.items in
     let turn = YieldsList-turn (YieldsList-from_lines c.args.text.now cc) c.loop-part.yielded _ c.loop-part.yielded_by _ _ _ c.in-Some.is c.next.ensures.steps in
     let there = line_there 1 all done c.in-Some.part.now turn.0 turn.1 in
     let line = c.borrowed_line.ensures ∙ ap (λ (n : ℕ). line_at n c.in-Some.part.now) c.loop-part.invariant.counted in
@@ -26,8 +26,8 @@ pub loop-part-preserved : goal.loop-part-preserved
 loop-part-preserved c =
     let all = lines c.args.text.now in
     let done = length c.loop-part.yielded in
-    let before = map entry_value c.loop-part.growing.entries.items in
-    let after = map entry_value c.add_line.new.growing.entries.items in
+    let before = map entry_value c.loop-part.builder.entries.items in
+    let after = map entry_value c.add_line.new.builder.entries.items in
     let turn = YieldsList-turn (YieldsList-from_lines c.args.text.now cc) c.loop-part.yielded _ c.loop-part.yielded_by _ _ _ c.in-Some.is c.next.ensures.steps in
     let there = line_there 1 all done c.in-Some.part.now turn.0 turn.1 in
     let line = c.borrowed_line.ensures ∙ ap (λ (n : ℕ). line_at n c.in-Some.part.now) c.loop-part.invariant.counted in
@@ -36,7 +36,7 @@ loop-part-preserved c =
     (subst (λ (l : LineValue). AddsLine before l after) line c.in-Ok.ensures.added) in
     record {
       so_far = subst (λ (i : ℕ). ReadsLibrary (take i (numbered_from 1 all)) after) (sym longer) next;
-      grown = c.in-Ok.ensures.grown;
+      indexed = c.in-Ok.ensures.indexed;
       counted = omega (arith, longer);
     }
 
@@ -44,4 +44,4 @@ pub returns-clause-found : goal.returns-clause-found
 returns-clause-found c =
     let all = lines c.args.text.now in
     let t = YieldsList-end (YieldsList-from_lines c.args.text.now cc) c.loop-part.yielded _ c.loop-part.yielded_by _ _ c.in-None.is c.next.ensures.steps in
-    subst (λ (ls : Lines). ReadsLibrary ls (map entry_value c.loop-part.growing.entries.items)) (no_more_lines 1 all (length c.loop-part.yielded) (omega (arith, t.1))) c.loop-part.invariant.so_far
+    subst (λ (ls : Lines). ReadsLibrary ls (map entry_value c.loop-part.builder.entries.items)) (no_more_lines 1 all (length c.loop-part.yielded) (omega (arith, t.1))) c.loop-part.invariant.so_far

@@ -2,13 +2,13 @@ use Rattle.std.proofs.Common.{◌≡◌, ◌+◌, length, map, take}
 use Rattle.std.specs.Str.Lines.{lines}
 use Rattle.gk_gherkin.specs.Lines.{numbered_from}
 use Rattle.gk_steps.specs.Finding.{entry_value}
-use Rattle.gk_steps.specs.EntryIndex.{IsGrown}
+use Rattle.gk_steps.specs.EntryIndex.{HasIndex}
 use Rattle.gk_steps.specs.LibraryFile.{ReadsLibrary}
 use Rattle.gk_steps.proofs.library_file.read_entries.Given as goal
 
 abbrev pub invariant-loop-part : goal.invariant-loop-part
 invariant-loop-part l = record {
-  so_far : ReadsLibrary (take (length l.yielded) (numbered_from 1 (lines l.text))) (map entry_value l.growing.entries.items);
-  grown : IsGrown l.growing;
+  so_far : ReadsLibrary (take (length l.yielded) (numbered_from 1 (lines l.text))) (map entry_value l.builder.entries.items);
+  indexed : HasIndex l.builder;
   counted : l.number ≡ 1 + length l.yielded;
 }

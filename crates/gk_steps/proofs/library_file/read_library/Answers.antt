@@ -8,15 +8,15 @@ use Rattle.gk_steps.proofs.library_file.read_library.Goals as goal
 
 pub returns-in-Ok-read_entries-clause-found : goal.returns-in-Ok-read_entries-clause-found
 returns-in-Ok-read_entries-clause-found c =
-    let entries = c.in-Ok-read_entries.growing.entries.items in
+    let entries = c.in-Ok-read_entries.builder.entries.items in
     let all : numbered_from 1 (lines c.in-Ok.text.now) ≡ lines_of c.args.bytes.now = ap (λ (t : List ℕ). numbered_from 1 (lines t)) c.in-Ok.ensures.ok.1 in
-    let same : map entry_value c.grown.result.entries.items ≡ map entry_value entries = ap (map entry_value) (ap (λ v. v.items) c.grown.ensures) in
+    let same : map entry_value c.built.result.entries.items ≡ map entry_value entries = ap (map entry_value) (ap (λ v. v.items) c.built.ensures) in
     (c.in-Ok.ensures.ok.0, subst (λ (es : LibraryValue). ReadsLibrary (lines_of c.args.bytes.now) es) (sym same) (subst (λ (ls : Lines). ReadsLibrary ls (map entry_value entries)) all c.in-Ok-read_entries.ensures.found))
 
 pub returns-in-Ok-read_entries-clause-only : goal.returns-in-Ok-read_entries-clause-only
 returns-in-Ok-read_entries-clause-only c = λ entries is reads.
-    ap (map entry_value) (ap (λ v. v.items) c.grown.ensures)
-    ∙ file_only c.args.bytes.now (numbered_from 1 (lines c.in-Ok.text.now)) (map entry_value c.in-Ok-read_entries.growing.entries.items) (ap (λ (t : List ℕ). numbered_from 1 (lines t)) c.in-Ok.ensures.ok.1) c.in-Ok-read_entries.ensures.found entries reads
+    ap (map entry_value) (ap (λ v. v.items) c.built.ensures)
+    ∙ file_only c.args.bytes.now (numbered_from 1 (lines c.in-Ok.text.now)) (map entry_value c.in-Ok-read_entries.builder.entries.items) (ap (λ (t : List ℕ). numbered_from 1 (lines t)) c.in-Ok.ensures.ok.1) c.in-Ok-read_entries.ensures.found entries reads
 
 pub returns-in-Err-read_entries-clause-only : goal.returns-in-Err-read_entries-clause-only
 returns-in-Err-read_entries-clause-only c = λ entries is reads.

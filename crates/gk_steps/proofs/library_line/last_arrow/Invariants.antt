@@ -2,9 +2,9 @@ use Rattle.std.proofs.Common.{◌≡◌, ◌≤◌, length, drop, None}
 use Rattle.gk_steps.specs.LibraryFile as spec
 use Rattle.gk_steps.proofs.library_line.last_arrow.Given as goal
 
--- no arrow stands at the place or later
-abbrev pub invariant-loop-place : goal.invariant-loop-place
-invariant-loop-place l = (l.place ≤ length l.bytes) × (spec.last_arrow (drop l.place l.bytes) ≡ None)
+-- no arrow stands at the position or later
+abbrev pub invariant-loop-position : goal.invariant-loop-position
+invariant-loop-position l = (l.position ≤ length l.bytes) × (spec.last_arrow (drop l.position l.bytes) ≡ None)
 
-abbrev pub decreases-loop-place : goal.decreases-loop-place
-decreases-loop-place l = l.place
+abbrev pub decreases-loop-position : goal.decreases-loop-position
+decreases-loop-position l = l.position

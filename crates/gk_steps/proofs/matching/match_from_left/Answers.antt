@@ -2,13 +2,13 @@ use Rattle.std.proofs.Common.{rules, ◌≡◌, ◌∷◌, ◌++◌, ◌-◌, le
 use Rattle.std.specs.Str.{chars}
 use Rattle.gk_steps.specs.declared.pattern.Piece.{Piece}
 use Rattle.gk_steps.specs.Pattern.{PieceValue, piece_value}
-use Rattle.gk_steps.specs.Columns.{values_of}
+use Rattle.gk_steps.specs.Advances.{values_of}
 use Rattle.gk_steps.specs.Leftmost.{IsLeft}
-use Rattle.gk_steps.specs.Kept.{AreKept, IsKeptResult, KeepsRest}
+use Rattle.gk_steps.specs.Captures.{AreKept, IsKeptResult, KeepsRest}
 use Rattle.gk_steps.proofs.TableRowLemmas.{if_ok}
 use Rattle.gk_steps.proofs.LeftmostLemmas.{left_start, none_left, left_more, left_nothing, left_over}
 use Rattle.gk_steps.proofs.FilledCellsLemmas.{fewer_chars, left_most}
-use Rattle.gk_steps.proofs.KeptLemmas.{done_more, done_all}
+use Rattle.gk_steps.proofs.CaptureLemmas.{done_more, done_all}
 use Rattle.gk_steps.proofs.matching.match_from_left.Goals as goal
 
 pub pieces-init : goal.pieces-init
@@ -23,8 +23,8 @@ pieces-preserved g c =
     let others = map piece_value c.in-Some.after.now in
     let known : IsLeft (map piece_value c.args.pieces.now) c.args.text.now before (piece ∷ others) rest =
     subst (λ (ps : List PieceValue). IsLeft (map piece_value c.args.pieces.now) c.args.text.now before ps rest) (ap (map piece_value) c.in-Some.ensures.cases.0) c.pieces.invariant.1.2 in
-    let size : c.in-At.place - 0 ≡ c.in-At.place = omega arith in
-    let taken : c.range.result.now ≡ take c.in-At.place rest = c.range.ensures.value ∙ ap (λ n. take n rest) size in
+    let size : c.in-At.position - 0 ≡ c.in-At.position = omega arith in
+    let taken : c.range.result.now ≡ take c.in-At.position rest = c.range.ensures.value ∙ ap (λ n. take n rest) size in
     let after = before ++ values_of piece c.range.result.now in (
       c.range_from-rest.utf8,
       (
@@ -35,11 +35,11 @@ pieces-preserved g c =
           c.in_ok-add-in-At.ensures done before c.pieces.invariant.1.1.2,
         ),
         subst (IsLeft (map piece_value c.args.pieces.now) c.args.text.now after others) (sym c.range_from-rest.ensures.value)
-            (left_more (map piece_value c.args.pieces.now) c.args.text.now before after piece others rest c.in-At.place known c.in-At.ensures (ap (λ x. before ++ values_of piece x) taken)),
+            (left_more (map piece_value c.args.pieces.now) c.args.text.now before after piece others rest c.in-At.position known c.in-At.ensures (ap (λ x. before ++ values_of piece x) taken)),
       ),
       omega (arith, ap length c.in-Some.ensures.cases.0, c.pieces.invariant.2),
-      let back : length (chars c.range_from-rest.result.now) ≡ length (chars (drop c.in-At.place rest)) = ap (λ t. length (chars t)) c.range_from-rest.ensures.value in
-          omega (arith, back, fewer_chars rest c.in-At.place c.pieces.invariant.0 c.in-At.ensures.boundary, c.pieces.invariant.3),
+      let back : length (chars c.range_from-rest.result.now) ≡ length (chars (drop c.in-At.position rest)) = ap (λ t. length (chars t)) c.range_from-rest.ensures.value in
+          omega (arith, back, fewer_chars rest c.in-At.position c.pieces.invariant.0 c.in-At.ensures.boundary, c.pieces.invariant.3),
       c.pieces.invariant.4,
     )
 
@@ -53,16 +53,16 @@ returns-in-Unknown-clause-found g c =
     let before = c.pieces.invariant.1.0 in
     let done = c.pieces.invariant.1.1.0 in
     if_ok c.match_rest.result
-    (λ kept. (done : _) (before : _) → g.K.Kept.keeps done c.pieces.kept before → KeepsRest g.K.Kept.keeps done before (map piece_value c.pieces.left.now) c.pieces.rest.now kept)
-    (λ kept. IsKeptResult g.K.Kept.keeps (map piece_value c.args.pieces.now) c.args.text.now kept)
-    (λ kept h. let r = h done before c.pieces.invariant.1.1.2 in (r.0, subst (λ ps. AreKept (g.K.Kept.keeps ps) kept r.0) c.pieces.invariant.1.1.1 r.1, r.2 (map piece_value c.args.pieces.now) c.args.text.now c.pieces.invariant.1.2)) c.match_rest.ensures.found
+    (λ kept. (done : _) (before : _) → g.K.Captures.keeps done c.pieces.kept before → KeepsRest g.K.Captures.keeps done before (map piece_value c.pieces.left.now) c.pieces.rest.now kept)
+    (λ kept. IsKeptResult g.K.Captures.keeps (map piece_value c.args.pieces.now) c.args.text.now kept)
+    (λ kept h. let r = h done before c.pieces.invariant.1.1.2 in (r.0, subst (λ ps. AreKept (g.K.Captures.keeps ps) kept r.0) c.pieces.invariant.1.1.1 r.1, r.2 (map piece_value c.args.pieces.now) c.args.text.now c.pieces.invariant.1.2)) c.match_rest.ensures.found
 
 pub returns-then-is_empty-clause-found : goal.returns-then-is_empty-clause-found
 returns-then-is_empty-clause-found g c =
     let before = c.pieces.invariant.1.0 in
     let known = subst (λ (pieces : List Piece). IsLeft (map piece_value c.args.pieces.now) c.args.text.now before (map piece_value pieces) c.pieces.rest.now) (none_left c.pieces.left.now c.in_default.ensures.cases) c.pieces.invariant.1.2 in
     let all = done_all c.pieces.invariant.1.1.0 (map piece_value c.pieces.left.now) (map piece_value c.args.pieces.now) c.pieces.invariant.1.1.1 (ap (map piece_value) (none_left c.pieces.left.now c.in_default.ensures.cases)) in
-    (Some before, subst (λ ps. g.K.Kept.keeps ps c.pieces.kept before) all c.pieces.invariant.1.1.2, left_nothing (map piece_value c.args.pieces.now) c.args.text.now before c.pieces.rest.now known (search rules))
+    (Some before, subst (λ ps. g.K.Captures.keeps ps c.pieces.kept before) all c.pieces.invariant.1.1.2, left_nothing (map piece_value c.args.pieces.now) c.args.text.now before c.pieces.rest.now known (search rules))
 
 pub returns-else-is_empty-clause-found : goal.returns-else-is_empty-clause-found
 returns-else-is_empty-clause-found g c =

@@ -9,7 +9,7 @@ returns-then-not-index-clause-found g c = (
   None,
   tt,
   cell_fails (map piece_value c.args.pieces.now) c.args.text.now c.index-2.result.now
-      (top_cell c.args.pieces.now c.args.text.now c.args.places.now c.in_ok-rows.rows.items c.index.result.now c.index-2.result.now c.utf8.text c.requires c.in_ok-rows.ensures.table c.index.ensures c.index-2.ensures) c.if-not-index.true,
+      (top_cell c.args.pieces.now c.args.text.now c.args.boundaries.now c.in_ok-rows.rows.items c.index.result.now c.index-2.result.now c.utf8.text c.requires c.in_ok-rows.ensures.table c.index.ensures c.index-2.ensures) c.if-not-index.true,
 )
 
 -- first, what is asked of the lifetimes at a bound that names one
@@ -19,9 +19,9 @@ read-requires g c = λ lifetimes. (
   (
     c.requires,
     (
-      subst (IsWholeTable c.args.pieces.now c.args.text.now c.args.places.now) (sym c.deref.ensures.value) c.in_ok-rows.ensures.table,
+      subst (IsWholeTable c.args.pieces.now c.args.text.now c.args.boundaries.now) (sym c.deref.ensures.value) c.in_ok-rows.ensures.table,
       cell_holds (map piece_value c.args.pieces.now) c.args.text.now c.index-2.result.now
-          (top_cell c.args.pieces.now c.args.text.now c.args.places.now c.in_ok-rows.rows.items c.index.result.now c.index-2.result.now c.utf8.text c.requires c.in_ok-rows.ensures.table c.index.ensures c.index-2.ensures) c.if-not-index.false,
+          (top_cell c.args.pieces.now c.args.text.now c.args.boundaries.now c.in_ok-rows.rows.items c.index.result.now c.index-2.result.now c.utf8.text c.requires c.in_ok-rows.ensures.table c.index.ensures c.index-2.ensures) c.if-not-index.false,
     ),
   ),
 )

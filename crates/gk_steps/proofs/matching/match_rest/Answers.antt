@@ -1,26 +1,26 @@
 use Rattle.std.proofs.Common.{map, subst}
 use Rattle.gk_steps.specs.Pattern.{piece_value}
-use Rattle.gk_steps.specs.Kept.{IsKeptResult}
-use Rattle.gk_steps.proofs.KeptLemmas.{rest_some, rest_none}
+use Rattle.gk_steps.specs.Captures.{IsKeptResult}
+use Rattle.gk_steps.proofs.CaptureLemmas.{rest_some, rest_none}
 use Rattle.gk_steps.proofs.FilledCellsLemmas.{rest_most}
 use Rattle.gk_steps.proofs.matching.match_rest.Goals as goal
 
 pub returns-in_err-later-clause-most : goal.returns-in_err-later-clause-most
-returns-in_err-later-clause-most g c = rest_most c.args.left.now c.args.rest.now c.in_ok-places.places.items c.deref.result.now c.args.cells.now.filled c.match_pieces.new.cells.filled c.utf8.rest c.in_ok-places.ensures c.deref.ensures.value c.match_pieces.ensures.most
+returns-in_err-later-clause-most g c = rest_most c.args.left.now c.args.rest.now c.in_ok-boundaries.boundaries.items c.deref.result.now c.args.cells.now.filled c.match_pieces.new.cells.filled c.utf8.rest c.in_ok-boundaries.ensures c.deref.ensures.value c.match_pieces.ensures.most
 
 pub returns-in_err-join-in-Some-clause-most : goal.returns-in_err-join-in-Some-clause-most
-returns-in_err-join-in-Some-clause-most g c = rest_most c.args.left.now c.args.rest.now c.in_ok-places.places.items c.deref.result.now c.args.cells.now.filled c.match_pieces.new.cells.filled c.utf8.rest c.in_ok-places.ensures c.deref.ensures.value c.match_pieces.ensures.most
+returns-in_err-join-in-Some-clause-most g c = rest_most c.args.left.now c.args.rest.now c.in_ok-boundaries.boundaries.items c.deref.result.now c.args.cells.now.filled c.match_pieces.new.cells.filled c.utf8.rest c.in_ok-boundaries.ensures c.deref.ensures.value c.match_pieces.ensures.most
 
 pub returns-in_ok-join-in-Some-clause-most : goal.returns-in_ok-join-in-Some-clause-most
-returns-in_ok-join-in-Some-clause-most g c = rest_most c.args.left.now c.args.rest.now c.in_ok-places.places.items c.deref.result.now c.args.cells.now.filled c.match_pieces.new.cells.filled c.utf8.rest c.in_ok-places.ensures c.deref.ensures.value c.match_pieces.ensures.most
+returns-in_ok-join-in-Some-clause-most g c = rest_most c.args.left.now c.args.rest.now c.in_ok-boundaries.boundaries.items c.deref.result.now c.args.cells.now.filled c.match_pieces.new.cells.filled c.utf8.rest c.in_ok-boundaries.ensures c.deref.ensures.value c.match_pieces.ensures.most
 
 pub returns-in-None-clause-most : goal.returns-in-None-clause-most
-returns-in-None-clause-most g c = rest_most c.args.left.now c.args.rest.now c.in_ok-places.places.items c.deref.result.now c.args.cells.now.filled c.match_pieces.new.cells.filled c.utf8.rest c.in_ok-places.ensures c.deref.ensures.value c.match_pieces.ensures.most
+returns-in-None-clause-most g c = rest_most c.args.left.now c.args.rest.now c.in_ok-boundaries.boundaries.items c.deref.result.now c.args.cells.now.filled c.match_pieces.new.cells.filled c.utf8.rest c.in_ok-boundaries.ensures c.deref.ensures.value c.match_pieces.ensures.most
 
 pub returns-in_ok-join-in-Some-clause-found : goal.returns-in_ok-join-in-Some-clause-found
-returns-in_ok-join-in-Some-clause-found g c = λ done before is. rest_some g.K.Kept.keeps done before (map piece_value c.args.left.now) c.args.rest.now c.in-Some.later c.join.new.self (λ after. c.in_ok-join-in-Some.ensures done (map piece_value c.args.left.now) before after is)
-    (subst (IsKeptResult g.K.Kept.keeps (map piece_value c.args.left.now) c.args.rest.now) c.in-Some.is c.in_ok-later.ensures.found)
+returns-in_ok-join-in-Some-clause-found g c = λ done before is. rest_some g.K.Captures.keeps done before (map piece_value c.args.left.now) c.args.rest.now c.in-Some.later c.join.new.self (λ after. c.in_ok-join-in-Some.ensures done (map piece_value c.args.left.now) before after is)
+    (subst (IsKeptResult g.K.Captures.keeps (map piece_value c.args.left.now) c.args.rest.now) c.in-Some.is c.in_ok-later.ensures.found)
 
 pub returns-in-None-clause-found : goal.returns-in-None-clause-found
-returns-in-None-clause-found g c = λ done before is. rest_none g.K.Kept.keeps done before (map piece_value c.args.left.now) c.args.rest.now
-    (subst (IsKeptResult g.K.Kept.keeps (map piece_value c.args.left.now) c.args.rest.now) c.in-None.is c.in_ok-later.ensures.found)
+returns-in-None-clause-found g c = λ done before is. rest_none g.K.Captures.keeps done before (map piece_value c.args.left.now) c.args.rest.now
+    (subst (IsKeptResult g.K.Captures.keeps (map piece_value c.args.left.now) c.args.rest.now) c.in-None.is c.in_ok-later.ensures.found)

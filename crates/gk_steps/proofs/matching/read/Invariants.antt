@@ -1,8 +1,8 @@
 use Rattle.std.proofs.Common.{◌≡◌, ◌++◌, List, drop, map}
 use Rattle.gk_steps.specs.Pattern.{PieceValue, piece_value}
 use Rattle.gk_steps.specs.Matching.{FieldValue}
-use Rattle.gk_steps.specs.Columns.{IsMatchedTo}
+use Rattle.gk_steps.specs.Advances.{IsMatchedTo}
 use Rattle.gk_steps.proofs.matching.read.Given as goal
 
 abbrev pub invariant-loop-taken : goal.invariant-loop-taken
-invariant-loop-taken g l = (fields : List FieldValue) × ((done : List PieceValue) × (done ++ drop l.taken (map piece_value l.pieces) ≡ map piece_value l.pieces) × g.K.Kept.keeps done l.kept fields) × IsMatchedTo l.taken l.column (map piece_value l.pieces) l.text l.places fields
+invariant-loop-taken g l = (fields : List FieldValue) × ((done : List PieceValue) × (done ++ drop l.taken (map piece_value l.pieces) ≡ map piece_value l.pieces) × g.K.Captures.keeps done l.kept fields) × IsMatchedTo l.taken l.column (map piece_value l.pieces) l.text l.boundaries fields

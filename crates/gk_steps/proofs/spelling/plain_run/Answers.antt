@@ -6,22 +6,22 @@ use Rattle.gk_steps.proofs.spelling.plain_run.Goals as goal
 
 pub range-requires-clause-end_boundary : goal.range-requires-clause-end_boundary
 range-requires-clause-end_boundary c =
-    let place : c.plain_len-end.result ≡ position_or_len is_brace c.args.text.now = c.plain_len-end.ensures.value ∙ ap (position_or_len is_brace) c.as_bytes.ensures.value in
+    let position : c.plain_len-end.result ≡ position_or_len is_brace c.args.text.now = c.plain_len-end.ensures.value ∙ ap (position_or_len is_brace) c.as_bytes.ensures.value in
     let within : c.plain_len-end.result ≤ length c.args.text.now = omega (arith, ap (length) c.as_bytes.ensures.value) in
-    (within, λ below. (brace_boundary c.args.text.now c.plain_len-end.result place below).1 below)
+    (within, λ below. (brace_boundary c.args.text.now c.plain_len-end.result position below).1 below)
 
 pub range_from-requires : goal.range_from-requires
 range_from-requires c = λ some.
-    let place : c.plain_len-end.result ≡ position_or_len is_brace c.args.text.now = c.plain_len-end.ensures.value ∙ ap (position_or_len is_brace) c.as_bytes.ensures.value in
+    let position : c.plain_len-end.result ≡ position_or_len is_brace c.args.text.now = c.plain_len-end.ensures.value ∙ ap (position_or_len is_brace) c.as_bytes.ensures.value in
     let within : c.plain_len-end.result ≤ length c.args.text.now = omega (arith, ap (length) c.as_bytes.ensures.value) in
-    (within, λ below. (brace_boundary c.args.text.now c.plain_len-end.result place below).1 below)
+    (within, λ below. (brace_boundary c.args.text.now c.plain_len-end.result position below).1 below)
 
 pub returns-clause-plain : goal.returns-clause-plain
 returns-clause-plain c =
-    let place : c.plain_len-end.result ≡ position_or_len is_brace c.args.text.now = c.plain_len-end.ensures.value ∙ ap (position_or_len is_brace) c.as_bytes.ensures.value in
-    plain_of c.args.text.now c.range.result.now c.plain_len-end.result place c.range.ensures.value
+    let position : c.plain_len-end.result ≡ position_or_len is_brace c.args.text.now = c.plain_len-end.ensures.value ∙ ap (position_or_len is_brace) c.as_bytes.ensures.value in
+    plain_of c.args.text.now c.range.result.now c.plain_len-end.result position c.range.ensures.value
 
 pub returns-clause-end : goal.returns-clause-end
 returns-clause-end c =
-    let place : c.plain_len-end.result ≡ position_or_len is_brace c.args.text.now = c.plain_len-end.ensures.value ∙ ap (position_or_len is_brace) c.as_bytes.ensures.value in
-    begins_of c.args.text.now c.range_from.result.now c.plain_len-end.result place c.range_from.ensures.value
+    let position : c.plain_len-end.result ≡ position_or_len is_brace c.args.text.now = c.plain_len-end.ensures.value ∙ ap (position_or_len is_brace) c.as_bytes.ensures.value in
+    begins_of c.args.text.now c.range_from.result.now c.plain_len-end.result position c.range_from.ensures.value

@@ -1,8 +1,8 @@
 use Rattle.std.proofs.Common.{◌≤◌, ◌+◌, ℕ, List, []}
-use Rattle.gk_steps.specs.Places.{ArePlaces}
+use Rattle.gk_steps.specs.CharBoundaries.{AreBoundaries}
 use Rattle.gk_steps.specs.TableRows.{IsRowTo}
 use Rattle.gk_steps.specs.FilledCells.{GoesOnBy}
 use Rattle.gk_steps.proofs.table_rows.first_row.Given as goal
 
 abbrev pub invariant-loop-column : goal.invariant-loop-column
-invariant-loop-column l = record { row : (text : List ℕ) → ArePlaces text l.places → IsRowTo l.column [] text l.places l.row.items; most : l.cells.filled ≤ l.fn.cells.filled + l.column; least : l.fn.cells.filled ≤ l.cells.filled; filled : GoesOnBy l.column l.fn.cells.filled l.cells.filled }
+invariant-loop-column l = record { row : (text : List ℕ) → AreBoundaries text l.boundaries → IsRowTo l.column [] text l.boundaries l.row.items; most : l.cells.filled ≤ l.fn.cells.filled + l.column; least : l.fn.cells.filled ≤ l.cells.filled; filled : GoesOnBy l.column l.fn.cells.filled l.cells.filled }

@@ -5,12 +5,12 @@ use Rattle.gk_run.specs.Grouping.{falls_from, members_of_rank}
 use Rattle.gk_run.proofs.cases.Cases.has_selected.Given as goal
 
 -- no case of the rank before this place is selected
-abbrev pub invariant-loop-place : goal.invariant-loop-place
-invariant-loop-place l = record {
-  selects : has_selected (members_of_rank l.self.rank (members_of (drop l.place l.self.waiting.items) (drop l.place l.self.selected.items))) ≡ has_selected (members_of_rank l.self.rank (members_in l.self));
-  falls : falls_from l.self.rank (drop l.place l.self.waiting.items) ≡ true;
-  inside : l.place ≤ length l.self.waiting.items;
+abbrev pub invariant-loop-index : goal.invariant-loop-index
+invariant-loop-index l = record {
+  selects : has_selected (members_of_rank l.self.rank (members_of (drop l.index l.self.waiting.items) (drop l.index l.self.selected.items))) ≡ has_selected (members_of_rank l.self.rank (members_in l.self));
+  falls : falls_from l.self.rank (drop l.index l.self.waiting.items) ≡ true;
+  inside : l.index ≤ length l.self.waiting.items;
 }
 
-abbrev pub decreases-loop-place : goal.decreases-loop-place
-decreases-loop-place l = length l.self.waiting.items - l.place
+abbrev pub decreases-loop-index : goal.decreases-loop-index
+decreases-loop-index l = length l.self.waiting.items - l.index

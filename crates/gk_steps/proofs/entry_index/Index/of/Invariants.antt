@@ -5,8 +5,8 @@ use Rattle.gk_steps.specs.Pattern.{pattern_value}
 use Rattle.gk_steps.specs.EntryIndex.{HasBuckets, Lists}
 use Rattle.gk_steps.proofs.entry_index.Index.of.Given as goal
 
-abbrev pub invariant-loop-place : goal.invariant-loop-place
-invariant-loop-place l = record {
+abbrev pub invariant-loop-position : goal.invariant-loop-position
+invariant-loop-position l = record {
   some : HasBuckets l.index;
-  listed : (p : ℕ) (entry : Entry) → p < l.place → slice_get l.entries p ≡ Some entry → Lists l.index p (pattern_value entry.pattern);
+  listed : (p : ℕ) (entry : Entry) → p < l.position → slice_get l.entries p ≡ Some entry → Lists l.index p (pattern_value entry.pattern);
 }

@@ -1,7 +1,7 @@
 use Rattle.std.proofs.Common.{subst}
 use Rattle.gk_steps.specs.Finding as spec
 use Rattle.gk_steps.specs.Finding.{library_value}
-use Rattle.gk_steps.specs.Kept.{IsHit}
+use Rattle.gk_steps.specs.Captures.{IsHit}
 use Rattle.gk_steps.specs.UsedFields.{KeepsFirst}
 use Rattle.gk_steps.proofs.UsedFieldsLemmas.{use_some}
 use Rattle.gk_steps.proofs.library.Library.find_used.Goals as goal

@@ -7,8 +7,10 @@ pub invariant_of-result : goal.invariant_of-result
 invariant_of-result c =
     let typed = c.typed_len-typed.result in
     record {
-      within = subst (λ es. typed ≤ length es) c.deref.ensures.value c.typed_len-typed.ensures.within;
-      rest = subst (λ es. IsTrue (are_for_each_from typed es)) c.deref.ensures.value c.typed_len-typed.ensures.rest;
-      last = subst (λ es. IsTrue (is_for_one_before typed es)) c.deref.ensures.value c.typed_len-typed.ensures.last;
+      typed_end = record {
+        within = subst (λ es. typed ≤ length es) c.deref.ensures.value c.typed_len-typed.ensures.within;
+        rest = subst (λ es. IsTrue (are_for_each_from typed es)) c.deref.ensures.value c.typed_len-typed.ensures.rest;
+        last = subst (λ es. IsTrue (is_for_one_before typed es)) c.deref.ensures.value c.typed_len-typed.ensures.last;
+      };
       listed = tt;
     }

@@ -1,44 +1,44 @@
 use Rattle.std.proofs.Common.{arith, inl, map, subst, Some}
 use Rattle.gk_steps.specs.Finding.{HasCandidate, HasCandidateFor, entry_value, library_value}
-use Rattle.gk_steps.specs.Kept.{HitsWhatIsFound}
+use Rattle.gk_steps.specs.Captures.{HitsWhatIsFound}
 use Rattle.gk_steps.proofs.LibraryLemmas.{typed_candidate}
 use Rattle.gk_steps.proofs.FindingLemmas.{of_fault}
-use Rattle.gk_steps.proofs.KeptLemmas.{typed_hit, own_hit, other_hit}
+use Rattle.gk_steps.proofs.CaptureLemmas.{typed_hit, own_hit, other_hit}
 use Rattle.gk_steps.proofs.FilledCellsLemmas.{typed_cells}
 use Rattle.gk_steps.proofs.library.Library.search.Goals as goal
 
 pub returns-in-Some-clause-found : goal.returns-in-Some-clause-found
 returns-in-Some-clause-found g c =
-    own_hit g.K.Kept.keeps (library_value c.args.self.now) c.args.step_type c.args.text.now c.in-Some.hit
-    (subst (HitsWhatIsFound g.K.Kept.keeps (library_value c.args.self.now) (Some c.args.step_type) c.args.text.now) c.in-Some.is
-    (typed_hit g.K.Kept.keeps c.args.self.now.entries.items c.args.self.now.typed c.args.step_type c.args.text.now c.in_ok-hit.field-0 c.args.self.now.rest
-    (subst (λ es. HitsWhatIsFound g.K.Kept.keeps (map entry_value es) (Some c.args.step_type) c.args.text.now c.in_ok-hit.field-0) c.shelf-typed.ensures.entries c.in_ok-hit.ensures.found)))
+    own_hit g.K.Captures.keeps (library_value c.args.self.now) c.args.step_type c.args.text.now c.in-Some.hit
+    (subst (HitsWhatIsFound g.K.Captures.keeps (library_value c.args.self.now) (Some c.args.step_type) c.args.text.now) c.in-Some.is
+    (typed_hit g.K.Captures.keeps c.args.self.now.entries.items c.args.self.now.typed c.args.step_type c.args.text.now c.in_ok-hit.field-0 c.args.self.now.typed_end.rest
+    (subst (λ es. HitsWhatIsFound g.K.Captures.keeps (map entry_value es) (Some c.args.step_type) c.args.text.now c.in_ok-hit.field-0) c.indexed-typed.ensures.entries c.in_ok-hit.ensures.found)))
 
 pub returns-clause-found : goal.returns-clause-found
 returns-clause-found g c =
-    other_hit g.K.Kept.keeps (library_value c.args.self.now) c.args.step_type c.args.text.now c.search_any.result
-    (subst (HitsWhatIsFound g.K.Kept.keeps (library_value c.args.self.now) (Some c.args.step_type) c.args.text.now) c.in_default.is
-    (typed_hit g.K.Kept.keeps c.args.self.now.entries.items c.args.self.now.typed c.args.step_type c.args.text.now c.in_ok-hit.field-0 c.args.self.now.rest
-    (subst (λ es. HitsWhatIsFound g.K.Kept.keeps (map entry_value es) (Some c.args.step_type) c.args.text.now c.in_ok-hit.field-0) c.shelf-typed.ensures.entries c.in_ok-hit.ensures.found)))
+    other_hit g.K.Captures.keeps (library_value c.args.self.now) c.args.step_type c.args.text.now c.search_any.result
+    (subst (HitsWhatIsFound g.K.Captures.keeps (library_value c.args.self.now) (Some c.args.step_type) c.args.text.now) c.in_default.is
+    (typed_hit g.K.Captures.keeps c.args.self.now.entries.items c.args.self.now.typed c.args.step_type c.args.text.now c.in_ok-hit.field-0 c.args.self.now.typed_end.rest
+    (subst (λ es. HitsWhatIsFound g.K.Captures.keeps (map entry_value es) (Some c.args.step_type) c.args.text.now c.in_ok-hit.field-0) c.indexed-typed.ensures.entries c.in_ok-hit.ensures.found)))
     c.search_any.ensures.found
 
 pub returns-in_err-hit-clause-memory : goal.returns-in_err-hit-clause-memory
 returns-in_err-hit-clause-memory g c =
     let known : HasCandidateFor (library_value c.args.self.now) c.args.step_type c.args.text.now = inl (typed_candidate c.args.self.now.entries.items c.args.self.now.typed c.args.step_type c.args.text.now
-    (subst (λ es. HasCandidate (map entry_value es) (Some c.args.step_type) c.args.text.now) c.shelf-typed.ensures.entries c.in_err-hit.ensures.memory)) in
+    (subst (λ es. HasCandidate (map entry_value es) (Some c.args.step_type) c.args.text.now) c.indexed-typed.ensures.entries c.in_err-hit.ensures.memory)) in
     of_fault c.from_residual.result known
 
 pub returns-in_err-hit-clause-most : goal.returns-in_err-hit-clause-most
 returns-in_err-hit-clause-most g c =
-    let typed = typed_cells c.args.self.now.entries.items c.shelf-typed.result.entries.now c.args.self.now.typed (Some c.args.step_type) c.args.text.now c.shelf-typed.ensures.entries in
+    let typed = typed_cells c.args.self.now.entries.items c.indexed-typed.result.entries.now c.args.self.now.typed (Some c.args.step_type) c.args.text.now c.indexed-typed.ensures.entries in
     omega (arith, typed, c.find_of.ensures.most)
 
 pub returns-in-Some-clause-most : goal.returns-in-Some-clause-most
 returns-in-Some-clause-most g c =
-    let typed = typed_cells c.args.self.now.entries.items c.shelf-typed.result.entries.now c.args.self.now.typed (Some c.args.step_type) c.args.text.now c.shelf-typed.ensures.entries in
+    let typed = typed_cells c.args.self.now.entries.items c.indexed-typed.result.entries.now c.args.self.now.typed (Some c.args.step_type) c.args.text.now c.indexed-typed.ensures.entries in
     omega (arith, typed, c.find_of.ensures.most)
 
 pub returns-clause-most : goal.returns-clause-most
 returns-clause-most g c =
-    let typed = typed_cells c.args.self.now.entries.items c.shelf-typed.result.entries.now c.args.self.now.typed (Some c.args.step_type) c.args.text.now c.shelf-typed.ensures.entries in
+    let typed = typed_cells c.args.self.now.entries.items c.indexed-typed.result.entries.now c.args.self.now.typed (Some c.args.step_type) c.args.text.now c.indexed-typed.ensures.entries in
     omega (arith, typed, c.find_of.ensures.most, c.search_any.ensures.most)

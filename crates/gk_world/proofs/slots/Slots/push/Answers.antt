@@ -14,17 +14,17 @@ returns-in-Ok-clause-writes g c =
 pub returns-in-Ok-clause-fits : goal.returns-in-Ok-clause-fits
 returns-in-Ok-clause-fits g c =
     let s = c.args.self.now in
-    newest g.C.Cells.width _ s _ _ c.len-place.result c.args.cell _
+    newest g.C.Cells.width _ s _ _ c.len-position.result c.args.cell _
     (inserted g.C.Cells.cells c.self.inside.rows c.insert.new.self.entries s c.args.name c.only.result c.self.view_is c.requires.missing c.in-Ok.ensures.entries)
-    (c.len-place.ensures.len ∙ sym (length-slots_of g.C.Cells.cells c.self.inside.rows.entries) ∙ ap length c.self.view_is)
+    (c.len-position.ensures.len ∙ sym (length-slots_of g.C.Cells.cells c.self.inside.rows.entries) ∙ ap length c.self.view_is)
     c.only.ensures c.requires.cell
 
 pub returns-in-Ok-clause-before : goal.returns-in-Ok-clause-before
 returns-in-Ok-clause-before g c =
     let s = c.args.self.now in
-    push-back s _ _ c.len-place.result
+    push-back s _ _ c.len-position.result
     (inserted g.C.Cells.cells c.self.inside.rows c.insert.new.self.entries s c.args.name c.only.result c.self.view_is c.requires.missing c.in-Ok.ensures.entries)
-    (c.len-place.ensures.len ∙ sym (length-slots_of g.C.Cells.cells c.self.inside.rows.entries) ∙ ap length c.self.view_is)
+    (c.len-position.ensures.len ∙ sym (length-slots_of g.C.Cells.cells c.self.inside.rows.entries) ∙ ap length c.self.view_is)
 
 pub invariant_of-self : goal.invariant_of-self
 invariant_of-self g c =

@@ -15,7 +15,7 @@ returns-in-Restore-clause-maps g c =
 pub returns-in-Created-clause-maps : goal.returns-in-Created-clause-maps
 returns-in-Created-clause-maps g c =
     let s = c.args.self.now in
-    let place = c.in-Created.field-0 in
-    let newest : IsNewest g.C.Cells.width s place c.in-Created.field-1 = subst (λ u. Fits g.C.Cells.width u s) c.in-Created.is c.requires in
-    let left = popped g.C.Cells.cells c.self.inside.rows.entries c.pop.new.self.entries _ s place c.self.view_is c.pop.ensures.entries newest.last c.pop.ensures.found.1 in
+    let position = c.in-Created.field-0 in
+    let newest : IsNewest g.C.Cells.width s position c.in-Created.field-1 = subst (λ u. Fits g.C.Cells.width u s) c.in-Created.is c.requires in
+    let left = popped g.C.Cells.cells c.self.inside.rows.entries c.pop.new.self.entries _ s position c.self.view_is c.pop.ensures.entries newest.last c.pop.ensures.found.1 in
     subst (Undoes c.args.undo s) (ap (λ u. undone u s) c.in-Created.is ∙ left) (undo_writes g.C.Cells.width c.args.undo s c.names_differ.ensures c.requires)

@@ -3,27 +3,27 @@ use Rattle.gk_world.proofs.RowsLemmas.{length-slots_of, written, differ-written}
 use Rattle.gk_world.proofs.slots.Slots.write.Goals as goal
 
 pub index_mut-cells-requires : goal.index_mut-cells-requires
-index_mut-cells-requires g c = omega (arith, c.requires.place, length-slots_of g.C.Cells.cells c.self.inside.rows.entries, ap length c.self.view_is)
+index_mut-cells-requires g c = omega (arith, c.requires.position, length-slots_of g.C.Cells.cells c.self.inside.rows.entries, ap length c.self.view_is)
 
 pub invariant_of-self : goal.invariant_of-self
-invariant_of-self g c = differ-written g.C.Cells.cells c.self.inside.rows.entries c.args.place c.replace-old.new.self c.self.invariant
+invariant_of-self g c = differ-written g.C.Cells.cells c.self.inside.rows.entries c.args.position c.replace-old.new.self c.self.invariant
 
 pub returns-clause-set : goal.returns-clause-set
 returns-clause-set g c =
-    let w = written g.C.Cells.cells g.C.Cells.width c.self.inside.rows.entries c.args.self.now c.args.place c.args.cell c.index_mut-cells.result.now c.replace-old.new.self _ _ c.self.view_is c.requires.place c.requires.cell c.index_mut-cells.ensures.value c.replace-old.ensures.within c.replace-old.ensures.set c.replace-old.ensures.old in
+    let w = written g.C.Cells.cells g.C.Cells.width c.self.inside.rows.entries c.args.self.now c.args.position c.args.cell c.index_mut-cells.result.now c.replace-old.new.self _ _ c.self.view_is c.requires.position c.requires.cell c.index_mut-cells.ensures.value c.replace-old.ensures.within c.replace-old.ensures.set c.replace-old.ensures.old in
     w.set_to
 
 pub returns-clause-writes : goal.returns-clause-writes
 returns-clause-writes g c =
-    let w = written g.C.Cells.cells g.C.Cells.width c.self.inside.rows.entries c.args.self.now c.args.place c.args.cell c.index_mut-cells.result.now c.replace-old.new.self _ _ c.self.view_is c.requires.place c.requires.cell c.index_mut-cells.ensures.value c.replace-old.ensures.within c.replace-old.ensures.set c.replace-old.ensures.old in
+    let w = written g.C.Cells.cells g.C.Cells.width c.self.inside.rows.entries c.args.self.now c.args.position c.args.cell c.index_mut-cells.result.now c.replace-old.new.self _ _ c.self.view_is c.requires.position c.requires.cell c.index_mut-cells.ensures.value c.replace-old.ensures.within c.replace-old.ensures.set c.replace-old.ensures.old in
     w.on_maps
 
 pub returns-clause-fits : goal.returns-clause-fits
 returns-clause-fits g c =
-    let w = written g.C.Cells.cells g.C.Cells.width c.self.inside.rows.entries c.args.self.now c.args.place c.args.cell c.index_mut-cells.result.now c.replace-old.new.self _ _ c.self.view_is c.requires.place c.requires.cell c.index_mut-cells.ensures.value c.replace-old.ensures.within c.replace-old.ensures.set c.replace-old.ensures.old in
+    let w = written g.C.Cells.cells g.C.Cells.width c.self.inside.rows.entries c.args.self.now c.args.position c.args.cell c.index_mut-cells.result.now c.replace-old.new.self _ _ c.self.view_is c.requires.position c.requires.cell c.index_mut-cells.ensures.value c.replace-old.ensures.within c.replace-old.ensures.set c.replace-old.ensures.old in
     w.has
 
 pub returns-clause-before : goal.returns-clause-before
 returns-clause-before g c =
-    let w = written g.C.Cells.cells g.C.Cells.width c.self.inside.rows.entries c.args.self.now c.args.place c.args.cell c.index_mut-cells.result.now c.replace-old.new.self _ _ c.self.view_is c.requires.place c.requires.cell c.index_mut-cells.ensures.value c.replace-old.ensures.within c.replace-old.ensures.set c.replace-old.ensures.old in
+    let w = written g.C.Cells.cells g.C.Cells.width c.self.inside.rows.entries c.args.self.now c.args.position c.args.cell c.index_mut-cells.result.now c.replace-old.new.self _ _ c.self.view_is c.requires.position c.requires.cell c.index_mut-cells.ensures.value c.replace-old.ensures.within c.replace-old.ensures.set c.replace-old.ensures.old in
     w.back

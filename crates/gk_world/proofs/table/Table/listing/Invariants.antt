@@ -4,5 +4,5 @@ use Rattle.gk_world.proofs.ListingLemmas.{ListsFirst}
 use Rattle.gk_world.proofs.table.Table.listing.Given as goal
 
 -- the names so far, with what they have
-abbrev pub invariant-loop-place : goal.invariant-loop-place
-invariant-loop-place l = ListsFirst (finite.get (map_at 0 l.self-inside.slots)) l.self-inside.slots l.place l.texts
+abbrev pub invariant-loop-position : goal.invariant-loop-position
+invariant-loop-position l = ListsFirst (finite.get (map_at 0 l.self-inside.slots)) l.self-inside.slots l.position l.texts

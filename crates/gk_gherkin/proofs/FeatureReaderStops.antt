@@ -1,0 +1,439 @@
+-- Where a run over the lines of a feature file stops, and what the fault there says.
+use Rattle.std.proofs.Common.{◌≡◌, ℕ, true, false, List, [], ◌∷◌, ◌++◌, length, Option, Some, None, Result, Ok, Err, refl, sym, subst, ap, ◌∙◌, append_assoc, inl, inr, ◌≢◌, ◌⊎◌, IfOk, IfErr}
+use Rattle.std.specs.List.{AllByRecursion}
+use Rattle.std.specs.Prelude.{codes, option_map}
+use Rattle.std.specs.Str.{bytes_eq}
+use Rattle.std.proofs.lemmas.Slice.Eq.{bytes_eq-Decides}
+use Rattle.gk_gherkin.specs.declared.class.Class.TheVariants.{BackgroundHeading, Blank, Comment, ExamplesHeading, FeatureHeading, FenceLine, Other, RowLine, RuleHeading, ScenarioHeading, StepLine, TagLine}
+use Rattle.gk_gherkin.specs.declared.read_fault.ReadFault.TheVariants.{BadRow, BadTag, CellCount, Language, Memory, TagsAtEnd, UnclosedText, Unexpected}
+use Rattle.gk_gherkin.specs.declared.class.Class.{Class}
+use Rattle.gk_gherkin.specs.declared.class.Fence.{Fence}
+use Rattle.gk_gherkin.specs.declared.read_fault.ReadFault.{ReadFault}
+use Rattle.gk_gherkin.specs.FeatureReader.{Above, FeatureReader, InFeature, NeedsAt, OfFeature, OpenFeature, Tagged, Top, Untagged, after_text, by_language, examples_after, feature_in, feature_readers, on, on_comment, on_heading, on_line, tag_line, takes_text, with_text, without_tags}
+use Rattle.gk_gherkin.specs.Reading.{Outside, DocStringValue, FailsAs, FailsBy, InText, State, finish, opening, outside, reading, run, step}
+use Rattle.gk_gherkin.specs.OpenParts.{InBody, Body, NoSteps, InExamples, Grid, InDescription, NoRows, OfScenario, Open, OutlineValue, Rows, Steps, head_from, on_body, on_grid, on_open, on_row, outline_of, row_from, children_of}
+use Rattle.gk_gherkin.specs.Lines.{IsText, LineValue, Lines, lines_of}
+use Rattle.gk_gherkin.specs.Class.{class, class_of, class_of_words, heading_keyword}
+use Rattle.gk_gherkin.specs.Tags.{tags_of}
+use Rattle.gk_gherkin.specs.Rows.{cells_of}
+use Rattle.gk_gherkin.specs.Language.{language_of}
+use Rattle.gk_gherkin.specs.Feature.{FeatureValue, RowValue, feature_value}
+use Rattle.gk_gherkin.specs.Grammar.{AreTags, Describes, IsIgnored, IsIgnoredAbove, IsIgnoredClass, IsReadable, MayDescribeScenario, Reads, Skips, skip, skip_none, tagged, untagged}
+use Rattle.gk_gherkin.specs.ReadFault.{AnswersOrLacksMemory, BeginsNone, EndsInTags, FaultSays, FeatureFault, IsBadRow, IsBadTag, IsOtherLanguage, IsOtherWidth, NeedsMemory, NoneLikeIt, StopsAt, TakesTags}
+use Rattle.gk_gherkin.specs.Results.{◌>>=◌}
+use Rattle.gk_gherkin.proofs.ReadingRuns.{Halts, bind_err, err_same, halts, no_err, no_ok, ok_same, one_more_line}
+use Rattle.gk_gherkin.proofs.ReadingStates.{never, no_fence, refused_at, step_plain, step_refused}
+use Rattle.gk_gherkin.proofs.ReadingStops.{Marks, ends_in_text, halted, marks, needed}
+use Rattle.gk_gherkin.proofs.ReadingWhole.{only_memory, said}
+use Rattle.gk_gherkin.proofs.OpenPartsSound.{BodyBuilt, GridBuilt, OpenBuilt}
+use Rattle.gk_gherkin.proofs.FeatureReaderSound.{FeatureBuilt, blank_at, comment_ok, reached_built, sound}
+use Rattle.gk_gherkin.proofs.FeatureReaderComplete.{complete, runs}
+use Rattle.gk_gherkin.proofs.RowStops.{Refuses, RowSays, RowStop, Stopped, first_of, first_row, line_of, other_width, row_says, row_stops, row_takes, stepped_stops, stopped_then}
+use Rattle.gk_gherkin.proofs.FirstTags.{good_tags}
+use Rattle.gk_gherkin.specs.declared.feature.Feature.{Feature}
+
+pub feature_runs : (ls : Lines) → IsReadable ls → (reader : FeatureReader) × (run feature_readers (Outside feature_readers.first) ls ≡ Ok (Outside reader))
+feature_runs ls readable = let k = runs ls readable.0 readable.1 in (Untagged k.0, k.1)
+
+-- after a line that halts, nothing is readable
+pub feature_halted : (before : Lines) (l : LineValue) (s : State FeatureReader) (e : ReadFault) → run feature_readers (Outside feature_readers.first) before ≡ Ok s → step feature_readers s l ≡ Err e → BeginsNone IsReadable class (before ++ l ∷ [])
+feature_halted before l s e r h = halted feature_readers IsReadable class feature_runs before l s e r h
+
+-- what is reached after no tags is readable
+pub readable_at : (ls : Lines) (feature : OpenFeature) → run feature_readers (Outside feature_readers.first) ls ≡ Ok (Outside (Untagged feature)) → IsReadable ls
+unfolding reading finish
+readable_at ls feature r = (feature_in feature, sound ls (feature_in feature) (ap (λ (r : Result (State FeatureReader) ReadFault). r >>= finish feature_readers) r))
+
+pub before_text : (ls : Lines) (reader : FeatureReader) → run feature_readers (Outside feature_readers.first) ls ≡ Ok (Outside reader) → takes_text reader ≡ true → IsReadable ls
+before_text ls (Untagged feature) r t = readable_at ls feature r
+before_text ls (Tagged feature tags n) r t = let no : ⊥ = cc in absurd no
+
+pub behind_text : (ls : Lines) (reader : FeatureReader) (text : List ℕ) → run feature_readers (Outside feature_readers.first) ls ≡ Ok (Outside (after_text reader text)) → takes_text reader ≡ true → IsReadable ls
+behind_text ls (Untagged feature) text r t = readable_at ls (with_text feature text) r
+behind_text ls (Tagged feature tags n) text r t = let no : ⊥ = cc in absurd no
+
+-- lines that can stand
+abbrev feature_heading : LineValue
+feature_heading = line_of (codes "Feature:")
+
+abbrev scenario_heading : LineValue
+scenario_heading = line_of (codes "Scenario:")
+
+abbrev good_tag : LineValue
+good_tag = line_of (codes "@a")
+
+feature_heading_class : class feature_heading ≡ FeatureHeading
+unfolding class class_of class_of_words
+feature_heading_class = refl
+
+scenario_heading_class : class scenario_heading ≡ ScenarioHeading
+unfolding class class_of class_of_words
+scenario_heading_class = refl
+
+good_tag_class : class good_tag ≡ TagLine
+unfolding class class_of
+good_tag_class = refl
+
+good_tag_tags : tags_of good_tag ≡ Some (codes "@a" ∷ [])
+unfolding tags_of
+good_tag_tags = refl
+
+-- the heading that may follow tags
+abbrev pub heading_for : OpenFeature → LineValue
+heading_for Above = feature_heading
+heading_for (InFeature top part) = scenario_heading
+
+abbrev after_heading : OpenFeature → List (List ℕ) → OpenFeature
+after_heading Above tags = InFeature (OfFeature (head_from tags feature_heading)) InDescription
+after_heading (InFeature top part) tags = InFeature top (InBody (OfScenario (children_of part) (heading_keyword scenario_heading) (head_from tags scenario_heading)) NoSteps)
+
+heading_step : (feature : OpenFeature) (tags : List (List ℕ)) (n : ℕ) → step feature_readers (Outside (Tagged feature tags n)) (heading_for feature) ≡ Ok (Outside (Untagged (after_heading feature tags)))
+unfolding step on on_heading
+heading_step Above tags n = ap (λ (r : Result FeatureReader ReadFault). outside r) (ap (on (Tagged Above tags n) feature_heading) feature_heading_class)
+heading_step (InFeature top part) tags n = ap (λ (r : Result FeatureReader ReadFault). outside r) (ap (on (Tagged (InFeature top part) tags n) scenario_heading) scenario_heading_class)
+
+pub readable_after_tags : (ls : Lines) (feature : OpenFeature) (tags : List (List ℕ)) (n : ℕ) → run feature_readers (Outside feature_readers.first) ls ≡ Ok (Outside (Tagged feature tags n)) → IsReadable (ls ++ heading_for feature ∷ [])
+readable_after_tags ls feature tags n r = readable_at (ls ++ heading_for feature ∷ []) (after_heading feature tags) (one_more_line (step feature_readers) (Outside feature_readers.first) ls (Outside (Tagged feature tags n)) (Outside (Untagged (after_heading feature tags))) (heading_for feature) r (heading_step feature tags n))
+
+heading_takes_tags : (reader : OpenFeature) → TakesTags (class (heading_for reader))
+heading_takes_tags Above = subst TakesTags (sym feature_heading_class) tt
+heading_takes_tags (InFeature top part) = subst TakesTags (sym scenario_heading_class) tt
+
+fits : (before : Lines) (s : State FeatureReader) (l : LineValue) (e : ReadFault) → run feature_readers (Outside feature_readers.first) before ≡ Ok s → step feature_readers s l ≡ Err e → IsReadable before ⊎ ((extra : LineValue) × IsReadable (before ++ extra ∷ []))
+fits before (Outside (Untagged feature)) l e r h = inl (readable_at before feature r)
+fits before (Outside (Tagged feature tags n)) l e r h = inr (heading_for feature, readable_after_tags before feature tags n r)
+fits before (InText reader text) l e r h = never feature_readers reader text l e h
+
+-- what a fault says of its line and of those before it
+abbrev Says : ReadFault → Lines → LineValue → Type 0
+Says (Unexpected n) before l = (l.line ≡ n) × NoneLikeIt IsReadable class before l
+Says (BadTag n) before l = (l.line ≡ n) × IsBadTag before l
+Says (BadRow n) before l = (l.line ≡ n) × IsBadRow IsReadable class before l
+Says (CellCount n) before l = (l.line ≡ n) × IsOtherWidth IsReadable class before l
+Says (Language n) before l = (l.line ≡ n) × IsOtherLanguage before l
+Says _ before l = ⊥
+
+examples_refuse : (o : Option OutlineValue) (top : Top) (tags : List (List ℕ)) (l : LineValue) (e : ReadFault) → examples_after o top tags l ≡ Err e → Refuses (examples_after o top tags) l e
+examples_refuse (Some outline) top tags l e h = no_err h
+examples_refuse None top tags l e h = (err_same h, λ o. refl)
+
+heading_refuses : (reader : OpenFeature) (tags : List (List ℕ)) (l : LineValue) (c : Class) (e : ReadFault) → on_heading reader tags l c ≡ Err e → Refuses (λ o. on_heading reader tags o c) l e
+unfolding on_heading
+heading_refuses Above tags l FeatureHeading e h = no_err h
+heading_refuses Above tags l _ e h = (err_same h, λ o. refl)
+heading_refuses (InFeature top part) tags l RuleHeading e h = no_err h
+heading_refuses (InFeature top part) tags l ScenarioHeading e h = no_err h
+heading_refuses (InFeature top part) tags l ExamplesHeading e h = examples_refuse (outline_of part) top tags l e h
+heading_refuses (InFeature top part) tags l _ e h = (err_same h, λ o. refl)
+
+body_stops : (body : Body) (ls mid : Lines) (l : LineValue) (c : Class) (e : ReadFault) → BodyBuilt body ls mid → on_body body l c ≡ Err e → Stopped (λ o. on_body body o c) l c e
+unfolding on_body
+body_stops NoSteps ls mid l StepLine e b h = no_err h
+body_stops NoSteps ls mid l RowLine e b h = no_err h
+body_stops NoSteps ls mid l (FenceLine fence) e b h = no_err h
+body_stops NoSteps ls mid l Other e b h = no_err h
+body_stops NoSteps ls mid l _ e b h = inl (err_same h, λ o. refl)
+body_stops (Steps steps st) ls mid l k e b h = stepped_stops (Describes MayDescribeScenario) steps st ls mid l k e b h
+
+-- a row under a header: what is kept is the row with its line, so its result is a function of the line too
+row_err : (header : List (List ℕ)) (rows : List RowValue) (l : LineValue) (e : ReadFault) → (on_row (Some (length header)) l >>= λ cells. Ok (Rows header (rows ++ row_from l cells ∷ []))) ≡ Err e → on_row (Some (length header)) l ≡ Err e
+row_err header rows l e h = bind_err (on_row (Some (length header)) l) (λ (cells : List (List ℕ)). Rows header (rows ++ row_from l cells ∷ [])) e h
+
+grid_row : (header : List (List ℕ)) (rows : List RowValue) (l : LineValue) (e : ReadFault) (row : LineValue) (cells : List (List ℕ)) → class row ≡ RowLine → cells_of row ≡ Some cells → length cells ≡ length header → on_row (Some (length header)) l ≡ Err e
+    → RowStop (λ o. on_row (Some (length header)) o >>= λ cells. Ok (Rows header (rows ++ row_from o cells ∷ []))) l RowLine e
+grid_row header rows l e row cells is w fits h = record {
+  is = refl;
+  width = Some (length header);
+  row = row;
+  cells = cells;
+  row_is = is;
+  row_cells = row_takes (length header) row cells w fits;
+  takes = λ o cells k. (Rows header (rows ++ row_from o cells ∷ []), ap (λ (r : Result (List (List ℕ)) ReadFault). r >>= λ cells. let a : Result Grid ReadFault = Ok (Rows header (rows ++ row_from o cells ∷ [])) in a) k);
+  refuses = λ o e k. ap (λ (r : Result (List (List ℕ)) ReadFault). r >>= λ cells. let a : Result Grid ReadFault = Ok (Rows header (rows ++ row_from o cells ∷ [])) in a) k;
+  stops = h;
+}
+
+grid_stops : (grid : Grid) (ls mid : Lines) (l : LineValue) (c : Class) (e : ReadFault) → GridBuilt grid ls mid → on_grid grid l c ≡ Err e → Stopped (λ o. on_grid grid o c) l c e
+unfolding on_grid
+grid_stops NoRows ls mid l StepLine e b h = no_err h
+grid_stops NoRows ls mid l RowLine e b h =
+    let r = first_row (λ cells. Rows cells []) l e (bind_err (on_row None l) (λ (cells : List (List ℕ)). Rows cells []) e h) in
+    inr r
+grid_stops NoRows ls mid l (FenceLine fence) e b h = no_err h
+grid_stops NoRows ls mid l Other e b h = no_err h
+grid_stops NoRows ls mid l _ e b h = inl (err_same h, λ o. refl)
+grid_stops (Rows header rows) ls mid l RowLine e b h =
+    let r = first_of b.4.lines in
+    let k : on_row (Some (length header)) l ≡ Err e = row_err header rows l e h in
+    inr (grid_row header rows l e r.0 b.1.cells r.1 r.2 (ap length (sym b.3)) k)
+grid_stops (Rows header rows) ls mid l _ e b h = inl (err_same h, λ o. refl)
+
+open_stops : (part : Open) (ls mid : Lines) (l : LineValue) (c : Class) (e : ReadFault) → OpenBuilt part ls mid → on_open part l c ≡ Err e → Stopped (λ o. on_open part o c) l c e
+unfolding on_open
+open_stops InDescription ls mid l BackgroundHeading e b h = no_err h
+open_stops InDescription ls mid l StepLine e b h = no_err h
+open_stops InDescription ls mid l RowLine e b h = no_err h
+open_stops InDescription ls mid l (FenceLine fence) e b h = no_err h
+open_stops InDescription ls mid l Other e b h = no_err h
+open_stops InDescription ls mid l _ e b h = inl (err_same h, λ o. refl)
+open_stops (InBody owner body) ls mid l k e b h = stopped_then (λ o. on_body body o k) (InBody owner) l k e (body_stops body b.0 mid l k e b.2 (bind_err (on_body body l k) (InBody owner) e h))
+open_stops (InExamples children scenario head grid) ls mid l k e b h = stopped_then (λ o. on_grid grid o k) (InExamples children scenario head) l k e (grid_stops grid b.2 mid l k e b.6 (bind_err (on_grid grid l k) (InExamples children scenario head) e h))
+
+line_stops : (reader : OpenFeature) (ls mid : Lines) (l : LineValue) (c : Class) (e : ReadFault) → FeatureBuilt reader ls mid → on_line reader l c ≡ Err e → Stopped (λ o. on_line reader o c) l c e
+unfolding on_line
+line_stops Above ls mid l k e b h = inl (err_same h, λ o. refl)
+line_stops (InFeature top part) ls mid l k e b h = stopped_then (λ o. on_open part o k) (InFeature top) l k e (open_stops part b.0 mid l k e b.2 (bind_err (on_open part l k) (InFeature top) e h))
+
+tags_err : (r : Result OpenFeature ReadFault) (e : ReadFault) → without_tags r ≡ Err e → r ≡ Err e
+tags_err (Ok p) e h = no_err h
+tags_err (Err x) e h = ap Err (err_same h)
+
+row_fault : (before : Lines) (l : LineValue) (e : ReadFault) → RowSays IsReadable class e before l → Says e before l
+row_fault before l (BadRow n) h = h
+row_fault before l (CellCount n) h = h
+row_fault before l _ h = absurd h
+
+-- a line that opens no doc string
+module _ (before : Lines) (reader : FeatureReader) (reached : run feature_readers (Outside feature_readers.first) before ≡ Ok (Outside reader)) where
+  says : (l : LineValue) (c : Class) (e : ReadFault) (g : LineValue → Result OpenFeature ReadFault) → class l ≡ c → opening (takes_text reader) c ≡ None → ((o : LineValue) → on reader o c ≡ without_tags (g o)) → Refuses g l e → Says e before l
+  says l c e g is free same r =
+      let refused : NoneLikeIt IsReadable class before l = λ other alike. feature_halted before other (Outside reader) (Unexpected other.line) reached (step_refused feature_readers reader other (Unexpected other.line) (ap (opening (takes_text reader)) (alike ∙ is) ∙ free) (ap (on reader other) (alike ∙ is) ∙ same other ∙ ap without_tags (r.1 other))) in
+      subst (λ e. Says e before l) r.0 (refl, refused)
+
+  bad_tag : (feature : OpenFeature) (tags : List (List ℕ)) (r : Option (List (List ℕ))) (l : LineValue) (e : ReadFault) → class l ≡ TagLine → ((o : LineValue) → on reader o TagLine ≡ tag_line (tags_of o) feature tags o) → tags_of l ≡ r → tag_line r feature tags l ≡ Err e → Says e before l
+  bad_tag feature tags (Some others) l e is same w h = no_err h
+  bad_tag feature tags None l e is same w h =
+      let t : FeatureReader = Tagged feature (tags ++ codes "@a" ∷ []) 0 in
+      let taken : on reader good_tag (class good_tag) ≡ Ok t = ap (on reader good_tag) good_tag_class ∙ same good_tag ∙ ap (λ (r : Option (List (List ℕ))). tag_line r feature tags good_tag) good_tag_tags in
+      let stands = step_plain feature_readers reader t good_tag (ap (opening (takes_text reader)) good_tag_class ∙ no_fence (takes_text reader) TagLine tt) taken in
+      let readable = readable_after_tags (before ++ good_tag ∷ []) feature (tags ++ codes "@a" ∷ []) 0 (one_more_line (step feature_readers) (Outside feature_readers.first) before (Outside reader) (Outside t) good_tag reached stands) in
+      let bad : IsBadTag before l = record { is = is; fits = (good_tag, good_tag_class ∙ sym is, (heading_for feature ∷ [], readable)); bad = w } in
+      let named : BadTag l.line ≡ e = err_same h in
+      subst (λ e. Says e before l) named (refl, bad)
+
+stopped_says : (before : Lines) (feature : OpenFeature) (l : LineValue) (c : Class) (e : ReadFault) → run feature_readers (Outside feature_readers.first) before ≡ Ok (Outside (Untagged feature)) → class l ≡ c → opening (takes_text (Untagged feature)) c ≡ None → ((o : LineValue) → on (Untagged feature) o c ≡ without_tags (on_line feature o c)) → Stopped (λ o. on_line feature o c) l c e → Says e before l
+stopped_says before feature l c e r is bare same (inl k) = says before (Untagged feature) r l c e (λ o. on_line feature o c) is bare same k
+stopped_says before feature l c e r is bare same (inr k) =
+    let reader : FeatureReader = Untagged feature in
+    let free : (o : LineValue) → class o ≡ RowLine → opening (takes_text reader) (class o) ≡ None = λ o o_is. ap (opening (takes_text reader)) o_is ∙ no_fence (takes_text reader) RowLine tt in
+    let row : (o : LineValue) → class o ≡ RowLine → on reader o (class o) ≡ without_tags (on_line feature o c) = λ o o_is. ap (on reader o) (o_is ∙ sym k.is) ∙ same o in
+    row_fault before l e (row_says IsReadable class before k.width (cells_of l) k.row l k.cells e k.row_is (k.row_is ∙ sym (is ∙ k.is)) k.row_cells (is ∙ k.is)
+    (λ o cells o_is h. let t = k.takes o cells h in readable_at (before ++ o ∷ []) t.0 (one_more_line (step feature_readers) (Outside feature_readers.first) before (Outside reader) (Outside (Untagged t.0)) o r (step_plain feature_readers reader (Untagged t.0) o (free o o_is) (row o o_is ∙ ap without_tags t.1))))
+    (λ o e o_is h. feature_halted before o (Outside reader) e r (step_refused feature_readers reader o e (free o o_is) (row o o_is ∙ ap without_tags (k.refuses o e h))))
+    refl (row_stops k.width l e k.stops))
+
+plain_says : (before : Lines) (feature : OpenFeature) (l : LineValue) (c : Class) (e : ReadFault) → run feature_readers (Outside feature_readers.first) before ≡ Ok (Outside (Untagged feature)) → class l ≡ c → opening (takes_text (Untagged feature)) c ≡ None → ((o : LineValue) → on (Untagged feature) o c ≡ without_tags (on_line feature o c)) → on_line feature l c ≡ Err e → Says e before l
+plain_says before feature l c e r is bare same h =
+    let built = reached_built before (Outside (Untagged feature)) r in
+    stopped_says before feature l c e r is bare same (line_stops feature before built.0 l c e built.1 h)
+
+-- above the feature there is no feature heading
+abbrev NoFeature : Lines → Type 0
+NoFeature ls = AllByRecursion (λ other. class other ≢ FeatureHeading) ls
+
+skips_above : {ls rest : Lines} → Skips IsIgnoredAbove ls rest → NoFeature rest → NoFeature ls
+skips_above skip_none a = a
+skips_above (skip n s) a = ((λ e. subst IsIgnoredClass e n.0), skips_above s a)
+
+tag_above : (l : LineValue) → class l ≡ TagLine → class l ≢ FeatureHeading
+tag_above l is e = let no : ⊥ = cc in no
+
+next_above : {ls rest k : Lines} (l : LineValue) → class l ≡ TagLine → Skips IsIgnoredAbove ls k → k ≡ l ∷ rest → NoFeature rest → NoFeature ls
+next_above l is s e a = skips_above s (subst NoFeature (sym e) (tag_above l is, a))
+
+tags_above : {ls rest : Lines} {tags : List (List ℕ)} → AreTags IsIgnoredAbove ls tags rest → NoFeature rest → NoFeature ls
+tags_above untagged a = a
+tags_above (tagged first behind) a = next_above first.line first.is first.next refl (tags_above behind a)
+
+at_above : (before : Lines) (feature : OpenFeature) → feature ≡ Above → run feature_readers (Outside feature_readers.first) before ≡ Ok (Outside (Untagged feature)) → NoFeature before
+at_above before feature e r =
+    let b = reached_built before (Outside (Untagged Above)) (r ∙ ap (λ (p : OpenFeature). let r : Result (State FeatureReader) ReadFault = Ok (Outside (Untagged p)) in r) e) in
+    subst NoFeature (sym b.1) (skips_above b.2 tt)
+
+tagged_above : (before : Lines) (feature : OpenFeature) (tags : List (List ℕ)) (n : ℕ) → feature ≡ Above → run feature_readers (Outside feature_readers.first) before ≡ Ok (Outside (Tagged feature tags n)) → NoFeature before
+tagged_above before feature tags n e r =
+    let b = reached_built before (Outside (Tagged Above tags n)) (r ∙ ap (λ (p : OpenFeature). let r : Result (State FeatureReader) ReadFault = Ok (Outside (Tagged p tags n)) in r) e) in
+    subst NoFeature (sym b.2) (tags_above b.3 (skips_above b.4 tt))
+
+bytes_differ : (a b : List ℕ) → bytes_eq a b ≡ false → a ≢ b
+bytes_differ a b h e = let t : bytes_eq a b ≡ true = (bytes_eq-Decides a b).1 e in let no : ⊥ = cc in no
+
+language_says : (before : Lines) (r : Option (List ℕ)) (s : FeatureReader) (l : LineValue) (e : ReadFault) → NoFeature before → class l ≡ Comment → language_of l ≡ r → by_language r s l ≡ Err e → Says e before l
+language_says before None s l e a is w h = no_err h
+language_says before (Some word) s l e a is w h =
+    let k = other_width (bytes_eq word (codes "en")) s e (Language l.line) h in
+    subst (λ e. Says e before l) k.1 (refl, record { is = is; above = a; names = (word, w, bytes_differ word (codes "en") k.0) })
+
+comment_says : (before : Lines) (s : FeatureReader) (feature : OpenFeature) (l : LineValue) (e : ReadFault) → (feature ≡ Above → NoFeature before) → class l ≡ Comment → on_comment feature s l ≡ Err e → Says e before l
+comment_says before s Above l e a is h = language_says before (language_of l) s l e (a refl) is refl h
+comment_says before s (InFeature top part) l e a is h = no_err h
+
+untagged_says : (before : Lines) (feature : OpenFeature) (l : LineValue) (c : Class) (e : ReadFault) → run feature_readers (Outside feature_readers.first) before ≡ Ok (Outside (Untagged feature)) → class l ≡ c → opening (takes_text (Untagged feature)) c ≡ None → on (Untagged feature) l c ≡ Err e → Says e before l
+unfolding on
+untagged_says before feature l Blank e r is bare h = no_err h
+untagged_says before feature l Comment e r is bare h = comment_says before (Untagged feature) feature l e (λ above. at_above before feature above r) is h
+untagged_says before feature l TagLine e r is bare h = bad_tag before (Untagged feature) r feature [] (tags_of l) l e is (λ o. refl) refl h
+untagged_says before feature l FeatureHeading e r is bare h = says before (Untagged feature) r l FeatureHeading e (λ o. on_heading feature [] o FeatureHeading) is bare (λ o. refl) (heading_refuses feature [] l FeatureHeading e (tags_err (on_heading feature [] l FeatureHeading) e h))
+untagged_says before feature l RuleHeading e r is bare h = says before (Untagged feature) r l RuleHeading e (λ o. on_heading feature [] o RuleHeading) is bare (λ o. refl) (heading_refuses feature [] l RuleHeading e (tags_err (on_heading feature [] l RuleHeading) e h))
+untagged_says before feature l ScenarioHeading e r is bare h = says before (Untagged feature) r l ScenarioHeading e (λ o. on_heading feature [] o ScenarioHeading) is bare (λ o. refl) (heading_refuses feature [] l ScenarioHeading e (tags_err (on_heading feature [] l ScenarioHeading) e h))
+untagged_says before feature l ExamplesHeading e r is bare h = says before (Untagged feature) r l ExamplesHeading e (λ o. on_heading feature [] o ExamplesHeading) is bare (λ o. refl) (heading_refuses feature [] l ExamplesHeading e (tags_err (on_heading feature [] l ExamplesHeading) e h))
+untagged_says before feature l k e r is bare h = plain_says before feature l k e r is bare (λ o. refl) (tags_err (on_line feature l k) e h)
+
+tagged_says : (before : Lines) (feature : OpenFeature) (tags : List (List ℕ)) (n : ℕ) (l : LineValue) (c : Class) (e : ReadFault) → run feature_readers (Outside feature_readers.first) before ≡ Ok (Outside (Tagged feature tags n)) → class l ≡ c → on (Tagged feature tags n) l c ≡ Err e → Says e before l
+unfolding on
+tagged_says before feature tags n l Blank e r is h = no_err h
+tagged_says before feature tags n l Comment e r is h = comment_says before (Tagged feature tags n) feature l e (λ above. tagged_above before feature tags n above r) is h
+tagged_says before feature tags n l TagLine e r is h = bad_tag before (Tagged feature tags n) r feature tags (tags_of l) l e is (λ o. refl) refl h
+tagged_says before feature tags n l k e r is h = says before (Tagged feature tags n) r l k e (λ o. on_heading feature tags o k) is refl (λ o. refl) (heading_refuses feature tags l k e (tags_err (on_heading feature tags l k) e h))
+
+stop_says : (before : Lines) (s : State FeatureReader) (l : LineValue) (e : ReadFault) → run feature_readers (Outside feature_readers.first) before ≡ Ok s → step feature_readers s l ≡ Err e → Says e before l
+stop_says before (Outside (Untagged feature)) l e r h = let k = refused_at feature_readers (Untagged feature) l e h in untagged_says before feature l (class l) e r refl k.0 k.1
+stop_says before (Outside (Tagged feature tags n)) l e r h = let k = refused_at feature_readers (Tagged feature tags n) l e h in tagged_says before feature tags n l (class l) e r refl k.1
+stop_says before (InText reader text) l e r h = never feature_readers reader text l e h
+
+stops_at : (ls : Lines) (e : ReadFault) (n : ℕ) (Fault : Lines → LineValue → Type 0) (k : Halts (step feature_readers) (Outside feature_readers.first) ls e) → k.line.line ≡ n → Fault k.before k.line → StopsAt IsReadable class ls n Fault
+stops_at ls e n Fault k number fault = record { before = k.before; line = k.line; after = k.after; whole = k.whole; number = number; fits = fits k.before k.state k.line e k.reached k.stops; stops = feature_halted k.before k.line k.state e k.reached k.stops; fault = fault }
+
+line_fault : (ls : Lines) (e : ReadFault) (k : Halts (step feature_readers) (Outside feature_readers.first) ls e) → Says e k.before k.line → FeatureFault e ls
+line_fault ls (Unexpected n) k h = stops_at ls (Unexpected n) n (NoneLikeIt IsReadable class) k h.0 h.1
+line_fault ls (BadTag n) k h = stops_at ls (BadTag n) n IsBadTag k h.0 h.1
+line_fault ls (BadRow n) k h = stops_at ls (BadRow n) n (IsBadRow IsReadable class) k h.0 h.1
+line_fault ls (CellCount n) k h = stops_at ls (CellCount n) n (IsOtherWidth IsReadable class) k h.0 h.1
+line_fault ls (Language n) k h = stops_at ls (Language n) n IsOtherLanguage k h.0 h.1
+line_fault ls _ k h = absurd h
+
+-- the line of the last tags
+record IsAfterTag (done : Lines) (n : ℕ) : Type 0 where
+  before : Lines
+  line : LineValue
+  ignored : Lines
+  whole : done ≡ before ++ line ∷ ignored
+  number : line.line ≡ n
+  is : class line ≡ TagLine
+  skipped : Skips IsIgnored ignored []
+
+abbrev Marked : FeatureReader → Lines → Type 0
+Marked (Untagged feature) done = Unit {0}
+Marked (Tagged feature tags n) done = IsAfterTag done n
+
+Skips-push : {ls : Lines} (l : LineValue) → Skips IsIgnored ls [] → IsIgnored l → Skips IsIgnored (ls ++ l ∷ []) []
+Skips-push l skip_none i = skip i skip_none
+Skips-push l (skip m s) i = skip m (Skips-push l s i)
+
+after_ignored : (done : Lines) (n : ℕ) (l : LineValue) → IsIgnoredClass (class l) → IsAfterTag done n → IsAfterTag (done ++ l ∷ []) n
+after_ignored done n l i b = record { before = b.before; line = b.line; ignored = b.ignored ++ l ∷ []; whole = ap (λ (ls : Lines). ls ++ l ∷ []) b.whole ∙ append_assoc b.before (b.line ∷ b.ignored) (l ∷ []); number = b.number; is = b.is; skipped = Skips-push l b.skipped i }
+
+to : {x t : FeatureReader} (done : Lines) → ◌≡◌ {A = Result FeatureReader ReadFault} (Ok x) (Ok t) → Marked x done → Marked t done
+to done e m = subst (λ t. Marked t done) (ok_same e) m
+
+untagged_marked : (r : Result OpenFeature ReadFault) (t : FeatureReader) (done : Lines) → without_tags r ≡ Ok t → Marked t done
+untagged_marked (Ok p) t done e = to done e tt
+untagged_marked (Err x) t done e = no_ok e
+
+tag_marked : (r : Option (List (List ℕ))) (feature : OpenFeature) (tags : List (List ℕ)) (l : LineValue) (t : FeatureReader) (done : Lines) → class l ≡ TagLine → tag_line r feature tags l ≡ Ok t → Marked t (done ++ l ∷ [])
+tag_marked (Some others) feature tags l t done is e = to (done ++ l ∷ []) e (record { before = done; line = l; ignored = []; whole = refl; number = refl; is = is; skipped = skip_none })
+tag_marked None feature tags l t done is e = no_ok e
+
+marked_on : (reader next : FeatureReader) (l : LineValue) (c : Class) (done : Lines) → class l ≡ c → Marked reader done → on reader l c ≡ Ok next → Marked next (done ++ l ∷ [])
+unfolding on
+marked_on (Untagged feature) t l Blank done is m e = to _ e tt
+marked_on (Untagged feature) t l Comment done is m e = subst (λ t. Marked t (done ++ l ∷ [])) (comment_ok feature (Untagged feature) t l is e).1 tt
+marked_on (Untagged feature) t l TagLine done is m e = tag_marked (tags_of l) feature [] l t done is e
+marked_on (Untagged feature) t l FeatureHeading done is m e = untagged_marked (on_heading feature [] l FeatureHeading) t _ e
+marked_on (Untagged feature) t l RuleHeading done is m e = untagged_marked (on_heading feature [] l RuleHeading) t _ e
+marked_on (Untagged feature) t l ScenarioHeading done is m e = untagged_marked (on_heading feature [] l ScenarioHeading) t _ e
+marked_on (Untagged feature) t l ExamplesHeading done is m e = untagged_marked (on_heading feature [] l ExamplesHeading) t _ e
+marked_on (Untagged feature) t l k done is m e = untagged_marked (on_line feature l k) t _ e
+marked_on (Tagged feature tags n) t l Blank done is m e = to _ e (after_ignored done n l (subst IsIgnoredClass (sym is) tt) m)
+marked_on (Tagged feature tags n) t l Comment done is m e = subst (λ t. Marked t (done ++ l ∷ [])) (comment_ok feature (Tagged feature tags n) t l is e).1 (after_ignored done n l (subst IsIgnoredClass (sym is) tt) m)
+marked_on (Tagged feature tags n) t l TagLine done is m e = tag_marked (tags_of l) feature tags l t done is e
+marked_on (Tagged feature tags n) t l k done is m e = untagged_marked (on_heading feature tags l k) t _ e
+
+text_marked : (reader : FeatureReader) (text : List ℕ) (done : Lines) → takes_text reader ≡ true → Marked (after_text reader text) done
+text_marked (Untagged feature) text done t = tt
+text_marked (Tagged feature tags n) text done t = let no : ⊥ = cc in absurd no
+
+abbrev Remembers : State FeatureReader → Lines → Type 0
+Remembers s ls = Marks feature_readers Marked (λ reader next l done m e. marked_on reader next l (class l) done refl m e) text_marked s ls
+
+remembers : (ls : Lines) (s : State FeatureReader) → run feature_readers (Outside feature_readers.first) ls ≡ Ok s → Remembers s ls
+remembers ls s r = marks feature_readers Marked (λ reader next l done m e. marked_on reader next l (class l) done refl m e) text_marked ls s tt r
+
+-- where a doc string is open, one may stand
+pub text_takes : (ls : Lines) (reader : FeatureReader) (text : DocStringValue) → run feature_readers (Outside feature_readers.first) ls ≡ Ok (InText reader text) → takes_text reader ≡ true
+text_takes ls reader text r = let m = remembers ls (InText reader text) r in m.takes
+
+tagged_or_not : {feature other : OpenFeature} {tags : List (List ℕ)} {n : ℕ} {P : Type 0} → ◌≡◌ {A = Result (State FeatureReader) ReadFault} (Ok (Outside (Untagged feature))) (Ok (Outside (Tagged other tags n))) → P
+tagged_or_not e = cc
+
+end_fault : (ls : Lines) (s : State FeatureReader) (e : ReadFault) → run feature_readers (Outside feature_readers.first) ls ≡ Ok s → finish feature_readers s ≡ Err e → FeatureFault e ls
+unfolding finish
+end_fault ls (Outside (Untagged feature)) e r h = no_err h
+end_fault ls (Outside (Tagged feature tags n)) e r h =
+    let b = remembers ls (Outside (Tagged feature tags n)) r in
+    let ends : EndsInTags ls n = record { before = b.before; line = b.line; ignored = b.ignored; whole = b.whole; number = b.number; is = b.is; skipped = b.skipped; unread = λ readable. tagged_or_not (sym (runs ls readable.0 readable.1).1 ∙ r); fits = (heading_for feature, heading_takes_tags feature, readable_after_tags ls feature tags n r) } in
+    let same : TagsAtEnd n ≡ e = err_same h in
+    subst (λ e. FeatureFault e ls) same ends
+end_fault ls (InText reader text) e r h =
+    let ends = ends_in_text feature_readers IsReadable class feature_runs before_text behind_text ls reader text r (remembers ls (InText reader text) r) in
+    let same : UnclosedText text.line ≡ e = err_same h in
+    subst (λ e. FeatureFault e ls) same ends
+
+fault_by : (ls : Lines) (r : Result (State FeatureReader) ReadFault) (e : ReadFault) → run feature_readers (Outside feature_readers.first) ls ≡ r → (r >>= finish feature_readers) ≡ Err e → FeatureFault e ls
+fault_by ls (Ok s) e same h = end_fault ls s e same h
+fault_by ls (Err x) e same h =
+    let named : x ≡ e = err_same h in
+    let k = halts (step feature_readers) (Outside feature_readers.first) ls x same in
+    subst (λ e. FeatureFault e ls) named (line_fault ls x k (stop_says k.before k.state k.line x k.reached k.stops))
+
+-- Each fault is what it says.
+pub faulty : (ls : Lines) (e : ReadFault) → reading feature_readers ls ≡ Err e → FeatureFault e ls
+unfolding reading
+faulty ls e h = fault_by ls (run feature_readers (Outside feature_readers.first) ls) e refl h
+
+-- where memory is needed
+behind : (l : LineValue) (ls : Lines) → IsIgnoredAbove l → NeedsMemory ls → NeedsMemory (l ∷ ls)
+behind l ls i k = record { line = k.line; rest = k.rest; next = skip i k.next; needs = k.needs }
+
+tags_first : (r : Option (List (List ℕ))) (l : LineValue) (ls : Lines) (t : FeatureReader) → class l ≡ TagLine → tags_of l ≡ r → tag_line r Above [] l ≡ Ok t → NeedsMemory (l ∷ ls)
+tags_first (Some tags) l ls t is w e = record { line = l; rest = ls; next = skip_none; needs = inr (is, good_tags l tags w) }
+tags_first None l ls t is w e = no_ok e
+
+here : (c : Class) (l : LineValue) (ls : Lines) → class l ≡ c → NeedsAt Above l c → NeedsMemory (l ∷ ls)
+here TagLine l ls is h = record { line = l; rest = ls; next = skip_none; needs = inr (is, h) }
+here FeatureHeading l ls is h = record { line = l; rest = ls; next = skip_none; needs = inl is }
+here _ l ls is h = absurd h
+
+later : (c : Class) (l : LineValue) (ls : Lines) (t : FeatureReader) → class l ≡ c → on (Untagged Above) l c ≡ Ok t → (Untagged Above ≡ t → NeedsMemory ls) → NeedsMemory (l ∷ ls)
+unfolding on on_heading on_line
+later Blank l ls t is e again = behind l ls (blank_at Above l is) (again (ok_same e))
+later Comment l ls t is e again = let k = comment_ok Above (Untagged Above) t l is e in behind l ls k.0 (again k.1)
+later TagLine l ls t is e again = tags_first (tags_of l) l ls t is refl e
+later FeatureHeading l ls t is e again = record { line = l; rest = ls; next = skip_none; needs = inl is }
+later _ l ls t is e again = no_ok e
+
+feature_fails : (e : ReadFault) (ls : Lines) → FailsBy feature_readers e ls → FeatureFault e ls
+feature_fails Memory ls h = needed feature_readers NeedsMemory (λ l ls n. here (class l) l ls refl n) (λ l ls next e again. later (class l) l ls next refl e again) (λ n. n) refl ls h
+feature_fails e ls h = faulty ls e h
+
+-- What a fault of the reading says of the bytes.
+pub feature_said : (e : ReadFault) (bytes : List ℕ) → FailsAs feature_readers e bytes → FaultSays FeatureFault e bytes
+feature_said e bytes h = said feature_readers FeatureFault (λ ls h. h) (λ n ls h. h) feature_fails e bytes h
+
+-- What the lines say is answered, unless memory ran out.
+pub feature_only : (r : Result (Option Feature) ReadFault) (f : Option FeatureValue) (bytes : List ℕ) → IfOk r (λ a. IsText bytes × (reading feature_readers (lines_of bytes) ≡ Ok (option_map feature_value a))) → IfErr r (λ e. FailsAs feature_readers e bytes) → IsText bytes → Reads (lines_of bytes) f → AnswersOrLacksMemory (option_map feature_value) r f
+feature_only (Ok x) f bytes g m t h = ok_same (sym g.1 ∙ complete (lines_of bytes) f h)
+feature_only (Err e) f bytes g m t h = only_memory feature_readers e bytes f m t (complete (lines_of bytes) f h)
+
+untagged_readable : (r : Result OpenFeature ReadFault) (ls : Lines) (next : FeatureReader) → without_tags r ≡ Ok next → run feature_readers (Outside feature_readers.first) ls ≡ Ok (Outside next) → IsReadable ls
+untagged_readable (Ok p) ls next e r = readable_at ls p (r ∙ ap (λ (p : FeatureReader). let r : Result (State FeatureReader) ReadFault = Ok (Outside p) in r) (sym (ok_same e)))
+untagged_readable (Err x) ls next e r = no_ok e
+
+fence_readable : (ls : Lines) (reader next : FeatureReader) (l : LineValue) (fence : Fence) → on reader l (FenceLine fence) ≡ Ok next → run feature_readers (Outside feature_readers.first) ls ≡ Ok (Outside next) → IsReadable ls
+unfolding on
+fence_readable ls (Untagged feature) next l fence e r = untagged_readable (on_line feature l (FenceLine fence)) ls next e r
+fence_readable ls (Tagged feature tags n) next l fence e r = untagged_readable (on_heading feature tags l (FenceLine fence)) ls next e r
+
+-- a fence that opens no doc string leaves the lines readable
+pub plain_fence : (ls : Lines) (reader next : FeatureReader) (l : LineValue) (fence : Fence) → class l ≡ FenceLine fence → on reader l (class l) ≡ Ok next → run feature_readers (Outside feature_readers.first) ls ≡ Ok (Outside next) → IsReadable ls
+plain_fence ls reader next l fence is e r = fence_readable ls reader next l fence (ap (on reader l) (sym is) ∙ e) r

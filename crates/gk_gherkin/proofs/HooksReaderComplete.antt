@@ -1,0 +1,110 @@
+-- What has a reading as hooks is read so, and so no lines have two.
+use Rattle.std.proofs.Common.{◌≡◌, ℕ, Bool, false, List, [], ◌∷◌, Option, Some, Result, Ok, refl, sym, subst, ◌++◌, ap, ◌∙◌, append_assoc}
+use Rattle.std.proofs.lemmas.List.{append-nil}
+use Rattle.gk_gherkin.specs.declared.hook_headings.HooksClass.TheVariants.{HookLine}
+use Rattle.gk_gherkin.specs.declared.class.Class.TheVariants.{Blank, Comment, RowLine, StepLine}
+use Rattle.gk_gherkin.specs.declared.class.Class.{Class}
+use Rattle.gk_gherkin.specs.declared.read_fault.ReadFault.{ReadFault}
+use Rattle.gk_gherkin.specs.HooksReader.{HooksReader, InHook, NoHook, OpenedValue, begun, hook_after, hook_of, hooks_of, hooks_readers, on, on_hook, on_hook_body, on_plain_line, has_heading, takes_text}
+use Rattle.gk_gherkin.specs.Reading.{Outside, State, finish, reading, run, step}
+use Rattle.gk_gherkin.specs.OpenParts.{Body, NoSteps, Steps, on_body, steps_of}
+use Rattle.gk_gherkin.specs.Hooks.{HookValue}
+use Rattle.gk_gherkin.specs.HookHeadings.{HookHeadingValue, hook_heading, hooks_class}
+use Rattle.gk_gherkin.specs.HooksGrammar.{AreDistinct, HaveOneHooksReading, IsHook, ReadsHooks, heading_of}
+use Rattle.gk_gherkin.specs.Lines.{LineValue, Lines}
+use Rattle.gk_gherkin.specs.Class.{class}
+use Rattle.gk_gherkin.specs.Feature.{StepValue}
+use Rattle.gk_gherkin.specs.Grammar.{AreSteps, IsIgnored, IsIgnoredClass, Many, Skips, more, none, skip, skip_none}
+use Rattle.gk_gherkin.specs.Results.{◌>>=◌}
+use Rattle.gk_gherkin.proofs.ReadingRuns.{ok_same, run_nil, run_over}
+use Rattle.gk_gherkin.proofs.ReadingStates.{ignored_no_fence, no_fence, step_plain}
+use Rattle.gk_gherkin.proofs.ReadingSteps.{run_steps}
+use Rattle.gk_gherkin.proofs.HookClasses.{class_plain, hook_opens_none}
+use Rattle.gk_gherkin.proofs.HookHeadingsDecided.{fresh_after, fresh_stands}
+
+-- ignored lines are passed over
+quiet_class : (reader : HooksReader) (l : LineValue) (c : Class) → class l ≡ c → IsIgnoredClass c → on reader l (hooks_class l) ≡ Ok reader
+unfolding on
+quiet_class reader l Blank is i = ap (on reader l) (class_plain l Blank is (λ e. cc))
+quiet_class reader l Comment is i = ap (on reader l) (class_plain l Comment is (λ e. cc))
+quiet_class reader l _ is i = absurd i
+
+quiet : (reader : HooksReader) (l : LineValue) → IsIgnored l → on reader l (hooks_class l) ≡ Ok reader
+quiet reader l i = quiet_class reader l (class l) refl i
+
+run_skips : (reader : HooksReader) {ls rest : Lines} → Skips IsIgnored ls rest → run hooks_readers (Outside reader) ls ≡ run hooks_readers (Outside reader) rest
+run_skips reader skip_none = refl
+run_skips reader (skip {l = l} {ls = ls} n sk) =
+    run_over (step hooks_readers) (Outside reader) (Outside reader) l ls (step_plain hooks_readers reader reader l (no_fence (takes_text reader) (class l) (ignored_no_fence (class l) n)) (quiet reader l n)) ∙ run_skips reader sk
+
+-- the steps of a hook
+module _ (opened : OpenedValue) where
+  opened_next : (body next : Body) (l : LineValue) (c : Class) → on_hook_body body l c ≡ Ok next → on_plain_line (InHook opened body) l c ≡ Ok (InHook opened next)
+  unfolding on_plain_line
+  opened_next body next l c e = ap (λ (r : Result Body ReadFault). r >>= λ next. Ok (InHook opened next)) e
+
+  step_body : (body next : Body) (l : LineValue) → on_body body l StepLine ≡ Ok next → on_hook_body body l StepLine ≡ Ok next
+  unfolding on_hook_body
+  step_body NoSteps next l e = e
+  step_body (Steps steps st) next l e = e
+
+  row_body : (steps : List StepValue) (st : StepValue) (next : Body) (l : LineValue) → on_body (Steps steps st) l RowLine ≡ Ok next → on_hook_body (Steps steps st) l RowLine ≡ Ok next
+  unfolding on_hook_body
+  row_body steps st next l e = e
+
+  on_step : (body next : Body) (l : LineValue) → class l ≡ StepLine → on_body body l StepLine ≡ Ok next → on (InHook opened body) l (hooks_class l) ≡ Ok (InHook opened next)
+  unfolding on
+  on_step body next l is e = ap (on (InHook opened body) l) (class_plain l StepLine is (λ e. cc)) ∙ opened_next body next l StepLine (step_body body next l e)
+
+  on_row_under : (steps : List StepValue) (st : StepValue) (next : Body) (l : LineValue) → class l ≡ RowLine → on_body (Steps steps st) l RowLine ≡ Ok next → on (InHook opened (Steps steps st)) l (hooks_class l) ≡ Ok (InHook opened next)
+  unfolding on
+  on_row_under steps st next l is e = ap (on (InHook opened (Steps steps st)) l) (class_plain l RowLine is (λ e. cc)) ∙ opened_next (Steps steps st) next l RowLine (row_body steps st next l e)
+
+  run_steps_at : {ls rest : Lines} {sts : List StepValue} → AreSteps ls sts rest → (body : Body) × (run hooks_readers (Outside (InHook opened NoSteps)) ls ≡ run hooks_readers (Outside (InHook opened body)) rest) × (steps_of body ≡ sts)
+  run_steps_at s = run_steps hooks_readers (InHook opened) (λ body l i. quiet (InHook opened body) l i) on_step on_row_under (λ body. refl) (λ body text. refl) NoSteps s.parts s.types
+
+-- a heading
+pub hook_line : (reader next : HooksReader) (l : LineValue) → hooks_class l ≡ HookLine → on_hook reader l ≡ Ok next → step hooks_readers (Outside reader) l ≡ Ok (Outside next)
+unfolding on
+hook_line reader next l is e = step_plain hooks_readers reader next l (hook_opens_none (takes_text reader) l is) (ap (on reader l) is ∙ e)
+
+heading_step : (reader : HooksReader) (hook : HookValue) (l : LineValue) → hooks_class l ≡ HookLine → hook_heading l ≡ Some (heading_of hook) → hook.line ≡ l.line → has_heading (heading_of hook) (hooks_of reader) ≡ false
+    → step hooks_readers (Outside reader) l ≡ Ok (Outside (InHook (record { before = hooks_of reader; kind = hook.kind; tag = hook.tag; line = hook.line }) NoSteps))
+unfolding on_hook
+heading_step reader hook l is w n f =
+    hook_line reader (InHook (record { before = hooks_of reader; kind = hook.kind; tag = hook.tag; line = hook.line }) NoSteps) l is
+    (ap (λ (r : Option HookHeadingValue). hook_after r (hooks_of reader) l) w
+    ∙ ap (λ (b : Bool). begun b (hooks_of reader) (heading_of hook) l) f
+    ∙ ap (λ (n : ℕ). let r : Result HooksReader ReadFault = Ok (InHook (record { before = hooks_of reader; kind = hook.kind; tag = hook.tag; line = n }) NoSteps) in r) (sym n))
+
+run_hook : {ls rest : Lines} (reader : HooksReader) (hook : HookValue) → IsHook ls hook rest → has_heading (heading_of hook) (hooks_of reader) ≡ false
+    → (next : HooksReader) × (run hooks_readers (Outside reader) ls ≡ run hooks_readers (Outside next) rest) × (hooks_of next ≡ hooks_of reader ++ hook ∷ [])
+run_hook reader hook i f =
+    let opened : OpenedValue = record { before = hooks_of reader; kind = hook.kind; tag = hook.tag; line = hook.line } in
+    let r = run_steps_at opened i.steps in (
+      InHook opened r.0,
+      run_skips reader i.next ∙ run_over (step hooks_readers) (Outside reader) (Outside (InHook opened NoSteps)) i.line i.after_heading (heading_step reader hook i.line i.is i.heading i.number f) ∙ r.1,
+      ap (λ (steps : List StepValue). hooks_of reader ++ hook_of opened steps ∷ []) r.2,
+    )
+
+run_hooks : {ls rest : Lines} {hooks : List HookValue} (reader : HooksReader) → Many IsHook ls hooks rest → AreDistinct (hooks_of reader ++ hooks)
+    → (next : HooksReader) × (run hooks_readers (Outside reader) ls ≡ run hooks_readers (Outside next) rest) × (hooks_of next ≡ hooks_of reader ++ hooks)
+run_hooks reader none d = (reader, refl, sym (append-nil (hooks_of reader)))
+run_hooks reader (more {x = hook} {xs = hooks} p many) d =
+    let one = run_hook reader hook p (fresh_stands (heading_of hook) (hooks_of reader) (fresh_after (hooks_of reader) hook hooks d)) in
+    let joins : hooks_of one.0 ++ hooks ≡ hooks_of reader ++ hook ∷ hooks = ap (λ (before : List HookValue). before ++ hooks) one.2 ∙ append_assoc (hooks_of reader) (hook ∷ []) hooks in
+    let r = run_hooks one.0 many (subst AreDistinct (sym joins) d) in
+    (r.0, one.1 ∙ r.1, r.2 ∙ joins)
+
+-- What has a reading is run over, up to a reader that says it.
+pub hooks_run : (ls : Lines) (hooks : List HookValue) → ReadsHooks ls hooks → (reader : HooksReader) × (run hooks_readers (Outside NoHook) ls ≡ Ok (Outside reader)) × (hooks_of reader ≡ hooks)
+hooks_run ls hooks r =
+    let a = run_hooks NoHook r.parts r.distinct in
+    (a.0, a.1 ∙ run_skips a.0 r.end ∙ run_nil (step hooks_readers) (Outside a.0), a.2)
+
+pub hooks_complete : (ls : Lines) (hooks : List HookValue) → ReadsHooks ls hooks → reading hooks_readers ls ≡ Ok hooks
+unfolding reading finish
+hooks_complete ls hooks r = let a = hooks_run ls hooks r in ap (λ (r : Result (State HooksReader) ReadFault). r >>= finish hooks_readers) a.1 ∙ ap Ok a.2
+
+pub one_hooks_reading : HaveOneHooksReading
+one_hooks_reading ls one other r s = ok_same (sym (hooks_complete ls one r) ∙ hooks_complete ls other s)

@@ -1,0 +1,261 @@
+//! The reader of a hooks file: what was read so far, and what each line adds.
+ghost use Rattle.std.specs.Prelude.{List, option_map, Ok, IfOk, IfErr, ◌≡◌};
+ghost use Rattle.std.specs.String.{string_bytes};
+ghost use Rattle.gk_gherkin.specs.Lines.{borrowed_value, lines_of, IsText};
+ghost use Rattle.gk_gherkin.specs.Class as words;
+ghost use Rattle.gk_gherkin.specs.Hooks.{HookValue, hooks_value};
+ghost use Rattle.gk_gherkin.specs.HookHeadings.{heading_value};
+ghost use Rattle.gk_gherkin.specs.HooksGrammar.{ReadsHooks};
+ghost use Rattle.gk_gherkin.specs.ReadFault.{AnswersOrLacksMemory, FaultSays, HooksFault};
+ghost use Rattle.gk_gherkin.specs.Results.{Agrees};
+ghost use Rattle.gk_gherkin.specs.OpenParts.Views.{body_value};
+ghost use Rattle.gk_gherkin.specs.HooksReader as spec;
+ghost use Rattle.gk_gherkin.specs.HooksReader.Views.{reader_value};
+ghost use Rattle.gk_gherkin.specs.HooksSoFar.{so_far_value};
+ghost use Rattle.gk_gherkin.specs.declared.hook_headings.HooksClass.TheVariants.{HookLine, Plain};
+ghost use Rattle.gk_gherkin.specs.declared.read_fault.ReadFault.TheVariants.{BadHook, Memory};
+
+use crate::class::Class;
+use crate::hook_headings::{HookHeading, HooksClass, hook_heading, hooks_class};
+use crate::hooks::{Hook, HookFile, HookKind};
+use crate::hooks_so_far::HooksSoFar;
+use crate::lines::BorrowedLine;
+use crate::open_parts::{Body, body_takes_text, on_body, put, put_text, steps_of, unexpected};
+use crate::read_fault::ReadFault;
+use crate::reading::{FileReader, read};
+use std::alloc::Global;
+use std::mem;
+
+/// The hooks before the open one, and what its heading says, with its line.
+#[derive(Drop)]
+pub struct Opened {
+    pub before: HooksSoFar,
+    pub kind: HookKind,
+    pub tag: Option<String>,
+    pub line: u32,
+}
+
+/// Before the first hook, or in a hook, in its steps.
+#[derive(Drop)]
+pub enum HooksReader {
+    NoHook,
+    InHook { opened: Opened, body: Body },
+}
+
+// The hooks that were read, of which the open one is the last.
+fn hooks_of(alloc: Global, reader: HooksReader) -> Result<HooksSoFar, ReadFault>
+    ensures says { Agrees so_far_value result (Ok (spec.hooks_of (reader_value reader))) }
+    ensures memory { IfErr result (λ e. spec.NeedsAtEnd (reader_value reader)) }
+{
+    match reader {
+        HooksReader::NoHook => Ok(HooksSoFar::new(alloc)),
+        HooksReader::InHook { opened, body } => {
+            let steps = steps_of(alloc, body)?;
+            let mut hooks = opened.before;
+            hooks.push(Hook {
+                kind: opened.kind,
+                tag: opened.tag,
+                line: opened.line,
+                steps,
+            })?;
+            Ok(hooks)
+        }
+    }
+}
+
+// Whether one of the hooks before has this heading.
+fn has_heading(heading: &HookHeading<'_>, hooks: &HooksSoFar) -> bool
+    ensures { result ≡ spec.has_heading (heading_value heading.now) (so_far_value hooks.now) }
+{
+    hooks.has(heading.kind, heading.tag)
+}
+
+fn tag_of(alloc: Global, heading: &HookHeading<'_>) -> Result<Option<String>, ReadFault>
+    ensures { Agrees (λ o. option_map string_bytes o) result (Ok (heading_value heading.now).tag) }
+{
+    match heading.tag {
+        Some(tag) => Ok(Some(String::from_str(alloc, tag)?)),
+        None => Ok(None),
+    }
+}
+
+fn bad_hook(line: &BorrowedLine<'_>) -> ReadFault
+    ensures { result ≡ BadHook line.now.place.line }
+{
+    ReadFault::BadHook {
+        line: line.place.line,
+    }
+}
+
+#[inline(never)]
+#[tactic(auto, unfolding(crate::specs::HooksReader::on_hook))]
+fn on_hook(
+    alloc: Global,
+    reader: &mut HooksReader,
+    line: &BorrowedLine<'_>,
+) -> Result<(), ReadFault>
+    ensures says { Agrees (λ _. reader_value reader.new) result
+        (spec.on_hook (reader_value reader.old) (borrowed_value line.now)) }
+    ensures memory { IfErr result (λ e. e ≡ Memory →
+        spec.Needs (reader_value reader.old) (borrowed_value line.now) HookLine) }
+{
+    match hook_heading(line) {
+        None => Err(bad_hook(line)),
+        Some(heading) => {
+            let before = hooks_of(alloc, mem::replace(reader, HooksReader::NoHook))?;
+            if has_heading(&heading, &before) {
+                return Err(bad_hook(line));
+            }
+            let opened = Opened {
+                before,
+                kind: heading.kind,
+                tag: tag_of(alloc, &heading)?,
+                line: line.place.line,
+            };
+            put(
+                reader,
+                HooksReader::InHook {
+                    opened,
+                    body: Body::NoSteps,
+                },
+            );
+            Ok(())
+        }
+    }
+}
+
+#[tactic(auto, unfolding(crate::specs::HooksReader::on_hook_body))]
+fn on_hook_body(
+    alloc: Global,
+    body: &mut Body,
+    line: &BorrowedLine<'_>,
+    class: Class,
+) -> Result<(), ReadFault>
+    ensures { let said = borrowed_value line.now in
+        Agrees (λ _. body_value body.new) result
+        (spec.on_hook_body (body_value body.old) said class) }
+{
+    match body {
+        Body::NoSteps => match class {
+            Class::StepLine => on_body(alloc, body, line, class),
+            _ => Err(unexpected(line)),
+        },
+        Body::Steps { .. } => on_body(alloc, body, line, class),
+    }
+}
+
+#[tactic(auto, unfolding(crate::specs::HooksReader::on_plain_line))]
+fn on_plain_line(
+    alloc: Global,
+    reader: &mut HooksReader,
+    line: &BorrowedLine<'_>,
+    class: Class,
+) -> Result<(), ReadFault>
+    ensures says { let old = reader_value reader.old in
+        Agrees (λ _. reader_value reader.new) result
+        (spec.on_plain_line old (borrowed_value line.now) class) }
+    ensures memory { let old = reader_value reader.old in
+        IfErr result (λ e. e ≡ Memory → spec.Needs old (borrowed_value line.now) (Plain class)) }
+{
+    match reader {
+        HooksReader::NoHook => Err(unexpected(line)),
+        HooksReader::InHook { body, .. } => on_hook_body(alloc, body, line, class),
+    }
+}
+
+// A line of this class that is no part of a doc string.
+#[tactic(auto, unfolding(crate::specs::HooksReader::on))]
+fn take(
+    alloc: Global,
+    reader: &mut HooksReader,
+    line: &BorrowedLine<'_>,
+    class: HooksClass,
+) -> Result<(), ReadFault>
+    ensures says { let said = borrowed_value line.now in
+        Agrees (λ _. reader_value reader.new) result
+        (spec.on (reader_value reader.old) said class) }
+    ensures memory { let said = borrowed_value line.now in
+        IfErr result (λ e. e ≡ Memory → spec.Needs (reader_value reader.old) said class) }
+{
+    match class {
+        HooksClass::HookLine => on_hook(alloc, reader, line),
+        HooksClass::Plain(Class::Blank | Class::Comment) => Ok(()),
+        HooksClass::Plain(class) => on_plain_line(alloc, reader, line, class),
+    }
+}
+
+impl FileReader for HooksReader {
+    type Answer = HookFile;
+
+    ghost Value = { spec.HooksReader };
+
+    ghost AnswerValue = { List HookValue };
+
+    ghost value = { reader_value };
+
+    ghost answer_value = { hooks_value };
+
+    ghost readers = { spec.hooks_readers };
+
+    fn first() -> HooksReader {
+        HooksReader::NoHook
+    }
+
+    fn takes_text(&self) -> bool {
+        match self {
+            HooksReader::NoHook => false,
+            HooksReader::InHook { body, .. } => body_takes_text(body),
+        }
+    }
+
+    fn put_text(&mut self, text: String) {
+        if let HooksReader::InHook { body, .. } = self {
+            put_text(body, text);
+        }
+    }
+
+    fn take(
+        &mut self,
+        alloc: Global,
+        line: &BorrowedLine<'_>,
+        class: Class,
+    ) -> Result<(), ReadFault> {
+        take(alloc, self, line, hooks_class(line, class))
+    }
+
+    fn answer(self, alloc: Global) -> Result<HookFile, ReadFault> {
+        Ok(hooks_of(alloc, self)?.into_file())
+    }
+}
+
+/// Reads the hooks that the bytes spell, in order. A file of blank lines and comments alone has none.
+///
+/// A hook is a heading and the steps under it, each with a table or a doc string, as in a feature
+/// file. Its heading is `before_` or `after_` and `all:`, `feature:`, `rule:` or `scenario:`, or `tag`, blanks,
+/// a tag without blanks, and `:`. (behave's documentation: environment file functions; this project's
+/// profile)
+///
+/// `TooLong` and `NotUtf8` come as from `read_lines`, before any fault of a line. Of the faults of
+/// lines the first line's comes:
+///
+/// - `Unexpected`: no line of its class is allowed there, such as a step before the first hook.
+/// - `BadHook`: a line that begins with `before_` or `after_` and is no heading, or that repeats an
+///   earlier heading, with the same tag if it has one.
+/// - `BadRow`: a row that isn't between two unescaped bars.
+/// - `CellCount`: a row with another number of cells than the first of its table.
+/// - `UnclosedText`, at the line of its opening fence: the file ends in a doc string.
+///
+/// `Memory` comes only if a growth was refused, and none is asked for before the first heading. A
+/// refusal returns nothing of what was read before it.
+pub fn read_hooks(alloc: Global, bytes: &[u8]) -> Result<HookFile, ReadFault>
+    // What is returned is what the lines say.
+    ensures found { IfOk result (λ file.
+        IsText bytes.now × ReadsHooks (lines_of bytes.now) (hooks_value file)) }
+    // What the lines say is returned, unless memory runs out.
+    ensures only { (hooks : List HookValue) → IsText bytes.now
+        → ReadsHooks (lines_of bytes.now) hooks → AnswersOrLacksMemory hooks_value result hooks }
+    // Which fault it is.
+    ensures fault { IfErr result (λ e. FaultSays HooksFault e bytes.now) }
+{
+    read::<HooksReader>(alloc, bytes)
+}

@@ -1,0 +1,7 @@
+use Rattle.std.proofs.Common.{◌≡◌, ◌++◌, map, drop}
+use Rattle.gk_gherkin.specs.Feature.{scenario_value}
+use Rattle.gk_lint.specs.MissingParts.{of_scenarios}
+use Rattle.gk_lint.proofs.missing_parts.add_of_scenarios.Given as goal
+
+abbrev pub invariant-loop-scenario : goal.invariant-loop-scenario
+invariant-loop-scenario l = l.findings.items ++ of_scenarios (map scenario_value (drop l.scenario-index l.scenarios)) ≡ l.fn.findings.items ++ of_scenarios (map scenario_value l.scenarios)

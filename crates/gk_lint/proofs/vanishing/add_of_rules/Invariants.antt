@@ -1,7 +1,0 @@
-use Rattle.std.proofs.Common.{◌≡◌, ◌++◌, map, drop}
-use Rattle.gk_gherkin.specs.Feature.{rule_value}
-use Rattle.gk_lint.specs.Vanishing.{of_rules}
-use Rattle.gk_lint.proofs.vanishing.add_of_rules.Given as goal
-
-abbrev pub invariant-loop-rule : goal.invariant-loop-rule
-invariant-loop-rule l = l.findings.items ++ of_rules (map rule_value (drop l.rule-index l.rules)) ≡ l.fn.findings.items ++ of_rules (map rule_value l.rules)

@@ -1,7 +1,0 @@
-use Rattle.std.proofs.Common.{◌≡◌, map, drop}
-use Rattle.gk_gherkin.specs.Feature.{examples_value}
-use Rattle.gk_lint.specs.Vanishing as spec
-use Rattle.gk_lint.proofs.vanishing.have_no_rows.Given as goal
-
-abbrev pub invariant-loop-part : goal.invariant-loop-part
-invariant-loop-part l = spec.have_no_rows (map examples_value (drop l.part-index l.examples)) ≡ spec.have_no_rows (map examples_value l.examples)

@@ -1,5 +1,0 @@
-use Rattle.gk_run.proofs.OpenRunLemmas.{judged_so_far}
-use Rattle.gk_run.proofs.open_run.unfinished_runs_are_judged.Goals as goal
-
-pub returns : goal.returns
-returns c = judged_so_far

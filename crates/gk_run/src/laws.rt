@@ -1,0 +1,89 @@
+//! Laws of the results of running. Each is the contract of an empty function, which a proof can call.
+ghost use Rattle.gk_run.specs.Features.{FeaturesWithoutRulesHaveTheirCases, ResultsStandInFileOrder};
+ghost use Rattle.gk_run.specs.Grouping.{FormedCasesFallIntoRules, GroupsAreAll};
+ghost use Rattle.gk_run.specs.Judged.{OneList, DryRunsAreJudged, UnfinishedDryRunsAreJudged};
+ghost use Rattle.gk_run.specs.JudgedInWords.{JudgedAreInWords, StepsHaveTheirResults};
+ghost use Rattle.gk_run.specs.OpenRun.{FinishedRunsAreJudged, UnfinishedRunsAreJudged};
+ghost use Rattle.gk_run.specs.WalkInWords.{StepsEndAtTheLeastStop, StoppedCasesRunNoStep, WalksEndAtTheLeastStop};
+
+/// A walk through steps ends at the least step that isn't found or whose outcome isn't `Passed`, with
+/// what that step left. If there is no such step, it passes whole. (behave's documentation: a failed
+/// step ends its scenario)
+pub fn walks_end_at_the_least_stop()
+    ensures { WalksEndAtTheLeastStop }
+{}
+
+/// The steps of a case whose before list passed whole end at that step too: those below it passed,
+/// and those above it are skipped or undefined. (behave's documentation: a failed step ends its
+/// scenario)
+pub fn steps_end_at_the_least_stop()
+    ensures { StepsEndAtTheLeastStop }
+{}
+
+/// No step of a case whose before list didn't pass whole is carried out. (behave's documentation:
+/// environment file functions)
+pub fn stopped_cases_run_no_step()
+    ensures { StoppedCasesRunNoStep }
+{}
+
+/// Results are judged exactly if the words hold of them: which features and rules are begun, which
+/// cases are reached, what each comes to, and what `--stop` and refused memory leave of the rest.
+/// (behave's documentation: environment file functions, `--stop`)
+pub fn judged_results_are_in_words()
+    ensures { JudgedAreInWords }
+{}
+
+/// Each step of a case has one result, in order, by what became of it: untested if its event didn't
+/// happen.
+pub fn steps_have_their_results()
+    ensures { StepsHaveTheirResults }
+{}
+
+/// Judged results in which no case, and no hooks and cleanups of a rule, of a feature or of the run,
+/// are marked memory are the ones that plain maps give: there is one such list.
+pub fn without_memory_there_is_one_list()
+    ensures { OneList }
+{}
+
+/// The results of the features of a dry run are judged, with hooks and cleanups that passed.
+pub fn dry_runs_are_judged()
+    ensures { DryRunsAreJudged }
+{}
+
+/// The results of the first features of a dry run begin judged results of all of them.
+pub fn unfinished_dry_runs_are_judged()
+    ensures { UnfinishedDryRunsAreJudged }
+{}
+
+/// A run that was begun, whose features were run, and that was finished has judged results: the
+/// features' results and what `Suite::finish` returns.
+pub fn finished_runs_are_judged()
+    ensures { FinishedRunsAreJudged }
+{}
+
+/// A run that was begun and isn't finished has results that begin judged results: those of the features
+/// that were run, whatever features come after them.
+pub fn unfinished_runs_are_judged()
+    ensures { UnfinishedRunsAreJudged }
+{}
+
+/// Where the cases of a feature fall into its rules, its own cases and then those of each rule, one
+/// rule after another, are all of them, in file order.
+pub fn groups_are_all()
+    ensures { GroupsAreAll }
+{}
+
+/// The cases of a feature that `run_feature` takes fall into its rules.
+pub fn formed_cases_fall_into_rules()
+    ensures { FormedCasesFallIntoRules }
+{}
+
+/// A feature without rules has the results that its cases have one after another.
+pub fn features_without_rules_have_their_cases()
+    ensures { FeaturesWithoutRulesHaveTheirCases }
+{}
+
+/// The results of a feature stand in file order: those of its rules, and those of its cases.
+pub fn results_stand_in_file_order()
+    ensures { ResultsStandInFileOrder }
+{}

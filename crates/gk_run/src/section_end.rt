@@ -1,0 +1,124 @@
+//! The end of a section: its after hooks, and then its cleanups.
+ghost use Rattle.std.specs.Prelude.{◌<◌};
+ghost use Rattle.gk_run.specs.declared.ending.Ending.TheVariants as endings;
+ghost use Rattle.gk_world.specs.State.{state_of};
+ghost use Rattle.gk_world.specs.Sandbox.{depth, KeepsLayers};
+ghost use Rattle.gk_steps.specs.Finding.{library_value};
+ghost use Rattle.gk_run.specs.Acting.{action_in, arguments_in, IsExact, KeepsAtMemory};
+ghost use Rattle.gk_run.specs.Cleanups.{cleanup_value};
+ghost use Rattle.gk_run.specs.SectionEnd.{cleanup_done};
+ghost use Rattle.gk_run.specs.Events.{of_cleanup};
+ghost use Rattle.gk_run.specs.WalkContracts.{CleansOne, Cleans, Closes};
+
+use crate::acting::{Site, act};
+use crate::cleanups::{Cleanup, Cleanups};
+use crate::ending::{Ending, ending_of, is_memory, worse};
+use crate::observer::Observer;
+use crate::results::{Mark, Outcome};
+use crate::run::Run;
+use crate::section::{Level, Section};
+use crate::section_hooks::walk_after;
+use gk_world::Sandbox;
+
+/// How the end of a section ended, and the outcomes of its cleanups in running order.
+#[derive(Drop)]
+pub struct Closed {
+    pub ending: Ending,
+    pub outcomes: Vec<Outcome>,
+}
+
+// Carries a cleanup out. One that registers a cleanup or skips fails, as its row of the table says.
+fn clean_one<O: Observer>(
+    run: &Run<'_>,
+    sandbox: &mut Sandbox,
+    level: Level,
+    cleanup: Cleanup,
+    observer: &mut O,
+) -> Outcome
+    requires in_layer { 0 < depth sandbox.old }
+    ensures cleaned { CleansOne run.now cleanup sandbox.old result sandbox.new }
+    ensures exact { IsExact (action_in run.now.library.now cleanup.found) (cleanup_done
+        (library_value run.now.library.now) (cleanup_value cleanup) (state_of sandbox.old.now))
+        result (state_of sandbox.new.now) }
+    ensures kept { KeepsAtMemory (action_in run.now.library.now cleanup.found)
+        (arguments_in run.now.library.now cleanup.found cleanup.block)
+        sandbox.old result sandbox.new }
+    ensures told { O.hears observer.old (of_cleanup level (cleanup_value cleanup)
+        result (state_of sandbox.new.now)) observer.new }
+    ensures layers { KeepsLayers sandbox.old sandbox.new }
+{
+    // A cleanup registers none.
+    let mut none = Cleanups::new(run.alloc);
+    let outcome = act(
+        run.alloc,
+        sandbox,
+        &mut none,
+        run.library,
+        Site::Cleanup,
+        &cleanup.found,
+        &cleanup.block,
+    );
+    observer.cleanup(level, &cleanup.found, &cleanup.block, outcome, sandbox);
+    outcome
+}
+
+// Runs registered cleanups, the last first.
+fn clean<O: Observer>(
+    run: &Run<'_>,
+    sandbox: &mut Sandbox,
+    level: Level,
+    cleanups: Cleanups,
+    observer: &mut O,
+) -> Closed
+    requires in_layer { 0 < depth sandbox.old }
+    ensures cleaned { Cleans O.hears run.now level cleanups
+        sandbox.old result sandbox.new observer.old observer.new }
+    ensures layers { KeepsLayers sandbox.old sandbox.new }
+{
+    let Cleanups {
+        mut list,
+        mut outcomes,
+    } = cleanups;
+    let mut ending = Ending::Passed;
+    while let Some(cleanup) = list.pop() {
+        let outcome = clean_one(run, sandbox, level, cleanup, observer);
+        outcomes.push_reserved(outcome);
+        let this = ending_of(Mark::Acted(outcome));
+        if is_memory(this) {
+            return Closed {
+                ending: this,
+                outcomes,
+            };
+        }
+        ending = worse(ending, this);
+    }
+    Closed { ending, outcomes }
+}
+
+/// Closes a section: walks through its after lists, and then runs its cleanups.
+pub fn close<O: Observer>(
+    run: &Run<'_>,
+    sandbox: &mut Sandbox,
+    cleanups: Cleanups,
+    section: &Section<'_>,
+    observer: &mut O,
+) -> Closed
+    requires in_layer { 0 < depth sandbox.old }
+    ensures closed { Closes O.hears endings.Passed run.now section.now cleanups
+        sandbox.old result observer.old observer.new }
+    ensures layers { KeepsLayers sandbox.old sandbox.new }
+{
+    let mut cleanups = cleanups;
+    let after = walk_after(run, sandbox, &mut cleanups, section, observer);
+    if is_memory(after) {
+        return Closed {
+            ending: after,
+            outcomes: cleanups.none(),
+        };
+    }
+    let Closed { ending, outcomes } = clean(run, sandbox, section.level, cleanups, observer);
+    Closed {
+        ending: worse(after, ending),
+        outcomes,
+    }
+}

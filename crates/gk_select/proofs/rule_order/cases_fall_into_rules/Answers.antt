@@ -1,5 +1,0 @@
-use Rattle.gk_select.proofs.CaseRules.{cases_fall}
-use Rattle.gk_select.proofs.rule_order.cases_fall_into_rules.Goals as goal
-
-pub returns : goal.returns
-returns c = cases_fall

@@ -1,0 +1,72 @@
+//! Laws of the cases and of the rules of tags. Each is the contract of an empty function.
+ghost use Rattle.std.specs.Prelude.{◌≡◌, ℕ, List, Some, length, map};
+ghost use Rattle.std.specs.List.{list_any};
+ghost use Rattle.gk_gherkin.specs.Lines.{lines_of, IsText};
+ghost use Rattle.gk_gherkin.specs.Feature.{FeatureValue};
+ghost use Rattle.gk_gherkin.specs.Grammar.{Reads};
+ghost use Rattle.gk_select.specs.Filling.{FillsByCut};
+ghost use Rattle.gk_select.specs.Expansion.{cases, IsExpandable, HasNoOutline, plain_cases, case_count};
+ghost use Rattle.gk_select.specs.RuleOrder.{FallIntoRules};
+ghost use Rattle.gk_select.specs.FileOrder.{CasesAreInFileOrder};
+ghost use Rattle.gk_select.specs.TagGrammar.{Expression};
+ghost use Rattle.gk_select.specs.TagValues.{holds};
+ghost use Rattle.gk_select.specs.Alternatives.{AlternativeValue, ReadsAlternatives, alternative_holds};
+ghost use Rattle.gk_select.specs.TagRules.{ReadsTags};
+
+use gk_gherkin::rules_are_counted;
+
+/// Each text has one cut for a header row, and the filled text is that of its parts. (Cucumber's
+/// Gherkin reference: scenario outline)
+pub fn texts_have_one_cut()
+    ensures { (headers cells : List (List ℕ)) (text : List ℕ) → FillsByCut headers cells text }
+{}
+
+/// Features that `read_feature` answers meet the condition of `expand` and `into_cases`: in what the grammar reads each
+/// row of Examples has as many cells as its header, and each rule has a line of its own. (Cucumber's Gherkin reference:
+/// examples, rule)
+pub fn read_features_are_expandable()
+    ensures { (bytes : List ℕ) (f : FeatureValue) → IsText bytes → Reads (lines_of bytes) (Some f)
+        → IsExpandable f }
+{
+    rules_are_counted();
+}
+
+/// Where no scenario is an outline, the cases are the scenarios, each with the tags and steps that it
+/// inherits before its own. (Cucumber's Gherkin reference: example, background, tag inheritance)
+pub fn plain_scenarios_are_cases()
+    ensures { (f : FeatureValue) → HasNoOutline f → cases f ≡ plain_cases f }
+{}
+
+/// An outline has as many cases as its tables have rows under their headers, and any other scenario one.
+/// (Cucumber's Gherkin reference: scenario outline)
+pub fn rows_are_cases()
+    ensures { (f : FeatureValue) → length (cases f) ≡ case_count f }
+{}
+
+/// The rules of the cases are indexes among the feature's rules, and never fall from one case to the next; a
+/// case without a rule counts lowest. (Cucumber's Gherkin reference: rule)
+pub fn cases_fall_into_rules()
+    ensures { (f : FeatureValue) → FallIntoRules (length f.rules) (map (λ c. c.rule) (cases f)) }
+{}
+
+/// The lines of what a feature file reads as rise: those of its rules, those of its cases, and both together, so that
+/// each case stands below the heading of its rule and above that of the next one. (Cucumber's Gherkin reference: rule)
+pub fn cases_are_in_file_order()
+    ensures { CasesAreInFileOrder }
+{}
+
+/// No text spells two different rules, whichever form it has. (behave's documentation: tag expressions;
+/// Cucumber's tag expressions)
+pub fn texts_have_one_rule()
+    ensures { (text : List ℕ) (a b : Expression) →
+        ReadsTags text a → ReadsTags text b → a ≡ b }
+{}
+
+/// A text of alternatives spells a rule, and it holds of the sets of which one of them does. (behave's
+/// documentation: tag expressions)
+pub fn alternatives_are_rules()
+    ensures { (text : List ℕ) (alternatives : List AlternativeValue) →
+        ReadsAlternatives text alternatives → (rule : Expression) × ReadsTags text rule ×
+        ((tags : List (List ℕ)) →
+        holds rule tags ≡ list_any (alternative_holds tags) alternatives) }
+{}

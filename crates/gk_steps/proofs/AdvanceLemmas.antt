@@ -1,0 +1,109 @@
+-- The steps that the code takes.
+use Rattle.std.proofs.Common.{◌≡◌, ℕ, zero, suc, ◌+◌, ◌-◌, ◌<◌, ◌≤◌, inl, inr, Bool, true, false, List, [], ◌∷◌, ◌++◌, length, take, drop, get_or, Option, Some, None, ap, sym, ◌∙◌, arith, length-append, length-drop}
+use Rattle.std.specs.Prelude.{IsUtf8}
+use Rattle.std.proofs.Math.Nat.{eq-or-lt_of_le}
+use Rattle.std.proofs.Math.Seq.{take-append_seam}
+use Rattle.std.proofs.lemmas.Str.{IsUtf8-between, IsUtf8-string_bytes}
+use Rattle.gk_steps.specs.declared.pattern.FieldKind.TheVariants.{Plain, Decimal}
+use Rattle.std.specs.Prelude.{String, string_bytes}
+use Rattle.std.specs.declared.alloc.Global.{Global}
+use Rattle.gk_steps.specs.declared.pattern.FieldKind.{FieldKind}
+use Rattle.gk_steps.specs.declared.pattern.Piece.{Piece}
+use Rattle.gk_steps.specs.declared.pattern.Piece.TheVariants as pieces
+use Rattle.gk_steps.specs.Pattern.{PieceValue, Literal, FieldPiece, piece_value}
+use Rattle.std.specs.Char.{digit_value}
+use Rattle.std.specs.Str.Parse.{AllDigits}
+use Rattle.std.proofs.lemmas.Bool.Decides.{nat_tests}
+use Rattle.gk_steps.specs.Matching.{IsSpan}
+use Rattle.gk_steps.specs.CharBoundaries.{AreBoundaries}
+use Rattle.gk_steps.specs.Advances.{part, IsAdvanceTo, IsAdvance, IsNearest}
+use Rattle.gk_steps.proofs.TableLemmas.{IsTextPiece, cut_at, part_size}
+
+one_column : (text boundaries : List ℕ) (d e : ℕ) → AreBoundaries text boundaries → d < length boundaries → e < length boundaries → get_or boundaries d 0 ≡ get_or boundaries e 0 → d ≡ e
+one_column text boundaries d e h ld le same =
+    let not_less : d < e → ⊥ = λ less. let lower = h.falling d e less le in absurd (omega arith) in
+    let not_more : e < d → ⊥ = λ more. let lower = h.falling e d more ld in absurd (omega arith) in
+    omega (arith, not_less, not_more)
+
+-- a step over a literal
+pub literal_cut : (literal text boundaries : List ℕ) (row : List Bool) (c d : ℕ) → AreBoundaries text boundaries → c < length boundaries → IsAdvanceTo (Literal literal) text boundaries row c d → drop (get_or boundaries c 0) text ≡ literal ++ drop (get_or boundaries d 0) text
+literal_cut literal text boundaries row c d h l s = cut_at text boundaries c d h l s.within ∙ ap (λ f. f ++ drop (get_or boundaries d 0) text) s.takes
+
+literal_position : (literal text boundaries : List ℕ) (row : List Bool) (c d : ℕ) → AreBoundaries text boundaries → c < length boundaries → IsAdvanceTo (Literal literal) text boundaries row c d → get_or boundaries d 0 ≡ get_or boundaries c 0 + length literal
+literal_position literal text boundaries row c d h l s = part_size text boundaries c d h l s.within ∙ ap (λ n. get_or boundaries c 0 + n) (ap length s.takes)
+
+-- the end of a literal, from the rest after it
+pub literal_end : (literal text rest : List ℕ) (p : ℕ) → p ≤ length text → drop p text ≡ literal ++ rest → length text - length rest ≡ p + length literal
+literal_end literal text rest p within e = let size : length (drop p text) ≡ length literal + length rest = ap length e ∙ length-append literal rest in omega (arith, length-drop p text)
+
+pub literal_some : (literal text rest boundaries : List ℕ) (row : List Bool) (c d : ℕ) → AreBoundaries text boundaries → c < length boundaries → drop (get_or boundaries c 0) text ≡ literal ++ rest → d ≤ c → get_or boundaries d 0 ≡ length text - length rest → get_or row d false ≡ true → IsAdvance (Literal literal) text boundaries row c (Some d)
+literal_some literal text rest boundaries row c d h l e within at yes_below =
+    let end = literal_end literal text rest (get_or boundaries c 0) (h.cuts c l).0 e in
+    let size : get_or boundaries d 0 - get_or boundaries c 0 ≡ length literal = omega arith in
+    (record { within = within; rest = yes_below; takes = ap (λ n. take n (drop (get_or boundaries c 0) text)) size ∙ ap (take (length literal)) e ∙ take-append_seam literal rest }, λ other s. tt)
+
+pub literal_none_at : (literal text rest boundaries : List ℕ) (row : List Bool) (c d : ℕ) → AreBoundaries text boundaries → c < length boundaries → drop (get_or boundaries c 0) text ≡ literal ++ rest → d ≤ c → get_or boundaries d 0 ≡ length text - length rest → get_or row d false ≡ false → IsAdvance (Literal literal) text boundaries row c None
+literal_none_at literal text rest boundaries row c d h l e within at no_below = λ other s.
+    let end = literal_end literal text rest (get_or boundaries c 0) (h.cuts c l).0 e in
+    let there = literal_position literal text boundaries row c other h l s in
+    let same : other ≡ d = one_column text boundaries other d h (let w = s.within in omega arith) (omega arith) (omega arith) in
+    let is_true : get_or row d false ≡ true = ap (λ k. get_or row k false) (sym same) ∙ s.rest in
+    let bad : ⊥ = cc in bad
+
+pub literal_none : (literal text rest boundaries : List ℕ) (row : List Bool) (c : ℕ) → AreBoundaries text boundaries → c < length boundaries → drop (get_or boundaries c 0) text ≡ literal ++ rest → ((d : ℕ) → d ≤ c → get_or boundaries d 0 ≡ length text - length rest → ⊥) → IsAdvance (Literal literal) text boundaries row c None
+literal_none literal text rest boundaries row c h l e none = λ other s. none other s.within (literal_position literal text boundaries row c other h l s ∙ sym (literal_end literal text rest (get_or boundaries c 0) (h.cuts c l).0 e))
+
+-- a step over a plain field
+pub plain_takes : (name text boundaries : List ℕ) (row : List Bool) (c d : ℕ) → IsUtf8 text → AreBoundaries text boundaries → c < length boundaries → d < c → get_or row d false ≡ true → IsAdvanceTo (FieldPiece name Plain) text boundaries row c d
+plain_takes name text boundaries row c d u h l less is =
+    let up = h.falling d c less l in
+    let size = part_size text boundaries c d h l (omega arith) in
+    record { within = omega arith; rest = is; takes = (IsUtf8-between text (get_or boundaries c 0) (get_or boundaries d 0) u (omega arith) (h.cuts c l) (h.cuts d (omega arith)), omega arith) }
+
+-- a field takes something
+pub before : (piece : PieceValue) (text boundaries : List ℕ) (row : List Bool) (c d : ℕ) → AreBoundaries text boundaries → c < length boundaries → IsAdvanceTo piece text boundaries row c d → 0 < length (part text boundaries c d) → d < c
+before piece text boundaries row c d h l s some = elim (eq-or-lt_of_le s.within) [
+  | inr less ↦ less
+  | inl same ↦ let size = part_size text boundaries c d h l s.within in let at : get_or boundaries d 0 ≡ get_or boundaries c 0 = ap (λ k. get_or boundaries k 0) same in absurd (omega arith)
+]
+
+pub plain_is : (name text boundaries : List ℕ) (row : List Bool) (c : ℕ) (o : Option ℕ) → IsUtf8 text → AreBoundaries text boundaries → c < length boundaries → IsNearest row c o → IsAdvance (FieldPiece name Plain) text boundaries row c o
+plain_is name text boundaries row c None u h l none = λ d s. let is_false = none d (before (FieldPiece name Plain) text boundaries row c d h l s s.takes.1) in let is_true = s.rest in let bad : ⊥ = cc in bad
+plain_is name text boundaries row c (Some d) u h l near = (
+  plain_takes name text boundaries row c d u h l near.0 near.1,
+  λ e s.
+      let not_nearer : d < e → ⊥ = λ less. let is_false = near.2 e (before (FieldPiece name Plain) text boundaries row c e h l s s.takes.1) less in let is_true = s.rest in let bad : ⊥ = cc in bad in
+      omega (arith, not_nearer),
+)
+
+-- the name of a field says nothing here
+pub rename : (name : List ℕ) (text boundaries : List ℕ) (row : List Bool) (c d : ℕ) → IsAdvanceTo (FieldPiece [] Decimal) text boundaries row c d → IsAdvanceTo (FieldPiece name Decimal) text boundaries row c d
+rename name text boundaries row c d s = record { within = s.within; rest = s.rest; takes = s.takes }
+
+pub rename_back : (name : List ℕ) (text boundaries : List ℕ) (row : List Bool) (c d : ℕ) → IsAdvanceTo (FieldPiece name Decimal) text boundaries row c d → IsAdvanceTo (FieldPiece [] Decimal) text boundaries row c d
+rename_back name text boundaries row c d s = record { within = s.within; rest = s.rest; takes = s.takes }
+
+pub named : (name : List ℕ) (text boundaries : List ℕ) (row : List Bool) (c : ℕ) (o : Option ℕ) → IsAdvance (FieldPiece [] Decimal) text boundaries row c o → IsAdvance (FieldPiece name Decimal) text boundaries row c o
+named name text boundaries row c None none = λ d s. none d (rename_back name text boundaries row c d s)
+named name text boundaries row c (Some d) s = (rename name text boundaries row c d s.0, λ e t. s.1 e (rename_back name text boundaries row c e t))
+
+-- the digits of a number
+digit_range : (b : ℕ) → digit_value b < 10 → (48 ≤ b) × (b < 58)
+digit_range b h = let low : 48 ≤ b = grind (arith, nat_tests) in let high : b < 58 = grind (arith, nat_tests) in (low, high)
+
+pub digits_range : (ds : List ℕ) → AllDigits 10 ds → (i : ℕ) → i < length ds → (48 ≤ get_or ds i 0) × (get_or ds i 0 < 58)
+digits_range [] h i l = absurd (omega arith)
+digits_range (b ∷ bs) h zero l = digit_range b h.0
+digits_range (b ∷ bs) h (suc i) l = digits_range bs h.1 i (omega arith)
+
+pub decimal_some : (x : List ℕ) → IsSpan Decimal x → 0 < length x
+decimal_some [] h = absurd (omega (arith, h.0.0))
+decimal_some (b ∷ bs) h = omega arith
+
+-- what a piece says, from its variant
+pub field_piece : (piece : Piece) (name : String Global) (kind kind' : FieldKind) → piece ≡ pieces.Field name kind → kind ≡ kind' → piece_value piece ≡ FieldPiece (string_bytes name) kind'
+field_piece piece name kind kind' e k = ap piece_value e ∙ ap (λ k. FieldPiece (string_bytes name) k) k
+
+pub text_piece : (piece : Piece) → IsTextPiece (piece_value piece)
+text_piece (pieces.Literal text) = IsUtf8-string_bytes text
+text_piece (pieces.Field name kind) = tt

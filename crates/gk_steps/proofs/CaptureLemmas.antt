@@ -1,0 +1,76 @@
+-- What is kept of a match, and of what is found.
+use Rattle.std.proofs.Common.{◌≡◌, ℕ, ◌++◌, true, List, [], ◌∷◌, ap, map, take, Option, Some, None, refl, sym, subst, ◌∙◌}
+use Rattle.std.proofs.lemmas.List.{append-nil, append_assoc, take-map}
+use Rattle.std.specs.Prelude.{Result, Ok, Err, IfOk}
+use Rattle.std.specs.declared.alloc.AllocError.{AllocError}
+use Rattle.gk_gherkin.specs.declared.feature.StepType.{StepType}
+use Rattle.gk_steps.specs.declared.finding.Hit.{Hit}
+use Rattle.gk_steps.specs.declared.library.Entry.{Entry}
+use Rattle.gk_steps.specs.Pattern.{PieceValue}
+use Rattle.gk_steps.specs.Library.{are_for_each_from}
+use Rattle.gk_steps.specs.Matching.{FieldValue, IsMatchResult}
+use Rattle.gk_steps.specs.Finding.{FoundValue, LibraryValue, IsFoundOf, entry_value, found, found_any}
+use Rattle.gk_steps.specs.Captures.{IsKeptResult, KeepsRest, IsHit, HitsWhatIsFound}
+use Rattle.gk_steps.proofs.LibraryLemmas.{get_before, get_taken, typed_found}
+use Rattle.gk_steps.proofs.FindingLemmas.{own_computed, any_computed, found_as_any}
+
+-- pieces that are gone through one by one, with those that are left
+pub done_more : (done left all after : List PieceValue) (p : PieceValue) → done ++ left ≡ all → left ≡ p ∷ after → (done ++ p ∷ []) ++ after ≡ all
+done_more done left all after p e is = append_assoc done (p ∷ []) after ∙ ap (λ x. done ++ x) (sym is) ∙ e
+
+pub done_all : (done left all : List PieceValue) → done ++ left ≡ all → left ≡ [] → done ≡ all
+done_all done left all e is = sym (append-nil done) ∙ ap (λ x. done ++ x) (sym is) ∙ e
+
+-- what is kept of a result that is known to be there, or not
+pub kept_some : {K : Type 0} (keeps : List PieceValue → K → List FieldValue → Type 0) (ps : List PieceValue) (text : List ℕ) (kept : K) → IsKeptResult keeps ps text (Some kept) → (fields : List FieldValue) × keeps ps kept fields × IsMatchResult ps text (Some fields)
+kept_some keeps ps text kept (None, are, is) = absurd are
+kept_some keeps ps text kept (Some fields, are, is) = (fields, are, is)
+
+pub kept_none : {K : Type 0} (keeps : List PieceValue → K → List FieldValue → Type 0) (ps : List PieceValue) (text : List ℕ) → IsKeptResult keeps ps text None → IsMatchResult ps text None
+kept_none keeps ps text (None, are, is) = is
+kept_none keeps ps text (Some fields, are, is) = absurd are
+
+-- what is kept of what is found in the rest
+pub rest_none : {K : Type 0} (keeps : List PieceValue → K → List FieldValue → Type 0) (done : List PieceValue) (before : List FieldValue) (left : List PieceValue) (rest : List ℕ) → IsKeptResult keeps left rest None → KeepsRest keeps done before left rest None
+rest_none keeps done before left rest (None, are, is) = (None, tt, λ ps text known. known None is)
+rest_none keeps done before left rest (Some fields, are, is) = absurd are
+
+pub rest_some : {K : Type 0} (keeps : List PieceValue → K → List FieldValue → Type 0) (done : List PieceValue) (before : List FieldValue) (left : List PieceValue) (rest : List ℕ) (later both : K) → ((after : List FieldValue) → keeps left later after → keeps (done ++ left) both (before ++ after)) → IsKeptResult keeps left rest (Some later) → KeepsRest keeps done before left rest (Some both)
+rest_some keeps done before left rest later both joined (None, are, is) = absurd are
+rest_some keeps done before left rest later both joined (Some after, are, is) = (Some (before ++ after), joined after are, λ ps text known. known (Some after) is)
+
+-- hits
+pub hit_some : {K : Type 0} (keeps : List PieceValue → K → List FieldValue → Type 0) (es : LibraryValue) (hit : Hit K) (o : Option FoundValue) → IsHit keeps es (Some hit) o → (f : FoundValue) × (o ≡ Some f)
+hit_some keeps es hit None h = absurd h
+hit_some keeps es hit (Some f) h = (f, refl)
+
+pub hit_none : {K : Type 0} (keeps : List PieceValue → K → List FieldValue → Type 0) (es : LibraryValue) (o : Option FoundValue) → IsHit keeps es None o → o ≡ None
+hit_none keeps es None h = refl
+hit_none keeps es (Some f) h = absurd h
+
+-- what is found among the entries up to the last for steps of one type
+hit_before : {K : Type 0} (keeps : List PieceValue → K → List FieldValue → Type 0) (es : LibraryValue) (n : ℕ) (hit : Option (Hit K)) (o : Option FoundValue) → IsHit keeps (take n es) hit o → IsHit keeps es hit o
+hit_before keeps es n None None h = h
+hit_before keeps es n None (Some f) h = absurd h
+hit_before keeps es n (Some hit) None h = absurd h
+hit_before keeps es n (Some hit) (Some f) h =
+    record { position = h.position; entry = h.entry; stands = sym (get_before es n f.entry (get_taken es n f.entry h.entry h.stands)) ∙ h.stands; kept = h.kept }
+
+pub typed_hit : {K : Type 0} (keeps : List PieceValue → K → List FieldValue → Type 0) (entries : List Entry) (typed : ℕ) (t : StepType) (text : List ℕ) (hit : Option (Hit K)) → are_for_each_from typed entries ≡ true → HitsWhatIsFound keeps (map entry_value (take typed entries)) (Some t) text hit → HitsWhatIsFound keeps (map entry_value entries) (Some t) text hit
+typed_hit keeps entries typed t text hit all h =
+    (h.0, hit_before keeps (map entry_value entries) typed hit h.0 (subst (λ es. IsHit keeps es hit h.0) (sym (take-map entry_value typed entries)) h.1), typed_found entries typed t text h.0 all h.2)
+
+-- the hit of what is computed
+pub own_hit : {K : Type 0} (keeps : List PieceValue → K → List FieldValue → Type 0) (es : LibraryValue) (step_type : StepType) (text : List ℕ) (hit : Hit K) → HitsWhatIsFound keeps es (Some step_type) text (Some hit) → IsHit keeps es (Some hit) (found es step_type text)
+own_hit keeps es step_type text hit (None, is, of) = absurd is
+own_hit keeps es step_type text hit (Some f, is, of) = subst (IsHit keeps es (Some hit)) (own_computed es step_type text f of) is
+
+pub any_hit : {K : Type 0} (keeps : List PieceValue → K → List FieldValue → Type 0) (es : LibraryValue) (text : List ℕ) (r : Result (Option (Hit K)) AllocError) → IfOk r (HitsWhatIsFound keeps es None text) → IfOk r (λ hit. IsHit keeps es hit (found_any es text))
+any_hit keeps es text (Err e) h = tt
+any_hit keeps es text (Ok hit) h = subst (IsHit keeps es hit) (any_computed es text h.0 h.2) h.1
+
+-- where no entry of the own type has a match, what is found is what the entries of type `step` give
+pub other_hit : {K : Type 0} (keeps : List PieceValue → K → List FieldValue → Type 0) (es : LibraryValue) (step_type : StepType) (text : List ℕ) (r : Result (Option (Hit K)) AllocError) → HitsWhatIsFound keeps es (Some step_type) text None → IfOk r (λ hit. IsHit keeps es hit (found_any es text)) → IfOk r (λ hit. IsHit keeps es hit (found es step_type text))
+other_hit keeps es step_type text (Err e) none h = tt
+other_hit keeps es step_type text (Ok hit) none h =
+    subst (IsHit keeps es hit) (found_as_any es step_type text (subst (IsFoundOf es (Some step_type) text) (hit_none keeps es none.0 none.1) none.2)) h

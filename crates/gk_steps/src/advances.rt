@@ -1,0 +1,108 @@
+//! Advances over a piece, from a column of the table to another.
+ghost use Rattle.std.specs.Prelude.{◌≡◌, ◌<◌, ◌++◌, ℕ, List, [], length, Option, Some, None, IfSome, IsSomeAnd};
+ghost use Rattle.gk_steps.specs.declared.pattern.FieldKind.TheVariants.{Decimal};
+ghost use Rattle.gk_steps.specs.Pattern.{Literal, FieldPiece, piece_value};
+ghost use Rattle.gk_steps.specs.CharBoundaries.{AreBoundaries};
+ghost use Rattle.gk_steps.specs.Advances.{IsAdvance, IsNearest};
+
+use crate::decimal::LARGEST;
+use crate::digits::longest_digits;
+use crate::pattern::{FieldKind, Piece};
+
+/// The rest after a prefix.
+pub(crate) fn rest_after<'a>(text: &'a str, prefix: &str) -> Option<&'a str>
+    ensures found { IfSome result (λ rest. text.entry.now ≡ prefix.now ++ rest.now) }
+    ensures only { (rest : List ℕ) → text.entry.now ≡ prefix.now ++ rest
+        → IsSomeAnd result (λ found. found.now ≡ rest) }
+{
+    if text.starts_with(prefix) {
+        Some(&text[prefix.len()..])
+    } else {
+        None
+    }
+}
+
+/// The advance over a literal.
+fn literal_advance(
+    literal: &str,
+    text: &str,
+    boundaries: &[usize],
+    below: &[bool],
+    column: usize,
+) -> Option<usize>
+    requires boundaries { AreBoundaries text.now boundaries.now }
+    requires column { column < length boundaries.now }
+    requires width { length below.now ≡ length boundaries.now }
+    ensures { IsAdvance (Literal literal.now)
+        text.now boundaries.now below.now column result }
+{
+    let rest = rest_after(&text[boundaries[column]..], literal)?;
+    let end = text.len() - rest.len();
+    for back in 0..column + 1 {
+        if boundaries[column - back] == end {
+            return if below[column - back] {
+                Some(column - back)
+            } else {
+                None
+            };
+        }
+    }
+    None
+}
+
+/// The shortest advance over one character or more.
+fn plain_advance(below: &[bool], column: usize) -> Option<usize>
+    requires { column < length below.now }
+    ensures { IsNearest below.now column result }
+{
+    for back in 0..column {
+        if below[column - 1 - back] {
+            return Some(column - 1 - back);
+        }
+    }
+    None
+}
+
+/// The longest advance over a number. Looks along a run of digits once.
+fn decimal_advance(text: &str, boundaries: &[usize], below: &[bool], column: usize) -> Option<usize>
+    requires boundaries { AreBoundaries text.now boundaries.now }
+    requires column { column < length boundaries.now }
+    requires width { length below.now ≡ length boundaries.now }
+    ensures { IsAdvance (FieldPiece [] Decimal)
+        text.now boundaries.now below.now column result }
+{
+    if column == 0 {
+        return None;
+    }
+    let byte = text.as_bytes()[boundaries[column]];
+    if byte == b'+' {
+        return longest_digits(LARGEST, text, boundaries, below, column - 1);
+    }
+    if byte == b'-' {
+        return longest_digits(LARGEST + 1, text, boundaries, below, column - 1);
+    }
+    longest_digits(LARGEST, text, boundaries, below, column)
+}
+
+/// The preferred advance over a piece.
+pub(crate) fn advance(
+    piece: &Piece,
+    text: &str,
+    boundaries: &[usize],
+    below: &[bool],
+    column: usize,
+) -> Option<usize>
+    requires boundaries { AreBoundaries text.now boundaries.now }
+    requires column { column < length boundaries.now }
+    requires width { length below.now ≡ length boundaries.now }
+    ensures { IsAdvance (piece_value piece.now)
+        text.now boundaries.now below.now column result }
+{
+    match piece {
+        Piece::Literal(literal) => literal_advance(literal, text, boundaries, below, column),
+        Piece::Field { kind, .. } => match kind {
+            FieldKind::Plain => plain_advance(below, column),
+            FieldKind::Decimal => decimal_advance(text, boundaries, below, column),
+        },
+    }
+}

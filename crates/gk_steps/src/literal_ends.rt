@@ -1,0 +1,89 @@
+//! Texts that a pattern matches nowhere, by its ends and without a table.
+ghost use Rattle.std.specs.Prelude.{◌≡◌, false, IsTrue, MatchBool, nat_eq};
+ghost use Rattle.std.specs.List.{starts_with, ends_with};
+ghost use Rattle.gk_steps.specs.Pattern.{pieces_said, pattern_value};
+ghost use Rattle.gk_steps.specs.Matching.{MatchesNot};
+ghost use Rattle.gk_steps.specs.LiteralEnds.{BeginsWith, BeginsNotWith, EndsWith, EndsNotWith};
+ghost use Rattle.gk_steps.specs.LiteralEnds.{FitsStart, FitsEnd};
+
+use crate::pattern::{Pattern, Piece};
+
+/// Whether some bytes begin with others. The last byte of these is compared first, since the patterns of a
+/// library often begin alike.
+#[tactic(auto, using(crate::proofs::LiteralEndLemmas::last_of_first_differs))]
+pub(crate) fn begins_with_bytes(bytes: &[u8], first: &[u8]) -> bool
+    ensures value { result ≡ starts_with nat_eq bytes.now first.now }
+{
+    let size = first.len();
+    if 0 < size && size <= bytes.len() && bytes[size - 1] != first[size - 1] {
+        false
+    } else {
+        bytes.starts_with(first)
+    }
+}
+
+// Whether some bytes end with others. The last byte is compared first.
+#[tactic(auto, using(crate::proofs::LiteralEndLemmas::last_differs))]
+fn ends_with_bytes(bytes: &[u8], last: &[u8]) -> bool
+    ensures value { result ≡ ends_with nat_eq bytes.now last.now }
+{
+    if !bytes.is_empty() && !last.is_empty() && bytes[bytes.len() - 1] != last[last.len() - 1] {
+        false
+    } else {
+        bytes.ends_with(last)
+    }
+}
+
+/// Whether a text ends with another.
+pub(crate) fn ends_with(text: &str, back: &str) -> bool
+    ensures { MatchBool result (EndsWith text.now back.now) (EndsNotWith text.now back.now) }
+{
+    ends_with_bytes(text.as_bytes(), back.as_bytes())
+}
+
+// Whether a text begins with another.
+fn begins_with(text: &str, start: &str) -> bool
+    ensures { MatchBool result (BeginsWith text.now start.now) (BeginsNotWith text.now start.now) }
+{
+    begins_with_bytes(text.as_bytes(), start.as_bytes())
+}
+
+// Whether the first literal begins the text.
+fn fits_start(pieces: &[Piece], text: &str) -> bool
+    ensures kept { IsTrue result → FitsStart (pieces_said pieces.now) text.now }
+    ensures refused { result ≡ false → MatchesNot (pieces_said pieces.now) text.now }
+{
+    match pieces.first() {
+        Some(piece) => match piece {
+            Piece::Literal(literal) => begins_with(text, literal),
+            Piece::Field { .. } => true,
+        },
+        None => true,
+    }
+}
+
+// Whether the last literal ends the text.
+fn fits_end(pieces: &[Piece], text: &str) -> bool
+    ensures kept { IsTrue result → FitsEnd (pieces_said pieces.now) text.now }
+    ensures refused { result ≡ false → MatchesNot (pieces_said pieces.now) text.now }
+{
+    match pieces.last() {
+        Some(piece) => match piece {
+            Piece::Literal(literal) => ends_with(text, literal),
+            Piece::Field { .. } => true,
+        },
+        None => true,
+    }
+}
+
+impl Pattern {
+    /// Whether the literals at the pattern's ends stand at the text's ends. Where they don't, there is no
+    /// match. Takes no memory.
+    pub fn can_match(&self, text: &str) -> bool
+        ensures prefix { IsTrue result → FitsStart (pattern_value self.now) text.now }
+        ensures back { IsTrue result → FitsEnd (pattern_value self.now) text.now }
+        ensures refused { result ≡ false → MatchesNot (pattern_value self.now) text.now }
+    {
+        fits_start(&self.pieces, text) && fits_end(&self.pieces, text)
+    }
+}
