@@ -1,7 +1,7 @@
 -- What the undos of a sandbox are on its contents.
 use Rattle.std.proofs.Common.{◌≡◌, ℕ, zero, suc, ◌+◌, List, [], ◌∷◌, ◌++◌, length, drop, refl, sym, ap, subst, ◌∙◌, arith}
 use Rattle.gk_world.specs.Journal.{rewound, FitAll}
-use Rattle.gk_world.proofs.JournalLemmas.{FitAll-drop}
+use Rattle.gk_world.proofs.JournalLemmas.{rewound-append, FitAll-drop}
 use Rattle.gk_world.specs.declared.world.World.{World}
 use Rattle.gk_world.specs.declared.world.WorldUndo.{WorldUndo}
 use Rattle.gk_world.specs.declared.world.WorldUndo.TheVariants.{File, Env, Value}
@@ -11,53 +11,19 @@ use Rattle.gk_world.specs.Slots as slot
 use Rattle.gk_world.specs.World.{contents_of, Fits, undone, IsClear, NamesDiffer}
 use Rattle.gk_world.specs.Reversible as contents
 use Rattle.gk_world.specs.Reversible.{rewind}
-use Rattle.gk_world.proofs.UndoLemmas.{undo_writes, map_undone, layers_put, Kept, kept_refl, kept_twice, kept_undone, name_same, differ_undone}
+use Rattle.gk_world.proofs.UndoLemmas.{undo_writes, map_undone, layers_put, differ_undone}
 use Rattle.gk_world.specs.Sandbox.{SandboxValue, with_layers, Rewinds, UndosGiveBack, seen_undo, seen_undos, saved_of, value_of, AreMarks, IsSound}
 
 -- an undo, on the contents
 pub contents_undone : (d : ℕ) (u : WorldUndo) (w : World) → NamesDiffer w → Fits u w → contents_of d (undone u w) ≡ contents.undone (seen_undo w u) (contents_of d w)
 contents_undone d (File u) w n h = λ i. record { files = map_undone u w.files n.files h i; env = map_at 0 w.env; values = layers_of d w.values }
 contents_undone d (Env u) w n h = λ i. record { files = map_at 0 w.files; env = map_undone u w.env n.env h i; values = layers_of d w.values }
-contents_undone d (Value u) w n h = λ i. record { files = map_at 0 w.files; env = map_at 0 w.env; values = layers_put d (slot.cell_of u) (slot.name_of w.values u) (slot.old_of u) w.values (slot.undone u w.values) (undo_writes layers u w.values n.values h) i }
+contents_undone d (Value u) w n h = λ i. record { files = map_at 0 w.files; env = map_at 0 w.env; values = layers_put d (slot.cell_of u) (slot.name_of w.values u) (slot.old_of w.values u) w.values (slot.undone u w.values) (undo_writes layers u w.values n.values h) i }
 
--- ---- slots keep their names
-pub record AllKept (t w : World) : Type 0 where
-  pub files : Kept t.files w.files
-  pub env : Kept t.env w.env
-  pub values : Kept t.values w.values
-
-all_kept_undone : (u : WorldUndo) (t w : World) → AllKept t w → AllKept (undone u t) w
-all_kept_undone (File u) t w k = record { files = kept_twice _ _ _ (kept_undone u t.files) k.files; env = k.env; values = k.values }
-all_kept_undone (Env u) t w k = record { files = k.files; env = kept_twice _ _ _ (kept_undone u t.env) k.env; values = k.values }
-all_kept_undone (Value u) t w k = record { files = k.files; env = k.env; values = kept_twice _ _ _ (kept_undone u t.values) k.values }
-
-pub all_kept : (us : List WorldUndo) (w : World) → AllKept (rewound undone us w) w
-all_kept [] w = record { files = kept_refl w.files; env = kept_refl w.env; values = kept_refl w.values }
-all_kept (u ∷ us) w = all_kept_undone u (rewound undone us w) w (all_kept us w)
-
-seen_same : (u : WorldUndo) (t w : World) → AllKept t w → Fits u t → seen_undo t u ≡ seen_undo w u
-seen_same (File u) t w k h = ap (λ n. record { which = contents.of_files; name = n; old = slot.old_of u }) (name_same 1 u t.files w.files k.files h)
-seen_same (Env u) t w k h = ap (λ n. record { which = contents.of_env; name = n; old = slot.old_of u }) (name_same 1 u t.env w.env k.env h)
-seen_same (Value u) t w k h = ap (λ n. record { which = contents.of_layer (suc (slot.cell_of u)); name = n; old = slot.old_of u }) (name_same layers u t.values w.values k.values h)
-
-pub kept_back : (u : WorldUndo) (t w : World) → undone u t ≡ w → AllKept w t
-kept_back u t w e = subst (λ w. AllKept w t) e (all_kept_undone u t t (all_kept [] t))
-
-kept_on : (r t w : World) → AllKept r t → AllKept t w → AllKept r w
-kept_on r t w a b = record { files = kept_twice _ _ _ a.files b.files; env = kept_twice _ _ _ a.env b.env; values = kept_twice _ _ _ a.values b.values }
-
--- undos are seen the same from where further slots stand
-pub seen_kept : (us : List WorldUndo) (t w : World) → AllKept t w → FitAll undone Fits us t → seen_undos t us ≡ seen_undos w us
-seen_kept [] t w k h = refl
-seen_kept (u ∷ us) t w k h =
-    let r : World = rewound undone us t in
-    let there : AllKept r t = all_kept us t in
-    let same : seen_undo t u ≡ seen_undo w u = sym (seen_same u r t there h.1) ∙ seen_same u r w (kept_on r t w there k) h.1 in
-    λ i. same i ∷ seen_kept us t w k h.0 i
-
-pub seen_undos-append : (w : World) (us vs : List WorldUndo) → seen_undos w (us ++ vs) ≡ seen_undos w us ++ seen_undos w vs
+-- older undos are seen where the newer ones are undone
+pub seen_undos-append : (w : World) (us vs : List WorldUndo) → seen_undos w (us ++ vs) ≡ seen_undos (rewound undone vs w) us ++ seen_undos w vs
 seen_undos-append w [] vs = refl
-seen_undos-append w (u ∷ us) vs = ap (λ l. seen_undo w u ∷ l) (seen_undos-append w us vs)
+seen_undos-append w (u ∷ us) vs = λ i. seen_undo (rewound-append undone us vs w i) u ∷ seen_undos-append w us vs i
 
 -- names still differ after undos
 differ_rewound : (us : List WorldUndo) (w : World) → NamesDiffer w → NamesDiffer (rewound undone us w)
@@ -75,8 +41,7 @@ contents_rewound d [] w n h = refl
 contents_rewound d (u ∷ us) w n h =
     let t : World = rewound undone us w in
     contents_undone d u t (differ_rewound us w n) h.1
-    ∙ ap (λ u. contents.undone u (contents_of d t)) (seen_same u t w (all_kept us w) h.1)
-    ∙ ap (contents.undone (seen_undo w u)) (contents_rewound d us w n h.0)
+    ∙ ap (contents.undone (seen_undo t u)) (contents_rewound d us w n h.0)
 
 drop-seen_undos : (k : ℕ) (w : World) (us : List WorldUndo) → seen_undos w (drop k us) ≡ drop k (seen_undos w us)
 drop-seen_undos zero w us = refl

@@ -19,7 +19,7 @@ use Rattle.gk_world.specs.World.{contents_of, Fits, undone, Steps, Refuses, CanA
 use Rattle.gk_world.proofs.WorldLemmas.{contents_changed, contents_allow, contents_refuse, clear_still, here_applies}
 use Rattle.gk_world.specs.Sandbox.{SandboxValue, depth, begun, Ends, EndsByUndos, Becomes, Records, NoneTooLong, HasShortTexts, TextsAreShort, seen_undo, seen_undos, open_marks, saved_of, value_of, AreMarks, IsSound}
 use Rattle.gk_world.proofs.TextsLemmas.{short_empty, short_changed, short_begun, short_ended}
-use Rattle.gk_world.proofs.ReversibleLemmas.{contents_undone, contents_rewound, AllKept, all_kept, kept_back, seen_kept, seen_undos-append}
+use Rattle.gk_world.proofs.ReversibleLemmas.{contents_undone, contents_rewound, seen_undos-append}
 
 -- ---- lengths
 pub length-open_marks : (d : ℕ) (marks : List ℕ) → length (open_marks d marks) ≡ d
@@ -147,7 +147,7 @@ module _ (w : World) (us : List WorldUndo) (m : ℕ) (ms : List ℕ) (h : IsSoun
         older =
             ap (seen_undos w) (sym (take-append-drop m us) ∙ ap (λ l. l ++ drop m us) (sym left))
             ∙ seen_undos-append w vs (drop m us)
-            ∙ ap (λ l. l ++ seen_undos w (drop m us)) (sym (seen_kept vs t w (subst (λ t. AllKept t w) (sym back) (all_kept (drop m us) w)) sound_outside.fit));
+            ∙ ap (λ r. seen_undos r vs ++ seen_undos w (drop m us)) (sym back);
         given_back =
             sym (contents_rewound d (drop m us) w names (FitAll-drop undone Fits m us w h.fit))
             ∙ ap (contents_of d) (sym back)
@@ -186,7 +186,7 @@ records : (d : ℕ) (ms : List ℕ) (us vs : List WorldUndo) (w t : World) (u : 
 records d [] us vs w t u e fit fits back names is lt = absurd (omega arith)
 records d (m ∷ ms) us vs w t u e fit fits back names is lt = (
   seen_undo t u,
-  ap (seen_undos t) e ∙ seen_undos-append t us (u ∷ []) ∙ ap (λ l. l ++ seen_undo t u ∷ []) (sym (seen_kept us w t (kept_back u t w back) fit)),
+  ap (seen_undos t) e ∙ seen_undos-append t us (u ∷ []) ∙ ap (λ r. seen_undos r us ++ seen_undo t u ∷ []) back,
   sym (contents_undone (length (m ∷ ms)) u t names fits) ∙ ap (contents_of (length (m ∷ ms))) back,
 )
 

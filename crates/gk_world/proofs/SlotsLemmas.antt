@@ -239,6 +239,35 @@ cell-back s t i j c old e lt is =
     ∙ ap (with_cells (with_cell s i j c) i) (set-back (cells_of s i) j c)
     ∙ written-twice s i _ _ ∙ written-same s i
 
+set-twice : (cs : List Cell) (j : ℕ) (c d : Cell) → set (set cs j c) j d ≡ set cs j d
+set-twice [] j c d = refl
+set-twice (b ∷ cs) zero c d = refl
+set-twice (b ∷ cs) (suc j) c d = ap (λ l. b ∷ l) (set-twice cs j c d)
+
+set-same : (cs : List Cell) (j : ℕ) → set cs j (get_or cs j None) ≡ cs
+set-same [] j = refl
+set-same (b ∷ cs) zero = refl
+set-same (b ∷ cs) (suc j) = ap (λ l. b ∷ l) (set-same cs j)
+
+-- two writes of one cell are the later one
+pub cell-twice : (s t r : List Slot) (i j : ℕ) (c d : Cell) → t ≡ with_cell s i j c → r ≡ with_cell t i j d → i < length s → r ≡ with_cell s i j d
+cell-twice s t r i j c d e f lt =
+    f
+    ∙ ap (λ t. with_cell t i j d) e
+    ∙ ap (λ cs. with_cells (with_cell s i j c) i (set cs j d)) (cells-written s i (set (cells_of s i) j c) lt)
+    ∙ ap (with_cells (with_cell s i j c) i) (set-twice (cells_of s i) j c d)
+    ∙ written-twice s i _ _
+
+-- what was there, written again
+pub cell-same : (s : List Slot) (i j : ℕ) → with_cell s i j (cell_at j (cells_of s i)) ≡ s
+cell-same s i j = ap (with_cells s i) (set-same (cells_of s i) j) ∙ written-same s i
+
+pub within-written : (s t : List Slot) (i j : ℕ) (c : Cell) → t ≡ with_cell s i j c → i < length s → i < length t
+within-written s t i j c e lt = subst (λ t. i < length t) (sym e) (subst (λ n. i < n) (sym (length-with_cells s i (set (cells_of s i) j c))) lt)
+
+pub cell-written : (s t : List Slot) (i j : ℕ) (c : Cell) → t ≡ with_cell s i j c → i < length s → j < length (cells_of s i) → cell_at j (cells_of t i) ≡ c
+cell-written s t i j c e lt within = ap (λ t. cell_at j (cells_of t i)) e ∙ ap (cell_at j) (cells-written s i (set (cells_of s i) j c) lt) ∙ get_or-set_same (cells_of s i) j c None within
+
 -- a slot that is added, taken off
 pub push-back : (s t : List Slot) (w : Slot) (i : ℕ) → t ≡ s ++ w ∷ [] → i ≡ length s → take i t ≡ s
 push-back s t w i e is = (λ k. take (is k) (e k)) ∙ take-append-le (length s) s (w ∷ []) (omega arith) ∙ take-length s

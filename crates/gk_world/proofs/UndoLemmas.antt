@@ -1,12 +1,12 @@
 -- What undos are on maps.
-use Rattle.std.proofs.Common.{◌≡◌, ◌≢◌, ℕ, zero, suc, ◌+◌, ◌<◌, ◌≤◌, ◌==◌, Bool, true, false, cond, List, [], ◌∷◌, ◌++◌, get_or, take, length, None, option_map, string_bytes, bytes_eq, refl, sym, ap, ◌∙◌, subst, true≢false, arith}
+use Rattle.std.proofs.Common.{◌≡◌, ◌≢◌, ℕ, zero, suc, ◌+◌, ◌<◌, ◌==◌, Bool, true, false, cond, List, [], ◌∷◌, ◌++◌, get_or, take, length, None, option_map, string_bytes, bytes_eq, refl, sym, ap, ◌∙◌, subst, true≢false, arith}
 use Rattle.std.proofs.lemmas.Bool.Decides.{Decides-eqb}
 use Rattle.std.specs.FinMap as map
 use Rattle.gk_world.specs.Cells.{Slot, Cell, cell_at}
 use Rattle.gk_world.specs.declared.slots.SlotUndo.{SlotUndo}
-use Rattle.gk_world.specs.declared.slots.SlotUndo.TheVariants.{Restore, Created}
+use Rattle.gk_world.specs.declared.slots.SlotUndo.TheVariants.{Restore, Created, Cut}
 use Rattle.gk_world.specs.State.{Texts, with_entry}
-use Rattle.gk_world.specs.Slots.{map_at, layers_of, name_at, with_cells, Writes, Fits, undone, name_of, cell_of, old_of, NamesDiffer, Undoes}
+use Rattle.gk_world.specs.Slots.{map_at, layers_of, name_at, Writes, Fits, undone, name_of, cell_of, old_of, NamesDiffer, Undoes}
 use Rattle.gk_world.specs.Reversible.{with_values}
 use Rattle.gk_world.proofs.SlotsLemmas.{writes, map_at-push, same_write, get-map_at-missing, same_texts, get-with_entry, bytes_self, first_of, missing_before, differ-with_cells, differ-take}
 
@@ -27,6 +27,7 @@ taken_back m n c none = same_texts _ _ (λ q. by (bytes_eq q n) q refl ∙ sym (
 -- an undo sets a cell of its name to the old text
 pub undo_writes : (w : ℕ) (u : SlotUndo) (s : List Slot) → NamesDiffer s → Fits w u s → Undoes u s (undone u s)
 undo_writes w (Restore position cell old) s d h = writes (name_at s position) s _ position cell (option_map string_bytes old) refl (first_of s position d h.there) h.within
+undo_writes w (Cut position cell kept) s d h = writes (name_at s position) s _ position cell (old_of s (Cut position cell kept)) refl (first_of s position d h.has.there) h.has.within
 undo_writes w (Created position cell) s d h =
     let within : position < length s = omega (arith, h.last) in
     let x : Slot = get_or s position ([], []) in
@@ -60,52 +61,20 @@ layers_put (suc d) j n c s t h = by (layers_put d j n c s t h) (suc j == suc (le
         let ne : d ≢ j = λ q. true≢false (sym ((Decides-eqb (suc j) (suc (length (layers_of d s)))).1 (omega (arith, length-layers_of d s))) ∙ e) in
         λ i. h.others d ne i ∷ rest i
 
--- the names of t are the first names of s
-pub record Kept (t s : List Slot) : Type 0 where
-  pub shorter : length t ≤ length s
-  pub names : (i : ℕ) → i < length t → name_at t i ≡ name_at s i
-
-pub kept_refl : (s : List Slot) → Kept s s
-kept_refl s = record { shorter = omega arith; names = λ i h. refl }
-
-pub kept_twice : (r t s : List Slot) → Kept r t → Kept t s → Kept r s
-kept_twice r t s a b = record { shorter = omega (arith, a.shorter, b.shorter); names = λ i h. a.names i h ∙ b.names i (omega (arith, a.shorter)) }
-
-kept_cells : (s : List Slot) (i : ℕ) (c : List Cell) → Kept (with_cells s i c) s
-kept_cells [] i c = kept_refl []
-kept_cells (w ∷ s) zero c = record { shorter = omega arith; names = elim [ zero ↦ λ h. refl | suc i ↦ λ h. refl ] }
-kept_cells (w ∷ s) (suc i) c =
-    let r = kept_cells s i c in
-    record { shorter = omega (arith, r.shorter); names = elim [ zero ↦ λ h. refl | suc k ↦ λ h. r.names k (omega arith) ] }
-
-kept_take : (n : ℕ) (s : List Slot) → Kept (take n s) s
-kept_take zero s = record { shorter = omega arith; names = λ i h. absurd (omega arith) }
-kept_take (suc n) [] = kept_refl []
-kept_take (suc n) (w ∷ s) =
-    let r = kept_take n s in
-    record { shorter = omega (arith, r.shorter); names = elim [ zero ↦ λ h. refl | suc k ↦ λ h. r.names k (omega arith) ] }
-
-pub kept_undone : (u : SlotUndo) (s : List Slot) → Kept (undone u s) s
-kept_undone (Restore position cell old) s = kept_cells s position _
-kept_undone (Created position cell) s = kept_take position s
-
 -- names still differ after an undo
 pub differ_undone : (u : SlotUndo) (s : List Slot) → NamesDiffer s → NamesDiffer (undone u s)
 differ_undone (Restore position cell old) s d = differ-with_cells s position _ d
 differ_undone (Created position cell) s d = differ-take position s d
-
--- an undo that fits where the names are kept has the same name
-pub name_same : (w : ℕ) (u : SlotUndo) (t s : List Slot) → Kept t s → Fits w u t → name_of t u ≡ name_of s u
-name_same w (Restore position cell old) t s k h = k.names position h.there
-name_same w (Created position cell) t s k h = k.names position (omega (arith, h.last))
+differ_undone (Cut position cell kept) s d = differ-with_cells s position _ d
 
 -- an undo that fits is of one of so many cells
 pub cell_within : (w : ℕ) (u : SlotUndo) (s : List Slot) → Fits w u s → cell_of u < w
 cell_within w (Restore position cell old) s h = h.allowed
 cell_within w (Created position cell) s h = h.allowed
+cell_within w (Cut position cell kept) s h = h.has.allowed
 
 -- where there is one cell alone, an undo sets its name to the old text
-pub map_undone : (u : SlotUndo) (s : List Slot) → NamesDiffer s → Fits 1 u s → map_at 0 (undone u s) ≡ with_entry (map_at 0 s) (name_of s u) (old_of u)
+pub map_undone : (u : SlotUndo) (s : List Slot) → NamesDiffer s → Fits 1 u s → map_at 0 (undone u s) ≡ with_entry (map_at 0 s) (name_of s u) (old_of s u)
 map_undone u s d h =
     let e : cell_of u ≡ 0 = omega (arith, cell_within 1 u s h) in
-    subst (λ k. map_at k (undone u s) ≡ with_entry (map_at k s) (name_of s u) (old_of u)) e (undo_writes 1 u s d h).here
+    subst (λ k. map_at k (undone u s) ≡ with_entry (map_at k s) (name_of s u) (old_of s u)) e (undo_writes 1 u s d h).here

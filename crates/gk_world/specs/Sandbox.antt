@@ -206,16 +206,16 @@ pub record ChangesAreOfState : Type 0 where
   pub value : (c : Contents) (name text : List ℕ) → 0 < length c.values → state_of (with_value c name text) ≡ record (state_of c) { own = with_text (state_of c).own name text }
   pub no_value : (c : Contents) (name : List ℕ) → 0 < length c.values → state_of (without_value c name) ≡ record (state_of c) { own = without (state_of c).own name }
 
--- An undo, as it is seen where the world is this: slots keep their names.
+-- An undo, as it is seen where the world is this.
 abbrev pub seen_undo : World → WorldUndo → UndoValue
-seen_undo w (File u) = record { which = of_files; name = name_of w.files u; old = old_of u }
-seen_undo w (Env u) = record { which = of_env; name = name_of w.env u; old = old_of u }
-seen_undo w (Value u) = record { which = of_layer (suc (cell_of u)); name = name_of w.values u; old = old_of u }
+seen_undo w (File u) = record { which = of_files; name = name_of w.files u; old = old_of w.files u }
+seen_undo w (Env u) = record { which = of_env; name = name_of w.env u; old = old_of w.env u }
+seen_undo w (Value u) = record { which = of_layer (suc (cell_of u)); name = name_of w.values u; old = old_of w.values u }
 
--- Undos, as they are seen.
+-- Undos, oldest first, as they are seen: each where the newer ones are undone, and so as it was recorded.
 abbrev pub seen_undos : World → List WorldUndo → List UndoValue
 seen_undos w [] = []
-seen_undos w (u ∷ us) = seen_undo w u ∷ seen_undos w us
+seen_undos w (u ∷ us) = seen_undo (rewound world.undone us w) u ∷ seen_undos w us
 
 -- The marks of the open layers, the innermost first.
 abbrev pub open_marks : ℕ → List ℕ → List ℕ

@@ -1,9 +1,10 @@
 -- Slots, and the finite maps that they stand for: map_at k has, for each name, the cell k of its slot.
-use Rattle.std.specs.Prelude.{◌≡◌, ◌≢◌, ℕ, zero, suc, ◌+◌, ◌<◌, List, [], ◌∷◌, length, take, map, Some, None, true, false, slice_index_or, slice_set, bytes_eq, String, string_bytes, option_map}
+use Rattle.std.specs.Prelude.{◌≡◌, ◌≢◌, ℕ, zero, suc, ◌+◌, ◌<◌, List, [], ◌∷◌, ◌++◌, length, take, map, unwrap_or, Some, None, true, false, slice_index_or, slice_set, bytes_eq, String, string_bytes, option_map}
 use Rattle.std.specs.FinMap as finite
 use Rattle.std.specs.Global.{Global}
+use Rattle.std.specs.String.Boundary.{IsSplitPoint}
 use Rattle.gk_world.specs.declared.slots.SlotUndo.{SlotUndo}
-use Rattle.gk_world.specs.declared.slots.SlotUndo.TheVariants.{Restore, Created}
+use Rattle.gk_world.specs.declared.slots.SlotUndo.TheVariants.{Restore, Created, Cut}
 use Rattle.gk_world.specs.State.{Texts, with_entry, Map}
 use Rattle.gk_world.specs.Cells.{Slot, Cell, cell_at}
 
@@ -102,31 +103,51 @@ pub record IsNewest (width : ℕ) (s : List Slot) (position cell : ℕ) : Type 0
   pub others : (k : ℕ) → k ≢ cell → cell_at k (cells_of s position) ≡ None
   pub allowed : cell < width
 
--- Whether an undo fits these slots: the slot that it names is there and, for a creation, is the last, with its other cells absent.
+-- The cell at this position, one of so many, has a text, which may be cut to this length.
+pub record HasLonger (width : ℕ) (s : List Slot) (position cell kept : ℕ) : Type 0 where
+  pub has : HasCell width s position cell
+  pub whole : List ℕ
+  pub is : cell_at cell (cells_of s position) ≡ Some whole
+  pub split : IsSplitPoint whole kept
+
+-- The first bytes, so many, of a text, if it is one.
+abbrev pub cut_to : ℕ → Cell → Cell
+cut_to kept = option_map (take kept)
+
+-- A text, which is none where there is none, with more at its end.
+abbrev pub grown : Cell → List ℕ → Cell
+grown c more = Some (unwrap_or c [] ++ more)
+
+-- Whether an undo fits these slots: the slot that it names is there and, for a creation, is the last, with its other cells absent; for a growth, its text begins with the old one.
 abbrev pub Fits : ℕ → SlotUndo → List Slot → Type 0
 Fits width (Restore position cell old) s = HasCell width s position cell
 Fits width (Created position cell) s = IsNewest width s position cell
+Fits width (Cut position cell kept) s = HasLonger width s position cell kept
 
--- The slots before a change: the cell has its old text again, or the new slot is gone.
+-- The slots before a change: the cell has its old text again, which for a growth is the beginning of that there is, or the new slot is gone.
 abbrev pub undone : SlotUndo → List Slot → List Slot
 undone (Restore position cell old) s = with_cell s position cell (option_map string_bytes old)
 undone (Created position cell) s = take position s
+undone (Cut position cell kept) s = with_cell s position cell (cut_to kept (cell_at cell (cells_of s position)))
 
 -- The name of an undo, as it is seen where it is in slots.
 abbrev pub name_of : List Slot → SlotUndo → List ℕ
 name_of s (Restore position cell old) = name_at s position
 name_of s (Created position cell) = name_at s position
+name_of s (Cut position cell kept) = name_at s position
 
 -- The cell of an undo.
 abbrev pub cell_of : SlotUndo → ℕ
 cell_of (Restore position cell old) = cell
 cell_of (Created position cell) = cell
+cell_of (Cut position cell kept) = cell
 
--- The old text of an undo, or none.
-abbrev pub old_of : SlotUndo → Cell
-old_of (Restore position cell old) = option_map string_bytes old
-old_of (Created position cell) = None
+-- The old text of an undo, or none, as it is seen where it is in slots.
+abbrev pub old_of : List Slot → SlotUndo → Cell
+old_of s (Restore position cell old) = option_map string_bytes old
+old_of s (Created position cell) = None
+old_of s (Cut position cell kept) = cut_to kept (cell_at cell (cells_of s position))
 
 -- An undo, on maps: the cell of its name has the old text again, or none, and all else stays.
 abbrev pub Undoes : SlotUndo → List Slot → List Slot → Type 0
-Undoes u old new = Writes (name_of old u) (cell_of u) (old_of u) old new
+Undoes u old new = Writes (name_of old u) (cell_of u) (old_of old u) old new

@@ -77,13 +77,3 @@ pub fn copied_for_put(alloc: Global, name: &str, text: &str) -> Result<(String, 
     let text = String::from_str(alloc, text)?;
     Ok((name, text))
 }
-
-/// A text with more at its end. It takes memory once.
-pub fn joined(alloc: Global, text: &str, more: &str) -> Result<String, AllocError>
-    ensures { IfOk result (λ whole. string_bytes whole ≡ text.now ++ more.now) }
-{
-    let mut whole = String::with_capacity(alloc, text.len().saturating_add(more.len()))?;
-    whole.push_str(text)?;
-    whole.push_str(more)?;
-    Ok(whole)
-}

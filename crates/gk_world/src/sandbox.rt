@@ -177,9 +177,9 @@ impl Sandbox {
         if let Some(fault) = self.world.files.append_refusal(name, more) {
             return Err(fault);
         }
-        let text = self.world.files.extended(name, more)?;
         let name = String::from_str(self.alloc, name)?;
-        self.change(WorldChange::File(TableChange::Put(name, text)))
+        let more = String::from_str(self.alloc, more)?;
+        self.change(WorldChange::File(TableChange::Append(name, more)))
     }
 
     /// Sets a variable. Refusals come in the order `BadName`, `TextTooLong`. A refusal changes nothing; `Memory`

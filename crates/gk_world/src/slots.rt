@@ -1,6 +1,7 @@
 //! Rows of cells by name, each a text or absent. Each change can be undone.
 ghost use Rattle.std.specs.Prelude.{◌≡◌, List, [], ◌<◌, length, MatchOption, None, Some, OnOk, OnErr, IfOk, IfErr, IfSome, IfNone, is_none, true, false, option_map, option_copied, string_bytes};
-ghost use Rattle.gk_world.specs.Slots.{text_at, with_cell, cells_of, name_at, Puts, Writes, WritesAt, IsPosition, IsMissing, IsAt, IsNew, slots_of, Fits, undone, Undoes, NamesDiffer};
+ghost use Rattle.gk_world.specs.Refusals.{joined};
+ghost use Rattle.gk_world.specs.Slots.{HasLonger, grown, cut_to, text_at, with_cell, cells_of, name_at, Puts, Writes, WritesAt, IsPosition, IsMissing, IsAt, IsNew, slots_of, Fits, undone, Undoes, NamesDiffer};
 ghost use Rattle.gk_world.specs.Cells.{cell_at};
 
 use crate::cells::Cells;
@@ -16,6 +17,8 @@ pub enum SlotUndo {
     Restore(usize, usize, Option<String>),
     /// The row at a position is new, and has its only text in this cell.
     Created(usize, usize),
+    /// The text in a cell of the row at a position had this length, and has more at its end.
+    Cut(usize, usize, usize),
 }
 
 /// Rows in the order in which their names came, each name once. A row stays, where all of its cells are
@@ -74,6 +77,54 @@ impl<C: Cells> Slots<C> {
         let cells = &mut self.rows[position];
         let old = cells.replace(cell, text);
         SlotUndo::Restore(position, cell, old)
+    }
+
+    /// Puts a text, or none, into a cell of the row at a position, and returns what was there.
+    fn exchange(&mut self, position: usize, cell: usize, text: Option<String>) -> Option<String>
+        requires position { position < length self.old }
+        requires cell { cell < C.width }
+        ensures within { cell < length (cells_of self.old position) }
+        ensures set { self.new ≡ with_cell self.old position cell (option_map string_bytes text) }
+        ensures old { option_map string_bytes result ≡ cell_at cell (cells_of self.old position) }
+    {
+        let cells = &mut self.rows[position];
+        cells.replace(cell, text)
+    }
+
+    /// Puts more at the end of the text in a cell of the row at a position.
+    fn grow(&mut self, position: usize, cell: usize, more: &str) -> Result<SlotUndo, WorldFault>
+        requires position { position < length self.old }
+        requires cell { cell < C.width }
+        requires text { is_none (cell_at cell (cells_of self.old position)) ≡ false }
+        ensures writes { OnOk result
+            (WritesAt position cell (grown (cell_at cell (cells_of self.old position)) more.now) self.old self.new) }
+        ensures fits { IfOk result (λ u. Fits C.width u self.new) }
+        ensures before { IfOk result (λ u. undone u self.new ≡ self.old) }
+        ensures err { OnErr result (self.new ≡ self.old) }
+        ensures memory { IfErr result (λ e. e ≡ WorldFault.Memory) }
+    {
+        let Some(mut text) = self.exchange(position, cell, None) else {
+            return Err(WorldFault::Absent);
+        };
+        let kept = text.as_str().len();
+        let answer = text.push_str(more);
+        drop(self.exchange(position, cell, Some(text)));
+        match answer {
+            Ok(()) => Ok(SlotUndo::Cut(position, cell, kept)),
+            Err(_) => Err(WorldFault::Memory),
+        }
+    }
+
+    /// Cuts the text in a cell of the row at a position. It takes no memory.
+    fn cut(&mut self, position: usize, cell: usize, kept: usize)
+        requires { HasLonger C.width self.old position cell kept }
+        ensures { self.new ≡
+            with_cell self.old position cell (cut_to kept (cell_at cell (cells_of self.old position))) }
+    {
+        if let Some(mut text) = self.exchange(position, cell, None) {
+            text.truncate(kept);
+            drop(self.exchange(position, cell, Some(text)));
+        }
     }
 
     /// Adds a row, as the last, with its only text in a cell.
@@ -147,6 +198,26 @@ impl<C: Cells> Slots<C> {
         answer
     }
 
+    /// Puts more at the end of the text in a cell of a name, which has one.
+    pub fn extend(&mut self, name: &str, cell: usize, more: &str) -> Result<SlotUndo, WorldFault>
+        requires cell { cell < C.width }
+        requires there { is_none (text_at cell self.old name.now) ≡ false }
+        ensures writes { OnOk result
+            (Writes name.now cell (Some (joined (text_at cell self.old) name.now more.now)) self.old self.new) }
+        ensures fits { IfOk result (λ u. Fits C.width u self.new) }
+        ensures before { IfOk result (λ u. undone u self.new ≡ self.old) }
+        ensures names { NamesDiffer self.new }
+        ensures err { OnErr result (self.new ≡ self.old) }
+        ensures memory { IfErr result (λ e. e ≡ WorldFault.Memory) }
+    {
+        let answer = match self.position(name) {
+            Some(position) => self.grow(position, cell, more),
+            None => Err(WorldFault::Absent),
+        };
+        self.names_differ();
+        answer
+    }
+
     /// Takes the text out of a cell of a name, if there is one. The row stays.
     pub fn remove(&mut self, name: &str, cell: usize) -> Option<SlotUndo>
         requires { cell < C.width }
@@ -178,6 +249,7 @@ impl<C: Cells> Slots<C> {
         match undo {
             SlotUndo::Restore(position, cell, old) => drop(self.write(position, cell, old)),
             SlotUndo::Created(_, _) => drop(self.rows.pop()),
+            SlotUndo::Cut(position, cell, kept) => self.cut(position, cell, kept),
         }
     }
 }

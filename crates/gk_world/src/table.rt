@@ -1,5 +1,5 @@
 //! A table of texts by name, as of files or of variables.
-ghost use Rattle.std.specs.Prelude.{◌≡◌, List, [], IfOk, IfErr, OnOk, OnErr, None, Some, option_copied, string_bytes};
+ghost use Rattle.std.specs.Prelude.{◌≡◌, List, [], IfOk, IfErr, OnOk, OnErr, None, Some, option_copied};
 ghost use Rattle.gk_world.specs.Slots.{map_at, text_at, Fits, undone, NamesDiffer};
 ghost use Rattle.gk_world.specs.Listing.{Lists};
 ghost use Rattle.gk_world.specs.Refusals as refusals;
@@ -7,7 +7,7 @@ ghost use Rattle.gk_world.specs.Refusals.{IsReason};
 ghost use Rattle.gk_world.specs.Table.{Steps, Refuses, refusal};
 
 use crate::listing::{note, sorted};
-use crate::refusals::{WorldFault, is_bad_name, is_too_long, joined, put_refusal};
+use crate::refusals::{WorldFault, is_bad_name, is_too_long, put_refusal};
 use crate::reversible::Reversible;
 use crate::slots::{SlotUndo, Slots};
 use std::alloc::{AllocError, Global};
@@ -28,7 +28,6 @@ pub enum TableChange {
 /// Texts by name, as of files or of variables. A removed name keeps its position.
 #[derive(Drop)]
 pub struct Table {
-    alloc: Global,
     slots: Slots<Option<String>>,
 }
 
@@ -47,7 +46,6 @@ impl Table {
         ensures { result ≡ [] }
     {
         Table {
-            alloc,
             slots: Slots::new(alloc),
         }
     }
@@ -98,15 +96,6 @@ impl Table {
             note(alloc, &mut texts, name, self.slots.text(name, 0))?;
         }
         sorted(alloc, texts)
-    }
-
-    /// The text of a name, or the empty one where it has none, with more at its end. It takes memory once,
-    /// and an error comes only where that growth was refused.
-    pub(crate) fn extended(&self, name: &str, more: &str) -> Result<String, AllocError>
-        ensures { IfOk result (λ text.
-            string_bytes text ≡ refusals.joined (text_at 0 self.now) name.now more.now) }
-    {
-        joined(self.alloc, self.get(name).unwrap_or(""), more)
     }
 
     /// No two slots have the same name. It takes no memory.
@@ -167,10 +156,7 @@ impl Reversible for Table {
         }
         match change {
             TableChange::Put(name, text) => self.slots.put(name, 0, text),
-            TableChange::Append(name, more) => {
-                let text = self.extended(&name, &more)?;
-                self.slots.put(name, 0, text)
-            }
+            TableChange::Append(name, more) => self.slots.extend(&name, 0, &more),
             TableChange::Remove(name) => self.slots.remove(&name, 0).ok_or(WorldFault::Absent),
         }
     }

@@ -1,12 +1,12 @@
-use Rattle.std.proofs.Common.{rules, ◌≡◌, ◌∙◌, sym, ap, subst, List, Some, None, Result, Ok, Err, OnOk, IfOk, IfErr, String, string_bytes, ℕ, Bool, true, false, [], ◌∷◌, is_some, is_none, true≢false}
+use Rattle.std.proofs.Common.{◌≡◌, ◌∙◌, sym, ap, subst, List, Some, None, Result, Ok, Err, OnOk, IfOk, IfErr, String, string_bytes, ℕ, Bool, true, false, [], ◌∷◌, is_some, is_none, true≢false}
 use Rattle.std.specs.Global.{Global}
 use Rattle.std.specs.FinMap as finite
 use Rattle.gk_world.specs.declared.refusals.WorldFault.{WorldFault}
 use Rattle.gk_world.specs.declared.refusals.WorldFault.TheVariants.{Memory, BadName, Absent}
 use Rattle.gk_world.specs.declared.table.TableChange.{TableChange}
-use Rattle.gk_world.specs.declared.table.TableChange.TheVariants.{Put, Append, Remove}
+use Rattle.gk_world.specs.declared.table.TableChange.TheVariants.{Put, Remove}
 use Rattle.gk_world.specs.Cells.{Slot}
-use Rattle.gk_world.specs.Refusals.{first_true, is_bad_name, remove_refusal, joined, IsFault}
+use Rattle.gk_world.specs.Refusals.{first_true, is_bad_name, remove_refusal, IsFault}
 use Rattle.gk_world.specs.Slots.{map_at, Writes, Fits, undone}
 use Rattle.gk_world.specs.Table.{Steps, Refuses, refusal, changed}
 use Rattle.gk_world.specs.State.{with_entry}
@@ -19,17 +19,6 @@ put_steps (Ok x) change name text inside s t view is none w = record {
   done = w.here ∙ ap (λ s. changed (Put name text) (map_at 0 s)) view ∙ ap (λ c. changed c (map_at 0 s)) (sym is);
 }
 put_steps (Err e) change name text inside s t view is none w = tt
-
-append_steps : {A : Type 0} (r : Result A WorldFault) (change : TableChange) (name more text : String Global) (inside s t : List Slot) → inside ≡ s → change ≡ Append name more → string_bytes text ≡ joined (finite.get (map_at 0 s)) (string_bytes name) (string_bytes more) → refusal change (map_at 0 s) ≡ None → OnOk r (Writes (string_bytes name) 0 (Some (string_bytes text)) inside t) → OnOk r (Steps change s t)
-append_steps (Ok x) change name more text inside s t view is whole none w = record {
-  allowed = none;
-  done =
-      w.here
-      ∙ ap (λ s. finite.insert (map_at 0 s) (string_bytes name) (string_bytes text)) view
-      ∙ ap (finite.insert (map_at 0 s) (string_bytes name)) whole
-      ∙ ap (λ c. changed c (map_at 0 s)) (sym is);
-}
-append_steps (Err e) change name more text inside s t view is whole none w = tt
 
 remove_steps : (change : TableChange) (name : String Global) (n : List ℕ) (inside s t : List Slot) → inside ≡ s → n ≡ string_bytes name → change ≡ Remove name → refusal change (map_at 0 s) ≡ None → Writes n 0 None inside t → Steps change s t
 remove_steps change name n inside s t view same is none w = record {
@@ -58,14 +47,6 @@ returns-in-Put-clause-done c = put_steps c.put.result c.args.change c.in-Put.nam
 
 pub returns-in-Put-clause-refused : goal.returns-in-Put-clause-refused
 returns-in-Put-clause-refused c = memory_refuses c.put.result c.args.change c.args.self.now c.in_default.ensures c.put.ensures.memory
-
-pub returns-in_ok-text-in-Append-clause-done : goal.returns-in_ok-text-in-Append-clause-done
-returns-in_ok-text-in-Append-clause-done c =
-    let whole : string_bytes c.in_ok-text-in-Append.text ≡ joined (finite.get (map_at 0 c.args.self.now)) (string_bytes c.in-Append.name) (string_bytes c.in-Append.more) = search rules in
-    append_steps c.put-in-Append.result c.args.change c.in-Append.name c.in-Append.more c.in_ok-text-in-Append.text c.self.inside.slots c.args.self.now c.put-in-Append.new.self c.self.view_is c.in-Append.is whole c.in_default.ensures c.put-in-Append.ensures.writes
-
-pub returns-in_ok-text-in-Append-clause-refused : goal.returns-in_ok-text-in-Append-clause-refused
-returns-in_ok-text-in-Append-clause-refused c = memory_refuses c.put-in-Append.result c.args.change c.args.self.now c.in_default.ensures c.put-in-Append.ensures.memory
 
 pub returns-in-Remove-clause-fits : goal.returns-in-Remove-clause-fits
 returns-in-Remove-clause-fits c = found_only Absent c.remove.result c.ok_or.result c.ok_or.ensures.value (λ u. Fits 1 u c.remove.new.self) c.remove.ensures.fits

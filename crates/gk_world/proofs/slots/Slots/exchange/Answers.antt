@@ -1,0 +1,23 @@
+use Rattle.std.proofs.Common.{◌<◌, length, ap, subst, ◌∙◌}
+use Rattle.gk_world.specs.Cells.{cell_at}
+use Rattle.gk_world.proofs.RowsLemmas.{written, differ-written, cells-at-position}
+use Rattle.gk_world.proofs.slots.Slots.exchange.Goals as goal
+
+pub invariant_of-self : goal.invariant_of-self
+invariant_of-self g c = differ-written g.C.Cells.cells c.self.inside.rows.entries c.args.position c.replace.new.self c.self.invariant
+
+pub returns-clause-within : goal.returns-clause-within
+returns-clause-within g c =
+    subst (λ l. c.args.cell < length l)
+    (cells-at-position g.C.Cells.cells c.self.inside.rows.entries c.args.self.now c.args.position c.index_mut-cells.result.now c.self.view_is c.index_mut-cells.ensures.value)
+    c.replace.ensures.within
+
+pub returns-clause-set : goal.returns-clause-set
+returns-clause-set g c =
+    let w = written g.C.Cells.cells g.C.Cells.width c.self.inside.rows.entries c.args.self.now c.args.position c.args.cell c.index_mut-cells.result.now c.replace.new.self _ _ c.self.view_is c.requires.position c.requires.cell c.index_mut-cells.ensures.value c.replace.ensures.within c.replace.ensures.set c.replace.ensures.old in
+    w.set_to
+
+pub returns-clause-old : goal.returns-clause-old
+returns-clause-old g c =
+    c.replace.ensures.old
+    ∙ ap (cell_at c.args.cell) (cells-at-position g.C.Cells.cells c.self.inside.rows.entries c.args.self.now c.args.position c.index_mut-cells.result.now c.self.view_is c.index_mut-cells.ensures.value)
