@@ -4,7 +4,6 @@ ghost use Rattle.std.specs.Str.Lines.{lines};
 ghost use Rattle.gk_gherkin.specs.Lines.{IsText, without_mark, numbered_from};
 ghost use Rattle.gk_gherkin.specs.Feature.{feature_value};
 ghost use Rattle.gk_steps.specs.Finding.{library_value};
-ghost use Rattle.gk_select.specs.Expansion.{IsExpandable};
 ghost use Rattle.gk_lint.specs.Findings.{AreInOrder};
 ghost use Rattle.gk_cli.specs.Source.{source_value};
 ghost use Rattle.gk_cli.specs.Inputs.{IsWithinLimit};
@@ -18,7 +17,7 @@ use crate::run_fault::RunFault;
 use crate::source::Source;
 use gk_gherkin::{Feature, LIMIT, text_of};
 use gk_lint::{Finding, StepFindings, in_order, lint_feature, lint_steps};
-use gk_select::{SelectFault, expand, read_features_are_expandable};
+use gk_select::{SelectFault, has_room, read_features_are_expandable};
 use gk_steps::Library;
 use std::alloc::{AllocError, Global};
 
@@ -43,14 +42,16 @@ pub fn known_text(bytes: &[u8]) -> &str
     }
 }
 
-// Whether the cases of a feature have no more steps than the limit.
-fn check_limit(alloc: Global, feature: &Feature) -> Result<(), SelectFault>
-    requires { IsExpandable (feature_value feature.now) }
+// Checks that the cases of a feature have no more steps than the limit. Builds none of them.
+fn check_limit(feature: &Feature) -> Result<(), SelectFault>
     ensures limit { OnOk result (IsWithinLimit (Some (feature_value feature.now))) }
     ensures fault { IfErr result (λ e. SaysExpansion (feature_value feature.now) e) }
 {
-    let _cases = expand(alloc, feature)?;
-    Ok(())
+    if has_room(feature) {
+        Ok(())
+    } else {
+        Err(SelectFault::TooMany)
+    }
 }
 
 /// Reads the source at a place. An error says why it doesn't read; `Memory` comes only where a growth was refused.
@@ -60,7 +61,7 @@ pub fn read_one(alloc: Global, input: usize, source: &Source) -> Result<Option<F
     ensures fault { IfErr result (λ e. SaysSourceAt input source.now.bytes.items e) }
 {
     match feature_at(alloc, input, source.bytes.as_slice()) {
-        Ok(Some(feature)) => match check_limit(alloc, &feature) {
+        Ok(Some(feature)) => match check_limit(&feature) {
             Ok(()) => Ok(Some(feature)),
             Err(fault) => Err(select_fault_at(input, fault)),
         },

@@ -36,7 +36,7 @@ mod select_fault;
 pub use case::Case;
 pub use choice::Choice;
 pub use copies::{copied_texts, fill_step};
-pub use counting::STEP_LIMIT;
+pub use counting::{STEP_LIMIT, has_room};
 pub use expansion::{expand, into_cases};
 pub use laws::{
     alternatives_are_rules, cases_are_in_file_order, cases_fall_into_rules,

@@ -1,5 +1,5 @@
 use gk_gherkin::read_feature;
-use gk_select::{TagRule, expand, into_cases, read_features_are_expandable, read_tags};
+use gk_select::{TagRule, expand, has_room, into_cases, read_features_are_expandable, read_tags};
 use std::alloc::{AllocError, Global};
 use std::test::Fail;
 
@@ -17,6 +17,9 @@ fn shown_cases(alloc: Global, text: &str) -> Result<(String, String), Fail> {
         Ok(Some(feature)) => feature,
         _ => return Err("no feature".into()),
     };
+    if !has_room(&feature) {
+        return Err("too many steps".into());
+    }
     read_features_are_expandable();
     let kept = expand(alloc, &feature)?;
     let moved = into_cases(alloc, feature)?;
