@@ -1,59 +1,114 @@
 #!/bin/sh
 # Tries the must-fail edits that `rt ci` leaves out: tests/edits.sh [CRATE..], or tests/edits.sh --check
 #
-# Each edit of tests/edits/CRATE/ has to be refused by the checker, as those of crates/CRATE/must-fail/ have, which
-# `rt ci` tries. An edit takes half a minute or so, and the first of a crate as long as a proof of the crate, so the gate
-# has some of gk_world, whose proof is among the cheapest. These are tried by hand where the
-# crate was changed, on a copy of the crates, over what 'rt check' kept there. Without a CRATE, those of all crates are
-# tried. It needs the Rattle toolchain. Closes with one line 'N passed, M failed'; an edit is one test.
+# An edit changes the code of a crate in one place, and the checker has to refuse it. `rt ci` tries the most telling ones,
+# in crates/CRATE/must-fail/. This script tries the others, in tests/edits/CRATE/, on a copy of the crates: those of the
+# named crates, or of all. An edit takes half a minute or more. It needs the Rattle toolchain.
 #
-# Where all edits of a crate were refused, tests/edits/refused notes it, by a sum over the crate's .rt and .antt files and these
-# edits. With --check, which ./test calls, nothing is tried: each crate whose note is of other files counts as failed.
+# A refusal counts only if a goal of a contract stays open. It doesn't count if the checker met one of its own limits, or
+# if only a proof names what the edit took away.
+#
+# If all edits of a crate were refused, tests/edits/refused notes it, with a sum of all that this depends on: the edits,
+# the sources and proofs of the crate and of the crates below it, this script, and the toolchain. --check tries nothing. It
+# fails for each crate whose note is missing or has another sum, and for each crate that hasn't the number of edits below.
+#
+# Closes with one line 'N passed, M failed'; an edit is one test, with --check a crate.
 set -eu
 
 home=$(dirname -- "$(dirname -- "$(readlink -f -- "$0")")")
 notes=$home/tests/edits/refused
-room=$(mktemp -d)
-trap 'rm -rf "$room"' EXIT
-trap 'exit 1' HUP INT TERM
 
-# The line that notes that the edits of a crate were refused, as its files are now.
+# Each crate with the number of its edits in must-fail/ and in tests/edits/.
+numbers='
+gk_gherkin 5 4
+gk_select 6 9
+gk_steps 6 13
+gk_lint 5 20
+gk_world 10 7
+gk_run 9 9
+gk_report 5 10
+gk_explain 6 20
+gk_cli 8 19
+gherkin_run 5 5
+gk_c 4 4
+'
+crates=$(echo "$numbers" | awk 'NF { print $1 }')
+
+# The crate and the crates below it.
+with_lower() {
+    awk -v crate="$1" '
+        function add(name, words, count, i) {
+            if (name in seen || !(name in uses)) return
+            seen[name]
+            count = split(uses[name], words, " ")
+            for (i = 1; i <= count; i++) add(words[i])
+        }
+        { name = $1; sub(/:.*/, "", name); uses[name] = substr($0, index($0, ":") + 1) }
+        END { add(crate); for (name in seen) print "crates/" name }
+    ' "$home/crates.txt"
+}
+
+# The line that notes that the edits of a crate were refused, as all that it depends on is now.
 note() {
-    (cd "$home" && find "crates/$1" "tests/edits/$1" -name out -prune -o -name must-fail -prune -o -type f \
-        \( -name '*.rt' -o -name '*.antt' -o -name '*.edit' \) -print0 | LC_ALL=C sort -z | xargs -0 sha256sum |
-        sha256sum | sed "s/ .*/ $1/")
+    (
+        cd "$home"
+        {
+            rt version
+            {
+                printf '%s\0' crates.txt HANDLES tests/edits.sh
+                find "tests/edits/$1" -type f -name '*.edit' -print0
+                find $(with_lower "$1") -name out -prune -o -name must-fail -prune -o \
+                    -type f \( -name '*.rt' -o -name '*.antt' \) -print0
+            } | LC_ALL=C sort -z | xargs -0 sha256sum
+        } | sha256sum | sed "s/ .*/ $1/"
+    )
+}
+
+# How many edits a folder has.
+edits_in() {
+    find "$home/$1" -maxdepth 1 -name '*.edit' 2> /dev/null | wc -l
 }
 
 check() {
     passed=0
     failed=0
-    for crate do
-        if grep -qxF "$(note "${crate%/}")" "$notes" 2> /dev/null; then
-            passed=$((passed + 1))
-        else
-            echo "edits: ${crate%/} was changed since its edits were tried: tests/edits.sh ${crate%/} tries them"
+    for folder in "$home"/crates/*/must-fail "$home"/tests/edits/*/; do
+        crate=$(basename "${folder%/must-fail}")
+        if ! echo "$crates" | grep -qxF "$crate"; then
+            echo "edits: tests/edits.sh has no number for the edits of $crate"
             failed=$((failed + 1))
+        fi
+    done
+    for crate in $crates; do
+        if ! echo "$numbers" | grep -qxF "$crate $(edits_in "crates/$crate/must-fail") $(edits_in "tests/edits/$crate")"; then
+            echo "edits: $crate has another number of edits than tests/edits.sh says"
+            failed=$((failed + 1))
+        elif ! grep -qxF "$(note "$crate")" "$notes" 2> /dev/null; then
+            echo "edits: $crate, or what it depends on, was changed since its edits were tried: tests/edits.sh $crate tries them"
+            failed=$((failed + 1))
+        else
+            passed=$((passed + 1))
         fi
     done
     echo "$passed passed, $failed failed"
     [ "$failed" -eq 0 ]
 }
 
-cd "$home/tests/edits"
 if [ "${1:-}" = --check ]; then
-    check */
+    check
     exit
 fi
-[ $# -gt 0 ] || set -- */
+[ $# -gt 0 ] || set -- $crates
 for crate do
-    if [ ! -d "$home/tests/edits/$crate" ]; then
-        echo "tests/edits.sh: tests/edits has no folder $crate" >&2
+    if ! echo "$crates" | grep -qxF "$crate"; then
+        echo "tests/edits.sh: there are no edits of $crate" >&2
         exit 2
     fi
-    shift
-    set -- "$@" "${crate%/}"
 done
 
+room=$(mktemp -d)
+trap 'rm -rf "$room"' EXIT
+trap 'exit 1' HUP INT TERM
 for crate do
     note "$crate"
 done > "$room/notes"
@@ -70,8 +125,8 @@ passed=0
 there=0
 touch "$notes"
 for crate do
-    refused=$(grep -c "must-fail $crate/.*: refused, as it must be" "$room/said" || true)
-    edits=$(ls "crates/$crate/must-fail" | grep -c '\.edit$')
+    refused=$(grep "must-fail $crate/.*: refused, as it must be" "$room/said" | grep -vc ': refused, as it must be (only ' || true)
+    edits=$(edits_in "tests/edits/$crate")
     passed=$((passed + refused))
     there=$((there + edits))
     [ "$refused" -eq "$edits" ] || continue
