@@ -43,7 +43,7 @@ abbrev pub dry_cases_of : LibraryValue → List Cut → List MemberValue → Lis
 dry_cases_of library cuts [] = []
 dry_cases_of library cuts (m ∷ ms) = dry_case_of library (first_or nowhere cuts) m ∷ dry_cases_of library (later cuts) ms
 
--- The results of rules, none of which is begun.
+-- The results of rules that aren't begun.
 abbrev pub dry_rules_of : List HeadValue → List RuleRow
 dry_rules_of heads = map (λ (h : HeadValue). record { line = h.line; around = statuses.Passed }) heads
 
