@@ -59,14 +59,14 @@ has_passed endings.Failed = false
 has_passed endings.Skipped = false
 has_passed endings.Memory = false
 
--- The verdict of a scenario whose hooks, steps and cleanups end like this.
+-- The verdict of a scenario whose hooks, steps and cleanups have this ending.
 abbrev pub verdict_status : Ending → Status
 verdict_status endings.Passed = statuses.Passed
 verdict_status endings.Failed = statuses.Failed
 verdict_status endings.Skipped = statuses.Skipped
 verdict_status endings.Memory = statuses.Memory
 
--- The status of hooks and cleanups that end like this. A scenario may skip itself in its before hooks; these then passed.
+-- The status of hooks and cleanups with this ending. A scenario may skip itself in its before hooks; these then passed.
 abbrev pub around_status : Ending → Status
 around_status endings.Passed = statuses.Passed
 around_status endings.Failed = statuses.Failed

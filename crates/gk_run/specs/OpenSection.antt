@@ -59,7 +59,7 @@ section_of run level tags outside is_begun cut inside =
 abbrev pub IsOpening : Run → Level → List (List ℕ) → State → List Event → Type 0
 IsOpening run level tags outside first = SoFar false (is_memory_ending (ended_in first)) (begun run.library run.hooks level tags outside) [] first
 
--- A section was begun from the state outside: these events of its before list happened, the list ended like this, and the section now has this state and these cleanups.
+-- A section was begun from the state outside: these events of its before list happened, the list ended with `ended`, and `now` is the section's state and cleanups.
 pub record IsBegun (run : Run) (level : Level) (tags : List (List ℕ)) (outside : State) (first : List Event) (ended : Ending) (now : Stand) : Type 0 where
   pub so_far : SoFar false (is_memory_ending ended) (begun run.library run.hooks level tags outside) [] first
   pub ends : ended ≡ ended_in first

@@ -19,7 +19,7 @@ abbrev pub Opens : {S : Type 0} → (S → Event → S → Type 0) → shared.Ru
 Opens hears run section old opened new first last =
     (is : IsOpened (run_value run) section.level (texts section.tags.now) old new opened.layer opened.before opened.cleanups) × FoldsTo hears first is.first last
 
--- The end of a section was told. The section's before list had ended like this, and these are its state and cleanups now.
+-- The end of a section was told. Its before list had ended with `ended`, and `now` is its state and cleanups.
 abbrev pub EndsAround : {S : Type 0} → (S → Event → S → Type 0) → Run → Level → List (List ℕ) → Ending → Stand → Status → S → S → Type 0
 EndsAround hears run level tags ended now around begin end =
     (outside : State) (first : List Event) → IsBegun run level tags outside first ended now → IsEndTold hears run level tags outside around first begin end

@@ -57,7 +57,7 @@ IsStepRun this cleanups mark new new_cleanups = (mark ≡ this.mark) × (new ≡
 abbrev pub IsLookedUp : LibraryValue → Mark → StepValue → Mark → Type 0
 IsLookedUp library matched step mark = ((mark ≡ Acted outcomes.Memory) × HasCandidateFor library step.step_type step.text) ⊎ (mark ≡ looked_up library matched step)
 
--- The next step of a case that has ended so far like this.
+-- The next step of a case that has ended so far with this ending.
 abbrev pub IsNext : LibraryValue → Ending → State → List CleanupValue → StepValue → Mark → State → List CleanupValue → Type 0
 IsNext library endings.Passed s cleanups step mark new new_cleanups = IsStepRun (one_step library sites.Step s step) cleanups mark new new_cleanups
 IsNext library endings.Failed s cleanups step mark new new_cleanups = IsLookedUp library Skipped step mark × (new ≡ s) × (new_cleanups ≡ cleanups)
@@ -93,7 +93,7 @@ abbrev pub WalksHook : {S : Type 0} → (S → Event → S → Type 0) → share
 WalksHook hears run stage steps old cleanups ended new new_cleanups first last =
     Happens hears endings.Passed (walk (library_value run.library.now) stage (state_of old.now) (map step_value steps)) (stand_of old cleanups) (stand_of new new_cleanups) ended first last
 
--- The next step of a case was taken. The case had ended so far like this.
+-- The next step of a case was taken. The case had ended so far with `ending`.
 abbrev pub TakesNext : shared.Run → Ending → Step → SandboxValue → List CleanupValue → Mark → SandboxValue → List CleanupValue → Type 0
 TakesNext run ending step old cleanups mark new new_cleanups =
     IsNext (library_value run.library.now) ending (state_of old.now) cleanups (step_value step) mark (state_of new.now) new_cleanups
@@ -105,11 +105,11 @@ told_next endings.Passed event = event ∷ []
 told_next endings.Failed event = event ∷ []
 told_next endings.Skipped event = event ∷ []
 
--- The next step of a case was told, whatever it registered. The case had ended so far like this.
+-- The next step of a case was told, whatever it registered. The case had ended so far with `stood`.
 abbrev pub TellsNext : {S : Type 0} → (S → Event → S → Type 0) → Ending → Step → Mark → SandboxValue → S → S → Type 0
 TellsNext hears stood step mark now first last = (registered : List CleanupValue) → FoldsTo hears first (told_next stood (of_step steps_of_case (step_value step) mark registered (state_of now.now))) last
 
--- The steps of a case whose before list ended like this were run, and their results are those of the events that were told.
+-- The steps of a case whose before list ended with `before` were run, and their results are those of the events that were told.
 pub record RunsSteps {S : Type 0} (hears : S → Event → S → Type 0) (run : shared.Run) (before : Ending) (steps : Reserved Step StepResult) (old : SandboxValue) (cleanups : List CleanupValue) (end : StepsEnd) (new : SandboxValue) (new_cleanups : List CleanupValue) (first last : S) : Type 0 where
   pub goes : Happens hears before (steps_from (library_value run.library.now) before (state_of old.now) (map step_value steps.list.items)) (stand_of old cleanups) (stand_of new new_cleanups) end.ending first last
   pub rows : map step_row end.results.items ≡ rows_of_steps (map step_value steps.list.items) (event_marks goes.told)
@@ -160,7 +160,7 @@ pub record IsClosing {S : Type 0} (hears : S → Event → S → Type 0) (librar
   pub ending : ended ≡ ended_in (after.told ++ cleanups.told)
   pub outcomes : reported ≡ outcomes_of cleanups.told
 
--- A section that had ended like this was closed. After refused memory nothing more happened in it.
+-- A section that had ended with `before` was closed. After refused memory nothing more happened in it.
 abbrev pub Closes : {S : Type 0} → (S → Event → S → Type 0) → Ending → shared.Run → Section → List CleanupValue → SandboxValue → Closed → S → S → Type 0
 Closes hears before run section registered old closed first last =
     IsClosing hears (library_value run.library.now) section.level (after_lists (hooks_value run.hooks.now.file.now) section.level (texts section.tags.now)) before (stand_of old registered) closed.ending closed.outcomes.items first last

@@ -27,7 +27,7 @@ use std::alloc::{AllocError, Global};
 use value_actions::{delete_value, set_value, value_absent, value_is};
 use variable_actions::{env_absent, env_is, remove_env, set_env};
 
-/// The site of an action: what it is carried out for.
+/// The site at which an action is carried out.
 #[derive(Clone, Copy, Debug, PartialEq, Eq)]
 pub enum Site {
     /// A step of a scenario.

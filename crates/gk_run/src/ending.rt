@@ -94,7 +94,7 @@ pub fn reason_of(mark: Mark) -> Option<Reason>
     }
 }
 
-/// Returns the status of hooks and cleanups that end like this.
+/// Returns the status of hooks and cleanups with this ending.
 pub fn around_status(ending: Ending) -> Status
     ensures { result ≡ spec.around_status ending }
 {
@@ -104,7 +104,7 @@ pub fn around_status(ending: Ending) -> Status
     }
 }
 
-/// Returns the verdict of a scenario whose hooks, steps and cleanups end like this.
+/// Returns the verdict of a scenario whose hooks, steps and cleanups have this ending.
 pub fn verdict_status(ending: Ending) -> Status
     ensures { result ≡ spec.verdict_status ending }
 {

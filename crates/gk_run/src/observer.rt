@@ -25,8 +25,8 @@ pub trait Observer {
     /// What it may become when it is told that a scenario or a rule has ended.
     ghost ends: { Self → Ended → Self → Type 0 };
 
-    /// Receives a step of a scenario or of a hook, with its stage and its mark. The cleanups that it
-    /// registered aren't told.
+    /// Receives a step of a scenario or of a hook, with its stage and its mark. The cleanups that the
+    /// step registered aren't told.
     fn step(&mut self, stage: Stage, step: &Step, mark: Mark, sandbox: &Sandbox)
         ensures { (registered : List CleanupValue) → hears self.old (of_step stage
             (step_value step.now) mark registered (state_of sandbox.now.now)) self.new };

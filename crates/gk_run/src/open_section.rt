@@ -51,7 +51,7 @@ pub fn open_section<O: Observer>(
     }
 }
 
-// Closes a section that has ended like this. After refused memory nothing more runs in it.
+// Closes a section whose body ended with `ending`. After refused memory nothing more runs in it.
 fn close_after<O: Observer>(
     run: &Run<'_>,
     sandbox: &mut Sandbox,

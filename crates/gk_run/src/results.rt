@@ -38,7 +38,7 @@ pub enum Reason {
     Absent,
     /// There is such a file, variable or value.
     Present,
-    /// The text or the number is a different one.
+    /// The text or the number is a different one, or the text doesn't contain the one asked for.
     Differs,
     /// The text has more bytes than `gk_world::LONGEST_TEXT`.
     TextTooLong,
@@ -91,7 +91,7 @@ pub enum Mark {
     Untested,
 }
 
-/// The error if memory for the results of running was refused.
+/// The results of running couldn't be reserved, because memory was refused.
 #[derive(Clone, Copy, Debug, PartialEq, Eq)]
 pub struct NoRoom;
 

@@ -92,7 +92,7 @@ pub fn look_up(alloc: Global, library: &Library, step: &Step, matched: Mark) -> 
     }
 }
 
-// Takes the next step of a case that has ended so far like this, and returns the step's mark.
+// Takes the next step of a case that has ended so far with `ending`, and returns the step's mark.
 fn next_step(
     run: &Run<'_>,
     sandbox: &mut Sandbox,
@@ -143,8 +143,8 @@ pub struct StepsEnd {
     pub results: Vec<StepResult>,
 }
 
-// Tells the observer a step of a case. If memory was refused before the step, nothing more happens, and
-// nothing is told.
+// Tells the observer about a step of a case. After refused memory nothing more happens, so nothing is
+// told.
 fn tell<O: Observer>(observer: &mut O, stood: Ending, step: &Step, mark: Mark, sandbox: &Sandbox)
     ensures { TellsNext O.hears stood step.now mark sandbox.now observer.old observer.new }
 {
@@ -157,7 +157,7 @@ fn tell<O: Observer>(observer: &mut O, stood: Ending, step: &Step, mark: Mark, s
     }
 }
 
-/// Runs the steps of a case whose before list ended like this.
+/// Runs the steps of a case whose before list ended with `before`.
 pub fn run_steps<O: Observer>(
     run: &Run<'_>,
     sandbox: &mut Sandbox,
