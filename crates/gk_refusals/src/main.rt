@@ -1,6 +1,7 @@
-//! The test program whose growths of memory `tests/refused_inside.sh` refuses in turn. With a feature file, and a
-//! hooks file where it is named, it runs `run_suite` in an empty sandbox, and says what the sandbox has after it.
-//! Without arguments it removes a file in a layer, and says what became of it.
+//! The test program in which `tests/refused_inside.sh` refuses one growth of memory after another. With
+//! a feature file, and a hooks file if one is named, it runs `run_suite` in an empty sandbox, and
+//! writes what the sandbox has afterwards. Without arguments it removes a file in a layer, and writes
+//! the result.
 #![tactic(auto)]
 
 mod removed_file;
@@ -15,18 +16,19 @@ use std::process::ExitCode;
 use std::rt::{Env, Files};
 use whole_run::{read_inputs, run_in, status_of};
 
-// The arguments, the program's name first, if there was memory for them.
+// Returns the arguments, the program's name first, if there was memory for them.
 fn arguments_of<R: Env + AllocGlobal>(rt: &R) -> Option<Vec<String>> {
     env::args(rt).ok()?.collect(rt.alloc()).ok()
 }
 
-// What a run ends with that has no inputs.
+// Reports that a run wasn't begun, and returns its status.
 fn not_begun<R: Eprint>(rt: &R) -> u8 {
     let _ = eprintln!(rt; "not begun");
     4
 }
 
-// Writes which layers, changes and texts a sandbox has.
+// Writes the depth of a sandbox, the number of its recorded changes, and its files, variables and
+// values.
 fn show_sandbox<R: Eprint + AllocGlobal>(rt: &R, sandbox: &Sandbox) {
     let _ = match sandbox.listing(rt.alloc()) {
         Ok(listing) => eprintln!(rt;
@@ -41,7 +43,8 @@ fn show_sandbox<R: Eprint + AllocGlobal>(rt: &R, sandbox: &Sandbox) {
     };
 }
 
-// Runs a feature file with the hooks of a file, and writes the report, the answer and what the sandbox has then.
+// Runs a feature file with the hooks of a file, and writes the report, the result and what the sandbox
+// has afterwards.
 fn show_run<R: Env + Files + Eprint + AllocGlobal, W: Write>(
     rt: &R,
     feature: &str,
@@ -59,7 +62,7 @@ fn show_run<R: Env + Files + Eprint + AllocGlobal, W: Write>(
     status_of(&answer)
 }
 
-// Removes a file in a layer, and writes what became of it.
+// Removes a file in a layer, and writes the result.
 fn show_removed_file<R: Eprint + AllocGlobal>(rt: &R) -> u8 {
     let mut sandbox = Sandbox::new(rt.alloc());
     if sandbox.put_file("f", "one").is_err() {

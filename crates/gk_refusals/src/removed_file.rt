@@ -1,18 +1,18 @@
-//! A file that is removed in a layer.
+//! Removing a file in a layer.
 ghost use Rattle.std.specs.Prelude.{◌≡◌, ◌<◌};
 ghost use Rattle.gk_world.specs.Sandbox.{depth};
 ghost use Rattle.gk_world.specs.State.{layers};
 
 use gk_world::{Sandbox, WorldFault};
 
-/// What was seen in the layer.
+/// The observations in the layer.
 #[derive(Drop)]
 pub struct Seen {
-    /// The answer where the file `f` was removed.
+    /// The result of removing the file `f`.
     pub removal: Result<(), WorldFault>,
-    /// The answer of the change after it, which puts the file `g`.
+    /// The result of the next change, which puts the file `g`.
     pub next: Result<(), WorldFault>,
-    /// Whether the file `f` was there after both.
+    /// Whether the file `f` existed after both.
     pub is_there: bool,
 }
 

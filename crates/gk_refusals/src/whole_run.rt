@@ -10,7 +10,7 @@ use std::fs;
 use std::io::Write;
 use std::rt::Files;
 
-/// What a run is made from.
+/// The inputs of a run.
 #[derive(Drop)]
 pub struct Inputs {
     options: Options,
@@ -18,7 +18,7 @@ pub struct Inputs {
     sources: Vec<Source>,
 }
 
-// Each scenario is run, and the report is plain.
+// Returns options for a run of each scenario, with a plain report.
 fn plain_options(alloc: Global) -> Options {
     Options {
         tags: Vec::new(alloc),
@@ -32,13 +32,13 @@ fn plain_options(alloc: Global) -> Options {
     }
 }
 
-// All the bytes of a file.
+// Returns all bytes of a file.
 fn bytes_of<R: Files + AllocGlobal>(rt: &R, name: &str) -> Option<Vec<u8>> {
     let file = fs::open(rt, name).ok()?;
     read_source(rt.alloc(), &mut Counted::new(file)).ok()
 }
 
-// The sources of a run of one file.
+// Returns the sources of a run of one file.
 fn sources_of<R: Files + AllocGlobal>(rt: &R, name: &str) -> Option<Vec<Source>> {
     let bytes = bytes_of(rt, name)?;
     let name = String::from_str(rt.alloc(), name).ok()?;
@@ -47,7 +47,7 @@ fn sources_of<R: Files + AllocGlobal>(rt: &R, name: &str) -> Option<Vec<Source>>
     Some(sources)
 }
 
-/// Reads a feature file, and a hooks file where it is named. Nothing is returned where one can't be read, or
+/// Reads a feature file, and a hooks file if one is named. Returns nothing if one can't be read or
 /// memory ran out.
 pub fn read_inputs<R: Files + AllocGlobal>(
     rt: &R,
@@ -65,7 +65,7 @@ pub fn read_inputs<R: Files + AllocGlobal>(
     })
 }
 
-/// Runs the inputs with the steps of the built-in library, as `run_suite` says.
+/// Runs the inputs with the steps of the built-in library, as `run_suite` does.
 pub fn run_in<W: Write>(
     alloc: Global,
     sandbox: &mut Sandbox,
@@ -82,7 +82,7 @@ pub fn run_in<W: Write>(
     run_suite(alloc, sandbox, &inputs.options, None, hooks, sources, out)
 }
 
-/// The status of a run, or that of its fault.
+/// Returns the status of a run, or that of its fault.
 pub fn status_of(answer: &Result<u8, RunFault>) -> u8 {
     match answer {
         Ok(status) => *status,

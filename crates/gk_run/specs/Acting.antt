@@ -27,13 +27,13 @@ use Rattle.gk_run.specs.declared.results.Reason.TheVariants as reasons
 use Rattle.gk_run.specs.declared.results.Outcome.{Outcome}
 use Rattle.gk_run.specs.declared.results.Outcome.TheVariants as outcomes
 
--- What an action leaves: the state and its outcome; and whether a part of it passed.
+-- What an action leaves: a state and its outcome. `part_passed` says whether a part of the action passed.
 pub record Done : Type 0 where
   pub state : State
   pub outcome : Outcome
   pub part_passed : Bool
 
--- What an action is called with: the fields that it uses, T, the text that it works with, and the step's block.
+-- The arguments of an action: the fields that it uses, the text that it works with, which is called T, and the step's block.
 pub record ArgumentsValue : Type 0 where
   pub name : List ℕ
   pub to : List ℕ
@@ -48,7 +48,7 @@ doc_string (Text text) = Some text
 doc_string Empty = None
 doc_string (Table rows) = None
 
--- The arguments of a step. T is the field `text` where the pattern has it, else the step's doc string, else there is none.
+-- The arguments of a step. T is the field `text` if the pattern has it, otherwise the step's doc string, if any.
 abbrev pub arguments_of : LibraryValue → FoundValue → BlockValue → ArgumentsValue
 arguments_of library found block = record {
   name = unwrap_or (text_field library found (codes "name")) [];
@@ -59,24 +59,24 @@ arguments_of library found block = record {
   block = block;
 }
 
--- An action passes, and leaves this state.
+-- An action that passes and leaves this state.
 abbrev pub passes : State → Done
 passes s = record { state = s; outcome = outcomes.Passed; part_passed = true }
 
--- An action fails for a reason, and leaves this state.
+-- An action that fails for this reason and leaves this state.
 abbrev pub fails : State → Reason → Done
 fails s why = record { state = s; outcome = outcomes.Failed why; part_passed = false }
 
--- An action that fails where there is a reason, and else passes with a new state.
+-- An action that fails if there is a reason, and otherwise passes with a new state.
 abbrev pub unless_for : State → Option Reason → State → Done
 unless_for s None new = passes new
 unless_for s (Some why) new = fails s why
 
--- An action fails with the first reason of which the test holds, and else passes and leaves a new state.
+-- An action that fails with the first reason whose test holds, and otherwise passes and leaves a new state.
 abbrev pub unless : State → List (Bool × Reason) → State → Done
 unless s tests new = unless_for s (first_true tests) new
 
--- An action that works with T fails without one before anything else.
+-- An action that works with T. Without T it fails before anything else.
 abbrev pub with_T : State → Option (List ℕ) → (List ℕ → Done) → Done
 with_T s None action = fails s reasons.NoText
 with_T s (Some text) action = action text
@@ -86,41 +86,41 @@ abbrev pub is_pass : Outcome → Bool
 is_pass outcomes.Passed = true
 is_pass _ = false
 
--- A second part of an action, which counts where the first passed.
+-- Two parts of an action. The second counts only if the first passed.
 abbrev pub and_then : Done → Done → Done
 and_then this next = cond (is_pass this.outcome) (record next { part_passed = true }) this
 
--- The reason of a name without a byte, or with too many.
+-- The reason if a name has no bytes, or too many.
 abbrev pub bad_name : List ℕ → Bool × Reason
 bad_name name = (is_bad_name name, reasons.BadName)
 
--- The reason of a text with too many bytes.
+-- The reason if a text has too many bytes.
 abbrev pub too_long : List ℕ → Bool × Reason
 too_long text = (is_too_long text, reasons.TextTooLong)
 
--- The reason where nothing is held.
+-- The reason if nothing is held.
 abbrev pub absent : Option (List ℕ) → Bool × Reason
 absent held = (is_none held, reasons.Absent)
 
--- The reason where something is held.
+-- The reason if something is held.
 abbrev pub present : Option (List ℕ) → Bool × Reason
 present held = (is_some held, reasons.Present)
 
--- Another text than this one, or none.
+-- Nothing is held, or a text other than this one.
 abbrev pub is_other : Option (List ℕ) → List ℕ → Bool
 is_other None text = true
 is_other (Some held) text = not (bytes_eq held text)
 
--- The reason where the text that is held is another.
+-- The reason if the text that is held isn't this one.
 abbrev pub differs : Option (List ℕ) → List ℕ → Bool × Reason
 differs held text = (is_other held text, reasons.Differs)
 
--- No text is held in which this one stands.
+-- No text that contains this one is held.
 abbrev pub is_without : Option (List ℕ) → List ℕ → Bool
 is_without None text = true
 is_without (Some held) text = not (stands_in text held)
 
--- The reason where this text doesn't stand in the one that is held.
+-- The reason if the text that is held doesn't contain this one.
 abbrev pub lacks : Option (List ℕ) → List ℕ → Bool × Reason
 lacks held text = (is_without held text, reasons.Differs)
 
@@ -128,7 +128,7 @@ lacks held text = (is_without held text, reasons.Differs)
 abbrev pub number_held : Option (List ℕ) → Option ℤ
 number_held held = number_of (unwrap_or held [])
 
--- The reason where what is held isn't a number.
+-- The reason if what is held isn't a number.
 abbrev pub not_number : Option (List ℕ) → Bool × Reason
 not_number held = (is_none (number_held held), reasons.NotNumber)
 
@@ -136,68 +136,68 @@ not_number held = (is_none (number_held held), reasons.NotNumber)
 abbrev pub sum_held : Option (List ℕ) → ℤ → ℤ
 sum_held held n = unwrap_or (number_held held) (pos 0) +ℤ n
 
--- The reason where a sum isn't a signed number of 64 bits.
+-- The reason if a sum isn't a signed 64-bit number.
 abbrev pub out_of_range : ℤ → Bool × Reason
 out_of_range z = (not (is_i64 z), reasons.OutOfRange)
 
--- Another number than this one, or none.
+-- No number, or a number other than this one.
 abbrev pub is_other_number : Option ℤ → ℤ → Bool
 is_other_number None n = true
 is_other_number (Some held) n = not (int_eq held n)
 
--- The reason where the number that is held is another.
+-- The reason if the number that is held isn't this one.
 abbrev pub differs_from : Option (List ℕ) → ℤ → Bool × Reason
 differs_from held n = (is_other_number (number_held held) n, reasons.Differs)
 
--- The reason where the innermost layer has no value of the name. It stands after `absent`, so an outer layer has one. (behave's documentation: context layers)
+-- The reason if the innermost layer has no value of this name. It comes after `absent`, so an outer layer has one. (behave's documentation: context layers)
 abbrev pub other_layer : Option (List ℕ) → Bool × Reason
 other_layer own = (is_none own, reasons.OtherLayer)
 
--- A file has a text.
+-- The state in which a file has this text.
 abbrev pub with_file : State → List ℕ → List ℕ → State
 with_file s name text = record s { files = with_text s.files name text }
 
--- A file is gone.
+-- The state without a file.
 abbrev pub without_file : State → List ℕ → State
 without_file s name = record s { files = without s.files name }
 
--- A variable has a text.
+-- The state in which a variable has this text.
 abbrev pub with_env : State → List ℕ → List ℕ → State
 with_env s name text = record s { env = with_text s.env name text }
 
--- A variable is gone.
+-- The state without a variable.
 abbrev pub without_env : State → List ℕ → State
 without_env s name = record s { env = without s.env name }
 
--- The innermost layer's value is a text. (behave's documentation: context layers)
+-- The state in which the innermost layer's value is this text. (behave's documentation: context layers)
 abbrev pub with_own : State → List ℕ → List ℕ → State
 with_own s name text = record s { own = with_text s.own name text }
 
--- The innermost layer's value is gone. (behave's documentation: context layers)
+-- The state without a value of the innermost layer. (behave's documentation: context layers)
 abbrev pub without_own : State → List ℕ → State
 without_own s name = record s { own = without s.own name }
 
--- The innermost layer's value is a text, as `set_value` has it.
+-- A value of the innermost layer is set to a text, as by `set_value`.
 abbrev pub set_own : State → List ℕ → List ℕ → Done
 set_own s name text = unless s (bad_name name ∷ too_long text ∷ []) (with_own s name text)
 
--- A file has a text, as `write_file` has it.
+-- A text is written to a file, as by `write_file`.
 abbrev pub write_file : State → List ℕ → List ℕ → Done
 write_file s name text = unless s (bad_name name ∷ too_long text ∷ []) (with_file s name text)
 
--- A file is gone, as `remove_file` has it.
+-- A file is removed, as by `remove_file`.
 abbrev pub remove_file : State → List ℕ → Done
 remove_file s name = unless s (bad_name name ∷ absent (s.files name) ∷ []) (without_file s name)
 
--- The reason where there is no file of a name; a bad name is no file's.
+-- The reason if there is no file of this name. A bad name belongs to no file.
 abbrev pub no_file : State → List ℕ → Bool × Reason
 no_file s name = (is_bad_name name || is_none (s.files name), reasons.Absent)
 
--- A file's text stands under a new name, and the old name is gone; under its own name it stays.
+-- A file's text moves to a new name, and the old name is removed. If the names are equal, nothing changes.
 abbrev pub moved : State → List ℕ → List ℕ → State
 moved s name to = cond (bytes_eq name to) s (without_file (with_file s to (unwrap_or (s.files name) [])) name)
 
--- A file under a new name. There has to be one, and the new name has to be a good one.
+-- A file is renamed. The file must exist, and the new name must be a good one.
 abbrev pub rename_file : State → List ℕ → List ℕ → Done
 rename_file s name to = unless s (no_file s name ∷ bad_name to ∷ []) (moved s name to)
 
@@ -206,7 +206,7 @@ abbrev pub is_head : List (List ℕ) → Bool
 is_head (name ∷ text ∷ []) = bytes_eq name (codes "name") && bytes_eq text (codes "text")
 is_head _ = false
 
--- Rows of a name and a text each.
+-- Rows with two cells each: a name and a text.
 abbrev pub have_two_cells : List (List (List ℕ)) → Bool
 have_two_cells rows = list_all (λ row. length row == 2) rows
 
@@ -215,27 +215,27 @@ abbrev pub is_files_table : List (List (List ℕ)) → Bool
 is_files_table [] = false
 is_files_table (head ∷ rows) = is_head head && have_two_cells rows
 
--- A row of a table of files, as a file that is written; a row of a table of files has two cells.
+-- A row of a table of files, written as a file. A row of such a table has two cells.
 abbrev pub write_row : State → List (List ℕ) → Done
 write_row s (name ∷ text ∷ []) = write_file s name text
 write_row s _ = fails s reasons.BadTable
 
--- Each row in turn; the first refused row ends it, and earlier rows stay.
+-- Rows that are written one after another. The first refused row ends this, and earlier rows stay.
 abbrev pub write_rows : State → List (List (List ℕ)) → Done
 write_rows s [] = passes s
 write_rows s (row ∷ rows) = let written = write_row s row in and_then written (write_rows written.state rows)
 
--- The rows after the first of a table of files; nothing is written where the block is no such table.
+-- A table of files that is written, from its second row on. If the block isn't such a table, nothing is written.
 abbrev pub write_table : State → BlockValue → Done
 write_table s Empty = fails s reasons.NoTable
 write_table s (Text text) = fails s reasons.NoTable
 write_table s (Table rows) = cond (is_files_table rows) (write_rows s (drop 1 rows)) (fails s reasons.BadTable)
 
--- The innermost layer's value is the number that is held plus another, in decimal.
+-- The innermost layer's value becomes the number that is held plus another, in decimal.
 abbrev pub add_number : State → List ℕ → Option (List ℕ) → ℤ → Done
 add_number s name held n = let sum = sum_held held n in unless s (bad_name name ∷ absent held ∷ not_number held ∷ out_of_range sum ∷ []) (with_own s name (signed_decimal sum))
 
--- The table of the actions, row by row, but for what at_cleanup and skip_scenario do where they are allowed: T where the action works with it, the reasons for which it fails, in their order, and the state that it else leaves.
+-- The table of the actions, one row each. A row says whether the action works with T, the reasons for which it fails, in order, and the state that it otherwise leaves. At a site that allows them, at_cleanup and skip_scenario do something else, which isn't in the table.
 abbrev pub table : Action → ArgumentsValue → State → Done
 table actions.WriteFile g s = with_T s g.text (λ text. write_file s g.name text)
 table actions.AppendFile g s = with_T s g.text (λ text. unless s (bad_name g.name ∷ absent (s.files g.name) ∷ too_long (joined s.files g.name text) ∷ []) (with_file s g.name (joined s.files g.name text)))
@@ -262,7 +262,7 @@ table actions.SkipScenario g s = fails s reasons.NotHere
 table actions.Pass g s = passes s
 table actions.Fail g s = fails s reasons.Asked
 
--- A registered cleanup: what its text found, and the block of the step that registered it. (behave's documentation: cleanups)
+-- A registered cleanup: what the look-up of its text found, and the block of the step that registered it. (behave's documentation: cleanups)
 pub record CleanupValue : Type 0 where
   pub found : FoundValue
   pub block : BlockValue
@@ -287,7 +287,7 @@ may_skip sites.CaseHook = true
 may_skip sites.Hook = false
 may_skip sites.Cleanup = false
 
--- Whatever isn't a cleanup may register one.
+-- Everything except a cleanup may register a cleanup.
 abbrev pub may_register : Site → Bool
 may_register sites.Step = true
 may_register sites.CaseHook = true
@@ -298,16 +298,16 @@ may_register sites.Cleanup = false
 abbrev pub skips : State → Done
 skips s = record { state = s; outcome = outcomes.Skip; part_passed = true }
 
--- What was looked up is registered with a block, or there is no such step; the look-up is a part that passed. (behave's documentation: cleanups)
+-- What a look-up found is registered with a block. If it found nothing, there is no such step; the look-up is then a part that passed. (behave's documentation: cleanups)
 abbrev pub registers : State → BlockValue → Option FoundValue → Acted
 registers s block None = without_cleanups (record (fails s reasons.NoStep) { part_passed = true })
 registers s block (Some f) = record { done = passes s; registered = record { found = f; block = block } ∷ [] }
 
--- A text is looked up and registered where that is allowed.
+-- A text is looked up and registered, if the site allows this.
 abbrev pub registers_at : Site → State → LibraryValue → ArgumentsValue → Acted
 registers_at site s library g = cond (may_register site) (registers s g.block (found_any library g.step)) (without_cleanups (fails s reasons.NotHere))
 
--- What an action does at a site: at_cleanup looks the field `step` up among the entries of type `step`, skip_scenario skips; where it isn't allowed it fails, as its row of the table says; the others are their rows.
+-- What an action does at a site. at_cleanup looks up the field `step` among the entries of type `step`, and skip_scenario skips the scenario. At a site that doesn't allow them, these two fail, as their rows of the table say. Every other action does what its row says.
 abbrev pub at_site : Action → Site → LibraryValue → ArgumentsValue → State → Acted
 at_site actions.AtCleanup site library g s = registers_at site s library g
 at_site actions.SkipScenario site library g s = without_cleanups (cond (may_skip site) (skips s) (fails s reasons.NotHere))
@@ -317,7 +317,7 @@ at_site action site library g s = without_cleanups (table action g s)
 unfoldable pub act : LibraryValue → Site → FoundValue → BlockValue → State → Acted
 act library site found block s = at_site (action_of library found) site library (arguments_of library found block) s
 
--- The actions that change nothing, the checks, `skip_scenario`, `pass` and `fail`: their rows leave the state as it is. They take no memory.
+-- The actions that change nothing: the checks, `skip_scenario`, `pass` and `fail`. Their rows leave the state as it is, and they take no memory.
 abbrev pub changes_nothing : Action → Bool
 changes_nothing actions.FileExists = true
 changes_nothing actions.FileAbsent = true
@@ -333,7 +333,7 @@ changes_nothing actions.Pass = true
 changes_nothing actions.Fail = true
 changes_nothing _ = false
 
--- An action was carried out: this is its outcome, and this the state that it left.
+-- An action was carried out, with this outcome, and left this state.
 abbrev pub IsExactly : Done → Outcome → State → Type 0
 IsExactly done outcome new = (outcome ≡ done.outcome) × (new ≡ done.state)
 
@@ -342,29 +342,29 @@ abbrev pub is_fail : Outcome → Bool
 is_fail (outcomes.Failed why) = true
 is_fail _ = false
 
--- An action fails before a part of it passed: it is refused, and takes no memory.
+-- A refused action: it fails before a part of it passed, and takes no memory.
 abbrev pub is_refused : Done → Bool
 is_refused done = not done.part_passed && is_fail done.outcome
 
--- An action was carried out, or memory was refused in it, which can't be where the action itself is refused.
+-- An action was carried out, or memory was refused in it. Memory can't be refused in an action that is itself refused.
 abbrev pub IsDone : Done → Outcome → State → Type 0
 IsDone done outcomes.Memory new = is_refused done ≡ false
 IsDone done outcome new = IsExactly done outcome new
 
--- What the action of a found step leaves and registers, as the program holds the library, what was found and the block.
+-- What the action of a found step leaves and registers, for the program's `Library`, `Found` and `Block`.
 abbrev pub act_of : Library → Site → Found → Block → State → Acted
 act_of library site found block s = act (library_value library) site (found_value found) (block_value block) s
 
--- The cleanups after an action: those before it and what it registers, or where memory was refused those before it alone.
+-- The cleanups after an action: those before it, and then what it registers. If memory was refused, they are only those before it.
 abbrev pub HasRegistered : Acted → List CleanupValue → Outcome → List CleanupValue → Type 0
 HasRegistered acted before outcomes.Memory after = after ≡ before
 HasRegistered acted before outcome after = after ≡ before ++ acted.registered
 
--- An action that changes nothing was carried out: memory is not an outcome of it.
+-- An action that changes nothing was carried out: memory is never its outcome.
 abbrev pub IsExact : Action → Done → Outcome → State → Type 0
 IsExact action done outcome new = changes_nothing action ≡ true → IsExactly done outcome new
 
--- Where no entry of type `step` matches a text, memory is refused only where the text has the ends of such an entry.
+-- If no entry of type `step` matches a text, memory is refused only if the text has the ends of such an entry.
 abbrev pub NeedsCandidate : LibraryValue → List ℕ → Outcome → Type 0
 NeedsCandidate library text outcome = found_any library text ≡ None → outcome ≡ outcomes.Memory → HasCandidate library None text
 
@@ -377,7 +377,7 @@ abbrev pub row_file : List (List ℕ) → List ℕ × List ℕ
 row_file (name ∷ text ∷ []) = (name, text)
 row_file _ = ([], [])
 
--- The files that an action of several parts writes, in order, of which the first part writes one: that, and those of the other parts where the first passed; else none.
+-- The files that an action of several parts writes, in order. The first part writes one file. If it passed, they are that file and those of the other parts; otherwise there are none.
 abbrev pub first_file : Done → List ℕ × List ℕ → List (List ℕ × List ℕ) → List (List ℕ × List ℕ)
 first_file written file files = cond (is_pass written.outcome) (file ∷ files) []
 
@@ -391,36 +391,36 @@ abbrev pub table_files : State → BlockValue → List (List ℕ × List ℕ)
 table_files s (Table rows) = rows_files s (drop 1 rows)
 table_files s _ = []
 
--- The file of the new name, where it isn't the old one.
+-- The file of the new name, unless the names are equal.
 abbrev pub renamed_files : State → List ℕ → List ℕ → List (List ℕ × List ℕ)
 renamed_files s name to = cond (bytes_eq name to) [] ((to, unwrap_or (s.files name) []) ∷ [])
 
--- The files that an action of more than one change writes, in order. An action of one change has none.
+-- The files that an action with more than one change writes, in order. An action with one change has none.
 abbrev pub files_of : Action → ArgumentsValue → State → List (List ℕ × List ℕ)
 files_of actions.RenameFile g s = renamed_files s g.name g.to
 files_of actions.WriteFiles g s = table_files s g.block
 files_of _ g s = []
 
--- The first of some files, some number of them, were written one after another, and nothing else has changed.
+-- Some number of these files, from the first on, were written one after another, and nothing else changed.
 abbrev pub WritesFirst : List (List ℕ × List ℕ) → SandboxValue → SandboxValue → Type 0
 WritesFirst [] old new = new ≡ old
 WritesFirst (file ∷ files) old new = (new ≡ old) ⊎ ((mid : SandboxValue) × PutsFile old file.0 file.1 mid × WritesFirst files mid new)
 
--- If memory was refused, some first changes of an action were made and no others; an action of one change has changed nothing.
+-- If memory was refused, an action made some number of its changes, from the first on, and no others. An action with one change changed nothing.
 abbrev pub KeepsAtMemory : Action → ArgumentsValue → SandboxValue → Outcome → SandboxValue → Type 0
 KeepsAtMemory action g old outcome new = outcome ≡ outcomes.Memory → WritesFirst (files_of action g (state_of old.now)) old new
 
--- The action of a found step, as the program holds the library and what was found.
+-- The action of a found step, for the program's `Library` and `Found`.
 abbrev pub action_in : Library → Found → Action
 action_in library found = action_of (library_value library) (found_value found)
 
--- The arguments of a found step, as the program holds the library, what was found and the block.
+-- The arguments of a found step, for the program's `Library`, `Found` and `Block`.
 abbrev pub arguments_in : Library → Found → Block → ArgumentsValue
 arguments_in library found block = arguments_of (library_value library) (found_value found) (block_value block)
 
 -- Proof machinery, from here on: what the code's calls do.
 
--- What an `Arguments` says.
+-- The value of an `Arguments`.
 abbrev pub arguments_value : Arguments → ArgumentsValue
 arguments_value a = record { name = a.name.now; to = a.to.now; step = a.step.now; number = a.number; text = option_copied a.text; block = block_value a.block.now }
 
@@ -428,7 +428,7 @@ arguments_value a = record { name = a.name.now; to = a.to.now; step = a.step.now
 abbrev pub skip_outcome : Site → Outcome
 skip_outcome site = cond (may_skip site) outcomes.Skip (outcomes.Failed reasons.NotHere)
 
--- What a change of the world returns, as an outcome.
+-- The outcome for what a change of the world returned.
 abbrev pub outcome_of : {A : Type 0} → Result A WorldFault → Outcome
 outcome_of (Ok x) = outcomes.Passed
 outcome_of (Err faults.Absent) = outcomes.Failed reasons.Absent
@@ -437,13 +437,13 @@ outcome_of (Err faults.BadName) = outcomes.Failed reasons.BadName
 outcome_of (Err faults.OtherLayer) = outcomes.Failed reasons.OtherLayer
 outcome_of (Err faults.Memory) = outcomes.Memory
 
--- An action was carried out in a sandbox, or memory was refused in it, after some first of these files were written; the open layers stay as they are.
+-- An action was carried out in a sandbox, or memory was refused in it after some number of these files, from the first on, were written. The open layers stay as they are.
 pub record IsActedWith (files : List (List ℕ × List ℕ)) (done : Done) (old : SandboxValue) (outcome : Outcome) (new : SandboxValue) : Type 0 where
   pub carried_out : IsDone done outcome (state_of new.now)
   pub layers : KeepsLayers old new
   pub kept : outcome ≡ outcomes.Memory → WritesFirst files old new
 
--- An action of one change was carried out in a sandbox, or memory was refused in it and nothing has changed; the open layers stay as they are.
+-- An action with one change was carried out in a sandbox, or memory was refused in it and nothing changed. The open layers stay as they are.
 abbrev pub IsActed : Done → SandboxValue → Outcome → SandboxValue → Type 0
 IsActed = IsActedWith []
 
@@ -451,11 +451,11 @@ IsActed = IsActedWith []
 abbrev pub put_and_remove : State → List ℕ → List ℕ → List ℕ → Done
 put_and_remove s name to text = let written = write_file s to text in and_then written (remove_file written.state name)
 
--- The file that is written by that.
+-- The file that `put_and_remove` writes, if the write passes.
 abbrev pub put_files : State → List ℕ → List ℕ → List (List ℕ × List ℕ)
 put_files s to text = first_file (write_file s to text) (to, text) []
 
--- A file was written, if this passed.
+-- If the outcome is `Passed`, this file was written.
 abbrev pub WritesFile : List ℕ × List ℕ → SandboxValue → Outcome → SandboxValue → Type 0
 WritesFile file old outcome new = outcome ≡ outcomes.Passed → PutsFile old file.0 file.1 new
 
@@ -473,7 +473,7 @@ Checks action arguments now outcome = IsExactly (table action (arguments_value a
 abbrev pub IsOutcome : (State → Done) → Outcome → Type 0
 IsOutcome row outcome = (s : State) → IsExactly (row s) outcome s
 
--- Something has to be held.
+-- Something must be held.
 abbrev pub IsHeld : Option (List ℕ) → Outcome → Type 0
 IsHeld held = IsOutcome (λ s. unless s (absent held ∷ []) s)
 
@@ -481,19 +481,19 @@ IsHeld held = IsOutcome (λ s. unless s (absent held ∷ []) s)
 abbrev pub IsNotHeld : Option (List ℕ) → Outcome → Type 0
 IsNotHeld held = IsOutcome (λ s. unless s (present held ∷ []) s)
 
--- The text that is held has to be T.
+-- The text that is held must be T.
 abbrev pub IsText : Option (List ℕ) → Option (List ℕ) → Outcome → Type 0
 IsText held text = IsOutcome (λ s. with_T s text (λ t. unless s (absent held ∷ differs held t ∷ []) s))
 
--- T has to stand in the text that is held.
+-- The text that is held must contain T.
 abbrev pub HasText : Option (List ℕ) → Option (List ℕ) → Outcome → Type 0
 HasText held text = IsOutcome (λ s. with_T s text (λ t. unless s (absent held ∷ lacks held t ∷ []) s))
 
--- The number that is held has to be this one.
+-- The number that is held must be this one.
 abbrev pub IsNumber : Option (List ℕ) → ℤ → Outcome → Type 0
 IsNumber held n = IsOutcome (λ s. unless s (absent held ∷ not_number held ∷ differs_from held n ∷ []) s)
 
--- What is given by the fields of what was found, and a block.
+-- The arguments for these used fields and this block.
 abbrev pub arguments_by_uses : UsedFields → BlockValue → ArgumentsValue
 arguments_by_uses used block = record {
   name = unwrap_or (lent_text used.name) [];

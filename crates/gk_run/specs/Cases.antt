@@ -11,21 +11,21 @@ use Rattle.gk_run.specs.Run.{Run}
 use Rattle.gk_run.specs.Running.{alone, reached_row, unselected_row, unreached_row}
 use Rattle.gk_run.specs.Section.{Cut, happened, in_order, nowhere}
 
--- The first of a list, or another where there is none.
+-- The first element of a list, or another if the list is empty.
 abbrev pub first_or : {A : Type 0} → A → List A → A
 first_or other [] = other
 first_or other (x ∷ xs) = x
 
--- A list without its first.
+-- A list without its first element.
 abbrev pub later : {A : Type 0} → List A → List A
 later [] = []
 later (x ∷ xs) = xs
 
--- Failed or memory.
+-- A status that is failed or memory.
 abbrev pub is_bad : Status → Bool
 is_bad status = is_failed status || is_memory status
 
--- What comes next is still reached: nothing stops at a failure, or this is neither failed nor memory.
+-- What comes next is still reached: the run doesn't stop at a failure, or this status is neither failed nor memory.
 abbrev pub stays_open_by : Bool → Status → Bool
 stays_open_by stop status = not (stop && is_bad status)
 
@@ -37,15 +37,15 @@ stays_open run status = stays_open_by run.stop status
 abbrev pub all_stay_open : Run → List CaseRow → Bool
 all_stay_open run rows = list_all (λ (row : CaseRow). stays_open run row.status) rows
 
--- The result of a case. Unselected: skipped. Reached: it alone from its section's state, or cut at one event. Else untested.
+-- The result of a case. An unselected case is skipped. A case that is reached has the result of the case alone from its section's state, or of that cut at one event. Any other case is untested.
 abbrev pub case_of : Run → State → Bool → Cut → MemberValue → CaseRow
 case_of run section is_open cut m = cond m.selected (cond is_open (reached_row run section cut m.scenario) (unreached_row m.scenario)) (unselected_row m.scenario)
 
--- The events of a case: these cut at one if it is reached, otherwise none.
+-- The events of a case. If it is selected and reached, they are those of the case alone, or these cut at one; otherwise there are none.
 abbrev pub case_events : Run → State → Bool → Cut → MemberValue → List Event
 case_events run section is_open cut m = cond (m.selected && is_open) (in_order (happened cut (alone run section m.scenario))) []
 
--- A section's cases in order: the result of each, and its events and then its end are told. Each starts from the section's state: the others leave nothing in it. A selected one is reached if the section is open so far. (behave's documentation: context layers)
+-- A section's cases in order. Each has a result; its events are told, and then its end. Each starts from the section's state: the others leave nothing in it. A selected one is reached if the section is open so far. (behave's documentation: context layers)
 abbrev pub cases_of : Run → State → Bool → List Cut → List MemberValue → Ran (List CaseRow)
 cases_of run section is_open cuts [] = record { result = []; told = [] }
 cases_of run section is_open cuts (m ∷ ms) =

@@ -1,4 +1,4 @@
--- A feature's cases with the choice among them.
+-- A feature's cases, and which of them are selected.
 use Rattle.std.specs.Prelude.{◌≡◌, ℕ, Bool, List, map, zip, length, string_bytes}
 use Rattle.std.specs.List.{list_any}
 use Rattle.gk_gherkin.specs.Feature.{texts}
@@ -27,7 +27,7 @@ pub record ChosenValue : Type 0 where
   pub rules : List HeadValue
   pub members : List MemberValue
 
--- What a case and its choice say.
+-- The value of a case and whether it is selected.
 abbrev pub member_of : Case → Bool → MemberValue
 member_of case selected = record { scenario = case_value case; selected = selected }
 
@@ -35,23 +35,23 @@ member_of case selected = record { scenario = case_value case; selected = select
 abbrev pub members_of : List Case → List Bool → List MemberValue
 members_of cases selected = map (λ p. member_of p.0 p.1) (zip cases selected)
 
--- What a `RuleHead` says.
+-- The value of a `RuleHead`.
 abbrev pub head_value : RuleHead → HeadValue
 head_value h = record { line = h.line; tags = texts h.tags.items }
 
--- What a `Chosen` says.
+-- The value of a `Chosen`.
 abbrev pub chosen_value : Chosen → ChosenValue
 chosen_value c = record { source = string_bytes c.source; name = string_bytes c.name; line = c.line; tags = texts c.tags.items; rules = map head_value c.rules.items; members = members_of c.cases.items c.selected.items }
 
--- Of each case it is known whether it is selected.
+-- There is exactly one choice for each case.
 abbrev pub IsPaired : Chosen → Type 0
 IsPaired c = length c.selected.items ≡ length c.cases.items
 
--- Of each case it is known whether it is selected, and the cases fall into the feature's rules.
+-- There is exactly one choice for each case, and the cases fall into the feature's rules.
 pub record IsFormed (c : Chosen) : Type 0 where
   pub paired : IsPaired c
   pub falls : FallIntoRules (length c.rules.items) (map (λ case. case.rule) c.cases.items)
 
--- A case is selected.
+-- A case among these is selected.
 abbrev pub has_selected : List MemberValue → Bool
 has_selected members = list_any (λ (m : MemberValue). m.selected) members

@@ -18,19 +18,19 @@ use Rattle.gk_run.specs.Chosen.{HeadValue, MemberValue, ChosenValue}
 use Rattle.gk_run.specs.Cases.{first_or, later}
 use Rattle.gk_run.specs.Features.{FeatureCuts, uncut_feature, feature_row_of}
 
--- A step of a dry run: it is looked up, and untested where the library matches it. Nothing is carried out, so the state is that in which nothing is there. (behave's documentation: `--dry-run`)
+-- A step of a dry run. It is looked up, and untested if the library matches it. Nothing is carried out, so the state is the one in which nothing exists. (behave's documentation: `--dry-run`)
 abbrev pub dry_step : LibraryValue → StepValue → Event
 dry_step library step = unrun_step step (looked_up library Untested step) (state_of nothing_yet)
 
--- The events of a selected case: its steps alone.
+-- The events of a selected case: only its steps.
 abbrev pub dry_events : LibraryValue → CaseValue → Events
 dry_events library c = record { before = []; steps = map (dry_step library) c.steps; after = []; cleanups = [] }
 
--- The verdict of a selected case in which this happened: memory where memory was refused at a step, else untested.
+-- The verdict of a selected case with these events: memory if memory was refused at a step, otherwise untested.
 abbrev pub dry_verdict : Events → Status
 dry_verdict e = cond (list_any is_memory_mark (event_marks e.steps)) statuses.Memory statuses.Untested
 
--- The result of a selected case, or that cut at one step: memory at this, and untested after it.
+-- The result of a selected case, or that cut at one step. This step is then memory, and those after it are untested.
 abbrev pub dry_row : LibraryValue → Cut → CaseValue → CaseRow
 dry_row library cut c = let e = happened cut (dry_events library c) in row_of_case c (dry_verdict e) e
 
@@ -43,11 +43,11 @@ abbrev pub dry_cases_of : LibraryValue → List Cut → List MemberValue → Lis
 dry_cases_of library cuts [] = []
 dry_cases_of library cuts (m ∷ ms) = dry_case_of library (first_or nowhere cuts) m ∷ dry_cases_of library (later cuts) ms
 
--- The results of rules, none of which is begun.
+-- The results of rules that aren't begun.
 abbrev pub dry_rules_of : List HeadValue → List RuleRow
 dry_rules_of heads = map (λ (h : HeadValue). record { line = h.line; around = statuses.Passed }) heads
 
--- The result of a feature. Neither it nor a rule of it is begun: their hooks don't run, so a cut in them is none.
+-- The result of a feature. Neither the feature nor any of its rules is begun: their hooks don't run, so a cut in them has no effect.
 abbrev pub dry_feature_of : LibraryValue → FeatureCuts → ChosenValue → FeatureRow
 dry_feature_of library cuts f = feature_row_of f statuses.Passed (record { rules = dry_rules_of f.rules; cases = dry_cases_of library cuts.cases f.members })
 

@@ -1,4 +1,4 @@
--- Proof machinery: what contracts of the private functions of a dry run cite.
+-- Proof machinery: definitions for the contracts of the private functions of a dry run.
 use Rattle.std.specs.Prelude.{◌≡◌, ℕ, Bool, true, false, List, [], map}
 use Rattle.gk_gherkin.specs.Feature.{StepValue}
 use Rattle.gk_steps.specs.Finding.{LibraryValue}
@@ -12,12 +12,12 @@ use Rattle.gk_run.specs.Section.{has_event}
 use Rattle.gk_run.specs.Walk.{rows_of_steps}
 use Rattle.gk_run.specs.WalkContracts.{IsLookedUp}
 
--- The next step, where memory was refused before it or not: where it was, the step is untested.
+-- The next step, by whether memory was refused before it. If it was, the step is untested.
 abbrev pub IsDryStep : LibraryValue → Bool → StepValue → Mark → Type 0
 IsDryStep library true step mark = mark ≡ Untested
 IsDryStep library false step mark = IsLookedUp library Untested step mark
 
--- Steps were looked up, from where memory was refused already or not, to where it was or not.
+-- Steps were looked up. The first truth value says whether memory was refused before them, `refused` whether it is refused after them.
 abbrev pub AreDrySteps : LibraryValue → Bool → List StepValue → List StepRow → Bool → Type 0
 AreDrySteps library true steps rows refused = (rows ≡ rows_of_steps steps []) × (refused ≡ true)
 AreDrySteps library false steps rows true =

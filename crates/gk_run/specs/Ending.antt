@@ -10,7 +10,7 @@ use Rattle.gk_run.specs.declared.results.Mark.TheVariants.{Acted, Undefined, Ski
 use Rattle.gk_run.specs.declared.ending.Ending.{Ending}
 use Rattle.gk_run.specs.declared.ending.Ending.TheVariants as endings
 
--- The status that a step has by what became of it. (behave's documentation: the statuses of steps)
+-- The status of a step with this mark. (behave's documentation: the statuses of steps)
 abbrev pub status_of_mark : Mark → Status
 status_of_mark (Acted outcomes.Passed) = statuses.Passed
 status_of_mark (Acted (outcomes.Failed why)) = statuses.Failed
@@ -25,48 +25,48 @@ abbrev pub reason_of_mark : Mark → Option Reason
 reason_of_mark (Acted (outcomes.Failed why)) = Some why
 reason_of_mark _ = None
 
--- It failed or is undefined.
+-- The mark of a step or a cleanup that failed or is undefined.
 abbrev pub is_bad_mark : Mark → Bool
 is_bad_mark (Acted (outcomes.Failed why)) = true
 is_bad_mark Undefined = true
 is_bad_mark _ = false
 
--- Its action skipped the scenario.
+-- The mark of a step or a cleanup whose action skipped the scenario.
 abbrev pub is_skip_mark : Mark → Bool
 is_skip_mark (Acted outcomes.Skip) = true
 is_skip_mark _ = false
 
--- Memory was refused in it.
+-- The mark of a step or a cleanup in which memory was refused.
 abbrev pub is_memory_mark : Mark → Bool
 is_memory_mark (Acted outcomes.Memory) = true
 is_memory_mark _ = false
 
--- How steps, hooks and cleanups end of which this became: memory where memory was refused in one, else failed where one failed or is undefined, else skipped where one skipped the scenario, else passed; what isn't carried out ends nothing.
+-- How steps, hooks and cleanups with these marks end: memory if memory was refused in one; otherwise failed if one failed or is undefined; otherwise skipped if one skipped the scenario; otherwise passed. The marks `Skipped` and `Untested` have no effect.
 abbrev pub ended_of : List Mark → Ending
 ended_of marks =
     cond (list_any is_memory_mark marks) endings.Memory
     (cond (list_any is_bad_mark marks) endings.Failed
     (cond (list_any is_skip_mark marks) endings.Skipped endings.Passed))
 
--- How one of them ends by itself.
+-- How one step or cleanup with this mark ends by itself.
 abbrev pub ending_of : Mark → Ending
 ending_of mark = ended_of (mark ∷ [])
 
--- None failed, is undefined, skipped the scenario or met refused memory.
+-- None failed, is undefined or skipped the scenario, and memory was refused in none.
 abbrev pub has_passed : Ending → Bool
 has_passed endings.Passed = true
 has_passed endings.Failed = false
 has_passed endings.Skipped = false
 has_passed endings.Memory = false
 
--- The verdict of a scenario whose hooks, steps and cleanups end so.
+-- The verdict of a scenario whose hooks, steps and cleanups have this ending.
 abbrev pub verdict_status : Ending → Status
 verdict_status endings.Passed = statuses.Passed
 verdict_status endings.Failed = statuses.Failed
 verdict_status endings.Skipped = statuses.Skipped
 verdict_status endings.Memory = statuses.Memory
 
--- The status of hooks and cleanups that end so: a scenario may skip itself in its before hooks, and these passed then.
+-- The status of hooks and cleanups with this ending. A scenario may skip itself in its before hooks; these then passed.
 abbrev pub around_status : Ending → Status
 around_status endings.Passed = statuses.Passed
 around_status endings.Failed = statuses.Failed

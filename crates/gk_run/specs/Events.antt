@@ -1,4 +1,4 @@
--- The events of a run: what happens in it, one after another, and what they make of it.
+-- The events of a run: what happens in it, one after another, and what each leaves.
 use Rattle.std.specs.Prelude.{zero, suc, Bool, true, false, List, [], ◌∷◌, ◌++◌, map, ℕ, ◌≡◌}
 use Rattle.gk_gherkin.specs.Feature.{StepValue}
 use Rattle.gk_world.specs.Sandbox.{SandboxValue}
@@ -13,21 +13,21 @@ use Rattle.gk_run.specs.declared.section.Stage.{Stage}
 use Rattle.gk_run.specs.Acting.{CleanupValue}
 use Rattle.gk_run.specs.Ending.{ended_of}
 
--- An event: a step, with where it stands, what became of it, the cleanups that it registered and the state that it left; or a cleanup of a section of a level, with its outcome and the state that it left.
+-- An event: a step, with its stage, its mark, the cleanups that it registered and the state that it left; or a cleanup of a section of this level, with its outcome and the state that it left.
 pub data Event : Type 0 where
   of_step : Stage → StepValue → Mark → List CleanupValue → State → Event
   of_cleanup : Level → CleanupValue → Outcome → State → Event
 
--- What became of an event.
+-- The mark of an event.
 abbrev pub mark_of : Event → Mark
 mark_of (of_step stage step mark registered s) = mark
 mark_of (of_cleanup level cleanup outcome s) = Acted outcome
 
--- What became of events.
+-- The marks of events.
 abbrev pub event_marks : List Event → List Mark
 event_marks events = map mark_of events
 
--- How events end, one after another.
+-- How events that happen one after another end.
 abbrev pub ended_in : List Event → Ending
 ended_in events = ended_of (event_marks events)
 
@@ -37,21 +37,21 @@ outcomes_of [] = []
 outcomes_of (of_step stage step mark registered s ∷ events) = outcomes_of events
 outcomes_of (of_cleanup level cleanup outcome s ∷ events) = outcome ∷ outcomes_of events
 
--- Where a section stands: the plain state, and the cleanups that are registered in it.
+-- The plain state of a section, and the cleanups that are registered in it.
 pub record Stand : Type 0 where
   pub state : State
   pub cleanups : List CleanupValue
 
--- Where a section stands in a sandbox, with these cleanups.
+-- The plain state of a section in a sandbox, with these cleanups.
 abbrev pub stand_of : SandboxValue → List CleanupValue → Stand
 stand_of sandbox cleanups = record { state = state_of sandbox.now; cleanups = cleanups }
 
--- Where a section stands after an event.
+-- The state and the cleanups of a section after an event.
 abbrev pub after_event : Stand → Event → Stand
 after_event stand (of_step stage step mark registered s) = record { state = s; cleanups = stand.cleanups ++ registered }
 after_event stand (of_cleanup level cleanup outcome s) = record { state = s; cleanups = stand.cleanups }
 
--- Where a section stands after events, in order.
+-- The state and the cleanups of a section after events, in order.
 abbrev pub left_by : Stand → List Event → Stand
 left_by stand [] = stand
 left_by stand (event ∷ events) = left_by (after_event stand event) events
@@ -61,13 +61,13 @@ abbrev pub refused : State → Event → Event
 refused s (of_step stage step mark registered _) = of_step stage step (Acted outcomes.Memory) [] s
 refused s (of_cleanup level cleanup outcome _) = of_cleanup level cleanup outcomes.Memory s
 
--- Events that are cut at the event of a number, counted from 0: those before it stay, memory was refused in it, which left this state, and those after it didn't happen.
+-- Events that are cut at event n, counted from 0. Those before it stay. Memory was refused in it, and it left this state. Those after it didn't happen.
 abbrev pub cut_at : ℕ → State → List Event → List Event
 cut_at n s [] = []
 cut_at zero s (event ∷ events) = refused s event ∷ []
 cut_at (suc n) s (event ∷ events) = event ∷ cut_at n s events
 
--- Of all events those up to one happened, in which memory was refused.
+-- The events of `all` that happened, up to one in which memory was refused.
 pub record IsCutOff (all told : List Event) : Type 0 where
   pub front : List Event
   pub event : Event
@@ -76,7 +76,7 @@ pub record IsCutOff (all told : List Event) : Type 0 where
   pub whole : all ≡ front ++ (event ∷ rest)
   pub cut : told ≡ front ++ (refused left event ∷ [])
 
--- What happened of all events, these aside, by whether memory was refused before them, and whether it is refused now: nothing; those up to the one in which it was refused; each that isn't left.
+-- The events of `all` that happened, with `rest` left: none if memory was refused before them; those up to the one in which it was refused, if it is refused now; otherwise each that isn't in `rest`.
 abbrev pub SoFar : Bool → Bool → List Event → List Event → List Event → Type 0
 SoFar true now all rest told = told ≡ []
 SoFar false true all rest told = IsCutOff all told

@@ -1,4 +1,4 @@
--- Proof machinery: what contracts of the private functions cite that run the cases, the rules and the whole of a feature.
+-- Proof machinery: definitions for the contracts of the private functions that run cases, rules and features.
 use Rattle.std.specs.List.{FoldsTo}
 use Rattle.std.specs.Prelude.{suc, length, Option, Some, None, Bool, true, String, List, ◌∷◌, ◌++◌, map, ◌≡◌, ◌<◌, ℕ}
 use Rattle.std.specs.declared.alloc.Global.{Global}
@@ -32,16 +32,16 @@ use Rattle.gk_run.specs.Observer.{Ended, IsRan, Told, tells}
 
 -- ---- cases
 
--- The result of a case, and what was told of it, are those of some cut, from its section's state where the section is open.
+-- The result of a case, and what was told of it, are those of some cut, from its section's state if the section is open.
 abbrev pub IsMember : {S : Type 0} → (S → Event → S → Type 0) → Run → State → Bool → MemberValue → CaseRow → S → S → Type 0
 IsMember hears run now is_open m row first last =
     (section : State) → (is_open ≡ true → now ≡ section) → (cut : Cut) × (row ≡ case_of run section is_open cut m) × FoldsTo hears first (case_events run section is_open cut m) last
 
--- A case was run, or not, in a section that is open or isn't.
+-- A case in a section has this result. `is_open` says whether the section is open.
 abbrev pub RunsMember : {S : Type 0} → (S → Event → S → Type 0) → shared.Run → SandboxValue → Bool → MemberValue → S → S → CaseResult → Type 0
 RunsMember hears run old is_open m first last r = IsMember hears (run_value run) (state_of old.now) is_open m (case_row r) first last
 
--- The rows of cases, and what was told of them, are those of some cuts, from the section's state where they are reached.
+-- The rows of cases, and what was told of them, are those of some cuts, from the section's state if they are reached.
 abbrev pub AreCases : {S : Type 0} → (S → Told → S → Type 0) → Run → State → Bool → List MemberValue → List CaseRow → S → S → Type 0
 AreCases told run now is_open members rows first last =
     (section : State) → (is_open ≡ true → now ≡ section) → (cuts : List Cut) × IsRan told (cases_of run section is_open cuts members) rows first last
@@ -50,7 +50,7 @@ AreCases told run now is_open members rows first last =
 abbrev pub members_in : Cases → List MemberValue
 members_in cases = members_of cases.waiting.items cases.selected.items
 
--- The same cases and choice, of which none is taken yet.
+-- The same cases and choice, with none taken yet.
 pub record BeginsWith (reserved : Reserved Case CaseResult) (choice : List Bool) (cases : Cases) : Type 0 where
   pub rank : cases.rank ≡ 0
   pub waiting : cases.waiting.items ≡ reserved.list.items
@@ -69,7 +69,7 @@ pub record IsLeft (old new : Cases) : Type 0 where
   pub falls : falls_from (suc old.rank) new.waiting.items ≡ true
   pub others : (other : ℕ) → old.rank < other → members_of_rank other (members_in new) ≡ members_of_rank other (members_in old)
 
--- The next cases, those of one rank, were run, in a section that is open or isn't; whether what comes after them is still reached.
+-- The next cases, those of one rank, were run in a section. `is_open` says whether the section is open, `stays_open` whether what comes after them is still reached.
 pub record RunsCases {S : Type 0} (hears : S → Event → S → Type 0) (ends : S → Ended → S → Type 0) (run : Run) (now : State) (is_open : Bool) (old new : Cases) (first last : S) (stays_open : Bool) : Type 0 where
   pub rows : List CaseRow
   pub told : map case_row new.results.items ≡ map case_row old.results.items ++ rows
@@ -79,17 +79,17 @@ pub record RunsCases {S : Type 0} (hears : S → Event → S → Type 0) (ends :
 
 -- ---- rules
 
--- What a rule comes to, and what was told of it, are those of some cuts, from its feature's state where the feature is open.
+-- The result of a rule, and what was told of it, are those of some cuts, from its feature's state if the feature is open.
 abbrev pub IsRule : {S : Type 0} → (S → Told → S → Type 0) → Run → State → Bool → Group → SectionRow (List CaseRow) → S → S → Type 0
 IsRule told run now is_open g end first last =
     (outside : State) → (is_open ≡ true → now ≡ outside) → (cuts : RuleCuts) × IsRan told (rule_of run outside is_open cuts g) end first last
 
--- What rules come to, and what was told of them, are those of some cuts, from their feature's state where the feature is open.
+-- The results of rules, and what was told of them, are those of some cuts, from their feature's state if the feature is open.
 abbrev pub AreRules : {S : Type 0} → (S → Told → S → Type 0) → Run → State → Bool → List Group → Inside → S → S → Type 0
 AreRules told run now is_open groups inside first last =
     (outside : State) → (is_open ≡ true → now ≡ outside) → (cuts : List RuleCuts) × IsRan told (rules_of run outside is_open cuts groups) inside first last
 
--- The next cases, those of one rank, were run as those of a rule; whether what comes after it is still reached.
+-- The next cases, those of one rank, were run as those of a rule. `stay` says whether what comes after the rule is still reached.
 pub record EndsRule (run : Run) (IsEnd : List MemberValue → SectionRow (List CaseRow) → Type 0) (old new : Cases) (end : RuleEnd) : Type 0 where
   pub rows : List CaseRow
   pub told : map case_row new.results.items ≡ map case_row old.results.items ++ rows
@@ -97,22 +97,22 @@ pub record EndsRule (run : Run) (IsEnd : List MemberValue → SectionRow (List C
   pub stay : end.stays_open ≡ rule_stays_open run (record { around = end.around; inside = rows })
   pub left : IsLeft old new
 
--- What a section comes to that was begun, and what was told of it, are those of some cuts.
+-- The result of a rule that was begun, and what was told of it, are those of some cuts.
 abbrev pub IsRuleBegun : {S : Type 0} → (S → Told → S → Type 0) → Run → State → List (List ℕ) → List MemberValue → SectionRow (List CaseRow) → S → S → Type 0
 IsRuleBegun told run now tags members row first last =
     (cut : Cut) × (cuts : List Cut) × IsRan told (section_of run levels.Rule tags now true cut (λ section is_ready. cases_of run section is_ready cuts members)) row first last
 
--- A rule was run in a layer of its own, from its feature's state.
+-- A rule was run in its own layer, from its feature's state.
 abbrev pub BeginsRule : {S : Type 0} → (S → Event → S → Type 0) → (S → Ended → S → Type 0) → shared.Run → State → List (String Global) → Cases → Cases → S → S → RuleEnd → Type 0
 BeginsRule hears ends run now tags old new first last end =
     EndsRule (run_value run) (λ members row. IsRuleBegun (tells hears ends) (run_value run) now (texts tags) members row first last) old new end
 
--- The next rule was run, in a feature that is open or isn't.
+-- The next rule was run in a feature. `is_open` says whether the feature is open.
 abbrev pub RunsRule : {S : Type 0} → (S → Event → S → Type 0) → (S → Ended → S → Type 0) → Run → State → Bool → HeadValue → Cases → Cases → S → S → RuleEnd → Type 0
 RunsRule hears ends run now is_open head old new first last end =
     EndsRule run (λ members row. IsRule (tells hears ends) run now is_open (record { head = head; members = members }) row first last) old new end
 
--- The next rules were run, in a feature that is open or isn't.
+-- The next rules were run in a feature. `is_open` says whether the feature is open.
 pub record RunsRules {S : Type 0} (hears : S → Event → S → Type 0) (ends : S → Ended → S → Type 0) (run : Run) (now : State) (is_open : Bool) (heads : List HeadValue) (old new : Cases) (results : List RuleResult) (first last : S) : Type 0 where
   pub rows : List CaseRow
   pub told : map case_row new.results.items ≡ map case_row old.results.items ++ rows
@@ -120,22 +120,22 @@ pub record RunsRules {S : Type 0} (hears : S → Event → S → Type 0) (ends :
 
 -- ---- a feature
 
--- What is inside of a section, and what was told of it, are those of some cuts, from the section's state where it is open.
+-- The results of what is inside a section, and what was told of it, are those of some cuts, from the section's state if the section is open.
 abbrev pub IsInside : {S : Type 0} → (S → Told → S → Type 0) → Run → State → Bool → List MemberValue → List Group → Inside → S → S → Type 0
 IsInside told run now is_open own groups inside first last =
     (section : State) → (is_open ≡ true → now ≡ section) → (cuts : List Cut) × (rule_cuts : List RuleCuts) × IsRan told (inside_by run section is_open cuts rule_cuts own groups) inside first last
 
--- What a feature comes to, and what was told of it, are those of some cuts, from the run's state where it is begun.
+-- The result of a feature's section, and what was told of it, are those of some cuts, from the run's state if the feature is begun.
 abbrev pub IsFeatureEnd : {S : Type 0} → (S → Told → S → Type 0) → Run → State → Bool → List (List ℕ) → List MemberValue → List Group → SectionRow Inside → S → S → Type 0
 IsFeatureEnd told run now is_begun tags own groups end first last =
     (outside : State) → (is_begun ≡ true → now ≡ outside) → (cut : Cut) × (cuts : List Cut) × (rule_cuts : List RuleCuts)
     × IsRan told (section_of run levels.Feature tags outside is_begun cut (λ section is_open. inside_by run section is_open cuts rule_cuts own groups)) end first last
 
--- What the code says of the inside of a feature.
+-- The value of an `InsideResults`.
 abbrev pub inside_value : InsideResults → Inside
 inside_value i = record { rules = map rule_row i.rules.items; cases = map case_row i.cases.items }
 
--- What was run inside of a feature.
+-- What is inside a feature was run. `is_open` says whether the feature is open.
 abbrev pub RunsInside : {S : Type 0} → (S → Event → S → Type 0) → (S → Ended → S → Type 0) → shared.Run → State → Bool → Content → S → S → InsideResults → Type 0
 RunsInside hears ends run now is_open content first last inside =
     IsInside (tells hears ends) (run_value run) now is_open (members_of_rank 0 (members_in content.cases)) (groups_from 1 (map head_value content.rules.list.items) (members_in content.cases)) (inside_value inside) first last
@@ -145,6 +145,6 @@ abbrev pub EndsFeature : {S : Type 0} → (S → Event → S → Type 0) → (S 
 EndsFeature hears ends run now is_begun tags content first last end =
     IsFeatureEnd (tells hears ends) (run_value run) now is_begun (texts tags) (members_of_rank 0 (members_in content.cases)) (groups_from 1 (map head_value content.rules.list.items) (members_in content.cases)) (record { around = end.around; inside = inside_value end.inside }) first last
 
--- The result of a feature, and what was told of it, are those of some cuts, from the run's state where the run is open.
+-- The result of a feature, and what was told of it, are those of some cuts, from the run's state if the run is open.
 abbrev pub RunsFeature : {S : Type 0} → (S → Event → S → Type 0) → (S → Ended → S → Type 0) → Run → State → Bool → ChosenValue → S → S → FeatureRow → Type 0
 RunsFeature hears ends run now is_open f first last row = (outside : State) → (is_open ≡ true → now ≡ outside) → IsFeatureTold hears ends run outside is_open f row first last

@@ -16,7 +16,7 @@ use Rattle.gk_run.specs.Rules.{Inside, RuleCuts, rules_of}
 use Rattle.gk_run.specs.Run.{Run}
 use Rattle.gk_run.specs.Section.{Cut, nowhere}
 
--- The cuts of a feature: in its own hooks and cleanups, in each of its own cases, and in each of its rules. In a dry run, which begins no feature and no rule, `cases` are of all its cases, those of its rules among them, and the other cuts are none. What a list doesn't name isn't cut, and a cut of what isn't reached is none.
+-- The cuts of a feature: in its own hooks and cleanups, in each of its own cases, and in each of its rules. A dry run begins no feature and no rule: there, `cases` are the cuts of all its cases, including those of its rules, and the other cuts have no effect. What a list doesn't name isn't cut, and a cut of what isn't reached has no effect.
 pub record FeatureCuts : Type 0 where
   pub own : Cut
   pub cases : List Cut
@@ -26,7 +26,7 @@ pub record FeatureCuts : Type 0 where
 abbrev pub uncut_feature : FeatureCuts
 uncut_feature = record { own = nowhere; cases = []; rules = [] }
 
--- Memory, else failed, else untested, else passed, else skipped.
+-- The first that holds of memory, failed, untested and passed; otherwise skipped.
 abbrev pub verdict_by : Bool → Bool → Bool → Bool → Status
 verdict_by memory failed untested passed = cond memory statuses.Memory (cond failed statuses.Failed (cond untested statuses.Untested (cond passed statuses.Passed statuses.Skipped)))
 
@@ -34,33 +34,33 @@ verdict_by memory failed untested passed = cond memory statuses.Memory (cond fai
 abbrev pub rule_statuses : List RuleRow → List Status
 rule_statuses rows = map (λ (row : RuleRow). row.around) rows
 
--- The verdict of a feature, by how its hooks and cleanups and those of its rules ended, and by its cases: memory where one of these is memory; else failed where one is failed; else untested where a case is untested; else passed where one passed; else skipped.
+-- The verdict of a feature, by how its hooks and cleanups and those of its rules ended, and by its cases: memory if one of these is memory; otherwise failed if one is failed; otherwise untested if a case is untested; otherwise passed if a case passed; otherwise skipped.
 abbrev pub feature_verdict : Status → List Status → List Status → Status
 feature_verdict around rules cases =
     verdict_by (list_any is_memory (around ∷ rules) || list_any is_memory cases) (list_any is_failed (around ∷ rules) || list_any is_failed cases) (list_any is_untested cases) (list_any is_passed cases)
 
--- The result of a feature with how its hooks and cleanups ended and what is inside of it.
+-- The result of a feature, by how its hooks and cleanups ended and what is inside it.
 abbrev pub feature_row_of : ChosenValue → Status → Inside → FeatureRow
 feature_row_of f around inside = record { source = f.source; name = f.name; line = f.line; status = feature_verdict around (rule_statuses inside.rules) (case_statuses inside.cases); around = around; rules = inside.rules; cases = inside.cases }
 
--- What is inside of a section: some cases, and then rules, which are begun if it is open so far.
+-- What is inside a section: some cases, and then rules. A rule is begun only if the section is open so far.
 abbrev pub inside_by : Run → State → Bool → List Cut → List RuleCuts → List MemberValue → List Group → Ran Inside
 inside_by run section is_open cuts rule_cuts own groups =
     let first = cases_of run section is_open cuts own in
     let next = rules_of run section (is_open && all_stay_open run first.result) rule_cuts groups in
     record { result = record { rules = next.result.rules; cases = first.result ++ next.result.cases }; told = first.told ++ next.told }
 
--- What is inside of a feature: its own cases, and then its rules. (Cucumber's Gherkin reference: rule)
+-- What is inside a feature: its own cases, and then its rules. (Cucumber's Gherkin reference: rule)
 abbrev pub inside_of : Run → FeatureCuts → ChosenValue → State → Bool → Ran Inside
 inside_of run cuts f section is_open = inside_by run section is_open cuts.cases cuts.rules (own_members f) (rule_groups f)
 
--- The result of a feature in the run's state. It is begun where the run is open so far and it has a selected case; what is inside of it is reached where it was begun and its before list passed whole. (behave's documentation: environment file functions)
+-- The result of a feature in the run's state. The feature is begun if the run is open so far and the feature has a selected case. What is inside it is reached if it was begun and its before list passed whole. (behave's documentation: environment file functions)
 abbrev pub feature_of : Run → State → Bool → FeatureCuts → ChosenValue → Ran FeatureRow
 feature_of run outside is_open cuts f =
     let ran = section_of run levels.Feature f.tags outside (is_open && has_selected f.members) cuts.own (inside_of run cuts f) in
     record { result = feature_row_of f ran.result.around ran.result.inside; told = ran.told }
 
--- Features in order: the result of each, and what happens in it is told. One is begun if the run is open so far.
+-- Features in order. Each has a result, and what happens in it is told. A feature is begun only if the run is open so far.
 abbrev pub features_of : Run → State → Bool → List FeatureCuts → List ChosenValue → Ran (List FeatureRow)
 features_of run outside is_open cuts [] = record { result = []; told = [] }
 features_of run outside is_open cuts (f ∷ fs) =
@@ -68,15 +68,15 @@ features_of run outside is_open cuts (f ∷ fs) =
     let next = features_of run outside (is_open && stays_open run ran.result.status) (later cuts) fs in
     record { result = ran.result ∷ next.result; told = ran.told ++ next.told }
 
--- A feature's row is that of some cuts, from the run's state where the run is open.
+-- A feature's row is that of some cuts, from the run's state if the run is open.
 abbrev pub IsFeatureResult : Run → State → Bool → ChosenValue → FeatureRow → Type 0
 IsFeatureResult run now is_open f row = (outside : State) → (is_open ≡ true → now ≡ outside) → (cuts : FeatureCuts) × (row ≡ result_of (feature_of run outside is_open cuts f))
 
--- An observer was told a feature with this result: what happens in it, for some cuts.
+-- An observer was told what happens in a feature with this result, for some cuts.
 abbrev pub IsFeatureTold : {S : Type 0} → (S → Event → S → Type 0) → (S → Ended → S → Type 0) → Run → State → Bool → ChosenValue → FeatureRow → S → S → Type 0
 IsFeatureTold hears ends run outside is_open f row old new = (cuts : FeatureCuts) × IsRan (tells hears ends) (feature_of run outside is_open cuts f) row old new
 
--- The result of a feature as it is without rules: its cases run one after another from its own state.
+-- The result of a feature without rules: its cases run one after another, each from the feature's state.
 abbrev pub feature_without_rules : Run → State → Bool → FeatureCuts → ChosenValue → Ran FeatureRow
 feature_without_rules run outside is_open cuts f =
     let ran = section_of run levels.Feature f.tags outside (is_open && has_selected f.members) cuts.own (λ section is_ready. cases_of run section is_ready cuts.cases f.members) in
@@ -87,11 +87,11 @@ abbrev pub FeaturesWithoutRulesHaveTheirCases : Type 0
 FeaturesWithoutRulesHaveTheirCases = (run : Run) (outside : State) (is_open : Bool) (cuts : FeatureCuts) (f : ChosenValue) →
     f.rules ≡ [] → CasesFallIntoRules f → feature_of run outside is_open cuts f ≡ feature_without_rules run outside is_open cuts f
 
--- The results of a feature stand in file order: one for each of its rules, and one for each of its cases, with the line of each.
+-- The results of a feature are in file order: one for each of its rules, and one for each of its cases, with the line of each.
 pub record StandsInFileOrder (f : ChosenValue) (row : FeatureRow) : Type 0 where
   pub rules : map (λ (rule : RuleRow). rule.line) row.rules ≡ map (λ (head : HeadValue). head.line) f.rules
   pub cases : map (λ (case : CaseRow). case.line) row.cases ≡ map (λ (m : MemberValue). m.scenario.line) f.members
 
--- Where the cases of a feature fall into its rules, its results stand in file order, whatever is begun and wherever they are cut.
+-- If the cases of a feature fall into its rules, its results are in file order, whatever is begun and wherever they are cut.
 abbrev pub ResultsStandInFileOrder : Type 0
 ResultsStandInFileOrder = (run : Run) (outside : State) (is_open : Bool) (cuts : FeatureCuts) (f : ChosenValue) → CasesFallIntoRules f → StandsInFileOrder f (result_of (feature_of run outside is_open cuts f))

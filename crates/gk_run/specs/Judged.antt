@@ -1,4 +1,4 @@
--- Which results a run may have.
+-- The results that a run may have.
 use Rattle.std.specs.Prelude.{◌≡◌, Bool, true, false, cond, ◌||◌, List, [], ◌++◌}
 use Rattle.std.specs.List.{list_any}
 use Rattle.gk_world.specs.State.{Contents, State, state_of}
@@ -31,15 +31,15 @@ results_from run start cuts features =
 abbrev pub dry_results : Run → Cuts → List ChosenValue → Results
 dry_results run cuts features = record { features = dry_features_of run.library cuts.features features; around = statuses.Passed }
 
--- The results of a run from the contents that are handed in, or of a dry run.
+-- The results of a run that starts from these contents, or of a dry run.
 abbrev pub results_of : Run → Contents → Cuts → List ChosenValue → Results
 results_of run contents cuts features = cond run.dry_run (dry_results run cuts features) (results_from run (state_of contents) cuts features)
 
--- The results are judged: they are those of some cuts.
+-- Judged results: they are those of some cuts.
 abbrev pub Judged : Run → Contents → List ChosenValue → Results → Type 0
 Judged run contents features results = (cuts : Cuts) × (results ≡ results_of run contents cuts features)
 
--- The results that plain maps give where memory was refused nowhere.
+-- The results that plain maps give if memory was refused nowhere.
 abbrev pub plain_results : Run → Contents → List ChosenValue → Results
 plain_results run contents features = results_of run contents uncut features
 
@@ -59,12 +59,12 @@ is_memory_feature row = is_memory row.around || (list_any is_memory_rule row.rul
 abbrev pub has_memory : Results → Bool
 has_memory results = is_memory results.around || list_any is_memory_feature results.features
 
--- Judged results without a mark of memory are the plain ones.
+-- Judged results in which memory was refused nowhere are the plain ones.
 abbrev pub OneList : Type 0
 OneList = (run : Run) (contents : Contents) (features : List ChosenValue) (results : Results) →
     Judged run contents features results → has_memory results ≡ false → results ≡ plain_results run contents features
 
--- Judged results begin with the results of these features.
+-- Some judged results begin with the results of these features.
 abbrev pub BeginsJudged : Run → Contents → List ChosenValue → List FeatureRow → Type 0
 BeginsJudged run contents features rows = (results : Results) × (more : List FeatureRow) × Judged run contents features results × (results.features ≡ rows ++ more)
 
@@ -73,7 +73,7 @@ abbrev pub DryRunsAreJudged : Type 0
 DryRunsAreJudged = (run : Run) (contents : Contents) (features : List ChosenValue) (rows : List FeatureRow) →
     run.dry_run ≡ true → AreDryFeatures run.library features rows → Judged run contents features (record { features = rows; around = statuses.Passed })
 
--- The results of the first features of a dry run begin judged results.
+-- The results of the first features of a dry run are the beginning of judged results.
 abbrev pub UnfinishedDryRunsAreJudged : Type 0
 UnfinishedDryRunsAreJudged = (run : Run) (contents : Contents) (features others : List ChosenValue) (rows : List FeatureRow) →
     run.dry_run ≡ true → AreDryFeatures run.library features rows → BeginsJudged run contents (features ++ others) rows

@@ -1,4 +1,4 @@
--- Which results a run may have, in words: what holds of each result, by its place in its list.
+-- The results that a run may have, in words: what holds of each result, by its place in its list.
 use Rattle.std.specs.Prelude.{ℕ, ◌≡◌, ◌++◌, ◌↔◌, true, false, All, List, [], map, length, take, zip, flat_map, Some, slice_get, unwrap_or}
 use Rattle.gk_gherkin.specs.Feature.{StepValue}
 use Rattle.gk_steps.specs.Finding.{LibraryValue}
@@ -39,7 +39,7 @@ IsGoodRule end = (is_bad end.around ≡ false) × All IsGoodCase end.inside
 abbrev pub IsGoodFeature : FeatureRow → Type 0
 IsGoodFeature row = is_bad row.status ≡ false
 
--- A section that is begun if this holds. Its events are those of its before list, its after lists and its cleanups, or these cut at one event; if it isn't begun there are none. `around` is how they ended. What is inside of it, from its own state, is ready if the section is begun and its before list, cut or not, passed whole. (behave's documentation: environment file functions)
+-- A section that is begun if `Begun` holds. Its events are those of its before list, its after lists and its cleanups, or these cut at one event. If it isn't begun, there are none. `around` is how they ended. What is inside it, from its own state, is ready if the section is begun and its before list, cut or not, passed whole. (behave's documentation: environment file functions)
 pub record SectionInWords {A : Type 0} (run : Run) (level : Level) (tags : List (List ℕ)) (outside : State) (Begun : Type 0) (Holds : State → Type 0 → A → Type 0) (end : SectionRow A) : Type 0 where
   pub events : Events
   pub begun : Begun → (cut : Cut) × (events ≡ happened cut (section_events run level tags outside))
@@ -47,7 +47,7 @@ pub record SectionInWords {A : Type 0} (run : Run) (level : Level) (tags : List 
   pub around : end.around ≡ around_of events
   pub inside : Holds (section_state run level tags outside) (Begun × (before_passed events ≡ true)) end.inside
 
--- A case. Unselected: it and its steps are skipped. Selected and reached: it is alone from its section's state, or that cut at one event. Selected and not reached: it and its steps are untested. (behave's documentation: `--tags`, `--stop`)
+-- A case. If it is unselected, it and its steps are skipped. If it is selected and reached, its result is that of the case alone from its section's state, or that cut at one event. If it is selected and not reached, it and its steps are untested. (behave's documentation: `--tags`, `--stop`)
 pub record CaseInWords (run : Run) (section : State) (Reached : Type 0) (m : MemberValue) (row : CaseRow) : Type 0 where
   pub unselected : m.selected ≡ false → row ≡ unselected_row m.scenario
   pub reached : m.selected ≡ true → Reached → IsReached run section m.scenario row
@@ -62,11 +62,11 @@ abbrev pub RuleInWords : Run → State → Type 0 → Group → SectionRow (List
 RuleInWords run outside Open g end =
     SectionInWords run levels.Rule g.head.tags outside (Open × (has_selected g.members ≡ true)) (λ section Ready rows. CasesInWords run section Ready g.members rows) end
 
--- The result of a rule beside its cases: its line, and how its hooks and cleanups ended.
+-- The result of a rule without its cases: its line, and how its hooks and cleanups ended.
 abbrev pub rule_rows : List Group → List (SectionRow (List CaseRow)) → List RuleRow
 rule_rows groups ends = map (λ p. record { line = p.0.head.line; around = p.1.around }) (zip groups ends)
 
--- What is inside of a feature: its cases that aren't in a rule, and then its rules. The feature is open for a rule if it is ready and, if the run is to stop, none of these cases and no earlier rule is failed or memory. (Cucumber's Gherkin reference: rule)
+-- What is inside a feature: its cases that aren't in a rule, and then its rules. The feature is open for a rule if it is ready and, if the run is to stop, none of these cases and no earlier rule is failed or memory. (Cucumber's Gherkin reference: rule)
 pub record InsideInWords (run : Run) (section : State) (Ready : Type 0) (f : ChosenValue) (inside : Inside) : Type 0 where
   pub own : List CaseRow
   pub ends : List (SectionRow (List CaseRow))
@@ -92,7 +92,7 @@ pub record FeatureInWords (run : Run) (outside : State) (Open : Type 0) (f : Cho
 abbrev pub FeaturesInWords : Run → State → Type 0 → List ChosenValue → List FeatureRow → Type 0
 FeaturesInWords run section Ready features rows = Each (λ k f row. FeatureInWords run section (Ready × (run.stop ≡ true → All IsGoodFeature (take k rows))) f row) features rows
 
--- A case of a dry run. Unselected: it and its steps are skipped. Selected: it is untested, and so is each step that the library matches, while the others are undefined; or it is that cut at one step. (behave's documentation: `--dry-run`)
+-- A case of a dry run. If it is unselected, it and its steps are skipped. If it is selected, it is untested, each step that the library matches is untested, and the others are undefined; or its result is that cut at one step. (behave's documentation: `--dry-run`)
 pub record DryCaseInWords (library : LibraryValue) (m : MemberValue) (row : CaseRow) : Type 0 where
   pub unselected : m.selected ≡ false → row ≡ unselected_row m.scenario
   pub selected : m.selected ≡ true → (cut : Cut) × (row ≡ dry_row library cut m.scenario)
@@ -119,6 +119,6 @@ pub record JudgedInWords (run : Run) (contents : Contents) (features : List Chos
 abbrev pub JudgedAreInWords : Type 0
 JudgedAreInWords = (run : Run) (contents : Contents) (features : List ChosenValue) (results : Results) → Judged run contents features results ↔ JudgedInWords run contents features results
 
--- Each step of a case has one result, in order, by what became of it: untested if its event didn't happen.
+-- Each step of a case has one result, in order, by its mark. It is untested if its event didn't happen.
 abbrev pub StepsHaveTheirResults : Type 0
 StepsHaveTheirResults = (steps : List StepValue) (marks : List Mark) → Each (λ k step row. row ≡ row_of_step step (unwrap_or (slice_get marks k) Untested)) steps (rows_of_steps steps marks)

@@ -1,4 +1,4 @@
--- The results of running feature files, in reading order. A definition whose comment names no source is this project's profile, or a word that the others use.
+-- The results of running feature files, in reading order. A definition whose comment names no source is part of this project's profile, or a word that other definitions use.
 pub mod Results
 pub mod Acting
 pub mod Cleanups
@@ -22,7 +22,7 @@ pub mod DryRun
 pub mod Judged
 pub mod JudgedInWords
 pub mod OpenRun
--- Proof machinery: what contracts of private functions cite.
+-- Proof machinery: definitions that the contracts of private functions use.
 pub mod WalkContracts
 pub mod SectionContracts
 pub mod FeatureContracts

@@ -1,10 +1,10 @@
--- What an observer of a run is told, and what running comes to.
+-- What an observer of a run is told, and the result of running.
 use Rattle.std.specs.List.{FoldsTo}
 use Rattle.std.specs.Prelude.{List, ◌≡◌}
 use Rattle.gk_run.specs.Events.{Event}
 use Rattle.gk_run.specs.Results.{CaseRow, RuleRow}
 
--- What has ended, with its result: a case, or a rule.
+-- The end of a case or a rule, with its result.
 pub data Ended : Type 0 where
   of_case : CaseRow → Ended
   of_rule : RuleRow → Ended
@@ -14,7 +14,7 @@ pub data Told : Type 0 where
   happens : Event → Told
   has_ended : Ended → Told
 
--- What running a part of a run comes to: its result, and what is told of it, in order.
+-- The result of a part of a run, and what is told of it, in order.
 pub record Ran (A : Type 0) : Type 0 where
   pub result : A
   pub told : List Told
@@ -23,7 +23,7 @@ pub record Ran (A : Type 0) : Type 0 where
 abbrev pub result_of : {A : Type 0} → Ran A → A
 result_of ran = ran.result
 
--- What an observer may become when it is told this, by what it may become when it is told an event, or an end.
+-- What an observer may become when it is told this, given what it may become when it is told an event or an end.
 abbrev pub tells : {S : Type 0} → (S → Event → S → Type 0) → (S → Ended → S → Type 0) → S → Told → S → Type 0
 tells hears ends old (happens event) new = hears old event new
 tells hears ends old (has_ended ended) new = ends old ended new

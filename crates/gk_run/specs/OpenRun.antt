@@ -18,7 +18,7 @@ use Rattle.gk_run.specs.Cases.{is_bad, stays_open_by}
 use Rattle.gk_run.specs.Features.{FeatureCuts, IsFeatureResult, features_of}
 use Rattle.gk_run.specs.Judged.{Judged, BeginsJudged}
 
--- A run that was begun: its layer, how the before hook of all ended, the cleanups that are registered in it, whether it stops at a failure, and whether a feature so far is failed or memory. (behave's documentation: context layers, environment file functions, `--stop`)
+-- A run that was begun: its layer, how the before_all hook ended, the cleanups that are registered in it, whether it stops at a failure, and whether a feature so far is failed or memory. (behave's documentation: context layers, environment file functions, `--stop`)
 pub record SuiteValue : Type 0 where
   pub layer : ℕ
   pub before : Ending
@@ -26,11 +26,11 @@ pub record SuiteValue : Type 0 where
   pub stop : Bool
   pub has_failed : Bool
 
--- Further features are begun: the before hook of all passed whole, and the run hasn't stopped. (behave's documentation: environment file functions, `--stop`)
+-- Further features are begun: the before_all hook passed whole, and the run hasn't stopped. (behave's documentation: environment file functions, `--stop`)
 abbrev pub opens_features : SuiteValue → Bool
 opens_features suite = has_passed suite.before && not (suite.stop && suite.has_failed)
 
--- A run that isn't dry was begun in a layer of its own, and its before list walked through. (behave's documentation: context layers, environment file functions)
+-- A run that isn't dry was begun in its own layer, and its before list was walked through. (behave's documentation: context layers, environment file functions)
 pub record IsStarted (run : Run) (old new : SandboxValue) (suite : SuiteValue) : Type 0 where
   pub runs : run.dry_run ≡ false
   pub opened : IsOpened run levels.Run [] old new suite.layer suite.before suite.cleanups
@@ -38,7 +38,7 @@ pub record IsStarted (run : Run) (old new : SandboxValue) (suite : SuiteValue) :
   pub unfailed : suite.has_failed ≡ false
   pub opens : opens_features suite ≡ has_passed suite.before
 
--- A run was begun so, and an observer was told the events of the before hook of all.
+-- A run was begun like this, and an observer was told the events of the before_all hook.
 abbrev pub IsStartTold : {S : Type 0} → (S → Event → S → Type 0) → Run → SandboxValue → SandboxValue → SuiteValue → S → S → Type 0
 IsStartTold hears run old new suite first last = (started : IsStarted run old new suite) × FoldsTo hears first started.opened.first last
 
@@ -46,18 +46,18 @@ IsStartTold hears run old new suite first last = (started : IsStarted run old ne
 abbrev pub IsKept : SuiteValue → SuiteValue → Type 0
 IsKept old new = new ≡ record old { has_failed = new.has_failed }
 
--- A feature of an open run was run: its result is that of some cuts, from the run's state if the run is open, and the run has failed if it had before or the feature is failed or memory. Unless the run stops at this, it is as open as before.
+-- A feature of an open run was run. Its result is that of some cuts, from the run's state if the run is open. The run has failed if it had before, or if the feature is failed or memory. Unless the run stops at this, it is as open as before.
 pub record IsNextRun (run : Run) (now : State) (f : ChosenValue) (row : FeatureRow) (old new : SuiteValue) : Type 0 where
   pub result : IsFeatureResult run now (opens_features old) f row
   pub failed : new.has_failed ≡ (old.has_failed || is_bad row.status)
   pub opens : opens_features new ≡ (opens_features old && stays_open_by old.stop row.status)
 
--- A run that was begun was finished, and its hooks and cleanups ended so.
+-- A run that was begun was finished, and its hooks and cleanups ended like this.
 abbrev pub IsFinished : Run → SuiteValue → SandboxValue → Status → Type 0
 IsFinished run suite now around =
     (outside : State) (first : List Event) → IsBegun run levels.Run [] outside first suite.before (stand_of now suite.cleanups) → (last : List Event) × IsSectionEnd run levels.Run [] outside around first last
 
--- A run was finished so, and an observer was told its end.
+-- A run was finished like this, and an observer was told its end.
 abbrev pub IsFinishTold : {S : Type 0} → (S → Event → S → Type 0) → Run → SuiteValue → SandboxValue → Status → S → S → Type 0
 IsFinishTold hears run suite now around begin end =
     (outside : State) (first : List Event) → IsBegun run levels.Run [] outside first suite.before (stand_of now suite.cleanups) → IsEndTold hears run levels.Run [] outside around first begin end
@@ -66,13 +66,13 @@ IsFinishTold hears run suite now around begin end =
 abbrev pub AreFeatures : Run → State → Bool → List ChosenValue → List FeatureRow → Type 0
 AreFeatures run now opens features rows = (outside : State) → (opens ≡ true → now ≡ outside) → (cuts : List FeatureCuts) × (rows ≡ result_of (features_of run outside opens cuts features))
 
--- A run that was begun, whose features were run, and that was finished has judged results.
+-- A run that was begun, ran its features and was finished has judged results.
 abbrev pub FinishedRunsAreJudged : Type 0
 FinishedRunsAreJudged = (run : Run) (old new : SandboxValue) (suite : SuiteValue) (features : List ChosenValue) (rows : List FeatureRow) (around : Status) →
     (started : IsStarted run old new suite) → AreFeatures run (state_of new.now) (opens_features suite) features rows → (last : List Event) → IsSectionEnd run levels.Run [] (state_of old.now) around started.opened.first last →
     Judged run old.now features (record { features = rows; around = around })
 
--- A run that was begun, of which some features were run, and that isn't finished has results that begin judged results, whatever features come after them.
+-- A run that was begun, ran some features and isn't finished has results that begin judged results, whatever features come after them.
 abbrev pub UnfinishedRunsAreJudged : Type 0
 UnfinishedRunsAreJudged = (run : Run) (old new : SandboxValue) (suite : SuiteValue) (features others : List ChosenValue) (rows : List FeatureRow) →
     IsStarted run old new suite → AreFeatures run (state_of new.now) (opens_features suite) features rows → BeginsJudged run old.now (features ++ others) rows

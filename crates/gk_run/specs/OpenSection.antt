@@ -1,4 +1,4 @@
--- The way that a section goes: the run, a feature, a rule and a scenario go the same.
+-- The course of a section. It is the same for the run, a feature, a rule and a scenario.
 use Rattle.std.specs.List.{FoldsTo}
 use Rattle.std.specs.Prelude.{Bool, false, cond, ◌&&◌, List, [], ◌∷◌, ◌++◌, length, map, ℕ, ◌≡◌}
 use Rattle.gk_world.specs.Sandbox.{SandboxValue, depth}
@@ -15,7 +15,7 @@ use Rattle.gk_run.specs.Run.{Run}
 use Rattle.gk_run.specs.Section.{Events, Cut, happened, around_of, before_passed}
 use Rattle.gk_run.specs.SectionHooks.{begun, entered}
 
--- The events of a section from the state outside, which it enters with a layer of its own: its before list; its steps, from how that ended and the state that it left; its after lists and its cleanups. (behave's documentation: context layers, environment file functions, cleanups)
+-- The events of a section that starts from the state outside and enters its own layer: its before list; its steps, from how the before list ended and the state that it left; its after lists and its cleanups. (behave's documentation: context layers, environment file functions, cleanups)
 abbrev pub events_with : (Ending → State → List Event) → Run → Level → List (List ℕ) → State → Events
 events_with steps_of run level tags outside =
     let before = begun run.library run.hooks level tags outside in
@@ -24,11 +24,11 @@ events_with steps_of run level tags outside =
     let last = closing run.library run.hooks level tags (left_by opened steps) in
     record { before = before; steps = steps; after = last.after; cleanups = last.cleanups }
 
--- The events of a section without steps of its own: of the run, a feature or a rule. The sections inside of it leave nothing in it. (behave's documentation: context layers)
+-- The events of a section without its own steps: of the run, a feature or a rule. The sections inside it leave nothing in it. (behave's documentation: context layers)
 abbrev pub section_events : Run → Level → List (List ℕ) → State → Events
 section_events = events_with (λ ended s. [])
 
--- The state of a section: that of the section outside it, entered, after its own before list. (behave's documentation: context layers)
+-- The state of a section: the state outside it, entered, after the section's own before list. (behave's documentation: context layers)
 abbrev pub section_state : Run → Level → List (List ℕ) → State → State
 section_state run level tags outside = let opened = left_by (entered outside) (begun run.library run.hooks level tags outside) in opened.state
 
@@ -36,16 +36,16 @@ section_state run level tags outside = let opened = left_by (entered outside) (b
 abbrev pub no_events : Events
 no_events = record { before = []; steps = []; after = []; cleanups = [] }
 
--- What happens in a section beside what is inside of it: nothing where it isn't begun; else its events, or these cut at one.
+-- The events of a section, except those of what is inside it: none if the section isn't begun; otherwise its own events, or these cut at one.
 abbrev pub happened_in : Run → Level → List (List ℕ) → State → Bool → Cut → Events
 happened_in run level tags outside is_begun cut = cond is_begun (happened cut (section_events run level tags outside)) no_events
 
--- What a section comes to: how its hooks and cleanups ended, and what is inside of it.
+-- The result of a section: how its hooks and cleanups ended, and the result of what is inside it.
 pub record SectionRow (A : Type 0) : Type 0 where
   pub around : Status
   pub inside : A
 
--- A section that is begun, or isn't, with what runs inside of it from its state; that is reached if the section was begun and its before list passed whole. The events of its before list are told before what is inside of it, the others after it. (behave's documentation: environment file functions)
+-- A section, and what runs inside it from its state. What is inside is reached if the section was begun and its before list passed whole. The events of the before list are told before what is inside, the others after it. (behave's documentation: environment file functions)
 abbrev pub section_of : {A : Type 0} → Run → Level → List (List ℕ) → State → Bool → Cut → (State → Bool → Ran A) → Ran (SectionRow A)
 section_of run level tags outside is_begun cut inside =
     let events = happened_in run level tags outside is_begun cut in
@@ -55,17 +55,17 @@ section_of run level tags outside is_begun cut inside =
       told = map happens events.before ++ (ran.told ++ map happens (events.after ++ events.cleanups));
     }
 
--- These events of a section's before list happened: all of them, or those up to the one in which memory was refused.
+-- The events of a section's before list that happened: all of them, or those up to the one in which memory was refused.
 abbrev pub IsOpening : Run → Level → List (List ℕ) → State → List Event → Type 0
 IsOpening run level tags outside first = SoFar false (is_memory_ending (ended_in first)) (begun run.library run.hooks level tags outside) [] first
 
--- A section was begun from the state outside: these events of its before list happened, the list ended like this, and the section stands here.
+-- A section was begun from the state outside: these events of its before list happened, the list ended with `ended`, and `now` is the section's state and cleanups.
 pub record IsBegun (run : Run) (level : Level) (tags : List (List ℕ)) (outside : State) (first : List Event) (ended : Ending) (now : Stand) : Type 0 where
   pub so_far : SoFar false (is_memory_ending ended) (begun run.library run.hooks level tags outside) [] first
   pub ends : ended ≡ ended_in first
   pub stands : now ≡ left_by (entered outside) first
 
--- A section was begun in a layer of its own, which has this number: its before list ended like this, and these cleanups are registered in it. (behave's documentation: context layers)
+-- A section was begun in its own layer, which has this number. Its before list ended like this, and these cleanups are registered in it. (behave's documentation: context layers)
 pub record IsOpened (run : Run) (level : Level) (tags : List (List ℕ)) (old new : SandboxValue) (number : ℕ) (ended : Ending) (cleanups : List CleanupValue) : Type 0 where
   pub first : List Event
   pub begins : IsBegun run level tags (state_of old.now) first ended (stand_of new cleanups)
@@ -73,13 +73,13 @@ pub record IsOpened (run : Run) (level : Level) (tags : List (List ℕ)) (old ne
   pub saved : new.saved ≡ old.now ∷ old.saved
   pub marks : new.marks ≡ length old.entries ∷ old.marks
 
--- How a section's hooks and cleanups ended, with these events before and after what is inside of it, is that of some cut.
+-- For some cut, a section's hooks and cleanups ended like this, with these events before and after what is inside it.
 pub record IsSectionEnd (run : Run) (level : Level) (tags : List (List ℕ)) (outside : State) (around : Status) (first last : List Event) : Type 0 where
   pub cut : Cut
   pub hooks : around ≡ around_of (happened cut (section_events run level tags outside))
   pub opening : first ≡ (let e = happened cut (section_events run level tags outside) in e.before)
   pub closing : last ≡ (let e = happened cut (section_events run level tags outside) in e.after ++ e.cleanups)
 
--- The end of a section was told, whose hooks and cleanups ended so and of whose before list these events happened: all of the section's events after what is inside of it, cut as the before list is.
+-- The end of a section was told: all of its events after what is inside it, with the same cut as its before list. Its hooks and cleanups ended like this, and these events of its before list happened.
 abbrev pub IsEndTold : {S : Type 0} → (S → Event → S → Type 0) → Run → Level → List (List ℕ) → State → Status → List Event → S → S → Type 0
 IsEndTold hears run level tags outside around first begin end = (last : List Event) × FoldsTo hears begin last end × IsSectionEnd run level tags outside around first last

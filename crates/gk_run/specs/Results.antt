@@ -1,4 +1,4 @@
--- The results of running, without where they lie in memory.
+-- The results of running, independent of their place in memory.
 use Rattle.std.specs.Prelude.{ℕ, Bool, true, false, List, map, Option, string_bytes}
 use Rattle.gk_run.specs.declared.results.Status.{Status}
 use Rattle.gk_run.specs.declared.results.Status.TheVariants as statuses
@@ -9,7 +9,7 @@ use Rattle.gk_run.specs.declared.results.CaseResult.{CaseResult}
 use Rattle.gk_run.specs.declared.results.RuleResult.{RuleResult}
 use Rattle.gk_run.specs.declared.results.FeatureResult.{FeatureResult}
 
--- The result of a step: its status, and where it failed the reason.
+-- The result of a step: its status, and the reason if it failed.
 pub record StepRow : Type 0 where
   pub keyword : List ℕ
   pub text : List ℕ
@@ -27,7 +27,7 @@ pub record CaseRow : Type 0 where
   pub cleanups : List Outcome
   pub steps : List StepRow
 
--- The result of a rule beside its cases: how its hooks and cleanups ended.
+-- The result of a rule without its cases: how its hooks and cleanups ended.
 pub record RuleRow : Type 0 where
   pub line : ℕ
   pub around : Status
@@ -47,23 +47,23 @@ pub record Results : Type 0 where
   pub features : List FeatureRow
   pub around : Status
 
--- What a `StepResult` says.
+-- The value of a `StepResult`.
 abbrev pub step_row : StepResult → StepRow
 step_row r = record { keyword = string_bytes r.keyword; text = string_bytes r.text; line = r.line; status = r.status; reason = r.reason }
 
--- What a `CaseResult` says.
+-- The value of a `CaseResult`.
 abbrev pub case_row : CaseResult → CaseRow
 case_row r = record { keyword = string_bytes r.keyword; name = string_bytes r.name; line = r.line; status = r.status; around = r.around; cleanups = r.cleanups.items; steps = map step_row r.steps.items }
 
--- What a `RuleResult` says.
+-- The value of a `RuleResult`.
 abbrev pub rule_row : RuleResult → RuleRow
 rule_row r = record { line = r.line; around = r.around }
 
--- What a `FeatureResult` says.
+-- The value of a `FeatureResult`.
 abbrev pub feature_row : FeatureResult → FeatureRow
 feature_row r = record { source = string_bytes r.source; name = string_bytes r.name; line = r.line; status = r.status; around = r.around; rules = map rule_row r.rules.items; cases = map case_row r.cases.items }
 
--- A status is the one that is asked for, which comes first.
+-- The second status is the first one, which is the one asked for.
 abbrev pub is_status : Status → Status → Bool
 is_status statuses.Passed statuses.Passed = true
 is_status statuses.Failed statuses.Failed = true
@@ -73,26 +73,26 @@ is_status statuses.Untested statuses.Untested = true
 is_status statuses.Memory statuses.Memory = true
 is_status _ _ = false
 
--- The status passed.
+-- The status is passed.
 abbrev pub is_passed : Status → Bool
 is_passed = is_status statuses.Passed
 
--- The status failed.
+-- The status is failed.
 abbrev pub is_failed : Status → Bool
 is_failed = is_status statuses.Failed
 
--- The status skipped.
+-- The status is skipped.
 abbrev pub is_skipped : Status → Bool
 is_skipped = is_status statuses.Skipped
 
--- The status undefined.
+-- The status is undefined.
 abbrev pub is_undefined : Status → Bool
 is_undefined = is_status statuses.Undefined
 
--- The status untested.
+-- The status is untested.
 abbrev pub is_untested : Status → Bool
 is_untested = is_status statuses.Untested
 
--- The status memory.
+-- The status is memory.
 abbrev pub is_memory : Status → Bool
 is_memory = is_status statuses.Memory

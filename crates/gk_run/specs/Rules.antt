@@ -11,7 +11,7 @@ use Rattle.gk_run.specs.Results.{CaseRow, RuleRow}
 use Rattle.gk_run.specs.Run.{Run}
 use Rattle.gk_run.specs.Section.{Cut, nowhere}
 
--- The cuts of a rule: in its own hooks and cleanups, and in each of its cases. What a list doesn't name isn't cut, and a cut of what isn't reached is none.
+-- The cuts of a rule: in its own hooks and cleanups, and in each of its cases. What a list doesn't name isn't cut, and a cut of what isn't reached has no effect.
 pub record RuleCuts : Type 0 where
   pub own : Cut
   pub cases : List Cut
@@ -20,7 +20,7 @@ pub record RuleCuts : Type 0 where
 abbrev pub uncut_rule : RuleCuts
 uncut_rule = record { own = nowhere; cases = [] }
 
--- What a rule comes to in its feature's state. It is begun where the feature is open so far and it has a selected case; its cases are reached where it was begun and its before list passed whole. (behave's documentation: environment file functions)
+-- The result of a rule in its feature's state. The rule is begun if the feature is open so far and the rule has a selected case. Its cases are reached if it was begun and its before list passed whole. (behave's documentation: environment file functions)
 abbrev pub rule_of : Run → State → Bool → RuleCuts → Group → Ran (SectionRow (List CaseRow))
 rule_of run outside is_open cuts g =
     section_of run levels.Rule g.head.tags outside (is_open && has_selected g.members) cuts.own (λ section is_ready. cases_of run section is_ready cuts.cases g.members)
@@ -29,12 +29,12 @@ rule_of run outside is_open cuts g =
 abbrev pub rule_stays_open : Run → SectionRow (List CaseRow) → Bool
 rule_stays_open run end = stays_open run end.around && all_stay_open run end.inside
 
--- What is inside of a feature: the results of its rules beside their cases, and those of its cases in file order.
+-- The results of what is inside a feature: those of its rules without their cases, and those of its cases in file order.
 pub record Inside : Type 0 where
   pub rules : List RuleRow
   pub cases : List CaseRow
 
--- Rules in order: what each comes to, and what happens in it and then its end are told. One is begun if the feature is open so far.
+-- Rules in order. Each has a result; what happens in it is told, and then its end. A rule is begun only if the feature is open so far.
 abbrev pub rules_of : Run → State → Bool → List RuleCuts → List Group → Ran Inside
 rules_of run outside is_open cuts [] = record { result = record { rules = []; cases = [] }; told = [] }
 rules_of run outside is_open cuts (g ∷ gs) =

@@ -1,4 +1,4 @@
--- Running a case: what plain maps give it alone from its section's state.
+-- Running a case: the result that plain maps give it alone from its section's state.
 use Rattle.std.specs.List.{FoldsTo}
 use Rattle.std.specs.Prelude.{List, [], map, ◌≡◌}
 use Rattle.gk_select.specs.Case.{CaseValue}
@@ -17,19 +17,19 @@ use Rattle.gk_run.specs.Section.{Events, Cut, around_of, happened, in_order}
 use Rattle.gk_run.specs.OpenSection.{events_with}
 use Rattle.gk_run.specs.Walk.{rows_of_steps, steps_from}
 
--- The events of a case from its section's state, which it enters with a layer of its own: its before list, its steps, its after lists and its cleanups. (behave's documentation: context layers, environment file functions, cleanups)
+-- The events of a case that starts from its section's state and enters its own layer: its before list, its steps, its after lists and its cleanups. (behave's documentation: context layers, environment file functions, cleanups)
 abbrev pub alone : Run → State → CaseValue → Events
 alone run section c = events_with (λ ended s. steps_from run.library ended s c.steps) run levels.Scenario c.own_tags section
 
--- The verdict of a case in which this happened: memory where memory was refused in one of its steps, its hooks' steps or its cleanups; else failed where one of these failed or is undefined; else skipped where one skipped the scenario; else passed.
+-- The verdict of a case with these events: memory if memory was refused in one of its steps, its hooks' steps or its cleanups; otherwise failed if one of these failed or is undefined; otherwise skipped if one skipped the scenario; otherwise passed.
 abbrev pub verdict_of : Events → Status
 verdict_of e = verdict_status (ended_in (in_order e))
 
--- The result of a case in which this happened, with its verdict.
+-- The result of a case with this verdict and these events.
 abbrev pub row_of_case : CaseValue → Status → Events → CaseRow
 row_of_case c verdict e = record { keyword = c.keyword; name = c.name; line = c.line; status = verdict; around = around_of e; cleanups = outcomes_of e.cleanups; steps = rows_of_steps c.steps (event_marks e.steps) }
 
--- The result of a case that is reached: it alone, or cut at one event.
+-- The result of a case that is reached: that of the case alone, or that cut at one event.
 abbrev pub reached_row : Run → State → Cut → CaseValue → CaseRow
 reached_row run section cut c = let e = happened cut (alone run section c) in row_of_case c (verdict_of e) e
 
@@ -53,12 +53,12 @@ unreached_row c = unrun_row c statuses.Untested []
 abbrev pub IsReached : Run → State → CaseValue → CaseRow → Type 0
 IsReached run section c row = (cut : Cut) × (row ≡ reached_row run section cut c)
 
--- An observer was told the events of a case with this result: those of the case alone, or these cut at one, in order. The result is that of the same cut.
+-- An observer was told the events of a case with this result, in order: those of the case alone, or these cut at one. The result is that of the same cut.
 pub record AreEventsTold {S : Type 0} (hears : S → Event → S → Type 0) (run : Run) (section : State) (c : CaseValue) (row : CaseRow) (old new : S) : Type 0 where
   pub cut : Cut
   pub is : row ≡ reached_row run section cut c
   pub told : FoldsTo hears old (in_order (happened cut (alone run section c))) new
 
--- An observer was told a case with this result: its events, and then that it has ended.
+-- An observer was told of a case with this result: its events, and then that it has ended.
 abbrev pub IsCaseTold : {S : Type 0} → (S → Event → S → Type 0) → (S → Ended → S → Type 0) → Run → State → CaseValue → CaseRow → S → S → Type 0
 IsCaseTold {S} hears ends run section c row old new = (ran : S) × AreEventsTold hears run section c row old ran × ends ran (of_case row) new

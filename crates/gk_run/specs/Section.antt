@@ -1,4 +1,4 @@
--- What happens in a section, and where a refused growth cuts it.
+-- The events of a section, and the point at which a refused growth cuts it.
 use Rattle.std.specs.Prelude.{zero, suc, Bool, true, false, cond, List, [], ◌∷◌, ◌++◌, ℕ}
 use Rattle.gk_world.specs.State.{State}
 use Rattle.gk_run.specs.declared.acting.Site.{Site}
@@ -12,36 +12,36 @@ use Rattle.gk_run.specs.declared.section.Stage.{Stage}
 use Rattle.gk_run.specs.Ending.{has_passed, around_status}
 use Rattle.gk_run.specs.Events.{Event, cut_at, ended_in}
 
--- Where the steps of a before hook are carried out: only in that of a scenario may they skip.
+-- The site of the steps of a before hook. They may skip only in a scenario's before hook.
 abbrev pub before_site : Level → Site
 before_site levels.Run = sites.Hook
 before_site levels.Feature = sites.Hook
 before_site levels.Rule = sites.Hook
 before_site levels.Scenario = sites.CaseHook
 
--- Where the steps of a part of a section are carried out.
+-- The site of the steps in a part of a section.
 abbrev pub site_in : Level → Part → Site
 site_in level parts.Before = before_site level
 site_in level parts.Steps = sites.Step
 site_in level parts.After = sites.Hook
 
--- Where the steps at a stage are carried out.
+-- The site of the steps at a stage.
 abbrev pub site_of : Stage → Site
 site_of stage = site_in stage.level stage.part
 
--- Where the steps of a section's before list stand.
+-- The stage of the steps of a section's before list.
 abbrev pub before_of : Level → Stage
 before_of level = record { level = level; part = parts.Before }
 
--- Where the steps of a case stand.
+-- The stage of the steps of a case.
 abbrev pub steps_of_case : Stage
 steps_of_case = record { level = levels.Scenario; part = parts.Steps }
 
--- Where the steps of after hooks stand.
+-- The stage of the steps of after hooks.
 abbrev pub after_of : Level → Stage
 after_of level = record { level = level; part = parts.After }
 
--- The events of a section, in four parts, one after another: the steps of its before list; the steps of the scenario, where it is a scenario's; the steps of its after lists; its cleanups.
+-- The events of a section, in four parts, one after another: the steps of its before list; the steps of the scenario, if the section is a scenario's; the steps of its after lists; its cleanups.
 pub record Events : Type 0 where
   pub before : List Event
   pub steps : List Event
@@ -52,7 +52,7 @@ pub record Events : Type 0 where
 abbrev pub in_order : Events → List Event
 in_order e = e.before ++ (e.steps ++ (e.after ++ e.cleanups))
 
--- Where a refused growth cuts a section: at none of its events, or at the event of a number, counted from 0, in one of its parts, which leaves this state.
+-- The point at which a refused growth cuts a section: at none of its events, or at event n of one of its parts, counted from 0. That event leaves this state.
 pub data Cut : Type 0 where
   nowhere : Cut
   in_before : ℕ → State → Cut
@@ -60,13 +60,13 @@ pub data Cut : Type 0 where
   in_after : ℕ → State → Cut
   in_cleanups : ℕ → State → Cut
 
--- There is an event of this number.
+-- There is an event with this number.
 abbrev pub has_event : ℕ → List Event → Bool
 has_event n [] = false
 has_event zero (event ∷ events) = true
 has_event (suc n) (event ∷ events) = has_event n events
 
--- What happens of a section that is cut: the parts before the cut stay, and those after it didn't happen; a cut at an event that there isn't is none.
+-- The events of a section that is cut. The parts before the cut stay, and those after it didn't happen. A cut at an event that doesn't exist has no effect.
 abbrev pub happened : Cut → Events → Events
 happened nowhere e = e
 happened (in_before n s) e = cond (has_event n e.before) (record { before = cut_at n s e.before; steps = []; after = []; cleanups = [] }) e
@@ -78,7 +78,7 @@ happened (in_cleanups n s) e = cond (has_event n e.cleanups) (record e { cleanup
 abbrev pub around_events : Events → List Event
 around_events e = e.before ++ (e.after ++ e.cleanups)
 
--- How a section's hooks and cleanups ended: memory where memory was refused in one of them, else failed where one failed or is undefined, else passed.
+-- How a section's hooks and cleanups ended: memory if memory was refused in one of them; otherwise failed if one failed or is undefined; otherwise passed.
 abbrev pub around_of : Events → Status
 around_of e = around_status (ended_in (around_events e))
 

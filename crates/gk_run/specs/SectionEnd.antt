@@ -13,12 +13,12 @@ use Rattle.gk_run.specs.SectionHooks.{after_lists, walk_each}
 abbrev pub cleanup_done : LibraryValue → CleanupValue → State → Done
 cleanup_done library c s = done_of (act library sites.Cleanup c.found c.block s)
 
--- Cleanups, each from the state that the one before left, whatever the others did. (behave's documentation: cleanups)
+-- The events of cleanups. Each runs from the state that the one before left, whatever the others did. (behave's documentation: cleanups)
 abbrev pub clean_each : LibraryValue → Level → State → List CleanupValue → List Event
 clean_each library level s [] = []
 clean_each library level s (c ∷ cs) = let done = cleanup_done library c s in of_cleanup level c done.outcome done.state ∷ clean_each library level done.state cs
 
--- Registered cleanups run last in, first out. (behave's documentation: cleanups)
+-- The events of registered cleanups, which run last in, first out. (behave's documentation: cleanups)
 abbrev pub cleaned : LibraryValue → Level → Stand → List Event
 cleaned library level stand = clean_each library level stand.state (reverse stand.cleanups)
 

@@ -1,4 +1,4 @@
--- The hooks of a section: of the run, of a feature, of a rule, of a scenario.
+-- The hooks of a section: the run, a feature, a rule or a scenario.
 use Rattle.std.specs.Prelude.{cond, List, [], ◌∷◌, ◌++◌, map, Option, Some, None, ℕ}
 use Rattle.gk_gherkin.specs.Feature.{StepValue}
 use Rattle.gk_gherkin.specs.Hooks.{HookValue, is_for}
@@ -12,31 +12,31 @@ use Rattle.gk_run.specs.Events.{Event, Stand, left_by}
 use Rattle.gk_run.specs.Section.{after_of, before_of}
 use Rattle.gk_run.specs.Walk.{walk}
 
--- The hook before a section. (behave's documentation: environment file functions)
+-- The kind of the hook before a section. (behave's documentation: environment file functions)
 abbrev pub before_kind : Level → HookKind
 before_kind levels.Run = kinds.BeforeAll
 before_kind levels.Feature = kinds.BeforeFeature
 before_kind levels.Rule = kinds.BeforeRule
 before_kind levels.Scenario = kinds.BeforeScenario
 
--- The hook after a section. (behave's documentation: environment file functions)
+-- The kind of the hook after a section. (behave's documentation: environment file functions)
 abbrev pub after_kind : Level → HookKind
 after_kind levels.Run = kinds.AfterAll
 after_kind levels.Feature = kinds.AfterFeature
 after_kind levels.Rule = kinds.AfterRule
 after_kind levels.Scenario = kinds.AfterScenario
 
--- The steps of a hook; one that isn't in the hooks file has none.
+-- The steps of a hook. A hook that isn't in the hooks file has none.
 abbrev pub hook_steps : List HookValue → HookKind → Option (List ℕ) → List StepValue
 hook_steps [] kind tag = []
 hook_steps (hook ∷ hooks) kind tag = cond (is_for hook kind tag) hook.steps (hook_steps hooks kind tag)
 
--- The before list of a section: the steps of its before_tag hooks, one for each place in its tag list, and then of its before hook. (behave's documentation: environment file functions)
+-- The before list of a section: the steps of its before_tag hooks, one hook for each place in its tag list, and then those of its before hook. (behave's documentation: environment file functions)
 abbrev pub before_list : List HookValue → Level → List (List ℕ) → List StepValue
 before_list hooks level [] = hook_steps hooks (before_kind level) None
 before_list hooks level (tag ∷ tags) = hook_steps hooks kinds.BeforeTag (Some tag) ++ before_list hooks level tags
 
--- The lists of after_tag hooks, one for each place in a tag list. (behave's documentation: environment file functions)
+-- The lists of after_tag hooks, one list for each place in a tag list. (behave's documentation: environment file functions)
 abbrev pub tag_lists : List HookValue → List (List ℕ) → List (List StepValue)
 tag_lists hooks tags = map (λ tag. hook_steps hooks kinds.AfterTag (Some tag)) tags
 
@@ -44,15 +44,15 @@ tag_lists hooks tags = map (λ tag. hook_steps hooks kinds.AfterTag (Some tag)) 
 abbrev pub after_lists : List HookValue → Level → List (List ℕ) → List (List StepValue)
 after_lists hooks level tags = hook_steps hooks (after_kind level) None ∷ tag_lists hooks tags
 
--- A section begins: its layer is entered, with no cleanups yet. (behave's documentation: context layers)
+-- The beginning of a section: its layer is entered, with no cleanups yet. (behave's documentation: context layers)
 abbrev pub entered : State → Stand
 entered outside = record { state = enter outside; cleanups = [] }
 
--- The before list of a section from the state outside is walked as one.
+-- The events of a section's before list, which is walked as one list from the state outside.
 abbrev pub begun : LibraryValue → List HookValue → Level → List (List ℕ) → State → List Event
 begun library hooks level tags outside = walk library (before_of level) (enter outside) (before_list hooks level tags)
 
--- Each after list is walked by itself, from where the one before left the section, whatever the others did.
+-- The events of after lists. Each list is walked by itself, from the state that the one before left, whatever the others did.
 abbrev pub walk_each : LibraryValue → Level → Stand → List (List StepValue) → List Event
 walk_each library level stand [] = []
 walk_each library level stand (steps ∷ others) =

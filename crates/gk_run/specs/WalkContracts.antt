@@ -1,4 +1,4 @@
--- Proof machinery: what contracts of the private functions cite that walk through a section.
+-- Proof machinery: definitions for the contracts of the private functions that walk through a section.
 use Rattle.std.specs.List.{FoldsTo}
 use Rattle.std.specs.Prelude.{List, [], ◌∷◌, ◌++◌, map, ◌≡◌, ◌⊎◌, Option, Some, None, ℕ}
 use Rattle.gk_gherkin.specs.Feature.{StepValue, step_value, texts}
@@ -34,7 +34,7 @@ use Rattle.gk_run.specs.Section.{steps_of_case, before_of}
 use Rattle.gk_run.specs.SectionHooks.{after_lists, before_list, tag_lists, walk_each}
 use Rattle.gk_run.specs.Walk.{Stepped, looked_up, one_step, rows_of_steps, steps_from, walk}
 
--- Events happened and were told, with these left, in a section that had ended so before them: how it ended now, and where it stands.
+-- Events of a section happened and were told, with `rest` left. `before` is how the section had ended before them, `ended` how it has ended now, and `now` its state and cleanups.
 pub record Goes {S : Type 0} (hears : S → Event → S → Type 0) (before : Ending) (all rest : List Event) (start now : Stand) (ended : Ending) (first last : S) : Type 0 where
   pub told : List Event
   pub heard : FoldsTo hears first told last
@@ -53,11 +53,11 @@ abbrev pub IsStepRun : Stepped → List CleanupValue → Mark → State → List
 IsStepRun this cleanups (Acted outcomes.Memory) new new_cleanups = new_cleanups ≡ cleanups
 IsStepRun this cleanups mark new new_cleanups = (mark ≡ this.mark) × (new ≡ this.state) × (new_cleanups ≡ cleanups ++ this.registered)
 
--- A step was only looked up, or memory was refused in that; then its text has the ends of an entry.
+-- A step was only looked up, or memory was refused in the look-up. If it was refused, the step's text has the ends of an entry.
 abbrev pub IsLookedUp : LibraryValue → Mark → StepValue → Mark → Type 0
 IsLookedUp library matched step mark = ((mark ≡ Acted outcomes.Memory) × HasCandidateFor library step.step_type step.text) ⊎ (mark ≡ looked_up library matched step)
 
--- The next step of a case that stands so.
+-- The next step of a case that has ended so far with this ending.
 abbrev pub IsNext : LibraryValue → Ending → State → List CleanupValue → StepValue → Mark → State → List CleanupValue → Type 0
 IsNext library endings.Passed s cleanups step mark new new_cleanups = IsStepRun (one_step library sites.Step s step) cleanups mark new new_cleanups
 IsNext library endings.Failed s cleanups step mark new new_cleanups = IsLookedUp library Skipped step mark × (new ≡ s) × (new_cleanups ≡ cleanups)
@@ -69,19 +69,19 @@ abbrev pub RunsStep : shared.Run → Site → Step → SandboxValue → List Cle
 RunsStep run site step old cleanups mark new new_cleanups =
     IsStepRun (one_step (library_value run.library.now) site (state_of old.now) (step_value step)) cleanups mark (state_of new.now) new_cleanups
 
--- Where no entry matches a step, memory is refused in it only where its text has the ends of an entry.
+-- If no entry matches a step, memory is refused in it only if its text has the ends of an entry.
 abbrev pub StepNeedsCandidate : shared.Run → Step → Mark → Type 0
 StepNeedsCandidate run step mark =
     let library = library_value run.library.now in
     let this = step_value step in
     found library this.step_type this.text ≡ None → mark ≡ Acted outcomes.Memory → HasCandidateFor library this.step_type this.text
 
--- The files that a step writes, in order, where its action has more than one change. A step that isn't found has none.
+-- The files that a step writes, in order, if its action has more than one change. A step that isn't found has none.
 abbrev pub step_files : LibraryValue → State → StepValue → Option FoundValue → List (List ℕ × List ℕ)
 step_files library s step None = []
 step_files library s step (Some f) = files_of (action_of library f) (arguments_of library f step.block) s
 
--- Where memory was refused in a step, some first changes of its action were made and no others.
+-- If memory was refused in a step, its action made some number of its changes, from the first on, and no others.
 abbrev pub StepKeepsAtMemory : shared.Run → Step → SandboxValue → Mark → SandboxValue → Type 0
 StepKeepsAtMemory run step old mark new =
     let library = library_value run.library.now in
@@ -93,23 +93,23 @@ abbrev pub WalksHook : {S : Type 0} → (S → Event → S → Type 0) → share
 WalksHook hears run stage steps old cleanups ended new new_cleanups first last =
     Happens hears endings.Passed (walk (library_value run.library.now) stage (state_of old.now) (map step_value steps)) (stand_of old cleanups) (stand_of new new_cleanups) ended first last
 
--- The next step was taken, of a case that had ended so far like this.
+-- The next step of a case was taken. The case had ended so far with `ending`.
 abbrev pub TakesNext : shared.Run → Ending → Step → SandboxValue → List CleanupValue → Mark → SandboxValue → List CleanupValue → Type 0
 TakesNext run ending step old cleanups mark new new_cleanups =
     IsNext (library_value run.library.now) ending (state_of old.now) cleanups (step_value step) mark (state_of new.now) new_cleanups
 
--- What is told of a step of a case that stood so before it: nothing where memory was refused before.
+-- What is told of a step of a case, by how the case had ended before it: nothing if memory was refused before.
 abbrev pub told_next : Ending → Event → List Event
 told_next endings.Memory event = []
 told_next endings.Passed event = event ∷ []
 told_next endings.Failed event = event ∷ []
 told_next endings.Skipped event = event ∷ []
 
--- The next step of a case that stood so was told, whatever it registered.
+-- The next step of a case was told, whatever it registered. The case had ended so far with `stood`.
 abbrev pub TellsNext : {S : Type 0} → (S → Event → S → Type 0) → Ending → Step → Mark → SandboxValue → S → S → Type 0
 TellsNext hears stood step mark now first last = (registered : List CleanupValue) → FoldsTo hears first (told_next stood (of_step steps_of_case (step_value step) mark registered (state_of now.now))) last
 
--- The steps of a case whose before list ended so were run, and their results are those of what was told.
+-- The steps of a case whose before list ended with `before` were run, and their results are those of the events that were told.
 pub record RunsSteps {S : Type 0} (hears : S → Event → S → Type 0) (run : shared.Run) (before : Ending) (steps : Reserved Step StepResult) (old : SandboxValue) (cleanups : List CleanupValue) (end : StepsEnd) (new : SandboxValue) (new_cleanups : List CleanupValue) (first last : S) : Type 0 where
   pub goes : Happens hears before (steps_from (library_value run.library.now) before (state_of old.now) (map step_value steps.list.items)) (stand_of old cleanups) (stand_of new new_cleanups) end.ending first last
   pub rows : map step_row end.results.items ≡ rows_of_steps (map step_value steps.list.items) (event_marks goes.told)
@@ -143,12 +143,12 @@ abbrev pub CleansOne : shared.Run → Cleanup → SandboxValue → Outcome → S
 CleansOne run cleanup old outcome new =
     IsDone (cleanup_done (library_value run.library.now) (cleanup_value cleanup) (state_of old.now)) outcome (state_of new.now)
 
--- Cleanups were run, the last first, and their outcomes are those of what was told.
+-- Cleanups were run, the last first, and their outcomes are those of the events that were told.
 pub record Cleans {S : Type 0} (hears : S → Event → S → Type 0) (run : shared.Run) (level : Level) (registered : List CleanupValue) (old : SandboxValue) (closed : Closed) (new : SandboxValue) (first last : S) : Type 0 where
   pub goes : Happens hears endings.Passed (cleaned (library_value run.library.now) level (stand_of old registered)) (stand_of old registered) (stand_of new registered) closed.ending first last
   pub outcomes : closed.outcomes.items ≡ outcomes_of goes.told
 
--- The after lists of a section and then its cleanups happened, in a section that had ended so before them: how these ended, and the outcomes of the cleanups.
+-- The after lists of a section and then its cleanups happened. `before` is how the section had ended before them, `ended` how these ended, and `reported` the outcomes of the cleanups.
 pub record IsClosing {S : Type 0} (hears : S → Event → S → Type 0) (library : LibraryValue) (level : Level) (lists : List (List StepValue)) (before : Ending) (start : Stand) (ended : Ending) (reported : List Outcome) (first last : S) : Type 0 where
   pub here : S
   pub mid : Stand
@@ -160,7 +160,7 @@ pub record IsClosing {S : Type 0} (hears : S → Event → S → Type 0) (librar
   pub ending : ended ≡ ended_in (after.told ++ cleanups.told)
   pub outcomes : reported ≡ outcomes_of cleanups.told
 
--- A section that had ended so before was closed; after refused memory nothing more happened in it.
+-- A section that had ended with `before` was closed. After refused memory nothing more happened in it.
 abbrev pub Closes : {S : Type 0} → (S → Event → S → Type 0) → Ending → shared.Run → Section → List CleanupValue → SandboxValue → Closed → S → S → Type 0
 Closes hears before run section registered old closed first last =
     IsClosing hears (library_value run.library.now) section.level (after_lists (hooks_value run.hooks.now.file.now) section.level (texts section.tags.now)) before (stand_of old registered) closed.ending closed.outcomes.items first last

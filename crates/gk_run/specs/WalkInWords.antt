@@ -1,4 +1,4 @@
--- Walking through steps, in words: the step at which it ends, what it leaves, and what becomes of each step.
+-- Walking through steps, in words: the step at which a walk ends, what that step leaves, and the mark of each step.
 use Rattle.std.specs.Prelude.{zero, suc, List, [], length, drop, map, Option, Some, None, option_map, slice_get, ℕ, ◌++◌, ◌≡◌, ◌≢◌, ◌<◌, ◌⊎◌}
 use Rattle.gk_gherkin.specs.Feature.{StepValue}
 use Rattle.gk_steps.specs.Finding.{LibraryValue, FoundValue, found}
@@ -33,11 +33,11 @@ event_at library stage start steps k =
     let before = after library (site_of stage) start steps k in
     option_map (λ step. event_of stage step (one_step library (site_of stage) before.state step)) (slice_get steps k)
 
--- The outcome of a step's action from a state, if the library matches the step so.
+-- The outcome of a step's action from a state, if the library matches the step like this.
 abbrev pub outcome_from : LibraryValue → Site → State → StepValue → FoundValue → Outcome
 outcome_from library site s step f = let acted = act library site f step.block s in acted.done.outcome
 
--- From a state a step isn't found, or its outcome isn't Passed.
+-- A step from this state isn't found, or its outcome isn't Passed.
 abbrev pub Stops : LibraryValue → Site → State → StepValue → Type 0
 Stops library site s step =
     (found library step.step_type step.text ≡ None)
@@ -64,11 +64,11 @@ pub record CarriesOut (library : LibraryValue) (stage : Stage) (start : Stand) (
   pub leaves : left_by start events ≡ after library (site_of stage) start steps count
   pub rest : drop count events ≡ others
 
--- The events of the steps above one that ended so and left this state.
+-- The events of the steps above one that ended like this and left this state.
 abbrev pub Above : Type 0
 Above = Ending → State → List StepValue → List Event
 
--- A list ends at a step, counted from 0: the steps up to it are carried out, those below it passed, and what becomes of those above it follows from how it ended.
+-- A list ends at a step, counted from 0. The steps up to it are carried out, those below it passed, and the events of those above it follow from how it ended.
 abbrev pub EndsAt : LibraryValue → Stage → Stand → List StepValue → Above → List Event → ℕ → Type 0
 EndsAt library stage start steps above events stop =
     let left = after library (site_of stage) start steps (suc stop) in
@@ -88,11 +88,11 @@ pub record EndsAtTheLeastStop (library : LibraryValue) (stage : Stage) (start : 
 abbrev pub no_others : Above
 no_others ended s steps = []
 
--- Each walk ends so, whatever its steps, its stage, and the state and the cleanups of the section before it.
+-- Each walk ends like this, whatever its steps, its stage, and the state and the cleanups of the section before it.
 abbrev pub WalksEndAtTheLeastStop : Type 0
 WalksEndAtTheLeastStop = (library : LibraryValue) (stage : Stage) (start : Stand) (steps : List StepValue) → EndsAtTheLeastStop library stage start steps no_others (walk library stage start.state steps)
 
--- What becomes of a step of a case that isn't carried out, after this ending: after a skip it is skipped; otherwise it is skipped if the library matches it, and undefined if it doesn't. (behave's documentation: a failed step ends its scenario)
+-- The mark of a step of a case that isn't carried out, after this ending: after a skip it is skipped; otherwise it is skipped if the library matches it, and undefined if it doesn't. (behave's documentation: a failed step ends its scenario)
 abbrev pub mark_above : LibraryValue → Ending → StepValue → Mark
 mark_above library endings.Skipped step = Skipped
 mark_above library ended step = looked_up library Skipped step
@@ -101,7 +101,7 @@ mark_above library ended step = looked_up library Skipped step
 abbrev pub unrun_steps : LibraryValue → Above
 unrun_steps library ended s steps = map (λ step. unrun_step step (mark_above library ended step) s) steps
 
--- The steps of each case whose before list passed whole end so.
+-- The steps of each case whose before list passed whole end like this.
 abbrev pub StepsEndAtTheLeastStop : Type 0
 StepsEndAtTheLeastStop = (library : LibraryValue) (start : Stand) (steps : List StepValue) →
     EndsAtTheLeastStop library steps_of_case start steps (unrun_steps library) (steps_from library endings.Passed start.state steps)

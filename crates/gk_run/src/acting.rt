@@ -27,7 +27,7 @@ use std::alloc::{AllocError, Global};
 use value_actions::{delete_value, set_value, value_absent, value_is};
 use variable_actions::{env_absent, env_is, remove_env, set_env};
 
-/// Where an action is carried out.
+/// The site at which an action is carried out.
 #[derive(Clone, Copy, Debug, PartialEq, Eq)]
 pub enum Site {
     /// A step of a scenario.
@@ -40,7 +40,7 @@ pub enum Site {
     Cleanup,
 }
 
-/// What an action works with.
+/// The arguments of an action.
 #[derive(Clone, Copy)]
 pub struct Arguments<'a> {
     /// The field `name`.
@@ -51,13 +51,13 @@ pub struct Arguments<'a> {
     pub step: &'a str,
     /// The field `n`.
     pub number: i64,
-    /// The field `text`, else the step's doc string.
+    /// The field `text` if the pattern has it, otherwise the step's doc string.
     pub text: Option<&'a str>,
-    /// What stands under the step.
+    /// The step's block: a doc string, a table or nothing.
     pub block: &'a Block,
 }
 
-// A change of the world as an outcome.
+// Returns the outcome for what a change of the world returned.
 fn outcome_of(answer: Result<(), WorldFault>) -> Outcome
     ensures { result ≡ words.outcome_of answer }
 {
@@ -71,7 +71,7 @@ fn outcome_of(answer: Result<(), WorldFault>) -> Outcome
     }
 }
 
-// Whether something is held.
+// Passes if something is held.
 fn exists(held: Option<&str>) -> Outcome
     ensures { IsHeld (option_copied held.entry) result }
 {
@@ -81,7 +81,7 @@ fn exists(held: Option<&str>) -> Outcome
     }
 }
 
-// Whether nothing is held.
+// Passes if nothing is held.
 fn is_absent(held: Option<&str>) -> Outcome
     ensures { IsNotHeld (option_copied held.entry) result }
 {
@@ -91,7 +91,7 @@ fn is_absent(held: Option<&str>) -> Outcome
     }
 }
 
-// Whether T is held.
+// Passes if `held` equals `text`.
 fn is_text(held: Option<&str>, text: Option<&str>) -> Outcome
     ensures { IsText (option_copied held.entry) (option_copied text.entry) result }
 {
@@ -108,7 +108,7 @@ fn is_text(held: Option<&str>, text: Option<&str>) -> Outcome
     }
 }
 
-// Whether a text is held in which T stands.
+// Passes if `held` contains `text`.
 fn has_text(held: Option<&str>, text: Option<&str>) -> Outcome
     ensures { HasText (option_copied held.entry) (option_copied text.entry) result }
 {
@@ -125,7 +125,7 @@ fn has_text(held: Option<&str>, text: Option<&str>) -> Outcome
     }
 }
 
-// The text of a doc string.
+// Returns the text of a doc string.
 fn doc_string(block: &Block) -> Option<&str>
     ensures { option_copied result ≡ words.doc_string (block_value block.now) }
 {
@@ -135,7 +135,7 @@ fn doc_string(block: &Block) -> Option<&str>
     }
 }
 
-// What an action works with, of what the fields took and the step's block.
+// Returns the arguments for these used fields and this block.
 #[inline(always)]
 pub(crate) fn arguments_by<'a>(used: UsedFields<'a>, block: &'a Block) -> Arguments<'a>
     ensures { arguments_value result ≡ arguments_by_uses used.entry (block_value block.now) }
@@ -150,7 +150,7 @@ pub(crate) fn arguments_by<'a>(used: UsedFields<'a>, block: &'a Block) -> Argume
     }
 }
 
-// What a step's action works with.
+// Returns the arguments of a found step.
 #[inline(always)]
 fn arguments_of<'a>(library: &Library, found: &'a Found, block: &'a Block) -> Arguments<'a>
     ensures { arguments_value result
@@ -213,7 +213,7 @@ fn may_register(site: Site) -> bool
     !matches!(site, Site::Cleanup)
 }
 
-// Skips the scenario, where that is allowed.
+// Skips the scenario, if the site allows it.
 fn skip(site: Site) -> Outcome
     ensures { result ≡ words.skip_outcome site }
 {
@@ -250,7 +250,7 @@ fn register(
     }
 }
 
-// Registers a cleanup, where that is allowed.
+// Registers a cleanup, if the site allows it.
 fn at_cleanup(
     alloc: Global,
     cleanups: &mut Cleanups,
@@ -308,13 +308,14 @@ pub(crate) fn act_by(
 /// Carries out the action of a step that was found in a library, with the step's block.
 ///
 /// The outcome is `Passed`, `Failed` with the first of the action's reasons that holds, `Skip`, or
-/// `Memory`, which comes only where a growth was refused, and never for an action that changes
-/// nothing, nor for one that is refused before a part of it passed, nor for `at_cleanup` with a step
-/// that has the ends of no entry of type `step`. `at_cleanup` adds a cleanup to those that are
-/// registered; every other action, and a refusal, leaves these as they are. An action that fails
+/// `Memory`. `Memory` comes only if a growth was refused. It never comes for an action that changes
+/// nothing, or for one that is refused before a part of it passed. Nor does it come for `at_cleanup`
+/// with a step that has the ends of no entry of type `step`. `at_cleanup` adds a cleanup to those that
+/// are registered; every other action, and a refusal, leaves these as they are. An action that fails
 /// midway keeps what it did before: rows of `write_files` before the refused one stay. At `Memory` the
-/// sandbox and the cleanups are as they were, but for what `write_files` and `rename_file` changed
-/// before; the end of the layer gives back what was there as it began. (behave's documentation: cleanups)
+/// sandbox and the cleanups are as they were, except for what `write_files` and `rename_file` changed
+/// before; the end of the layer restores what the sandbox held when the layer began. (behave's
+/// documentation: cleanups)
 pub fn act(
     alloc: Global,
     sandbox: &mut Sandbox,

@@ -17,11 +17,12 @@ pub struct Member {
     pub selected: bool,
 }
 
-/// The cases of a feature that are still to come, each with whether it is selected, and the results of
-/// those before, with room for the results of all.
+/// The cases of a feature that are still to come, each with whether it is selected. `results` are those
+/// of the cases before them, with room for the results of all.
 #[derive(Drop)]
 pub struct Cases {
-    /// Which cases come next: 0 for those without a rule, 1 for those of the first rule, and so on.
+    /// The rank of the cases that come next: 0 for those without a rule, 1 for those of the first rule,
+    /// and so on.
     pub rank: usize,
     pub waiting: VecDeque<Case>,
     pub selected: VecDeque<bool>,
@@ -31,7 +32,7 @@ pub struct Cases {
     ghost falls: { falls_from rank waiting.items ≡ true },
 }
 
-/// What is inside of a feature and isn't run yet: its rules and its cases.
+/// The rules and the cases of a feature, none of them run yet.
 #[derive(Drop)]
 pub struct Content {
     pub rules: Reserved<RuleHead, RuleResult>,

@@ -1,4 +1,4 @@
-//! A feature's cases with the choice among them.
+//! A feature's cases, and which of them are selected.
 
 use gk_select::Case;
 
@@ -12,8 +12,8 @@ pub struct RuleHead {
 }
 
 /// A feature with its rules and its cases in file order, and for each case whether it is selected.
-/// `selected` has as many elements as `cases`. The rule of a case, where it has one, is a place in
-/// `rules`, and never falls from one case to the next; cases without a rule come first.
+/// `selected` and `cases` have the same length. The rule of a case, if it has one, is a place in
+/// `rules`. These places are non-decreasing from case to case, and cases without a rule come first.
 #[derive(Debug, Drop)]
 pub struct Chosen {
     /// The name of the source that the feature was read from.

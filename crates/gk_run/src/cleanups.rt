@@ -9,8 +9,8 @@ use gk_steps::Found;
 use std::alloc::{AllocError, Global};
 use std::marker::Model;
 
-/// A registered cleanup: what its text found, and the block of the step that registered it.
-/// (behave's documentation: cleanups)
+/// A registered cleanup: what the look-up of its text found, and the block of the step that registered
+/// it. (behave's documentation: cleanups)
 #[derive(Debug, Drop)]
 pub struct Cleanup {
     pub found: Found,
@@ -22,7 +22,7 @@ pub struct Cleanup {
 #[derive(Debug, Drop)]
 pub struct Cleanups {
     pub(crate) list: Vec<Cleanup>,
-    // Empty, with room for the outcome of each.
+    // Empty, with room for the outcome of each cleanup.
     pub(crate) outcomes: Vec<Outcome>,
 }
 
@@ -39,7 +39,7 @@ impl Model for Cleanups {
         × (length c.list.items ≤ vec_capacity c.outcomes) };
 }
 
-// A copy of a block.
+// Returns a copy of a block.
 fn copy_block(block: &Block) -> Result<Block, AllocError>
     ensures { IfOk result (λ b. block_value b ≡ block_value block.now) }
 {
@@ -51,7 +51,7 @@ fn copy_block(block: &Block) -> Result<Block, AllocError>
 }
 
 impl Cleanups {
-    /// No cleanups. Takes no memory.
+    /// Returns an empty list of cleanups. Takes no memory.
     pub fn new(alloc: Global) -> Cleanups
         ensures { result ≡ [] }
     {
@@ -61,7 +61,7 @@ impl Cleanups {
         }
     }
 
-    /// Registers a cleanup as the last, with a copy of the block, and reserves the place of its
+    /// Registers a cleanup after the others, with a copy of the block, and reserves room for its
     /// outcome. A refusal changes nothing. (behave's documentation: cleanups)
     pub(crate) fn add(&mut self, found: Found, block: &Block) -> Result<(), AllocError>
         ensures ok { OnOk result (self.new ≡ self.old
@@ -75,7 +75,7 @@ impl Cleanups {
         Ok(())
     }
 
-    /// No outcome, for when none of the cleanups runs.
+    /// Returns an empty list of outcomes, for when none of the cleanups runs.
     pub(crate) fn none(self) -> Vec<Outcome>
         ensures { result.items ≡ [] }
     {

@@ -25,7 +25,7 @@ use gk_select::Case;
 use gk_steps::Library;
 use std::alloc::Global;
 
-// Looks a step up, unless memory was refused before it.
+// Looks up a step, unless memory was refused before it.
 fn dry_step(alloc: Global, library: &Library, is_refused: bool, step: &Step) -> Mark
     ensures { IsDryStep (library_value library.now) is_refused (step_value step.now) result }
 {
@@ -42,7 +42,7 @@ struct DrySteps {
     is_refused: bool,
 }
 
-// Looks the steps of a case up.
+// Looks up the steps of a case.
 fn dry_steps(alloc: Global, library: &Library, steps: Reserved<Step, StepResult>) -> DrySteps
     ensures { AreDrySteps (library_value library.now) false (map step_value steps.list.items)
         (map step_row result.results.items) result.is_refused }
@@ -69,7 +69,7 @@ fn dry_status(is_refused: bool) -> Status
     Status::Untested
 }
 
-// The result of a selected case.
+// Returns the result of a selected case.
 fn dry_case(alloc: Global, library: &Library, case: Case) -> Result<CaseResult, NoRoom>
     ensures { IfOk result (λ r. (cut : Cut) × (case_row r
         ≡ dry_row (library_value library.now) cut (case_value case))) }
@@ -95,7 +95,7 @@ fn dry_case(alloc: Global, library: &Library, case: Case) -> Result<CaseResult, 
     })
 }
 
-// The result of a case, selected or not.
+// Returns the result of a case, selected or not.
 fn dry_member(
     alloc: Global,
     library: &Library,
@@ -111,7 +111,7 @@ fn dry_member(
     dry_case(alloc, library, case)
 }
 
-// The results of a feature's cases.
+// Returns the results of a feature's cases.
 fn dry_cases(
     alloc: Global,
     library: &Library,
@@ -129,7 +129,7 @@ fn dry_cases(
     Ok(results)
 }
 
-// The results of rules, none of which is begun.
+// Returns the results of rules that aren't begun.
 fn dry_rules(rules: Reserved<RuleHead, RuleResult>) -> Vec<RuleResult>
     ensures { map rule_row result.items ≡ dry_rules_of (map head_value rules.list.items) }
 {
@@ -143,11 +143,11 @@ fn dry_rules(rules: Reserved<RuleHead, RuleResult>) -> Vec<RuleResult>
     results
 }
 
-/// The result of a feature in a dry run. No hook, no step and no cleanup runs: each step of a selected
-/// case is untested where the library matches it and undefined where it doesn't, and the case is
-/// untested. Where memory is refused while a step is looked up, that step and the case are `Memory`,
-/// and the steps after it are untested. The other cases and their steps are skipped. A dry run needs no
-/// `Suite`. `NoRoom` comes where results couldn't be reserved. (behave's documentation: `--dry-run`)
+/// Returns the result of a feature in a dry run. No hook, no step and no cleanup runs. Each step of a
+/// selected case is untested if the library matches it and undefined if it doesn't, and the case is
+/// untested. If memory is refused while a step is looked up, that step and the case are `Memory`, and
+/// the steps after it are untested. The other cases and their steps are skipped. A dry run needs no
+/// `Suite`. `NoRoom` is returned if results couldn't be reserved. (behave's documentation: `--dry-run`)
 pub fn dry_feature(
     alloc: Global,
     library: &Library,

@@ -4,20 +4,21 @@ ghost use Rattle.gk_run.specs.Ending as spec;
 
 use crate::results::{Mark, Outcome, Reason, Status};
 
-/// How steps end that come one after another.
+/// How steps that come one after another end.
 #[derive(Clone, Copy, Debug, PartialEq, Eq)]
 pub enum Ending {
-    /// None failed, is undefined, skipped the scenario or met refused memory.
+    /// None failed, is undefined or skipped the scenario, and memory was refused in none.
     Passed,
     /// One failed or is undefined, and memory was refused in none.
     Failed,
-    /// One skipped the scenario, and none failed, is undefined or met refused memory.
+    /// One skipped the scenario, none failed or is undefined, and memory was refused in none.
     Skipped,
     /// Memory was refused in one.
     Memory,
 }
 
-/// The worse of two endings: `Memory`, then `Failed`, then `Skipped`.
+/// Returns the worse of two endings. From the worst on, these are `Memory`, `Failed`, `Skipped` and
+/// `Passed`.
 pub fn worse(a: Ending, b: Ending) -> Ending
     ensures { result ≡ spec.worse a b }
 {
@@ -35,21 +36,21 @@ pub fn worse(a: Ending, b: Ending) -> Ending
     }
 }
 
-/// Whether memory was refused.
+/// Reports whether memory was refused.
 pub fn is_memory(ending: Ending) -> bool
     ensures { result ≡ spec.is_memory_ending ending }
 {
     matches!(ending, Ending::Memory)
 }
 
-/// Whether none failed, is undefined, skipped the scenario or met refused memory.
+/// Reports whether none failed, is undefined or skipped the scenario, and memory was refused in none.
 pub fn has_passed(ending: Ending) -> bool
     ensures { result ≡ spec.has_passed ending }
 {
     matches!(ending, Ending::Passed)
 }
 
-/// How one step, hook step or cleanup ends by itself, by what became of it.
+/// Returns how one step, hook step or cleanup with this mark ends by itself.
 pub fn ending_of(mark: Mark) -> Ending
     ensures { result ≡ spec.ending_of mark }
 {
@@ -61,14 +62,14 @@ pub fn ending_of(mark: Mark) -> Ending
     }
 }
 
-/// Whether memory was refused in a step.
+/// Reports whether memory was refused in a step with this mark.
 pub fn is_memory_mark(mark: Mark) -> bool
     ensures { result ≡ spec.is_memory_mark mark }
 {
     matches!(mark, Mark::Acted(Outcome::Memory))
 }
 
-/// The status of a step by what became of it.
+/// Returns the status of a step with this mark.
 pub fn status_of(mark: Mark) -> Status
     ensures { result ≡ spec.status_of_mark mark }
 {
@@ -83,7 +84,7 @@ pub fn status_of(mark: Mark) -> Status
     }
 }
 
-/// The reason of a step that failed.
+/// Returns the reason of a step that failed.
 pub fn reason_of(mark: Mark) -> Option<Reason>
     ensures { result ≡ spec.reason_of_mark mark }
 {
@@ -93,7 +94,7 @@ pub fn reason_of(mark: Mark) -> Option<Reason>
     }
 }
 
-/// The status of hooks and cleanups that end so.
+/// Returns the status of hooks and cleanups with this ending.
 pub fn around_status(ending: Ending) -> Status
     ensures { result ≡ spec.around_status ending }
 {
@@ -103,7 +104,7 @@ pub fn around_status(ending: Ending) -> Status
     }
 }
 
-/// The verdict of a scenario whose hooks, steps and cleanups end so.
+/// Returns the verdict of a scenario whose hooks, steps and cleanups have this ending.
 pub fn verdict_status(ending: Ending) -> Status
     ensures { result ≡ spec.verdict_status ending }
 {

@@ -26,14 +26,15 @@ use gk_steps::Library;
 use gk_world::Sandbox;
 use std::alloc::Global;
 
-/// What is inside of a feature: the results of its rules and of its cases.
+/// The results of what is inside a feature: its rules and its cases.
 #[derive(Drop)]
 struct InsideResults {
     rules: Vec<RuleResult>,
     cases: Vec<CaseResult>,
 }
 
-// Runs what is inside of a feature that is open, or isn't: its own cases, and then its rules.
+// Runs what is inside a feature: its own cases, and then its rules. `is_open` says whether the feature
+// is open.
 fn run_inside<O: Observer>(
     run: &Run<'_>,
     sandbox: &mut Sandbox,
@@ -56,14 +57,14 @@ fn run_inside<O: Observer>(
     })
 }
 
-/// What a feature comes to.
+/// How a feature's hooks and cleanups ended, and the results of what is inside it.
 #[derive(Drop)]
 struct FeatureEnd {
     around: Status,
     inside: InsideResults,
 }
 
-// Runs a feature in a layer of its own.
+// Runs a feature in its own layer.
 fn begin_feature<O: Observer>(
     run: &Run<'_>,
     sandbox: &mut Sandbox,
@@ -93,7 +94,7 @@ fn begin_feature<O: Observer>(
     }
 }
 
-// Runs a feature that is begun, or gives the results of what is inside of one that isn't.
+// Runs a feature if it is begun; otherwise returns the results of what is inside it.
 fn feature_end<O: Observer>(
     run: &Run<'_>,
     sandbox: &mut Sandbox,
@@ -123,7 +124,7 @@ fn has_selected(selected: &[bool]) -> bool
     selected.iter().any(|s| *s)
 }
 
-// Whether a status is this one.
+// Reports whether a status is the wanted one.
 fn has_status(status: Status, wanted: Status) -> bool
     ensures { result ≡ rows.is_status wanted status }
 {
@@ -148,14 +149,14 @@ fn verdict_by(memory: bool, failed: bool, untested: bool, passed: bool) -> Statu
     Status::Skipped
 }
 
-// Whether the hooks and cleanups of a rule ended so.
+// Reports whether the hooks and cleanups of a rule ended with the wanted status.
 fn has_around(rules: &[RuleResult], wanted: Status) -> bool
     ensures { result ≡ list_any (λ (r : RuleResult). rows.is_status wanted r.around) rules.now }
 {
     rules.iter().any(|rule| has_status(rule.around, wanted))
 }
 
-/// The verdict of a feature.
+/// Returns the verdict of a feature.
 pub fn feature_status(around: Status, rules: &[RuleResult], cases: &[CaseResult]) -> Status
     ensures { result ≡ feature_verdict around (rule_statuses (map rule_row rules.now))
         (case_statuses (map case_row cases.now)) }
@@ -179,7 +180,7 @@ pub fn feature_status(around: Status, rules: &[RuleResult], cases: &[CaseResult]
     verdict_by(memory, failed, untested, passed)
 }
 
-// Runs a feature of a run that is open, or isn't.
+// Runs a feature of a run. `is_open` says whether the run is open.
 pub(crate) fn feature_in<O: Observer>(
     run: &Run<'_>,
     sandbox: &mut Sandbox,
@@ -223,12 +224,12 @@ pub(crate) fn feature_in<O: Observer>(
     })
 }
 
-/// Runs a feature in a layer of its own: its before hooks, its cases without a rule in order, each in a
-/// layer of its own, its rules in order, its after hooks and its cleanups. A rule goes the same way in a
-/// layer of its own, with the hooks of rules and of the rule's tags. Unselected cases and their steps are
-/// skipped. Where the before hooks of a feature or a rule don't pass, its selected cases are untested; with
-/// `stop`, so are those after a case or a rule that is failed or memory. A feature or a rule without a
-/// selected case isn't begun. The sandbox is as it was, whatever is returned. `NoRoom` comes where results
+/// Runs a feature in its own layer: its before hooks, its cases without a rule in order, each in its
+/// own layer, its rules in order, its after hooks and its cleanups. A rule runs the same way in its own
+/// layer, with the hooks of rules and of the rule's tags. Unselected cases and their steps are skipped.
+/// If the before hooks of a feature or a rule don't pass, its selected cases are untested; with `stop`,
+/// so are those after a case or a rule that is failed or memory. A feature or a rule without a selected
+/// case isn't begun. The sandbox is as it was, whatever is returned. `NoRoom` is returned if results
 /// couldn't be reserved; the layers that were begun are ended. (behave's documentation: context layers,
 /// environment file functions, cleanups)
 pub fn run_feature(

@@ -26,21 +26,22 @@ pub fn stopped_cases_run_no_step()
     ensures { StoppedCasesRunNoStep }
 {}
 
-/// Results are judged exactly if the words hold of them: which features and rules are begun, which
-/// cases are reached, what each comes to, and what `--stop` and refused memory leave of the rest.
-/// (behave's documentation: environment file functions, `--stop`)
+/// Results are judged exactly if the words hold of them. The words say which features and rules are
+/// begun, which cases are reached, what each comes to, and what `--stop` and refused memory leave of
+/// the rest. (behave's documentation: environment file functions, `--stop`)
 pub fn judged_results_are_in_words()
     ensures { JudgedAreInWords }
 {}
 
-/// Each step of a case has one result, in order, by what became of it: untested if its event didn't
+/// Each step of a case has one result, in order, by its mark. It is untested if its event didn't
 /// happen.
 pub fn steps_have_their_results()
     ensures { StepsHaveTheirResults }
 {}
 
-/// Judged results in which no case, and no hooks and cleanups of a rule, of a feature or of the run,
-/// are marked memory are the ones that plain maps give: there is one such list.
+/// Judged results without memory are the ones that plain maps give: there is one such list. Without
+/// memory means that no case is marked memory, and no hooks and cleanups of a rule, of a feature or of
+/// the run are.
 pub fn without_memory_there_is_one_list()
     ensures { OneList }
 {}
@@ -50,13 +51,13 @@ pub fn dry_runs_are_judged()
     ensures { DryRunsAreJudged }
 {}
 
-/// The results of the first features of a dry run begin judged results of all of them.
+/// The results of the first features of a dry run are the beginning of judged results of all of them.
 pub fn unfinished_dry_runs_are_judged()
     ensures { UnfinishedDryRunsAreJudged }
 {}
 
-/// A run that was begun, whose features were run, and that was finished has judged results: the
-/// features' results and what `Suite::finish` returns.
+/// A run that was begun, ran its features and was finished has judged results: the features' results
+/// and what `Suite::finish` returns.
 pub fn finished_runs_are_judged()
     ensures { FinishedRunsAreJudged }
 {}
@@ -67,13 +68,13 @@ pub fn unfinished_runs_are_judged()
     ensures { UnfinishedRunsAreJudged }
 {}
 
-/// Where the cases of a feature fall into its rules, its own cases and then those of each rule, one
-/// rule after another, are all of them, in file order.
+/// If the cases of a feature fall into its rules, its own cases and then those of each rule, one rule
+/// after another, are all of them, in file order.
 pub fn groups_are_all()
     ensures { GroupsAreAll }
 {}
 
-/// The cases of a feature that `run_feature` takes fall into its rules.
+/// The cases of a feature that `run_feature` accepts fall into its rules.
 pub fn formed_cases_fall_into_rules()
     ensures { FormedCasesFallIntoRules }
 {}
@@ -83,7 +84,7 @@ pub fn features_without_rules_have_their_cases()
     ensures { FeaturesWithoutRulesHaveTheirCases }
 {}
 
-/// The results of a feature stand in file order: those of its rules, and those of its cases.
+/// The results of a feature are in file order: those of its rules, and those of its cases.
 pub fn results_stand_in_file_order()
     ensures { ResultsStandInFileOrder }
 {}

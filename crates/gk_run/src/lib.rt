@@ -1,7 +1,7 @@
-//! Running cases, features and whole runs. A library, hooks, a sandbox and the cases of a feature come
-//! in; the result of each step, case and feature goes out. Each case has the result that plain maps give
-//! it alone from its section's state, unless memory was refused in it, and the sandbox is as it was. In a
-//! dry run steps are only looked up.
+//! Running cases, features and whole runs. The input is a library, hooks, a sandbox and the cases of a
+//! feature; the output is the result of each step, case and feature. Unless memory was refused in it,
+//! each case has the result that plain maps give it alone from its section's state. Afterwards the
+//! sandbox is as it was. In a dry run, steps are only looked up.
 #![tactic(auto)]
 
 // Results.
@@ -12,12 +12,12 @@ mod acting;
 mod cleanups;
 mod ending;
 
-// A run as it is told, and the stages in it.
+// The observer of a run, what stays the same during it, and its sections.
 mod observer;
 mod run;
 mod section;
 
-// Steps and hooks, one after another.
+// The walks through steps and hooks.
 mod section_hooks;
 mod walk;
 

@@ -14,23 +14,24 @@ use gk_gherkin::{Block, Step};
 use gk_steps::Found;
 use gk_world::Sandbox;
 
-/// What is told the events of a run, each once it has happened, in order. It sees the sandbox as the
-/// event left it, which after a check that failed is what the check found, and can't change it. Its
-/// methods answer nothing, so that memory that is refused to it is no event of the run.
+/// An observer of a run. It is told the run's events in order, each once it has happened. It sees the
+/// sandbox as the event left it, which after a failed check is what the check found. It can't change
+/// the sandbox. Its methods return nothing, so memory that is refused to an observer is no event of the
+/// run.
 pub trait Observer {
-    /// What it may become where it is told an event.
+    /// What it may become when it is told an event.
     ghost hears: { Self → Event → Self → Type 0 };
 
-    /// What it may become where it is told that a scenario or a rule has ended.
+    /// What it may become when it is told that a scenario or a rule has ended.
     ghost ends: { Self → Ended → Self → Type 0 };
 
-    /// A step of a scenario or of a hook, where it stands, and what became of it. The cleanups that it
-    /// registered aren't told.
+    /// Receives a step of a scenario or of a hook, with its stage and its mark. The cleanups that the
+    /// step registered aren't told.
     fn step(&mut self, stage: Stage, step: &Step, mark: Mark, sandbox: &Sandbox)
         ensures { (registered : List CleanupValue) → hears self.old (of_step stage
             (step_value step.now) mark registered (state_of sandbox.now.now)) self.new };
 
-    /// A registered cleanup of a section of a level, and its outcome.
+    /// Receives a registered cleanup of a section of this level, and its outcome.
     fn cleanup(
         &mut self,
         level: Level,
@@ -43,16 +44,17 @@ pub trait Observer {
             (record { found = found_value found.now; block = block_value block.now }) outcome
             (state_of sandbox.now.now)) self.new };
 
-    /// A scenario has ended with this result, after its events; one that isn't run has none.
+    /// Receives the result of a scenario that has ended, after its events. A scenario that isn't run
+    /// has no events.
     fn case_ended(&mut self, row: &CaseResult)
         ensures { ends self.old (of_case (case_row row.now)) self.new };
 
-    /// A rule has ended with this result, after its events and its scenarios.
+    /// Receives the result of a rule that has ended, after its events and its scenarios.
     fn rule_ended(&mut self, row: &RuleResult)
         ensures { ends self.old (of_rule (rule_row row.now)) self.new };
 }
 
-/// Nobody watches.
+/// An observer that ignores what it is told.
 #[derive(Drop)]
 pub struct Unwatched;
 

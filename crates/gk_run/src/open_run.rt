@@ -24,9 +24,9 @@ use gk_world::Sandbox;
 use std::alloc::Global;
 use std::marker::Model;
 
-/// A run that was begun: its layer is open, and its before hook was run. It has to be finished. Inside
-/// its layer there is room for those of a feature, of a rule and of a scenario. (behave's documentation:
-/// context layers, environment file functions)
+/// A run that was begun: its layer is open, and its `before_all` hook was run. It must be finished.
+/// Inside its layer there is room for the layers of a feature, of a rule and of a scenario. (behave's
+/// documentation: context layers, environment file functions)
 pub struct Suite {
     section: OpenSection,
     stop: bool,
@@ -53,17 +53,18 @@ impl Model for Suite {
 }
 
 impl Suite {
-    // Whether further features are begun.
+    // Reports whether further features are begun.
     fn opens_features(&self) -> bool
         ensures { result ≡ spec.opens_features self.now }
     {
         has_passed(self.section.before) && !(self.stop && self.has_failed)
     }
 
-    /// Begins a run: its layer, and the before hook of all. Takes no memory but what the hook's steps
-    /// take. With `stop`, once a scenario, a rule or a feature is failed or memory, later scenarios are
-    /// untested and later rules and features aren't begun; what was begun is ended as always. No feature
-    /// has failed yet. (behave's documentation: context layers, environment file functions, `--stop`)
+    /// Begins a run: begins its layer, and runs the `before_all` hook. Takes only the memory that the
+    /// hook's steps take. With `stop`, once a scenario, a rule or a feature is failed or memory, later
+    /// scenarios are untested and later rules and features aren't begun; what was begun is ended as
+    /// always. No feature has failed yet. (behave's documentation: context layers, environment file
+    /// functions, `--stop`)
     pub fn start(
         alloc: Global,
         sandbox: &mut Sandbox,
@@ -77,7 +78,7 @@ impl Suite {
         Suite::start_watched(alloc, sandbox, library, hooks, stop, &mut Unwatched)
     }
 
-    /// Begins a run as `start` does, and tells an observer the events of the before hook of all.
+    /// Begins a run as `start` does, and tells an observer the events of the `before_all` hook.
     pub fn start_watched<O: Observer>(
         alloc: Global,
         sandbox: &mut Sandbox,
@@ -109,9 +110,10 @@ impl Suite {
         }
     }
 
-    /// Runs a feature of the run, as `run_feature` does, if the before hook of all passed whole and the
-    /// run hasn't stopped; otherwise its selected cases are untested. The sandbox is as it was, whatever
-    /// is returned, and after `NoRoom` the run is as it was. (behave's documentation: context layers)
+    /// Runs a feature of the run, as `run_feature` does, if the `before_all` hook passed whole and the
+    /// run hasn't stopped; otherwise its selected cases are untested. The sandbox is as it was,
+    /// whatever is returned, and after `NoRoom` the run is as it was. (behave's documentation: context
+    /// layers)
     pub fn feature(
         &mut self,
         alloc: Global,
@@ -131,12 +133,12 @@ impl Suite {
         self.feature_watched(alloc, sandbox, library, hooks, chosen, &mut Unwatched)
     }
 
-    /// Runs a feature of the run as `feature` does, and tells an observer what happens: the events of the
-    /// feature's before hooks, then each of its own scenarios, then each rule, and then the events of its
-    /// after hooks and its cleanups. A scenario is told by its events and then its result, a rule by its
-    /// hooks, its scenarios and its cleanups and then its result. If memory is refused in the hooks or
-    /// the cleanups of a scenario, a rule or the feature, these are told up to that event. After `NoRoom`
-    /// some of it was told.
+    /// Runs a feature of the run as `feature` does, and tells an observer what happens: the events of
+    /// the feature's before hooks, then each of its scenarios without a rule, then each rule, and then
+    /// the events of its after hooks and its cleanups. Of a scenario it tells the events and then the
+    /// result; of a rule its hooks, its scenarios and its cleanups and then the result. If memory is
+    /// refused in the hooks or the cleanups of a scenario, a rule or the feature, these are told up to
+    /// that event. After `NoRoom` some of it was told.
     pub fn feature_watched<O: Observer>(
         &mut self,
         alloc: Global,
@@ -171,9 +173,9 @@ impl Suite {
         Ok(result)
     }
 
-    /// Ends the run: its after hook, its cleanups and its layer. Returns how its hooks and cleanups
-    /// ended: `Passed`, `Failed` or `Memory`. Takes no memory but what the steps take. (behave's
-    /// documentation: context layers, environment file functions, cleanups)
+    /// Ends the run: runs its `after_all` hook and its cleanups, and ends its layer. Returns how its
+    /// hooks and cleanups ended: `Passed`, `Failed` or `Memory`. Takes only the memory that the steps
+    /// take. (behave's documentation: context layers, environment file functions, cleanups)
     pub fn finish(
         self,
         alloc: Global,
@@ -189,8 +191,8 @@ impl Suite {
         self.finish_watched(alloc, sandbox, library, hooks, &mut Unwatched)
     }
 
-    /// Ends the run as `finish` does, and tells an observer the events of the after hook of all and of the
-    /// run's cleanups, or, if memory is refused in one, those up to that one.
+    /// Ends the run as `finish` does, and tells an observer the events of the `after_all` hook and of
+    /// the run's cleanups. If memory is refused in one, it tells those up to that one.
     pub fn finish_watched<O: Observer>(
         self,
         alloc: Global,

@@ -1,5 +1,5 @@
-//! The way that a section goes: it is begun and its before list walked through, what is inside of it
-//! runs, and it is closed and ended. The run, a feature, a rule and a scenario go it.
+//! The course of a section: it is begun and its before list is walked through, what is inside it runs,
+//! and it is closed and ended. The run, a feature, a rule and a scenario are sections.
 ghost use Rattle.std.specs.Prelude.{◌≡◌, ◌<◌};
 ghost use Rattle.gk_gherkin.specs.Feature.{texts};
 ghost use Rattle.gk_world.specs.State.{layers};
@@ -19,7 +19,7 @@ use crate::section_end::{Closed, close};
 use crate::section_hooks::walk_before;
 use gk_world::{Layer, Sandbox, layers_enter};
 
-/// A section that was begun. It has to be ended. (behave's documentation: context layers)
+/// A section that was begun. It must be ended. (behave's documentation: context layers)
 pub struct OpenSection {
     pub layer: Layer,
     /// How its before list ended.
@@ -28,7 +28,7 @@ pub struct OpenSection {
     pub cleanups: Cleanups,
 }
 
-/// Begins a section: its layer, and the walk through its before list.
+/// Begins a section: begins its layer, and walks through its before list.
 pub fn open_section<O: Observer>(
     run: &Run<'_>,
     sandbox: &mut Sandbox,
@@ -51,7 +51,7 @@ pub fn open_section<O: Observer>(
     }
 }
 
-// Closes a section that ended so before. After refused memory nothing more runs in it.
+// Closes a section whose body ended with `ending`. After refused memory nothing more runs in it.
 fn close_after<O: Observer>(
     run: &Run<'_>,
     sandbox: &mut Sandbox,
@@ -74,7 +74,8 @@ fn close_after<O: Observer>(
     close(run, sandbox, cleanups, section, observer)
 }
 
-/// Ends a section that ended so before: closes it, unless memory was refused in it, and ends its layer.
+/// Ends a section whose body ended with `ending`: closes it, unless memory was refused in it, and ends
+/// its layer.
 pub fn end_section<O: Observer>(
     run: &Run<'_>,
     sandbox: &mut Sandbox,
@@ -98,7 +99,7 @@ pub fn end_section<O: Observer>(
     closed
 }
 
-/// Ends a section without steps of its own. Returns how its hooks and cleanups ended.
+/// Ends a section without its own steps. Returns how its hooks and cleanups ended.
 pub fn end_around<O: Observer>(
     run: &Run<'_>,
     sandbox: &mut Sandbox,
@@ -117,7 +118,7 @@ pub fn end_around<O: Observer>(
     around_status(worse(before, closed.ending))
 }
 
-/// Ends a section in which results couldn't be reserved: its layer alone.
+/// Ends the layer of a section in which results couldn't be reserved. Nothing more runs in the section.
 pub fn leave_section(sandbox: &mut Sandbox, opened: OpenSection)
     requires innermost { opened.layer ≡ depth sandbox.old }
     ensures ends { Ends sandbox.old sandbox.new }

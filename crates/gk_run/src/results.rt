@@ -3,28 +3,31 @@ ghost use Rattle.std.specs.Prelude.{◌≡◌, ◌≤◌, [], length, vec_capaci
 
 use std::alloc::{AllocError, Global};
 
-/// The status of a step, a scenario or a feature, or of the hooks and cleanups of a section. A step has
-/// any of them; a scenario or a feature is never undefined; hooks and cleanups are `Passed`, `Failed` or
-/// `Memory`. An undefined step of a hook counts as failed. The first that fits, from `Memory` over
-/// `Failed` and `Untested` to `Passed` and `Skipped`, is that of a feature. (behave's documentation: the
-/// statuses of steps)
+/// The status of a step, a scenario or a feature, or of the hooks and cleanups of a section. A step can
+/// have any of them; a scenario or a feature is never `Undefined`; hooks and cleanups are `Passed`,
+/// `Failed` or `Memory`. An undefined step of a hook counts as failed. A feature has the first status
+/// that applies, in the order `Memory`, `Failed`, `Untested`, `Passed`, `Skipped`. (behave's
+/// documentation: the statuses of steps)
 #[derive(Clone, Copy, Debug, PartialEq, Eq)]
 pub enum Status {
-    /// A step passed; each step, hook and cleanup of a scenario passed; a scenario of a feature passed.
+    /// A step passed; each step, hook and cleanup of a scenario passed; or a scenario of a feature
+    /// passed.
     Passed,
-    /// A step's action failed; a step, a hook or a cleanup of a scenario failed, or a step is undefined; in
-    /// a feature a scenario failed, or the feature's hooks and cleanups did, or those of one of its rules.
+    /// A step's action failed; in a scenario, a step, a hook or a cleanup failed, or a step is
+    /// undefined; or in a feature, a scenario, the feature's hooks and cleanups, or those of one of its
+    /// rules failed.
     Failed,
     /// A step comes after the one that ended its scenario, or its scenario skipped itself or isn't
-    /// selected; a scenario skipped itself or isn't selected; no scenario of a feature passed.
+    /// selected; a scenario skipped itself or isn't selected; or no scenario of a feature passed.
     Skipped,
     /// No entry of the library matches a step.
     Undefined,
-    /// Memory was refused before a step was reached; a scenario wasn't reached; in a dry run, a step that
-    /// an entry of the library matches, and a scenario; a scenario of a feature is untested.
+    /// Memory was refused before a step was reached; a scenario and its steps weren't reached; or a
+    /// scenario of a feature is untested. In a dry run: an entry of the library matches a step; or a
+    /// scenario is selected, and memory was refused at none of its steps.
     Untested,
-    /// Memory was refused: in a step; in a step, a hook or a cleanup of a scenario; in a scenario of a
-    /// feature, in the feature's hooks and cleanups, or in those of one of its rules.
+    /// Memory was refused: in a step; in a step, a hook or a cleanup of a scenario; or in a feature's
+    /// scenario, in its hooks and cleanups, or in those of one of its rules.
     Memory,
 }
 
@@ -35,13 +38,13 @@ pub enum Reason {
     Absent,
     /// There is such a file, variable or value.
     Present,
-    /// The text or the number is another.
+    /// The text or the number is a different one, or the text doesn't contain the one asked for.
     Differs,
     /// The text has more bytes than `gk_world::LONGEST_TEXT`.
     TextTooLong,
-    /// The name has no byte, or more bytes than `gk_world::LONGEST_NAME`.
+    /// The name is empty, or has more bytes than `gk_world::LONGEST_NAME`.
     BadName,
-    /// The value was set in an outer layer alone.
+    /// The value was set only in an outer layer.
     OtherLayer,
     /// The step has no text: its pattern has no field `text`, and it has no doc string.
     NoText,
@@ -51,12 +54,12 @@ pub enum Reason {
     BadTable,
     /// The value isn't a number.
     NotNumber,
-    /// The sum isn't a signed number of 64 bits.
+    /// The sum isn't a signed 64-bit number.
     OutOfRange,
-    /// A step is to be registered as a cleanup, and no entry of type `step` matches it.
+    /// No entry of type `step` matches the step that is to be registered as a cleanup.
     NoStep,
-    /// The action isn't allowed there: a cleanup that registers a cleanup, or a hook or a cleanup that
-    /// skips a scenario.
+    /// The site doesn't allow the action: a cleanup registers a cleanup; or a cleanup, or a hook other
+    /// than a scenario's before hook, skips a scenario.
     NotHere,
     /// The step's action is `fail`.
     Asked,
@@ -65,7 +68,7 @@ pub enum Reason {
 /// How an action ended.
 #[derive(Clone, Copy, Debug, PartialEq, Eq)]
 pub enum Outcome {
-    /// It did what it does.
+    /// It passed.
     Passed,
     /// It failed for this reason.
     Failed(Reason),
@@ -75,20 +78,20 @@ pub enum Outcome {
     Memory,
 }
 
-/// What became of a step.
+/// The mark of a step: what became of it.
 #[derive(Clone, Copy, Debug, PartialEq, Eq)]
 pub enum Mark {
     /// Its action was carried out, with this outcome; or memory was refused while it was looked up.
     Acted(Outcome),
     /// No entry of the library matches it.
     Undefined,
-    /// It isn't carried out, as an earlier step ended the scenario or the scenario isn't selected.
+    /// It isn't carried out, because an earlier step ended the scenario or the scenario isn't selected.
     Skipped,
-    /// It isn't reached, or an entry of the library matches it in a dry run.
+    /// It isn't reached, or, in a dry run, an entry of the library matches it.
     Untested,
 }
 
-/// The results of running could not be reserved: memory was refused.
+/// The results of running couldn't be reserved, because memory was refused.
 #[derive(Clone, Copy, Debug, PartialEq, Eq)]
 pub struct NoRoom;
 
@@ -99,7 +102,7 @@ pub struct StepResult {
     pub text: String,
     pub line: u32,
     pub status: Status,
-    /// Why it failed, where its status is `Failed`.
+    /// Why it failed, if its status is `Failed`.
     pub reason: Option<Reason>,
 }
 
@@ -117,7 +120,7 @@ pub struct CaseResult {
     pub steps: Vec<StepResult>,
 }
 
-/// The result of a rule beside its scenarios, which stand among those of its feature.
+/// The result of a rule without its scenarios, which are among those of its feature.
 #[derive(Clone, Copy, Debug, PartialEq, Eq)]
 pub struct RuleResult {
     /// The line of the rule's heading, counted from 1.
@@ -140,7 +143,7 @@ pub struct FeatureResult {
     pub cases: Vec<CaseResult>,
 }
 
-/// What is to be run, with room for the result of each.
+/// A list of what is to be run, with room for the result of each element.
 #[derive(Drop)]
 pub struct Reserved<T, R> {
     pub list: Vec<T>,
@@ -149,7 +152,7 @@ pub struct Reserved<T, R> {
     ghost room: { length list.items ≤ vec_capacity results },
 }
 
-/// Reserves room for the result of each of a list.
+/// Reserves room for the result of each element of a list.
 pub fn reserve<T: Drop, R: Drop>(alloc: Global, list: Vec<T>) -> Result<Reserved<T, R>, NoRoom>
     ensures { IfOk result (λ reserved. reserved.list ≡ list) }
 {

@@ -17,7 +17,7 @@ use crate::run::Run;
 use crate::section::{Level, Section};
 use gk_world::Sandbox;
 
-/// What a rule comes to beside its cases.
+/// The result of a rule without its cases.
 #[derive(Drop)]
 pub struct RuleEnd {
     pub around: Status,
@@ -25,7 +25,7 @@ pub struct RuleEnd {
     pub stays_open: bool,
 }
 
-// Runs a rule in a layer of its own.
+// Runs a rule in its own layer.
 fn begin_rule<O: Observer>(
     run: &Run<'_>,
     sandbox: &mut Sandbox,
@@ -82,8 +82,8 @@ fn run_rule<O: Observer>(
     })
 }
 
-/// Runs the rules of a feature that is open, or isn't, one after another. No case is left of the
-/// cases' rank, so those of the next one are the first rule's.
+/// Runs the rules of a feature, one after another. `is_open` says whether the feature is open. No case
+/// of the cases' rank is left, so those of the next rank are the first rule's.
 pub fn run_rules<O: Observer>(
     run: &Run<'_>,
     sandbox: &mut Sandbox,

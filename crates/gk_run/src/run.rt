@@ -4,7 +4,7 @@ use gk_gherkin::HookTable;
 use gk_steps::Library;
 use std::alloc::Global;
 
-/// What stays the same during a run, and where its memory comes from.
+/// What stays the same during a run, and the allocator of its memory.
 #[derive(Clone, Copy)]
 pub struct Run<'a> {
     pub alloc: Global,

@@ -22,7 +22,7 @@ use gk_steps::Library;
 use gk_world::Sandbox;
 use std::alloc::Global;
 
-/// Runs a case of a run in a layer of its own, and tells an observer its events.
+/// Runs a case of a run in its own layer, and tells an observer its events.
 pub(crate) fn case_in<O: Observer>(
     run: &Run<'_>,
     sandbox: &mut Sandbox,
@@ -71,12 +71,11 @@ pub(crate) fn case_in<O: Observer>(
     })
 }
 
-/// Runs a case in a layer of its own: its before hooks, its steps, its after hooks and its cleanups.
-/// Its result is the one that plain maps give it alone from the sandbox's contents; where memory is
-/// refused in one of these, that event is `Memory`, those before it stay, and those after it don't
-/// happen. The sandbox is as it was, whatever is returned. `NoRoom` comes where memory is refused
-/// before the first of them. (behave's documentation: context layers, environment file functions,
-/// cleanups)
+/// Runs a case in its own layer: its before hooks, its steps, its after hooks and its cleanups. Its
+/// result is the one that plain maps give it alone from the sandbox's contents. If memory is refused in
+/// one of these, that event is `Memory`, those before it stay, and those after it don't happen. The
+/// sandbox is as it was, whatever is returned. `NoRoom` is returned if memory is refused before the
+/// first of them. (behave's documentation: context layers, environment file functions, cleanups)
 pub fn run_case(
     alloc: Global,
     sandbox: &mut Sandbox,
@@ -92,10 +91,10 @@ pub fn run_case(
     run_case_watched(alloc, sandbox, library, hooks, case, &mut Unwatched)
 }
 
-/// Runs a case as `run_case` does, and tells an observer each of its events once it has happened, in
-/// order, and then its result: all events of the case, or, where memory is refused in one, those up to
-/// that one. They are the events from which its result comes. Nothing is told where `NoRoom` comes.
-/// What is told changes nothing of the run.
+/// Runs a case as `run_case` does, and tells an observer its events in order, each once it has
+/// happened, and then its result. The observer is told all events of the case, or, if memory is refused
+/// in one, those up to that one. They are the events from which the result comes. Nothing is told if
+/// `NoRoom` is returned. What is told changes nothing in the run.
 pub fn run_case_watched<O: Observer>(
     alloc: Global,
     sandbox: &mut Sandbox,
@@ -125,7 +124,7 @@ pub fn run_case_watched<O: Observer>(
     Ok(result)
 }
 
-// The results of steps that aren't run: each has this mark.
+// Returns the results of steps that aren't run. Each has this mark.
 fn unrun_steps(steps: Reserved<Step, StepResult>, mark: Mark) -> Vec<StepResult>
     ensures { map step_row result.items
         ≡ map (λ step. row_of_step step mark) (map step_value steps.list.items) }
@@ -137,7 +136,8 @@ fn unrun_steps(steps: Reserved<Step, StepResult>, mark: Mark) -> Vec<StepResult>
     results
 }
 
-/// The result of a case in which nothing happens: it has this verdict, and each of its steps this mark.
+/// Returns the result of a case in which nothing happens. The case has this verdict, and each of its
+/// steps has this mark.
 pub fn unrun_case(
     alloc: Global,
     case: Case,

@@ -4,7 +4,8 @@ ghost use Rattle.gk_run.specs.Section as spec;
 
 use crate::acting::Site;
 
-/// What a section of a run is, which has a layer of its own. (behave's documentation: context layers)
+/// The level of a section of a run. Each section has its own layer. (behave's documentation: context
+/// layers)
 #[derive(Clone, Copy, Debug, PartialEq, Eq)]
 pub enum Level {
     Run,
@@ -23,22 +24,22 @@ pub struct Section<'a> {
 /// A part of a section in which steps are carried out.
 #[derive(Clone, Copy, Debug, PartialEq, Eq)]
 pub enum Part {
-    /// The hooks before what is inside of it.
+    /// The hooks before what is inside the section.
     Before,
     /// The steps of a scenario.
     Steps,
-    /// The hooks after what is inside of it.
+    /// The hooks after what is inside the section.
     After,
 }
 
-/// Where a step stands in a run: in a part of a section of a level.
+/// The stage of a step in a run: the level of its section, and the part of this section.
 #[derive(Clone, Copy, Debug, PartialEq, Eq)]
 pub struct Stage {
     pub level: Level,
     pub part: Part,
 }
 
-// Where the steps of a section's before hooks are carried out.
+// Returns the site of the steps of a section's before hooks.
 fn before_site(level: Level) -> Site
     ensures { result ≡ spec.before_site level }
 {
@@ -49,7 +50,7 @@ fn before_site(level: Level) -> Site
     }
 }
 
-/// Where the steps at a stage are carried out.
+/// Returns the site of the steps at a stage.
 pub fn site_of(stage: Stage) -> Site
     ensures { result ≡ spec.site_of stage }
 {

@@ -20,14 +20,15 @@ use crate::section::{Level, Section};
 use crate::section_hooks::walk_after;
 use gk_world::Sandbox;
 
-/// How the end of a section ended, and the outcomes of its cleanups in running order.
+/// How the after lists and the cleanups of a section ended, and the outcomes of the cleanups in running
+/// order.
 #[derive(Drop)]
 pub struct Closed {
     pub ending: Ending,
     pub outcomes: Vec<Outcome>,
 }
 
-// Carries a cleanup out. One that registers a cleanup or skips fails, as its row of the table says.
+// Carries out a cleanup. One that registers a cleanup or skips fails, as its row of the table says.
 fn clean_one<O: Observer>(
     run: &Run<'_>,
     sandbox: &mut Sandbox,
@@ -47,7 +48,7 @@ fn clean_one<O: Observer>(
         result (state_of sandbox.new.now)) observer.new }
     ensures layers { KeepsLayers sandbox.old sandbox.new }
 {
-    // A cleanup registers none.
+    // A cleanup registers no cleanups.
     let mut none = Cleanups::new(run.alloc);
     let outcome = act(
         run.alloc,

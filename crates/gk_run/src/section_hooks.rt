@@ -15,7 +15,7 @@ use crate::walk::walk_hook;
 use gk_gherkin::{HookKind, HookTable, Step};
 use gk_world::Sandbox;
 
-/// The hook before a section.
+/// Returns the kind of the hook before a section.
 pub fn before_kind(level: Level) -> HookKind
     ensures { result ≡ spec.before_kind level }
 {
@@ -27,7 +27,7 @@ pub fn before_kind(level: Level) -> HookKind
     }
 }
 
-/// The hook after a section.
+/// Returns the kind of the hook after a section.
 pub fn after_kind(level: Level) -> HookKind
     ensures { result ≡ spec.after_kind level }
 {
@@ -39,7 +39,7 @@ pub fn after_kind(level: Level) -> HookKind
     }
 }
 
-/// The steps of the hook of a kind and a tag; one that isn't in the file has none.
+/// Returns the steps of the hook with this kind and this tag. A hook that isn't in the file has none.
 pub fn hook_steps<'a>(hooks: &HookTable<'a>, kind: HookKind, tag: Option<&str>) -> &'a [Step]
     ensures { map step_value result.now
         ≡ spec.hook_steps (hooks_value hooks.now.file.now) kind (option_copied tag.entry) }

@@ -19,7 +19,7 @@ use gk_steps::Library;
 use gk_world::Sandbox;
 use std::alloc::{AllocError, Global};
 
-// Carries a step out, where an entry matches it.
+// Carries out a step, if an entry matches it.
 fn run_step(
     run: &Run<'_>,
     sandbox: &mut Sandbox,
@@ -55,7 +55,7 @@ fn run_step(
     }
 }
 
-/// Walks through the steps of a hook that stand at a stage.
+/// Walks through the steps of a hook at a stage.
 pub fn walk_hook<O: Observer>(
     run: &Run<'_>,
     sandbox: &mut Sandbox,
@@ -81,7 +81,7 @@ pub fn walk_hook<O: Observer>(
     Ending::Passed
 }
 
-/// Looks a step up that isn't carried out: `matched` becomes of it where an entry matches it.
+/// Looks up a step that isn't carried out. Its mark is `matched` if an entry matches it.
 pub fn look_up(alloc: Global, library: &Library, step: &Step, matched: Mark) -> Mark
     ensures { IsLookedUp (library_value library.now) matched (step_value step.now) result }
 {
@@ -92,7 +92,7 @@ pub fn look_up(alloc: Global, library: &Library, step: &Step, matched: Mark) -> 
     }
 }
 
-// What becomes of the next step of a case that stands so.
+// Takes the next step of a case that has ended so far with `ending`, and returns the step's mark.
 fn next_step(
     run: &Run<'_>,
     sandbox: &mut Sandbox,
@@ -115,7 +115,7 @@ fn next_step(
     }
 }
 
-/// The result of a step by what became of it.
+/// Returns the result of a step with this mark.
 #[inline(always)]
 pub fn row_of(step: Step, mark: Mark) -> StepResult
     ensures { step_row result ≡ row_of_step (step_value step) mark }
@@ -136,14 +136,15 @@ pub fn row_of(step: Step, mark: Mark) -> StepResult
     }
 }
 
-/// How a case stands after its steps, and their results.
+/// How a case has ended after its steps, and their results.
 #[derive(Drop)]
 pub struct StepsEnd {
     pub ending: Ending,
     pub results: Vec<StepResult>,
 }
 
-// Tells a step of a case that stood so before it. After refused memory nothing more happens.
+// Tells the observer about a step of a case. After refused memory nothing more happens, so nothing is
+// told.
 fn tell<O: Observer>(observer: &mut O, stood: Ending, step: &Step, mark: Mark, sandbox: &Sandbox)
     ensures { TellsNext O.hears stood step.now mark sandbox.now observer.old observer.new }
 {
@@ -156,7 +157,7 @@ fn tell<O: Observer>(observer: &mut O, stood: Ending, step: &Step, mark: Mark, s
     }
 }
 
-/// Runs the steps of a case whose before list ended so.
+/// Runs the steps of a case whose before list ended with `before`.
 pub fn run_steps<O: Observer>(
     run: &Run<'_>,
     sandbox: &mut Sandbox,

@@ -9,7 +9,7 @@ use gk_world::Sandbox;
 use std::alloc::Global;
 use std::test::Fail;
 
-// Carries a step out at a site.
+// Carries out a step at a site.
 fn acted(
     alloc: Global,
     sandbox: &mut Sandbox,
@@ -27,7 +27,7 @@ fn acted(
     }
 }
 
-// Carries steps out at a site, one after another. Returns the outcome of the last.
+// Carries out steps at a site, one after another. Returns the outcome of the last.
 fn last_of(
     alloc: Global,
     sandbox: &mut Sandbox,
@@ -46,7 +46,7 @@ fn last_of(
     Ok(outcome)
 }
 
-// Carries steps out in a layer inside of one in which the value `outer` is 1.
+// Carries out steps in a layer inside a layer in which the value `outer` is 1.
 fn in_layers(
     alloc: Global,
     library: &Library,
@@ -55,7 +55,7 @@ fn in_layers(
 ) -> Result<Outcome, Fail> {
     let mut sandbox = Sandbox::new(alloc);
     let outer = sandbox.begin();
-    // Without it, other outcomes come than are wanted.
+    // Without this value, the outcomes differ from the wanted ones.
     let _set = sandbox.set_value("outer", "1");
     let inner = sandbox.begin();
     let outcome = last_of(alloc, &mut sandbox, library, site, steps);
@@ -64,7 +64,7 @@ fn in_layers(
     outcome
 }
 
-// The steps of the scenario that has these lines.
+// Returns the steps of the scenario that has these lines.
 fn steps_of(alloc: Global, lines: &str) -> Result<Vec<Step>, Fail> {
     let text = format!(in alloc; "Feature: f\n  Scenario: s\n{}", lines)?;
     for case in cases_of(alloc, text.as_str())? {
@@ -76,8 +76,8 @@ fn steps_of(alloc: Global, lines: &str) -> Result<Vec<Step>, Fail> {
 const LONG_NAME: &str =
     "Given a file named \"nnnnnnnnnnnnnnnnnnnnnnnnnnnnnnnnnnnnnnnnnnnnnnnnnnnnnnnnnnnnnnnnnnnnnnnnnnnnnnnnnnnnnnnnnnnnnnnnnnnnnnnnnnnnnnnnnnnnnnnnnnnnnnnnnnnnnnnnnnnnnnnnnnnnnnnnnnnnnnnnnnnnnnnnnnnnnnnnnnnnnnnnnnnnnnnnnnnnnnnnnnnnnnnnnnnnnnnnnnnnnnnnnnnnnnnnnnnnnnnnnnnnnnnnnnnnnnnn\" containing \"x\"";
 
-// Each action, when it passes, and for each reason for which it fails: where it is carried out, the steps
-// of which it is the last one's, and its outcome.
+// Each action, when it passes and for each reason for which it fails: its site, the steps that end with
+// it, and its outcome.
 const ACTED: [(Site, &str, Outcome); 63] = [
     (
         Site::Step,
@@ -391,7 +391,7 @@ fn actions_have_their_outcomes(rt: HostRuntime) -> Result<(), Fail> {
     Ok(())
 }
 
-// Steps that put a text of the greatest length into a file and extend it.
+// Returns steps that put a text of the greatest length into a file and extend it.
 fn too_long(alloc: Global) -> Result<String, Fail> {
     let mut longest = String::from_str(alloc, "x")?;
     for _ in 0..20 {

@@ -6,7 +6,7 @@ use std::test::Fail;
 const WHOLE: &str =
     "# language: en\n@f @g # h\nFeature: one: two\n  about\n  Given no step\n\n  Background:\n    | no row\n    Given a\n      | a\\|b |  |\n      # between\n      | c\\nd | \\\\ |\n  @s\n\n  Scenario: s\n    text\n    When b\n      \"\"\" json\n      x\n        \\\"\\\"\\\"\n\n      ```\n      \"\"\"\n    And c\n    But d\n    Then e\n      ```\n      ```\n    * f\n  Scenario Outline: o\n    Given <x>\n    @e\n    Examples: first\n      Given no step\n      | x |\n      | 1 |\n      | 2 |\n    Scenarios:\n@r\nRule: r\n  Background:\n  Example: y\n";
 
-// How many lines bytes have, and the last one's text, number and column.
+// Shows the number of lines in some bytes, and the text, number and column of the last one.
 fn lines_of(alloc: Global, bytes: &[u8]) -> Result<String, ReadFault> {
     let document = read_lines(alloc, bytes)?;
     let count = document.lines.len();
@@ -40,7 +40,7 @@ fn lines_end_at_lf_or_crlf(rt: HostRuntime) -> Result<(), ReadFault> {
     Ok(())
 }
 
-// What it reads as.
+// The result of reading `WHOLE`.
 const SHOWN: &str =
     "Feature { name: \"one: two\", line: 3, tags: [\"@f\", \"@g\"], background: Some(Background { line: 7, steps: [Step { keyword: \"Given\", step_type: Given, text: \"a\", block: Table([[\"a|b\", \"\"], [\"c\\nd\", \"\\\\\"]]), line: 9 }] }), scenarios: [Scenario { keyword: \"Scenario\", name: \"s\", line: 15, tags: [\"@s\"], steps: [Step { keyword: \"When\", step_type: When, text: \"b\", block: Text(\"x\\n  \\\"\\\"\\\"\\n\\n```\"), line: 17 }, Step { keyword: \"And\", step_type: When, text: \"c\", block: Empty, line: 24 }, Step { keyword: \"But\", step_type: When, text: \"d\", block: Empty, line: 25 }, Step { keyword: \"Then\", step_type: Then, text: \"e\", block: Text(\"\"), line: 26 }, Step { keyword: \"*\", step_type: Then, text: \"f\", block: Empty, line: 29 }], examples: [] }, Scenario { keyword: \"Scenario Outline\", name: \"o\", line: 30, tags: [], steps: [Step { keyword: \"Given\", step_type: Given, text: \"<x>\", block: Empty, line: 31 }], examples: [Examples { name: \"first\", line: 33, tags: [\"@e\"], header: [\"x\"], rows: [Row { line: 36, cells: [\"1\"] }, Row { line: 37, cells: [\"2\"] }] }, Examples { name: \"\", line: 38, tags: [], header: [], rows: [] }] }], rules: [Rule { name: \"r\", line: 40, tags: [\"@r\"], background: Some(Background { line: 41, steps: [] }), scenarios: [Scenario { keyword: \"Example\", name: \"y\", line: 42, tags: [], steps: [], examples: [] }] }] }";
 
@@ -65,7 +65,7 @@ fn trims_blanks_at_the_end(rt: HostRuntime) -> Result<(), Fail> {
 const HOOKS: &str =
     "# language: de\nbefore_all:\n  Given a\n    | x | |\n\n  And b\n    \"\"\"\n    after_all:\n    \"\"\"\nafter_all:\nbefore_feature:\nafter_feature:\nbefore_scenario:\nafter_scenario:\nbefore_tag @a:b:\n  * c\nafter_tag\t @a:\nafter_tag @b:\n";
 
-// What it reads as.
+// The result of reading `HOOKS`.
 const SHOWN_HOOKS: &str =
     "HookFile { hooks: [Hook { kind: BeforeAll, tag: None, line: 2, steps: [Step { keyword: \"Given\", step_type: Given, text: \"a\", block: Table([[\"x\", \"\"]]), line: 3 }, Step { keyword: \"And\", step_type: Given, text: \"b\", block: Text(\"after_all:\"), line: 6 }] }, Hook { kind: AfterAll, tag: None, line: 10, steps: [] }, Hook { kind: BeforeFeature, tag: None, line: 11, steps: [] }, Hook { kind: AfterFeature, tag: None, line: 12, steps: [] }, Hook { kind: BeforeScenario, tag: None, line: 13, steps: [] }, Hook { kind: AfterScenario, tag: None, line: 14, steps: [] }, Hook { kind: BeforeTag, tag: Some(\"@a:b\"), line: 15, steps: [Step { keyword: \"*\", step_type: Given, text: \"c\", block: Empty, line: 16 }] }, Hook { kind: AfterTag, tag: Some(\"@a\"), line: 17, steps: [] }, Hook { kind: AfterTag, tag: Some(\"@b\"), line: 18, steps: [] }] }";
 
@@ -82,7 +82,7 @@ fn reads_each_hook(rt: HostRuntime) -> Result<(), Fail> {
 const LONG_HOOKS: &str =
     "before_all:\nbefore_tag @a:\nafter_tag @a:\nbefore_tag @b:\nafter_tag @b:\nbefore_tag @c:\nafter_tag @c:\nbefore_tag @d:\nafter_tag @d:\nbefore_tag @e:\nafter_tag @e:\nbefore_tag @f:\nafter_tag @f:\nbefore_tag @g:\nafter_tag @g:\nbefore_tag @h:\nafter_tag @h:\nafter_all:\n";
 
-// What is looked up, and the line of the hook that is found.
+// A hook that is looked up, and the line of the hook that is found.
 const LOOKED_UP: [(HookKind, Option<&str>, Option<u32>); 5] = [
     (HookKind::BeforeAll, None, Some(1)),
     (HookKind::AfterTag, Some("@a"), Some(3)),

@@ -1,7 +1,9 @@
-//! Tests of the public functions of the libraries, with ample memory: at the limits that no clause can forbid to
-//! give up at, and of `gk_run` over a case and a feature alone, with a feature's part by `gk_report`. What the built program
-//! shows, the stored runs of `tests/` compare. The tests stand apart since a crate with tests is proved twice; those of `gk_cli`
-//! are in `gk_cli_tests`, and the stored runs alone try the rest.
+//! Tests of the public functions of the libraries, with ample memory. They cover the limits at which no
+//! contract clause can forbid a function to fail. They also cover `gk_run` for a case and a feature by
+//! themselves, with the part of the report that `gk_report` writes for a feature. The stored runs of
+//! `tests/` compare what the built program shows. The tests are in a separate crate because a crate
+//! with tests is proved twice. Those of `gk_cli` are in `gk_cli_tests`; the stored runs alone test the
+//! rest.
 #![tactic(auto)]
 
 #[cfg(test)]

@@ -3,10 +3,11 @@ use gk_steps::{Found, FoundUse, Library, default_library, read_library};
 use std::alloc::{AllocError, Global};
 use std::test::Fail;
 
-// A library of which an entry is for steps of one type, and another for steps of each type.
+// A library with an entry for steps of one type, and another for steps of each type.
 const LIBRARY: &str = "step {a} b => fail\n\ngiven a {b} => pass\n";
 
-// What a text finds as a step of a type and as one of any type, and whether the first finds anything.
+// Shows what a text finds as a step of a type and as one of any type, and whether the first finds
+// anything.
 fn looked_up(
     alloc: Global,
     library: &Library,
@@ -27,7 +28,7 @@ fn shown(alloc: Global, found: Option<Found>) -> Result<String, AllocError> {
     }
 }
 
-// What a step's action works with: the action, and the name and the number that fields took.
+// Shows the action of a step, and the name and the number among the field values that it uses.
 fn used(
     alloc: Global,
     library: &Library,

@@ -2,7 +2,7 @@ use gk_gherkin::ReadFault;
 use gk_lint::{Finding, lint_feature_file};
 use std::alloc::{AllocError, Global};
 
-// A line for each finding.
+// Shows findings, a line for each.
 fn shown(alloc: Global, findings: &[Finding]) -> Result<String, AllocError> {
     let mut shown = String::new(alloc);
     for finding in findings {
@@ -12,7 +12,7 @@ fn shown(alloc: Global, findings: &[Finding]) -> Result<String, AllocError> {
     Ok(shown)
 }
 
-// What is found in a feature file, a line for each finding.
+// Shows what is found in a feature file, a line for each finding.
 fn found_in(alloc: Global, bytes: &[u8]) -> Result<String, ReadFault> {
     let findings = lint_feature_file(alloc, bytes)?;
     Ok(shown(alloc, &findings)?)

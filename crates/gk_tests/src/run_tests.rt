@@ -14,7 +14,7 @@ use gk_world::Sandbox;
 use std::alloc::{AllocError, Global};
 use std::test::Fail;
 
-// The feature that a text has.
+// Reads the feature of a text.
 fn feature_of(alloc: Global, text: &str) -> Result<Feature, Fail>
     ensures { IfOk result (λ feature. IsExpandable (feature_value feature)) }
 {
@@ -26,7 +26,7 @@ fn feature_of(alloc: Global, text: &str) -> Result<Feature, Fail>
     }
 }
 
-// The headings of rules.
+// Returns the headings of rules.
 fn heads_of(alloc: Global, rules: Vec<Rule>) -> Result<Vec<RuleHead>, AllocError>
     ensures { IfOk result (λ heads. length heads.items ≡ length rules.items) }
 {
@@ -38,7 +38,7 @@ fn heads_of(alloc: Global, rules: Vec<Rule>) -> Result<Vec<RuleHead>, AllocError
     Ok(heads)
 }
 
-// For each case whether it is chosen.
+// Reports for each case whether it is chosen.
 fn selections(alloc: Global, choice: &Choice, cases: &[Case]) -> Result<Vec<bool>, AllocError>
     ensures { IfOk result (λ selected. length selected.items ≡ length cases.now) }
 {
@@ -49,14 +49,14 @@ fn selections(alloc: Global, choice: &Choice, cases: &[Case]) -> Result<Vec<bool
     Ok(selected)
 }
 
-// The choice by one rule of tags.
+// Returns the choice by one rule of tags.
 fn choice_by(alloc: Global, tags: &str) -> Result<Choice, Fail> {
     let mut rules = Vec::new(alloc);
     rules.push(read_tags(alloc, tags)?)?;
     Ok(Choice::new(rules, Vec::new(alloc)))
 }
 
-// A feature with its cases, of which those are chosen whose tags fit.
+// Returns a feature with its cases. Those whose tags fit are chosen.
 fn chosen_of(alloc: Global, feature: Feature, tags: &str) -> Result<Chosen, Fail>
     requires { IsExpandable (feature_value feature) }
     ensures { IfOk result (λ chosen. IsFormed chosen) }
@@ -89,11 +89,11 @@ fn chosen_of(alloc: Global, feature: Feature, tags: &str) -> Result<Chosen, Fail
 const CASES: &str =
     "Feature: f\n  Background:\n    Given the value \"n\" is set to \"1\"\n  @t\n  Scenario: passes\n    Then the value \"n\" should be \"1\"\n  Scenario: fails\n    When the file \"a\" is removed\n    Then it passes\n    And nothing knows this\n  Scenario: is skipped\n    When the scenario is skipped\n    Then it fails\n  Scenario: cleans up\n    Given at cleanup it passes\n    And at cleanup it fails\n  Scenario Outline: of <a>\n    Then the value \"n\" should be \"<a>\"\n    Examples:\n      | a |\n      | 1 |\n      | 2 |\n";
 
-// The hooks around them.
+// Hooks for these cases.
 const CASE_HOOKS: &str =
     "before_scenario:\n  Given the value \"n\" should be absent\nafter_scenario:\n  Then the value \"n\" should be \"1\"\nafter_tag @t:\n  Then it fails\n";
 
-// What becomes of each: its status, that of its hooks and cleanups, the cleanups, and the steps.
+// The result of each: its status, that of its hooks and cleanups, the cleanups, and the steps.
 const RUN: [&str; 6] = [
     "Scenario: passes (5) Failed Failed []; 3 Passed None; 6 Passed None",
     "Scenario: fails (7) Failed Passed []; 3 Passed None; 8 Failed Some(Absent); 9 Skipped None; 10 Undefined None",
@@ -115,7 +115,7 @@ fn shown(alloc: Global, case: &CaseResult) -> Result<String, AllocError> {
     Ok(shown)
 }
 
-// The cases of the feature that a text has.
+// Returns the cases of a text's feature.
 pub fn cases_of(alloc: Global, text: &str) -> Result<Vec<Case>, Fail> {
     let feature = feature_of(alloc, text)?;
     Ok(expand(alloc, &feature)?)
@@ -140,15 +140,15 @@ fn cases_run_alone(rt: HostRuntime) -> Result<(), Fail> {
 const FEATURE: &str =
     "@f\nFeature: two\n  Scenario: A\n    Given it passes\n  @out\n  Scenario: B\n    Given it fails\n  @x\n  Rule: r1\n    Scenario: C\n      Then the number \"n\" should be 11\n    Scenario: D\n      Then the number \"n\" should be 1\n  Rule: r2\n    Scenario: E\n      Given it passes\n";
 
-// The hooks around it and around its rules, of which the one after the second rule fails.
+// Hooks for this feature and its rules. The one after the second rule fails.
 const FEATURE_HOOKS: &str =
     "before_tag @f:\n  Given the number \"n\" is set to 1\nbefore_tag @x:\n  Given the number \"n\" grows by 10\nafter_rule:\n  Then the number \"n\" should be 11\n";
 
-// The library for it.
+// The library for this feature.
 const LIBRARY: &str =
     "given it passes => pass\ngiven it fails => fail\ngiven the number \"{name}\" is set to {n:d} => set_number\ngiven the number \"{name}\" grows by {n:d} => add_number\nthen the number \"{name}\" should be {n:d} => number_is\n";
 
-// The result of the feature, in which those cases are chosen whose tags fit.
+// Returns the result of the feature. The cases whose tags fit are chosen.
 fn result_of(alloc: Global, tags: &str, stop: bool) -> Result<FeatureResult, Fail> {
     let library = read_library(alloc, LIBRARY.as_bytes())?;
     let hooks = read_hooks(alloc, FEATURE_HOOKS.as_bytes())?;
@@ -158,8 +158,8 @@ fn result_of(alloc: Global, tags: &str, stop: bool) -> Result<FeatureResult, Fai
     Ok(run_feature(alloc, &mut sandbox, &library, &hooks, stop, chosen)?)
 }
 
-// Which cases are chosen, whether the run stops, the format, whether what is skipped is left out, whether the
-// part is the first one, and the part.
+// The tags of the cases that are chosen, whether the run stops at a failure, and the format; whether
+// what is skipped is omitted, whether the part is the first one, and the part.
 const PARTS: [(&str, bool, Format, bool, bool, &str); 9] = [
     (
         "~@out",

@@ -3,7 +3,7 @@ use gk_select::{TagRule, expand, has_room, into_cases, read_features_are_expanda
 use std::alloc::{AllocError, Global};
 use std::test::Fail;
 
-// A feature with a scenario, and with an outline in whose text a placeholder stands inside another's bounds.
+// A feature with a scenario, and with an outline whose text has a placeholder inside another's bounds.
 const FEATURE: &str =
     "@f\nFeature: f\n  Background:\n    Given b\n  @s\n  Scenario: plain\n    When p\n  @o\n  Scenario Outline: o <a>\n    Then <a<a>>\n    @e\n    Examples: first\n      | a |\n      | 1 |\n  Rule: r\n    Example: e\n      Then q\n";
 
@@ -11,7 +11,7 @@ const FEATURE: &str =
 const CASES: &str =
     "[Case { name: \"plain\", keyword: \"Scenario\", line: 6, rule: None, tags: [\"@f\", \"@s\"], own_tags: [\"@s\"], steps: [Step { keyword: \"Given\", step_type: Given, text: \"b\", block: Empty, line: 4 }, Step { keyword: \"When\", step_type: When, text: \"p\", block: Empty, line: 7 }] }, Case { name: \"o 1 -- @1.1 first\", keyword: \"Scenario Outline\", line: 14, rule: None, tags: [\"@f\", \"@o\", \"@e\"], own_tags: [\"@o\", \"@e\"], steps: [Step { keyword: \"Given\", step_type: Given, text: \"b\", block: Empty, line: 4 }, Step { keyword: \"Then\", step_type: Then, text: \"<a1>\", block: Empty, line: 10 }] }, Case { name: \"e\", keyword: \"Example\", line: 16, rule: Some(0), tags: [\"@f\"], own_tags: [], steps: [Step { keyword: \"Given\", step_type: Given, text: \"b\", block: Empty, line: 4 }, Step { keyword: \"Then\", step_type: Then, text: \"q\", block: Empty, line: 17 }] }]";
 
-// Shows the cases of the feature that a text has: of the feature kept, and of the feature given up.
+// Shows the cases of a text's feature: when the feature is borrowed, and when it is consumed.
 fn shown_cases(alloc: Global, text: &str) -> Result<(String, String), Fail> {
     let feature = match read_feature(alloc, text.as_bytes()) {
         Ok(Some(feature)) => feature,
@@ -97,7 +97,7 @@ const SETS: [(&[&str], bool); 8] = [
     (&["@slow", "@db", "@ui"], true),
 ];
 
-// Whether both rules hold of a set of tags.
+// Reports whether both rules hold of a set of tags.
 fn both_hold(
     alloc: Global,
     first: &TagRule,
@@ -182,7 +182,7 @@ const TAG_SETS: [&[&str]; 8] = [
     &["@a", "@b", "@c"],
 ];
 
-// Whether a rule holds of a set of tags.
+// Reports whether a rule holds of a set of tags.
 fn holds_of(alloc: Global, rule: &TagRule, set: &[&str]) -> Result<bool, AllocError> {
     let mut tags = Vec::new(alloc);
     for tag in set {
@@ -203,7 +203,7 @@ fn expressions_select_sets_of_tags(rt: HostRuntime) -> Result<(), Fail> {
     Ok(())
 }
 
-// A text so many times, and then another.
+// Returns a text repeated `times` times, with another text after it.
 fn repeated(alloc: Global, part: &str, times: u64, end: &str) -> Result<String, AllocError> {
     let mut text = String::new(alloc);
     for _ in 0..times {
@@ -213,7 +213,8 @@ fn repeated(alloc: Global, part: &str, times: u64, end: &str) -> Result<String, 
     Ok(text)
 }
 
-// Many terms, which no recursion goes over, and whether their expression holds of `@a` and `@b`.
+// A term that is repeated many times, the last term, and whether their expression holds of `@a` and
+// `@b`. No recursion goes over the terms.
 const LONG: [(&str, &str, bool); 4] = [
     ("@c or ", "@b", true),
     ("@c or ", "@c", false),
@@ -232,7 +233,7 @@ fn long_expressions_are_read(rt: HostRuntime) -> Result<(), Fail> {
     Ok(())
 }
 
-// So many `not` and `(` round one place, and whether such a text is read.
+// Text before and after one term, how often each is repeated, and whether the whole text is read.
 const DEEP: [(&str, &str, u64, bool); 6] = [
     ("(", ")", 100, true),
     ("(", ")", 101, false),

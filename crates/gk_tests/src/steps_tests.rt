@@ -23,7 +23,7 @@ fn piece(alloc: Global, part: Part) -> Result<Piece, AllocError> {
     })
 }
 
-// The pattern of these pieces.
+// Returns the pattern of these pieces.
 fn pattern_of(alloc: Global, parts: &[Part]) -> Result<Pattern, AllocError> {
     let mut pieces = Vec::new(alloc);
     for part in parts {
@@ -32,14 +32,14 @@ fn pattern_of(alloc: Global, parts: &[Part]) -> Result<Pattern, AllocError> {
     Ok(Pattern { pieces })
 }
 
-// Shows a pattern's match in a text, and how many cells were filled.
+// Shows a pattern's match in a text, and the number of cells that were filled.
 fn counted(alloc: Global, parts: &[Part], text: &str) -> Result<String, AllocError> {
     let answer = pattern_of(alloc, parts)?.matches_counted(alloc, text)?;
     format!(in alloc; "{answer:?}")
 }
 
-// The pieces of a pattern, a text, and the pattern's match in it, with the cells: the shortest text first, and
-// characters of several bytes.
+// The pieces of a pattern, a text, and the pattern's match in it, with the number of cells. One match
+// has the shortest text first, the other characters of several bytes.
 const COUNTED: [(&[Part], &str, &str); 2] = [
     (
         &[Part::Plain("a"), Part::Literal(" and "), Part::Plain("b")],
@@ -67,7 +67,7 @@ fn matched(alloc: Global, parts: &[Part], text: &str) -> Result<String, AllocErr
     format!(in alloc; "{found:?}")
 }
 
-// A letter so many times, and another after them.
+// Returns a letter repeated `count` times, with another letter after it.
 fn repeated(alloc: Global, letter: char, count: usize, last: char) -> Result<String, AllocError> {
     let mut text = String::new(alloc);
     for _ in 0..count {
@@ -77,7 +77,7 @@ fn repeated(alloc: Global, letter: char, count: usize, last: char) -> Result<Str
     Ok(text)
 }
 
-// How many cells a pattern fills for a text that it doesn't match.
+// Returns the number of cells that a pattern fills for a text that it doesn't match.
 fn refused_cells(alloc: Global, parts: &[Part], text: &str) -> Result<Option<u64>, AllocError> {
     let (found, filled) = pattern_of(alloc, parts)?.matches_counted(alloc, text)?;
     Ok(if found.is_none() { Some(filled) } else { None })
@@ -87,8 +87,8 @@ const A: Part = Part::Plain("a");
 
 const X: Part = Part::Literal("x");
 
-// The pieces of a pattern, a letter, how often it comes, the letter after them, and how many cells are filled
-// until the pattern is known not to match.
+// The pieces of a pattern, a letter, how often it is repeated, and the letter after it; and the number
+// of cells that are filled until the pattern is known not to match.
 const REFUSED_CELLS: [(&[Part], char, usize, char, u64); 3] = [
     (&[A, A, A, A, X], 'a', 40, 'y', 252),
     (&[A, A, A, A, A, A, A, A, X], 'a', 400, 'y', 4020),

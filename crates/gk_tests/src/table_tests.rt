@@ -1,14 +1,14 @@
 use gk_world::{Reversible, Table, TableChange, WorldFault};
 use std::alloc::{AllocError, Global};
 
-// An append of a text to that of a name.
+// Returns the change that appends a text to that of a name.
 fn append(alloc: Global, name: &str, more: &str) -> Result<TableChange, AllocError> {
     let name = String::from_str(alloc, name)?;
     let more = String::from_str(alloc, more)?;
     Ok(TableChange::Append(name, more))
 }
 
-// A table in which the file `a` has a text.
+// Returns a table in which the file `a` has a text.
 fn table_of(alloc: Global, text: &str) -> Result<Table, WorldFault> {
     let name = String::from_str(alloc, "a")?;
     let text = String::from_str(alloc, text)?;

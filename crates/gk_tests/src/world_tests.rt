@@ -32,7 +32,7 @@ fn make(world: &mut Sandbox, call: Call, name: &str, text: &str) -> Result<(), W
     }
 }
 
-/// What a call's name has after it.
+/// Returns what a call's name has after the call.
 fn seen<'a>(world: &'a Sandbox, call: Call, name: &str) -> Option<&'a str> {
     match call {
         Call::PutFile | Call::AppendFile | Call::RemoveFile => world.file(name),
@@ -41,7 +41,7 @@ fn seen<'a>(world: &'a Sandbox, call: Call, name: &str) -> Option<&'a str> {
     }
 }
 
-/// A call, its name and its text, its answer, and what the name has after it.
+/// A call, its name and its text, its result, and what the name has after the call.
 type Row = (
     Call,
     &'static str,
@@ -50,7 +50,8 @@ type Row = (
     Option<&'static str>,
 );
 
-/// The first row with another answer, or after which the name has something else.
+/// Returns the place of the first row that doesn't hold: its call has another result, or the name has
+/// something different after it.
 fn first_wrong(world: &mut Sandbox, rows: &[Row]) -> Option<usize>
     requires { 0 < depth world.old }
     ensures { world.new.saved ≡ world.old.saved }
@@ -92,8 +93,8 @@ const INNER: [Row; 4] = [
     (Call::RemoveFile, "f", "", Ok(()), None),
 ];
 
-/// The rows of an inner layer, which ends: the first wrong one, and the depth and the number of
-/// recorded changes inside.
+/// Makes the calls of the inner rows in a new layer, and ends it. Returns the first wrong row, and the
+/// depth and the number of recorded changes inside the layer.
 fn in_inner_layer(world: &mut Sandbox) -> (Option<usize>, usize, usize)
     requires { depth world.old < layers }
     ensures { world.new.saved ≡ world.old.saved }
@@ -105,7 +106,7 @@ fn in_inner_layer(world: &mut Sandbox) -> (Option<usize>, usize, usize)
     inside
 }
 
-/// Whether the rows of an outer layer hold, with an inner layer in it, and both layers end.
+/// Reports whether the rows of an outer layer hold, with an inner layer in it, when both layers end.
 fn both_layers_hold(world: &mut Sandbox) -> bool
     requires { depth world.old ≡ 0 }
     ensures { world.new.saved ≡ world.old.saved }
@@ -190,7 +191,7 @@ fn fill(world: &mut Sandbox, names: &[String]) -> Result<(), WorldFault>
     Ok(())
 }
 
-/// Makes changes in a new layer, which ends. The answer is how many were carried out.
+/// Makes changes in a new layer, and ends it. Returns the number of changes that were carried out.
 fn change_in_layer(world: &mut Sandbox, names: &[String], rounds: usize) -> usize
     requires { depth world.old < layers }
     ensures { world.new.saved ≡ world.old.saved }
@@ -201,7 +202,7 @@ fn change_in_layer(world: &mut Sandbox, names: &[String], rounds: usize) -> usiz
     done
 }
 
-/// Makes changes in a layer and in one inside it. The answer is how many were carried out in each.
+/// Makes changes in a layer and in one inside it. Returns the number that were carried out in each.
 fn change_in_two_layers(world: &mut Sandbox, names: &[String], rounds: usize) -> (usize, usize)
     requires { depth world.old + 1 < layers }
     ensures { world.new.saved ≡ world.old.saved }
@@ -213,8 +214,8 @@ fn change_in_two_layers(world: &mut Sandbox, names: &[String], rounds: usize) ->
     (done, inside)
 }
 
-/// Makes changes in three layers, one inside the other, and answers whether a thousand were carried out, and
-/// whether those of the two inner ones aren't recorded any more after their end.
+/// Makes changes in three layers, one inside the other. Reports whether a thousand were carried out,
+/// and whether those of the two inner layers aren't recorded any more after these layers ended.
 fn three_layers_end(world: &mut Sandbox, names: &[String], rounds: usize) -> bool
     requires { depth world.old ≡ 0 }
     ensures { world.new.saved ≡ world.old.saved }
@@ -228,7 +229,7 @@ fn three_layers_end(world: &mut Sandbox, names: &[String], rounds: usize) -> boo
     all >= 1000 && recorded == done
 }
 
-/// Whether all is as before after three layers with a thousand changes.
+/// Reports whether everything is as before, after three layers with a thousand changes.
 fn three_layers_give_back(world: &mut Sandbox, alloc: Global) -> Result<bool, WorldFault>
     requires { depth world.old ≡ 0 }
 {

@@ -13,7 +13,7 @@ use gk_gherkin::Block;
 use gk_world::{Sandbox, is_bad_name};
 use std::alloc::{AllocError, Global};
 
-// A file has a text.
+// Writes a text to a file.
 fn put(sandbox: &mut Sandbox, name: &str, text: &str) -> Outcome
     ensures acted { IsActed (words.write_file (state_of sandbox.old.now) name.now text.now)
         sandbox.old result sandbox.new }
@@ -22,7 +22,7 @@ fn put(sandbox: &mut Sandbox, name: &str, text: &str) -> Outcome
     outcome_of(sandbox.put_file(name, text))
 }
 
-// A file is gone.
+// Removes a file.
 fn remove(sandbox: &mut Sandbox, name: &str) -> Outcome
     ensures { IsActed (words.remove_file (state_of sandbox.old.now) name.now)
         sandbox.old result sandbox.new }
@@ -54,7 +54,7 @@ pub fn remove_file(sandbox: &mut Sandbox, arguments: &Arguments<'_>) -> Outcome
     remove(sandbox, arguments.name)
 }
 
-// A text is written under the new name, and then the old name is removed.
+// Writes a text under the new name, and then removes the old name.
 fn put_and_remove(sandbox: &mut Sandbox, name: &str, to: &str, text: &str) -> Outcome
     ensures { IsActedWith (words.put_files (state_of sandbox.old.now) to.now text.now)
         (words.put_and_remove (state_of sandbox.old.now) name.now to.now text.now)
@@ -70,7 +70,7 @@ fn put_and_remove(sandbox: &mut Sandbox, name: &str, to: &str, text: &str) -> Ou
 pub fn rename_file(alloc: Global, sandbox: &mut Sandbox, arguments: &Arguments<'_>) -> Outcome
     ensures { Performs actions.RenameFile arguments.now sandbox.old result sandbox.new }
 {
-    // A bad name is no file's.
+    // A bad name belongs to no file.
     if is_bad_name(arguments.name) {
         return Outcome::Failed(Reason::Absent);
     }
@@ -91,14 +91,14 @@ pub fn rename_file(alloc: Global, sandbox: &mut Sandbox, arguments: &Arguments<'
     }
 }
 
-// Whether a cell is a word.
+// Reports whether a cell equals a word.
 fn is_word(cell: &String, word: &str) -> bool
     ensures { result ≡ bytes_eq (string_bytes cell.now) word.now }
 {
     cell.as_str() == word
 }
 
-// Whether a row is `name`, `text`.
+// Reports whether a row is `name`, `text`.
 fn is_head(row: &[String]) -> bool
     ensures { result ≡ words.is_head (texts row.now) }
 {
@@ -108,7 +108,7 @@ fn is_head(row: &[String]) -> bool
     }
 }
 
-// Whether each row has two cells.
+// Reports whether each row has two cells.
 fn have_two_cells(rows: &[Vec<String>]) -> bool
     ensures { result ≡ words.have_two_cells (map (λ row. texts row.items) rows.now) }
 {
@@ -120,7 +120,7 @@ fn have_two_cells(rows: &[Vec<String>]) -> bool
     true
 }
 
-// A row as a file that is written.
+// Writes a row as a file.
 fn write_row(sandbox: &mut Sandbox, row: &[String]) -> Outcome
     ensures acted { IsActed (words.write_row (state_of sandbox.old.now) (texts row.now))
         sandbox.old result sandbox.new }
@@ -132,7 +132,7 @@ fn write_row(sandbox: &mut Sandbox, row: &[String]) -> Outcome
     }
 }
 
-// Each row in turn as a file that is written.
+// Writes rows as files, one after another, up to the first that is refused.
 fn write_rows(sandbox: &mut Sandbox, rows: &[Vec<String>]) -> Outcome
     ensures { IsActedWith
         (words.rows_files (state_of sandbox.old.now) (map (λ row. texts row.items) rows.now))

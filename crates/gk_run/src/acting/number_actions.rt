@@ -14,7 +14,7 @@ use gk_steps::number_of;
 use gk_world::{Sandbox, is_bad_name};
 use std::alloc::{AllocError, Global};
 
-// The innermost layer's value is a number.
+// Sets the innermost layer's value to a number.
 fn put_number(alloc: Global, sandbox: &mut Sandbox, name: &str, number: i64) -> Outcome
     requires open { 0 < depth sandbox.old }
     requires good { refusals.is_bad_name name.now ≡ false }
@@ -57,7 +57,7 @@ pub fn add_number(alloc: Global, sandbox: &mut Sandbox, arguments: &Arguments<'_
     put_number(alloc, sandbox, arguments.name, sum)
 }
 
-// Whether a number is held.
+// Passes if `held` is this number.
 fn is_number(held: Option<&str>, number: i64) -> Outcome
     ensures { IsNumber (option_copied held.entry) number result }
 {

@@ -9,7 +9,7 @@ use crate::acting::{Arguments, is_absent, is_text, outcome_of};
 use crate::results::{Outcome, Reason};
 use gk_world::Sandbox;
 
-/// The innermost layer's value is a text.
+/// Sets the innermost layer's value to a text.
 pub fn set(sandbox: &mut Sandbox, name: &str, text: &str) -> Outcome
     requires { 0 < depth sandbox.old }
     ensures { IsActed (set_own (state_of sandbox.old.now) name.now text.now)

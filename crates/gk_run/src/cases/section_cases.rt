@@ -18,7 +18,7 @@ use gk_select::Case;
 use gk_world::Sandbox;
 use std::collections::VecDeque;
 
-// Where a case stands by its rule.
+// Returns the rank of a case, by its rule.
 fn rank_of(rule: Option<u32>) -> usize
     ensures { result ≡ order.rank rule }
 {
@@ -28,7 +28,7 @@ fn rank_of(rule: Option<u32>) -> usize
     }
 }
 
-// Whether a case is of a rank, where there is one.
+// Reports whether there is a case and it has this rank.
 fn is_of_rank(case: Option<&Case>, rank: usize) -> bool
     ensures { MatchOption case.entry (result ≡ false) (λ c.
         result ≡ nat_eq (order.rank c.now.rule) rank) }
@@ -39,7 +39,7 @@ fn is_of_rank(case: Option<&Case>, rank: usize) -> bool
     }
 }
 
-// Whether there is a choice, and it selects.
+// Reports whether there is a choice and it selects.
 fn is_selected(selected: Option<&bool>) -> bool
     ensures { MatchOption selected.entry (result ≡ false) (λ s. result ≡ s.now) }
 {
@@ -50,7 +50,7 @@ fn is_selected(selected: Option<&bool>) -> bool
 }
 
 impl Cases {
-    /// The cases of a feature, with nothing taken yet.
+    /// Returns the cases of a feature, with none taken yet.
     pub fn new(reserved: Reserved<Case, CaseResult>, selected: Vec<bool>) -> Cases
         requires paired { length selected.items ≡ length reserved.list.items }
         requires falls { falls_from 0 reserved.list.items ≡ true }
@@ -65,7 +65,7 @@ impl Cases {
         }
     }
 
-    /// Takes the next case of the rank.
+    /// Takes the next case of the rank, if there is one.
     pub fn next_member(&mut self) -> Option<Member>
         ensures taken { TakesMember self.old result self.new }
         ensures room { IfSome result (λ m. length self.new.results.items
@@ -79,7 +79,7 @@ impl Cases {
         Some(Member { case, selected })
     }
 
-    /// Whether a case of the rank is selected.
+    /// Reports whether a case of the rank is selected.
     pub fn has_selected(&self) -> bool
         ensures { result ≡ has_selected (members_of_rank self.now.rank (members_in self.now)) }
     {
@@ -93,7 +93,7 @@ impl Cases {
         false
     }
 
-    /// Goes on to the cases of the next rank; there is none left of this one.
+    /// Moves on to the cases of the next rank. No case of the current rank is left.
     pub fn next_rank(&mut self)
         requires falls { falls_from (suc self.old.rank) self.old.waiting.items ≡ true }
         requires room { suc self.old.rank < 2 ^ 64 }
@@ -106,7 +106,7 @@ impl Cases {
     }
 }
 
-// The result of a case in a section that is open, or isn't.
+// Runs a case if it is selected and its section is open, and returns its result.
 fn run_member<O: Observer>(
     run: &Run<'_>,
     sandbox: &mut Sandbox,
@@ -129,36 +129,36 @@ fn run_member<O: Observer>(
     case_in(run, sandbox, case, observer)
 }
 
-/// Whether both hold.
+/// Reports whether both hold.
 pub fn both(a: bool, b: bool) -> bool
     ensures { result ≡ (a && b) }
 {
     a && b
 }
 
-/// Whether one of two holds.
+/// Reports whether at least one of two holds.
 pub fn either(a: bool, b: bool) -> bool
     ensures { result ≡ (a || b) }
 {
     a || b
 }
 
-/// Whether a status is failed or memory.
+/// Reports whether a status is failed or memory.
 pub fn is_bad(status: Status) -> bool
     ensures { result ≡ spec.is_bad status }
 {
     matches!(status, Status::Failed | Status::Memory)
 }
 
-/// Whether what comes next is still reached.
+/// Reports whether what comes next is still reached.
 pub fn stays_open(stop: bool, status: Status) -> bool
     ensures { result ≡ spec.stays_open_by stop status }
 {
     !(stop && is_bad(status))
 }
 
-/// Runs the cases of the rank, in a section that is open, or isn't. Returns whether what comes after
-/// them is still reached.
+/// Runs the cases of the rank in a section. `is_open` says whether the section is open. Returns whether
+/// what comes after them is still reached.
 pub fn run_cases<O: Observer>(
     run: &Run<'_>,
     sandbox: &mut Sandbox,
