@@ -6,9 +6,10 @@ ghost use Rattle.gk_gherkin.specs.Grammar.{Reads, HasOneReading, IsConcatenation
 ghost use Rattle.gk_gherkin.specs.HooksGrammar.{IsHook, HaveOneHooksReading};
 ghost use Rattle.gk_gherkin.specs.ReadFault.{FeatureFault, HooksFault, HaveOneFault};
 
-/// States that reading a part is concatenation. A step, a table, a doc string, a background,
-/// examples, a scenario, a rule, a feature or a hook leads from some lines to a rest exactly if
-/// these are the part's own lines followed by that rest. (the grammar of this project's profile)
+/// States that reading a part is concatenation: a part leads from some lines to a rest exactly if
+/// these are the part's own lines followed by that rest. Such parts are steps, tables, doc strings,
+/// backgrounds, examples, scenarios, rules, features and hooks. (the grammar of this project's
+/// profile)
 pub fn parts_are_concatenations()
     ensures steps { IsConcatenation IsStep }
     ensures backgrounds { IsConcatenation IsBackground }

@@ -6,7 +6,8 @@ ghost use Rattle.gk_gherkin.specs.declared.read_fault.ReadFault.TheVariants.{Mem
 use std::alloc::{AllocError, AllocFailed};
 use std::fmt;
 
-/// The error of a refused growth of memory. One `From` makes a fault of any such error.
+/// An error of a refused growth of memory. With this trait, a fault type needs only one `From` for
+/// all of them.
 pub trait Refused: Drop {}
 
 impl Refused for AllocError {}
@@ -21,7 +22,7 @@ pub enum ReadFault {
     /// The bytes aren't UTF-8. The line is that of the first byte after the longest prefix that is
     /// UTF-8.
     NotUtf8 { line: u32 },
-    /// A line of a class that isn't allowed there: no line of its class is.
+    /// A line in a place where no line of its class is allowed.
     Unexpected { line: u32 },
     /// A tag line with a word that isn't a tag.
     BadTag { line: u32 },

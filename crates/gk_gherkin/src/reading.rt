@@ -24,7 +24,7 @@ pub trait FileReader: Drop {
     /// The value of a reader in contracts.
     ghost Value: { Type 0 };
 
-    /// The value of an answer in contracts.
+    /// The value of an `Answer` in contracts.
     ghost AnswerValue: { Type 0 };
 
     ghost value: { Self → Value };
