@@ -13,7 +13,7 @@ use Rattle.gk_gherkin.specs.Class.{class, is_colon}
 use Rattle.gk_gherkin.specs.Text.{begins}
 use Rattle.gk_gherkin.specs.Tags.{is_tag}
 
--- The class of a line in a hooks file: a hook line if its trimmed text begins with `before_` or `after_`, and otherwise the class of any other line.
+-- The class of a line in a hooks file: a hook line if its trimmed text begins with `before_` or `after_`, and otherwise the line's class in a feature file.
 unfoldable pub hooks_class : LineValue → HooksClass
 hooks_class line = if begins (trim line.text) (codes "before_") || begins (trim line.text) (codes "after_") then HookLine else Plain (class line)
 

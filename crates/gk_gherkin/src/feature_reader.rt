@@ -407,9 +407,9 @@ impl FileReader for FeatureReader {
 /// Reads the feature that the bytes spell, or `None` if they contain only blank lines and comments.
 ///
 /// A file is a feature with its tags, description, background, scenarios and rules. A scenario has
-/// steps and examples, and a step has a table or a doc string. Blank lines and comments are allowed
-/// anywhere. Descriptions, comments and media types aren't kept. (Cucumber's Gherkin reference;
-/// this project's profile)
+/// steps and examples, and a step may have a table or a doc string. Blank lines and comments are
+/// allowed anywhere. Descriptions, comments and media types aren't kept. (Cucumber's Gherkin
+/// reference; this project's profile)
 ///
 /// `TooLong` and `NotUtf8` are those of `read_lines`, and come before any fault of a line. Of the
 /// faults of lines, the first line's is returned:

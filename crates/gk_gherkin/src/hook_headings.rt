@@ -13,7 +13,7 @@ use crate::tags::is_tag;
 use crate::text::{begins, begins_word, is_blank, is_word, trim, trim_front};
 
 /// The class of a line in a hooks file: a hook line if its trimmed text begins with `before_` or
-/// `after_`, and otherwise the class of any other line. (this project's profile)
+/// `after_`, and otherwise the line's class in a feature file. (this project's profile)
 #[derive(Clone, Copy)]
 pub enum HooksClass {
     HookLine,

@@ -231,10 +231,10 @@ impl FileReader for HooksReader {
 /// Reads the hooks that the bytes spell, in order. A file of only blank lines and comments has
 /// none.
 ///
-/// A hook is a heading and the steps under it, each with a table or a doc string, as in a feature
-/// file. Its heading begins with `before_` or `after_`. After that comes `all:`, `feature:`,
-/// `rule:` or `scenario:`, or `tag`, at least one space or tab, a tag without spaces and tabs, and
-/// `:`. (behave's documentation: environment file functions; this project's profile)
+/// A hook is a heading and the steps under it. Each step may have a table or a doc string, as in a
+/// feature file. Its heading begins with `before_` or `after_`. After that comes `all:`,
+/// `feature:`, `rule:` or `scenario:`, or `tag`, at least one space or tab, a tag without spaces
+/// and tabs, and `:`. (behave's documentation: environment file functions; this project's profile)
 ///
 /// `TooLong` and `NotUtf8` are those of `read_lines`, and come before any fault of a line. Of the
 /// faults of lines, the first line's is returned:
